@@ -1,0 +1,8 @@
+//! The document object model that a render tree is made of, and what every crate above it shares:
+//! the errors, and texts that are compared by what they say.
+#![tactic(auto)]
+
+mod errors;
+pub mod text;
+
+pub use errors::Error;

@@ -1,0 +1,4 @@
+//! The parts that a layout of a render tree is put together from.
+#![tactic(auto)]
+
+pub mod widths;
