@@ -1,0 +1,124 @@
+//! The lines of a script, each one call on a DOM.
+//!
+//! `Call::read("<p")` is `Some(Call::Open("p"))`, and `Call::read("p")` is `None`: a faulty line.
+
+use std::alloc::{AllocError, Global};
+
+/// What a line of a script asks for.
+#[derive(Clone, Copy, Debug, PartialEq, Eq)]
+pub enum Call<'a> {
+    /// `<name`: an HTML element is appended and becomes the current node.
+    Open(&'a str),
+    /// `"text`: a text is appended. It stands here as it is written, with its escapes.
+    Text(&'a str),
+    /// `>`: the parent becomes the current node.
+    Close,
+}
+
+impl<'a> Call<'a> {
+    /// The call of a line, or `None` where the line is faulty: another first character, an element of no name or of
+    /// another namespace than HTML's, or more behind `>`.
+    pub fn read(line: &'a str) -> Option<Call<'a>> {
+        if let Some(name) = line.strip_prefix('<') {
+            if name.is_empty() || name.starts_with("svg:") {
+                None
+            } else {
+                Some(Call::Open(name))
+            }
+        } else if let Some(text) = line.strip_prefix('"') {
+            Some(Call::Text(text))
+        } else if line == ">" {
+            Some(Call::Close)
+        } else {
+            None
+        }
+    }
+}
+
+/// The line of a piece that may end with a line feed, without it and without a carriage return before it.
+pub fn line_of(piece: &str) -> &str {
+    match piece.strip_suffix('\n') {
+        Some(line) => line.strip_suffix('\r').unwrap_or(line),
+        None => piece,
+    }
+}
+
+/// A text in which `\n` stands for a line feed and `\\` for a backslash, or `None` where a backslash stands before
+/// anything else.
+pub fn unescaped(alloc: Global, text: &str) -> Result<Option<String>, AllocError> {
+    if !text.contains('\\') {
+        return Ok(Some(String::from_str(alloc, text)?));
+    }
+    let mut plain = String::new(alloc);
+    let mut in_escape = false;
+    for c in text.chars() {
+        match (in_escape, c) {
+            (false, '\\') => in_escape = true,
+            (false, c) => plain.push(c)?,
+            (true, 'n') => {
+                plain.push('\n')?;
+                in_escape = false;
+            }
+            (true, '\\') => {
+                plain.push('\\')?;
+                in_escape = false;
+            }
+            (true, _) => return Ok(None),
+        }
+    }
+    Ok(if in_escape { None } else { Some(plain) })
+}
+
+#[cfg(test)]
+mod tests {
+    use super::*;
+    use std::test::Fail;
+
+    #[test]
+    fn lines_are_calls_or_faulty(rt: HostRuntime) {
+        for (line, call) in [
+            ("<p", Some(Call::Open("p"))),
+            ("\"a>", Some(Call::Text("a>"))),
+            ("\"", Some(Call::Text(""))),
+            (">", Some(Call::Close)),
+            ("<", None),
+            ("<svg:a", None),
+            ("> ", None),
+            ("@a=b", None),
+            ("!a", None),
+            (" <p", None),
+            ("p", None),
+        ] {
+            assert_eq!(rt; Call::read(line), call, "{line}");
+        }
+    }
+
+    #[test]
+    fn a_line_ends_before_its_line_feed(rt: HostRuntime) {
+        for (piece, line) in [
+            ("a\n", "a"),
+            ("a\r\n", "a"),
+            ("a\r\r\n", "a\r"),
+            ("a\r", "a\r"),
+            ("\n", ""),
+            ("", ""),
+        ] {
+            assert_eq!(rt; line_of(piece), line, "{piece:?}");
+        }
+    }
+
+    #[test]
+    fn texts_know_two_escapes(rt: HostRuntime) -> Result<(), Fail> {
+        let alloc = rt.alloc();
+        for (text, plain) in [
+            ("a b", Some("a b")),
+            ("a\\nb\\\\n", Some("a\nb\\n")),
+            ("a\\", None),
+            ("\\t", None),
+        ] {
+            let got = unescaped(alloc, text)?;
+            assert_eq!(rt; got.as_ref().map(|s| s.as_str()), plain, "{text}");
+        }
+        Ok(())
+    }
+}
