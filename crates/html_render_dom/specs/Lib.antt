@@ -1,2 +1,10 @@
+pub mod Content
+pub mod Dom
+pub mod Edits
 pub mod Forest
+pub mod Forests
+pub mod Members
+pub mod Names
+pub mod Nodes
 pub mod Outcome
+pub mod Trees

@@ -2,6 +2,7 @@
 //! the errors, and texts that are compared by what they say.
 #![tactic(auto)]
 
+pub mod dom;
 mod errors;
 pub mod text;
 

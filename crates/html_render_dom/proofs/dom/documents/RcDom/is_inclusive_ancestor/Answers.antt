@@ -1,0 +1,40 @@
+use Rattle.std.proofs.Common.{◌≡◌, ◌≢◌, ℕ, ap, sym, ◌∙◌, subst, arith, rules, Some, [], ◌∷◌, inl, inr}
+use Rattle.html_render_dom.specs.Dom.{Dom, IsNode, IsInclusiveAncestor, itself, above, parent_at, tree_of}
+use Rattle.html_render_dom.specs.Forests.{IfSome-parent}
+use Rattle.html_render_dom.specs.Trees.{depth-child, depth-le, Stands-tree_of, IsInclusiveAncestor-cases}
+use Rattle.html_render_dom.proofs.dom.documents.RcDom.is_inclusive_ancestor.Goals as goal
+
+some_is : (dom : Dom) (a h p : ℕ) → parent_at dom h ≡ Some p → (q : ℕ) × (parent_at dom h ≡ Some q) × IsInclusiveAncestor dom a q → IsInclusiveAncestor dom a p
+some_is dom a h p e r = let same : r.0 ≡ p = cc in subst (IsInclusiveAncestor dom a) same r.2
+
+pub loop-ancestor-smaller : goal.loop-ancestor-smaller
+loop-ancestor-smaller c =
+    let dom = c.args.self.now in
+    let f = c.entry.ensures.forest in
+    let at = c.loop-ancestor.at in
+    let p = c.in-Some.parent in
+    let e : parent_at dom at ≡ Some p = sym (ap (λ n. n.parent) c.entry.ensures.node) ∙ c.in-Some.is in
+    let in_p : IsNode dom p = IfSome-parent dom f at (Some p) (sym e) in
+    omega (arith, depth-child dom f at p e in_p, depth-le dom f (tree_of dom p) (p ∷ []) (Stands-tree_of dom f p in_p))
+
+pub loop-ancestor-preserved : goal.loop-ancestor-preserved
+loop-ancestor-preserved c =
+    let dom = c.args.self.now in
+    let f = c.entry.ensures.forest in
+    let at = c.loop-ancestor.at in
+    let p = c.in-Some.parent in
+    let e : parent_at dom at ≡ Some p = sym (ap (λ n. n.parent) c.entry.ensures.node) ∙ c.in-Some.is in
+    let in_p : IsNode dom p = IfSome-parent dom f at (Some p) (sym e) in
+    let other : at ≢ c.args.ancestor = search rules in
+    let kept = c.loop-ancestor.invariant.1 in
+    (in_p, (λ up. elim (IsInclusiveAncestor-cases dom c.args.ancestor at (kept.0 up)) [
+      inl same ↦ absurd (other (sym same))
+    | inr r ↦ some_is dom c.args.ancestor at p e r
+    ], λ up. kept.1 (above p e up)))
+
+pub returns : goal.returns
+returns c =
+    let dom = c.args.self.now in
+    let in_node : IsNode dom c.args.node = search rules in
+    let same : c.loop-ancestor.at ≡ c.args.ancestor = search rules in
+    (λ _. (in_node, c.loop-ancestor.invariant.1.1 (subst (IsInclusiveAncestor dom c.args.ancestor) (sym same) itself)), λ _. search rules)

@@ -1,0 +1,100 @@
+-- The document object model: numbered nodes, each with its content, its list of children and its parent. No node is
+-- its own ancestor, so that each node stands for a finite tree.
+use Rattle.std.specs.Prelude.{◌≡◌, ℕ, zero, suc, ◌<◌, Bool, true, false, IsTrue, nat_eq, List, [], ◌∷◌, length, slice_index_or, Option, Some, None, Contains}
+use Rattle.std.specs.List.{IsDistinct}
+use Rattle.html_render_dom.specs.declared.dom.settings.QuirksMode.{QuirksMode}
+use Rattle.html_render_dom.specs.declared.dom.settings.QuirksMode.TheVariants.{NoQuirks}
+use Rattle.html_render_dom.specs.Content.{Content, document, doctype, text, comment, element, instruction}
+use Rattle.html_render_dom.specs.Forest.{Forest, none, node}
+
+pub record Node : Type 0 where
+  pub content : Content
+  pub children : List ℕ
+  pub parent : Option ℕ
+
+-- the nodes by their numbers, the messages of a parser's errors, and the quirks mode
+pub record Dom : Type 0 where
+  pub nodes : List Node
+  pub messages : List (List ℕ)
+  pub mode : QuirksMode
+
+-- a node that hangs nowhere and has no children
+abbrev pub lone : Content → Node
+lone c = record { content = c; children = []; parent = None }
+
+-- the node of a number; past the last node there is none, and an empty one stands in its place
+abbrev pub node_in : List Node → ℕ → Node
+node_in nodes h = slice_index_or nodes h (lone document)
+
+abbrev pub node_count : Dom → ℕ
+node_count dom = length dom.nodes
+
+abbrev pub IsNode : Dom → ℕ → Type 0
+IsNode dom h = h < node_count dom
+
+abbrev pub content_at : Dom → ℕ → Content
+content_at dom h = (node_in dom.nodes h).content
+
+abbrev pub children_at : Dom → ℕ → List ℕ
+children_at dom h = (node_in dom.nodes h).children
+
+abbrev pub parent_at : Dom → ℕ → Option ℕ
+parent_at dom h = (node_in dom.nodes h).parent
+
+-- the document alone
+abbrev pub empty_dom : Dom
+empty_dom = record { nodes = lone document ∷ []; messages = []; mode = NoQuirks }
+
+-- an element's content
+abbrev pub is_element : Content → Bool
+is_element document = false
+is_element (doctype name public_id system_id) = false
+is_element (text contents) = false
+is_element (comment contents) = false
+is_element (element name properties template_contents integration_point) = true
+is_element (instruction target contents) = false
+
+abbrev pub IsElement : Content → Type 0
+IsElement c = IsTrue (is_element c)
+
+-- a is h, or an ancestor of h
+pub data IsInclusiveAncestor (dom : Dom) (a : ℕ) : ℕ → Type 0 where
+  itself : IsInclusiveAncestor dom a a
+  above : {h : ℕ} (p : ℕ) → parent_at dom h ≡ Some p → IsInclusiveAncestor dom a p → IsInclusiveAncestor dom a h
+
+-- the nodes hs are the tops of these trees: each has its tree's content, and its children are the tops of the trees below
+abbrev pub Stands : Dom → List ℕ → Forest Content → Type 0
+Stands dom [] none = Unit {0}
+Stands dom [] (node c kids beside) = ⊥
+Stands dom (h ∷ hs) none = ⊥
+Stands dom (h ∷ hs) (node c kids beside) =
+    IsNode dom h × (content_at dom h ≡ c) × Stands dom (children_at dom h) kids × Stands dom hs beside
+
+-- node 0 is the document; children and parents agree, and a child stands in its parent's list once; each node stands
+-- for a finite tree
+pub record IsForest (dom : Dom) : Type 0 where
+  pub has_document : IsNode dom 0
+  pub document_content : content_at dom 0 ≡ document
+  pub child_is_node : (p c : ℕ) → Contains (children_at dom p) c → IsNode dom c
+  pub child_names_parent : (p c : ℕ) → Contains (children_at dom p) c → parent_at dom c ≡ Some p
+  pub parent_lists_child : (p c : ℕ) → parent_at dom c ≡ Some p → Contains (children_at dom p) c
+  pub once : (p : ℕ) → IsDistinct nat_eq (children_at dom p)
+  pub finite : (h : ℕ) → IsNode dom h → (t : Forest Content) × Stands dom (h ∷ []) t
+
+-- the trees of some nodes, where f gives the trees below each
+abbrev pub beside_each : Dom → (ℕ → Forest Content) → List ℕ → Forest Content
+beside_each dom f [] = none
+beside_each dom f (h ∷ hs) = node (content_at dom h) (f h) (beside_each dom f hs)
+
+-- the trees below a node, to a depth of n
+abbrev pub below : ℕ → Dom → ℕ → Forest Content
+below zero dom h = none
+below (suc n) dom h = beside_each dom (below n dom) (children_at dom h)
+
+-- the trees that some nodes stand for: no way down has more nodes than there are
+abbrev pub trees_of : Dom → List ℕ → Forest Content
+trees_of dom hs = beside_each dom (below (node_count dom) dom) hs
+
+-- the tree that a node stands for
+abbrev pub tree_of : Dom → ℕ → Forest Content
+tree_of dom h = trees_of dom (h ∷ [])

@@ -1,0 +1,46 @@
+-- What stands in a list.
+use Rattle.std.proofs.Common.{◌≡◌, ℕ, Bool, true, false, List, [], ◌∷◌, ◌++◌, ◌⊎◌, inl, inr, refl, sym, arith, eqb, cond, Contains}
+use Rattle.std.specs.List.{list_any}
+use Rattle.std.proofs.lemmas.Bool.{cases_Bool, false≢true}
+use Rattle.std.proofs.lemmas.Bool.Decides.{eqb_tells}
+use Rattle.std.proofs.lemmas.List.Elements.{Contains-append_right, Contains-append_cases, Contains-push, Contains-push_cases}
+
+pub Contains-nil : {X : Type 0} (x : X) → Contains [] x → ⊥
+Contains-nil x h = omega (arith, h.1)
+
+pub Contains-head : {X : Type 0} (x : X) (xs : List X) → Contains (x ∷ xs) x
+Contains-head x xs = (0, omega arith, refl)
+
+pub Contains-tail : {X : Type 0} (x : X) (xs : List X) (y : X) → Contains xs y → Contains (x ∷ xs) y
+Contains-tail x xs y h = Contains-append_right (x ∷ []) xs y h
+
+pub Contains-cons_cases : {X : Type 0} (x : X) (xs : List X) (y : X) → Contains (x ∷ xs) y → (x ≡ y) ⊎ Contains xs y
+Contains-cons_cases x xs y h =
+    elim (Contains-append_cases (x ∷ []) xs y h) [
+      inl a ↦ elim (Contains-push_cases [] x y a) [ inl b ↦ absurd (Contains-nil y b) | inr e ↦ inl e ]
+    | inr b ↦ inr b
+    ]
+
+-- a number that a test finds stands in the list
+pub Contains-from_any : (xs : List ℕ) (y : ℕ) → list_any (eqb y) xs ≡ true → Contains xs y
+Contains-from_any [] y e = absurd (false≢true e)
+Contains-from_any (x ∷ xs) y e =
+    elim (eqb_tells y x) [
+      inl s ↦ rw s.1 (Contains-head x xs)
+    | inr d ↦ Contains-tail x xs y (Contains-from_any xs y (rw d.0 at e))
+    ]
+
+pub any-from_absent : (xs : List ℕ) (y : ℕ) → (Contains xs y → ⊥) → list_any (eqb y) xs ≡ false
+any-from_absent xs y absent =
+    elim (cases_Bool (list_any (eqb y) xs)) [ inl e ↦ absurd (absent (Contains-from_any xs y e)) | inr e ↦ e ]
+
+pub any-from_Contains : (xs : List ℕ) (y : ℕ) → Contains xs y → list_any (eqb y) xs ≡ true
+any-from_Contains [] y h = absurd (Contains-nil y h)
+any-from_Contains (x ∷ xs) y h =
+    elim (eqb_tells y x) [
+      inl s ↦ rw s.0 refl
+    | inr d ↦ elim (Contains-cons_cases x xs y h) [
+        inl e ↦ absurd (d.1 (sym e))
+      | inr t ↦ rw d.0 (any-from_Contains xs y t)
+      ]
+    ]

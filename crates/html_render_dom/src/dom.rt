@@ -1,0 +1,18 @@
+//! The document object model: numbered nodes, each with its data, its parent and its children in order.
+//!
+//! [`RcDom`] owns the nodes, and a [`Handle`] names one of them; `RcDom::new(alloc)?.get_document()` is the
+//! document, the node that all others hang from.
+
+mod contents;
+mod documents;
+mod edits;
+mod handles;
+mod names;
+mod nodes;
+mod settings;
+
+pub use contents::{NodeData, NodeOrText};
+pub use documents::RcDom;
+pub use handles::Handle;
+pub use names::{Attribute, Namespace, QualName};
+pub use settings::{ElementFlags, QuirksMode};

@@ -1,0 +1,42 @@
+//! What a node holds, and what can be put into a list of children.
+
+use super::handles::Handle;
+use super::names::{Attribute, QualName};
+
+/// What a node holds, beside its place among the others.
+#[derive(Drop)]
+pub enum NodeData {
+    /// The document itself, or the contents of a template.
+    Document,
+    /// A doctype.
+    Doctype {
+        name: String,
+        public_id: String,
+        system_id: String,
+    },
+    /// A text.
+    Text { contents: String },
+    /// A comment.
+    Comment { contents: String },
+    /// An element.
+    Element {
+        name: QualName,
+        /// The attributes, in the order in which they were given.
+        attrs: Vec<Attribute>,
+        /// The node that holds a template's contents, for an HTML `template`.
+        template_contents: Option<Handle>,
+        /// Whether the element is an HTML integration point of MathML's `annotation-xml`.
+        mathml_annotation_xml_integration_point: bool,
+    },
+    /// A processing instruction.
+    ProcessingInstruction { target: String, contents: String },
+}
+
+/// What is put into a list of children.
+#[derive(Drop)]
+pub enum NodeOrText {
+    /// A node that stands in no list yet.
+    AppendNode(Handle),
+    /// A text, which joins a text node that it comes to stand behind.
+    AppendText(String),
+}

@@ -1,0 +1,125 @@
+//! The vector of nodes, and what one edit does to it.
+
+ghost use Rattle.std.specs.Prelude.{◌≡◌, ◌+◌, ◌<◌, ◌++◌, ◌∷◌, [], OnOk, OnErr, vec_len, vec_capacity, map, string_bytes};
+ghost use Rattle.html_render_dom.specs.Content.{content_of, name_of, property_of, text};
+ghost use Rattle.html_render_dom.specs.Dom.{lone, node_in};
+ghost use Rattle.html_render_dom.specs.Nodes.{node_of};
+ghost use Rattle.html_render_dom.specs.Edits.{attached, created, element_created, joined, with_children, with_content, with_parent};
+
+use super::contents::NodeData;
+use super::handles::Handle;
+use super::names::{Attribute, QualName};
+use super::settings::ElementFlags;
+use std::alloc::{AllocError, Global};
+
+/// A node: what it holds, and its place in the forest.
+#[derive(Drop)]
+pub struct Node {
+    pub data: NodeData,
+    pub children: Vec<Handle>,
+    pub parent: Option<Handle>,
+}
+
+impl Node {
+    /// A node that hangs nowhere and has no children.
+    pub fn lone(alloc: Global, contents: NodeData) -> Node
+        ensures { node_of result ≡ lone (content_of contents) }
+    {
+        Node {
+            data: contents,
+            children: Vec::new(alloc),
+            parent: None,
+        }
+    }
+}
+
+/// Puts the child last in the parent's list.
+fn push_child(nodes: &mut Vec<Node>, parent: Handle, child: Handle) -> Result<(), AllocError>
+    requires { parent < vec_len nodes.old }
+    ensures len { vec_len nodes.new ≡ vec_len nodes.old }
+    ensures capacity { vec_capacity nodes.new ≡ vec_capacity nodes.old }
+    ensures ok { OnOk result (map node_of nodes.new.items
+        ≡ with_children (map node_of nodes.old.items) parent ((node_in (map node_of nodes.old.items) parent).children ++ child ∷ [])) }
+    ensures err { OnErr result (map node_of nodes.new.items ≡ map node_of nodes.old.items) }
+{
+    nodes[parent.number()].children.push(child)?;
+    Ok(())
+}
+
+/// Puts the text behind the text node's own.
+pub fn extend_text(nodes: &mut Vec<Node>, node: Handle, more: &str) -> Result<(), AllocError>
+    requires { node < vec_len nodes.old }
+    ensures len { vec_len nodes.new ≡ vec_len nodes.old }
+    ensures ok { OnOk result (map node_of nodes.new.items
+        ≡ with_content (map node_of nodes.old.items) node (joined (node_in (map node_of nodes.old.items) node).content more.now)) }
+    ensures err { OnErr result (map node_of nodes.new.items ≡ map node_of nodes.old.items) }
+{
+    if let NodeData::Text { contents } = &mut nodes[node.number()].data {
+        contents.push_str(more)?;
+    }
+    Ok(())
+}
+
+/// Makes a text node of the next number, the parent's last child.
+pub fn attach_text(alloc: Global, nodes: &mut Vec<Node>, parent: Handle, contents: String) -> Result<(), AllocError>
+    requires { parent < vec_len nodes.old }
+    ensures len { OnOk result (vec_len nodes.new ≡ vec_len nodes.old + 1) }
+    ensures ok { OnOk result (map node_of nodes.new.items
+        ≡ attached (created (map node_of nodes.old.items) (text (string_bytes contents))) parent (vec_len nodes.old)) }
+    ensures err { OnErr result (map node_of nodes.new.items ≡ map node_of nodes.old.items) }
+{
+    nodes.reserve(1)?;
+    let child = Handle::new(nodes.len());
+    push_child(nodes, parent, child)?;
+    nodes.push(Node {
+        data: NodeData::Text { contents },
+        children: Vec::new(alloc),
+        parent: Some(parent),
+    })?;
+    Ok(())
+}
+
+/// Names the node's parent.
+fn set_parent(nodes: &mut Vec<Node>, node: Handle, parent: Option<Handle>)
+    requires { node < vec_len nodes.old }
+    ensures len { vec_len nodes.new ≡ vec_len nodes.old }
+    ensures parent { map node_of nodes.new.items ≡ with_parent (map node_of nodes.old.items) node parent }
+{
+    nodes[node.number()].parent = parent;
+}
+
+/// Puts the child last in the parent's list, and names the parent in the child.
+pub fn attach(nodes: &mut Vec<Node>, parent: Handle, child: Handle) -> Result<(), AllocError>
+    requires parent { parent < vec_len nodes.old }
+    requires child { child < vec_len nodes.old }
+    ensures len { vec_len nodes.new ≡ vec_len nodes.old }
+    ensures ok { OnOk result (map node_of nodes.new.items ≡ attached (map node_of nodes.old.items) parent child) }
+    ensures err { OnErr result (map node_of nodes.new.items ≡ map node_of nodes.old.items) }
+{
+    push_child(nodes, parent, child)?;
+    set_parent(nodes, child, Some(parent));
+    Ok(())
+}
+
+/// Makes an element of the next number; a template's contents have the number after it.
+pub fn push_element(alloc: Global, nodes: &mut Vec<Node>, name: QualName, attrs: Vec<Attribute>, flags: ElementFlags) -> Result<(), AllocError>
+    ensures ok { OnOk result (map node_of nodes.new.items
+        ≡ element_created (map node_of nodes.old.items) (name_of name) (map property_of attrs.items) flags) }
+    ensures err { OnErr result (map node_of nodes.new.items ≡ map node_of nodes.old.items) }
+{
+    nodes.reserve(2)?;
+    let template_contents = flags.template.then_some(Handle::new(nodes.len() + 1));
+    nodes.push(Node::lone(
+        alloc,
+        NodeData::Element {
+            name,
+            attrs,
+            template_contents,
+            mathml_annotation_xml_integration_point: flags.mathml_annotation_xml_integration_point,
+        },
+    ))?;
+    if flags.template {
+        nodes.push(Node::lone(alloc, NodeData::Document))?;
+    }
+    Ok(())
+}
