@@ -1,0 +1,5 @@
+pub mod Preorder
+pub mod Splits
+pub mod Pass
+pub mod Agree
+pub mod Runs

@@ -1,0 +1,5 @@
+//! The layout of a render tree: the tree in one vector, its walk, and what each node does.
+#![tactic(auto)]
+
+pub mod tree;
+pub mod walk;

@@ -1,0 +1,200 @@
+//! Render trees: trees beside each other, in one vector in pre-order.
+//!
+//! [`Builder`] makes them from the last node to the first: after `put(b)`, `put(a)` and `enclose(c, 0)` it holds
+//! one tree, the node `c` over `a` and `b`, and `finish` gives the [`Flat`] of it, whose nodes are `c`, `a`, `b`.
+
+ghost use Rattle.std.specs.Prelude.{◌≡◌, ◌↔◌, IsTrue, OnOk, OnErr, IfErr, ℕ};
+ghost use Rattle.html_render_dom.specs.Forest.{none, node, count};
+ghost use Rattle.html_render_layout.specs.Preorder.{flatten};
+ghost use Rattle.html_render_layout.specs.Splits.{SplitAt};
+
+use html_render_dom::Error;
+use html_render_dom::text::Text;
+use std::alloc::Global;
+use std::marker::Model;
+
+/// A node in pre-order.
+#[derive(Drop)]
+pub struct Entry<K> {
+    /// What the node is.
+    pub kind: K,
+    /// How many nodes its tree has, itself included.
+    pub size: usize,
+}
+
+/// Trees beside each other. Dropping them goes along one vector, however deep they are.
+#[derive(Drop)]
+pub struct Flat<K> {
+    entries: Vec<Entry<K>>,
+}
+
+impl<K> Model for Flat<K> {
+    ghost use Rattle.std.specs.Prelude.{◌≡◌, List};
+    ghost use Rattle.std.specs.Coded.{codes, code_by, coded_list};
+    ghost use Rattle.html_render_dom.specs.Forest.{Forest};
+    ghost use Rattle.html_render_layout.specs.declared.tree.Entry.{Entry};
+    ghost use Rattle.html_render_layout.specs.Preorder.{forest_of, flatten, forest_of-flatten};
+
+    ghost Value = { Forest K };
+
+    ghost coded = { code_by (List (Entry K)) (coded_list (Prim.hlevel (codes, K.code))) flatten forest_of forest_of-flatten };
+
+    ghost view = { λ f. forest_of f.entries.items };
+
+    ghost invariant = { λ f. flatten (forest_of f.entries.items) ≡ f.entries.items };
+}
+
+impl<K> Flat<K> {
+    /// The nodes in pre-order.
+    pub fn nodes(&self) -> &[Entry<K>]
+        ensures { result.now ≡ flatten self.now }
+    {
+        self.entries.as_slice()
+    }
+}
+
+/// Trees beside each other that grow at the front, from the last node to the first.
+#[derive(Drop)]
+pub struct Builder<K> {
+    // the last node of the trees comes first
+    entries: Vec<Entry<K>>,
+}
+
+impl<K> Model for Builder<K> {
+    ghost use Rattle.std.specs.Prelude.{◌≡◌, List, reverse};
+    ghost use Rattle.std.specs.Coded.{codes, code_by, coded_list};
+    ghost use Rattle.html_render_dom.specs.Forest.{Forest};
+    ghost use Rattle.html_render_layout.specs.declared.tree.Entry.{Entry};
+    ghost use Rattle.html_render_layout.specs.Preorder.{forest_of, flatten, forest_of-flatten};
+
+    ghost Value = { Forest K };
+
+    ghost coded = { code_by (List (Entry K)) (coded_list (Prim.hlevel (codes, K.code))) flatten forest_of forest_of-flatten };
+
+    ghost view = { λ b. forest_of (reverse b.entries.items) };
+
+    ghost invariant = { λ b. flatten (forest_of (reverse b.entries.items)) ≡ reverse b.entries.items };
+}
+
+impl<K: Drop> Builder<K> {
+    /// No tree.
+    pub fn new(alloc: Global) -> Builder<K>
+        ensures { result ≡ none }
+    {
+        Builder {
+            entries: Vec::new(alloc),
+        }
+    }
+
+    /// How many nodes there are: the mark for a later [`Builder::enclose`] or [`Builder::truncate`].
+    pub fn len(&self) -> usize
+        ensures { result ≡ count self.now }
+    {
+        self.entries.len()
+    }
+
+    /// Whether there is no node.
+    pub fn is_empty(&self) -> bool
+        ensures { IsTrue result ↔ (count self.now ≡ 0) }
+    {
+        self.entries.is_empty()
+    }
+
+    /// Puts a node without children in front of the trees.
+    ///
+    /// Its only error is `OutOfMemory`, which leaves the trees as they were.
+    pub fn put(&mut self, kind: K) -> Result<(), Error>
+        ensures ok { OnOk result (self.new ≡ node kind none self.old) }
+        ensures unchanged { OnErr result (self.new ≡ self.old) }
+        ensures err { IfErr result (λ e. e ≡ Error.OutOfMemory) }
+    {
+        self.entries.push(Entry { kind, size: 1 })?;
+        Ok(())
+    }
+
+    /// Puts a node over all trees that came since there were `mark` nodes.
+    ///
+    /// Its only error is `OutOfMemory`, which leaves the trees as they were.
+    pub fn enclose(&mut self, kind: K, mark: usize) -> Result<(), Error>
+        requires { SplitAt self.old mark }
+        ensures ok { OnOk result ((s : SplitAt self.old mark) → self.new ≡ node kind s.children s.beside) }
+        ensures unchanged { OnErr result (self.new ≡ self.old) }
+        ensures err { IfErr result (λ e. e ≡ Error.OutOfMemory) }
+    {
+        let size = self.entries.len() - mark + 1;
+        self.entries.push(Entry { kind, size })?;
+        Ok(())
+    }
+
+    /// Takes back all trees that came since there were `mark` nodes.
+    pub fn truncate(&mut self, mark: usize)
+        requires { SplitAt self.old mark }
+        ensures { (s : SplitAt self.old mark) → self.new ≡ s.beside }
+    {
+        self.entries.truncate(mark);
+    }
+
+    /// The trees, with their nodes from the first to the last. It takes no memory.
+    pub fn finish(self) -> Flat<K>
+        ensures { result ≡ self }
+    {
+        let mut entries = self.entries;
+        entries.reverse();
+        Flat { entries }
+    }
+}
+
+/// What a node of a render tree is.
+#[derive(Drop)]
+pub enum NodeKind {
+    /// A text.
+    Text(Text),
+    /// Its children, one after the other.
+    Container,
+    /// A line break.
+    Break,
+    /// A block, with an empty line before it.
+    Block,
+    /// A part that begins a line and ends one.
+    Div,
+}
+
+/// A document that is ready to be laid out.
+#[derive(Drop)]
+pub struct RenderTree {
+    nodes: Flat<NodeKind>,
+}
+
+impl Model for RenderTree {
+    ghost use Rattle.std.specs.Prelude.{List};
+    ghost use Rattle.std.specs.Coded.{codes, code_by, coded_list};
+    ghost use Rattle.html_render_dom.specs.Forest.{Forest};
+    ghost use Rattle.html_render_layout.specs.declared.tree.Entry.{Entry};
+    ghost use Rattle.html_render_layout.specs.declared.tree.NodeKind.{NodeKind};
+    ghost use Rattle.html_render_layout.specs.Preorder.{forest_of, flatten, forest_of-flatten};
+
+    ghost Value = { Forest NodeKind };
+
+    ghost coded = { code_by (List (Entry NodeKind)) (coded_list (Prim.hlevel codes)) flatten forest_of forest_of-flatten };
+
+    ghost view = { λ t. t.nodes };
+}
+
+impl From<Builder<NodeKind>> for RenderTree {
+    ghost from_gives = { λ b t. t ≡ b };
+
+    fn from(builder: Builder<NodeKind>) -> RenderTree {
+        RenderTree {
+            nodes: builder.finish(),
+        }
+    }
+}
+
+impl RenderTree {
+    /// The nodes.
+    pub fn nodes(&self) -> &Flat<NodeKind>
+        ensures { result.now ≡ self.now }
+    {
+        &self.nodes
+    }
+}

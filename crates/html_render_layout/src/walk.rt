@@ -1,0 +1,123 @@
+//! A walk over trees, for any pass.
+//!
+//! `walk::<P>(alloc, &forest, &mut state, &mut meter)` enters each node before its children and leaves it after
+//! them, and counts what it did; `Ok(())`: the state is what the pass's meaning says of the forest.
+
+ghost use Rattle.std.specs.Prelude.{◌≡◌, ◌≢◌, ◌≤◌, List, [], ◌∷◌, ◌++◌, Option, Some, OnOk, OnErr, IfOk, IfErr, IfSome, IfNone};
+ghost use Rattle.html_render_dom.specs.Outcome.{Refuses};
+ghost use Rattle.html_render_dom.specs.Forest.{count, depth};
+ghost use Rattle.html_render_layout.specs.Pass.{Meaning, run};
+ghost use Rattle.html_render_layout.specs.declared.walk.Frame.{Frame};
+
+use crate::tree::Flat;
+use html_render_dom::Error;
+use html_render_parts::widths::Meter;
+use std::alloc::Global;
+
+/// What a walk does at each node.
+pub trait Pass {
+    /// What a node is.
+    type Node;
+    /// What the walk changes.
+    type State;
+    /// What an open node keeps until it is left.
+    type Kept: Drop;
+
+    // what the pass computes
+    ghost meaning: { Meaning Self.Node Self.State };
+
+    // what is kept of a node, entered in this state
+    ghost kept_of: { Self.Node → Self.State → Self.Kept };
+
+    // the state after leaving what was kept, from the state after the children
+    ghost leaves: { Self.Kept → Self.State → Option Self.State };
+
+    /// Enters a node: the state becomes its children's.
+    fn enter(alloc: Global, node: &Self::Node, state: &mut Self::State) -> Result<Self::Kept, Error>
+        ensures ok { OnOk result (meaning.entered node.now state.old ≡ Some state.new) }
+        ensures keeps { IfOk result (λ k. k ≡ kept_of node.now state.old) }
+        ensures err { IfErr result (λ e. Refuses e (meaning.entered node.now state.old)) };
+
+    /// Leaves a node: the state becomes that behind it.
+    fn leave(alloc: Global, kept: Self::Kept, state: &mut Self::State) -> Result<(), Error>
+        ensures ok { OnOk result (leaves kept state.old ≡ Some state.new) }
+        ensures err { IfErr result (λ e. Refuses e (leaves kept state.old)) };
+
+    // leaving what was kept is leaving the node
+    ghost leaves_kept: { (k : Self.Node) (s r : Self.State) → leaves (kept_of k s) r ≡ meaning.left k s r };
+}
+
+/// An open node.
+#[derive(Drop)]
+struct Frame<T> {
+    // the place behind its last node
+    end: usize,
+    kept: T,
+}
+
+// takes the innermost open node, if it is over at this place
+fn pop_over<T: Drop>(frames: &mut Vec<Frame<T>>, at: usize) -> Option<T>
+    ensures over { IfSome result (λ l. frames.old.items ≡ frames.new.items ++ record { end = at; kept = l } ∷ []) }
+    ensures same { IfNone result (frames.new.items ≡ frames.old.items) }
+    ensures not_over { IfNone result ((below : List (Frame T)) (f : Frame T) → frames.old.items ≡ below ++ f ∷ [] → f.end ≢ at) }
+{
+    match frames.last() {
+        Some(frame) if frame.end == at => {}
+        _ => return None,
+    }
+    let frame = frames.pop()?;
+    Some(frame.kept)
+}
+
+/// Runs a pass over a forest, with a stack of the open nodes, one step for each node entered and left.
+///
+/// The meter's `entered`, `left` and `frames` count from 0, also where the pass refuses; `probes` stays. An error
+/// is the pass's own, or `OutOfMemory`.
+pub fn walk<P: Pass>(
+    alloc: Global,
+    forest: &Flat<P::Node>,
+    state: &mut P::State,
+    meter: &mut Meter,
+) -> Result<(), Error>
+    ensures ok { OnOk result (run P.meaning forest.now state.old ≡ Some state.new) }
+    ensures err { IfErr result (λ e. Refuses e (run P.meaning forest.now state.old)) }
+
+    // what was counted, where the walk came to its end, and where it didn't
+    ensures entered { OnOk result (meter.new.entered ≡ count forest.now) }
+    ensures left { OnOk result (meter.new.left ≡ count forest.now) }
+    ensures frames { OnOk result (meter.new.frames ≡ depth forest.now) }
+    ensures entered_at_most { OnErr result (meter.new.entered ≤ count forest.now) }
+    ensures left_at_most { OnErr result (meter.new.left ≤ meter.new.entered) }
+    ensures frames_at_most { OnErr result (meter.new.frames ≤ depth forest.now) }
+    ensures probes { meter.new.probes ≡ meter.old.probes }
+{
+    meter.entered = 0;
+    meter.left = 0;
+    meter.frames = 0;
+    let nodes = forest.nodes();
+    let mut frames: Vec<Frame<P::Kept>> = Vec::new(alloc);
+    let mut next = 0;
+    'walk: loop {
+        match pop_over(&mut frames, next) {
+            Some(kept) => {
+                P::leave(alloc, kept, state)?;
+                meter.left += 1;
+            }
+            None => {
+                if next == nodes.len() {
+                    return Ok(());
+                }
+                let node = &nodes[next];
+                let kept = P::enter(alloc, &node.kind, state)?;
+                let end = next + node.size;
+                frames.push(Frame { end, kept })?;
+                meter.entered += 1;
+                meter.frames = meter.frames.max(frames.len());
+                next += 1;
+            }
+        }
+    }
+}
+
+#[cfg(test)]
+mod tests;

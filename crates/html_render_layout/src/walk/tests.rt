@@ -1,0 +1,130 @@
+ghost use Rattle.std.specs.Prelude.{◌≡◌, ◌∷◌, [], ◌++◌, Some, None, OnOk, IfErr, nat_eq, refl, if◌then◌else◌};
+
+use super::*;
+use crate::tree::Builder;
+use std::marker::Model;
+use std::test::Fail;
+
+// the numbers of the nodes, as they are entered and left
+#[derive(Drop)]
+struct Trace {
+    steps: Vec<u32>,
+}
+
+impl Model for Trace {
+    ghost use Rattle.std.specs.Prelude.{List, ℕ};
+
+    ghost Value = { List ℕ };
+
+    ghost view = { λ t. t.steps.items };
+}
+
+impl Trace {
+    fn push(&mut self, step: u32) -> Result<(), Error>
+        ensures ok { OnOk result (self.new ≡ self.old ++ step ∷ []) }
+        ensures err { IfErr result (λ e. e ≡ Error.OutOfMemory) }
+    {
+        self.steps.push(step)?;
+        Ok(())
+    }
+}
+
+// a node 0 refuses
+struct Tracing;
+
+impl Pass for Tracing {
+    type Node = u32;
+
+    type State = Trace;
+
+    type Kept = u32;
+
+    ghost meaning = { record { entered = λ k s. if nat_eq k 0 then None else Some (s ++ k ∷ []); left = λ k s r. Some (r ++ k ∷ []) } };
+
+    ghost kept_of = { λ k s. k };
+
+    ghost leaves = { λ k r. Some (r ++ k ∷ []) };
+
+    ghost leaves_kept = { λ k s r. refl };
+
+    fn enter(_alloc: Global, node: &u32, state: &mut Trace) -> Result<u32, Error> {
+        if *node == 0 {
+            return Err(Error::TooNarrow);
+        }
+        state.push(*node)?;
+        Ok(*node)
+    }
+
+    fn leave(_alloc: Global, kept: u32, state: &mut Trace) -> Result<(), Error> {
+        state.push(kept)?;
+        Ok(())
+    }
+}
+
+// 1 over 2, which is over 3 and 4; and 5 beside 1, where a node over 4 was taken back
+fn sample(alloc: Global) -> Result<Flat<u32>, Error> {
+    let mut builder = Builder::new(alloc);
+    builder.put(5)?;
+    let five = builder.len();
+    builder.put(4)?;
+    builder.put(3)?;
+    builder.truncate(five);
+    builder.put(4)?;
+    builder.put(3)?;
+    builder.enclose(2, five)?;
+    builder.enclose(1, five)?;
+    Ok(builder.finish())
+}
+
+fn meter() -> Meter {
+    Meter {
+        probes: 7,
+        entered: 8,
+        left: 9,
+        frames: 10,
+    }
+}
+
+#[test]
+fn goes_through_a_tree(rt: HostRuntime) -> Result<(), Fail> {
+    let alloc = rt.alloc();
+    let forest = sample(alloc)?;
+    let mut state = Trace {
+        steps: Vec::new(alloc),
+    };
+    let mut meter = meter();
+    walk::<Tracing>(alloc, &forest, &mut state, &mut meter)?;
+    let steps = [1, 2, 3, 3, 4, 4, 2, 1, 5, 5];
+    assert_eq!(rt; state.steps.as_slice(), steps.as_slice());
+    let counted = Meter {
+        probes: 7,
+        entered: 5,
+        left: 5,
+        frames: 3,
+    };
+    assert_eq!(rt; meter, counted);
+    Ok(())
+}
+
+#[test]
+fn counts_where_it_refuses(rt: HostRuntime) -> Result<(), Fail> {
+    let alloc = rt.alloc();
+    let mut builder = Builder::new(alloc);
+    builder.put(0)?;
+    builder.put(1)?;
+    let forest = builder.finish();
+    let mut state = Trace {
+        steps: Vec::new(alloc),
+    };
+    let mut meter = meter();
+    let outcome = walk::<Tracing>(alloc, &forest, &mut state, &mut meter);
+    assert_eq!(rt; outcome, Err(Error::TooNarrow));
+    let counted = Meter {
+        probes: 7,
+        entered: 1,
+        left: 1,
+        frames: 1,
+    };
+    assert_eq!(rt; meter, counted);
+    Ok(())
+}
