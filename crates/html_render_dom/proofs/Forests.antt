@@ -1,7 +1,6 @@
 -- The edits keep the forest.
 use Rattle.std.proofs.Common.{◌≡◌, ◌≢◌, ℕ, zero, suc, ◌<◌, ◌≤◌, ◌+◌, ◌-◌, Bool, true, false, if◌then◌else◌, List, [], ◌∷◌, ◌++◌, length, slice_set, Option, Some, None, Contains, nat_eq, ◌⊎◌, inl, inr, ltb, refl, sym, ap, ◌∙◌, subst, arith, length-append}
 use Rattle.std.specs.List.{IsDistinct}
-
 use Rattle.std.proofs.lemmas.Bool.{cases_Bool}
 use Rattle.std.proofs.lemmas.Bool.Decides.{eqb_tells}
 use Rattle.std.proofs.lemmas.Cmp.{nat_eq_equiv}
@@ -28,8 +27,8 @@ elsewhere f nodes i n h other = ap f (get_or-set_other nodes i h n (lone documen
 pub kept : {X : Type 0} (f : Node → X) (nodes : List Node) (i : ℕ) (n : Node) → i < length nodes → f n ≡ f (node_in nodes i) → (h : ℕ) → f (node_in (slice_set nodes i n) h) ≡ f (node_in nodes h)
 kept f nodes i n at same h =
     elim (eqb_tells h i) [
-      inl e ↦ rw e.1 (there f nodes i n at ∙ same)
-    | inr d ↦ elsewhere f nodes i n h d.1
+      | inl e ↦ rw e.1 (there f nodes i n at ∙ same)
+      | inr d ↦ elsewhere f nodes i n h d.1
     ]
 
 some_same : (a b : ℕ) → Some a ≡ Some b → a ≡ b
@@ -80,8 +79,8 @@ module _ {old new : Dom} (s : SameShape old new) where
     parent_lists_child = λ p c e. rw s.children (f.parent_lists_child p c (rw s.parents at e));
     once = λ p. rw s.children (f.once p);
     finite = λ h at. elim (below_or_not h (node_count old)) [
-      inl lt ↦ (let t = f.finite h lt in Stands-same_shape t.0 (h ∷ []) t.1)
-    | inr ge ↦ (node (content_at new h) none none, (at, refl, leaf h ge, tt))
+      | inl lt ↦ (let t = f.finite h lt in Stands-same_shape t.0 (h ∷ []) t.1)
+      | inr ge ↦ (node (content_at new h) none none, (at, refl, leaf h ge, tt))
     ];
   }
 
@@ -133,18 +132,18 @@ module _ {old new : Dom} {p c : ℕ} (a : AddsChild old new p c) where
       let below = Stands-grafted u g kids (children_at old x) h.2 in
       let after = Stands-grafted u g beside hs h.3 in
       elim (eqb_tells x p) [
-        inl e ↦ (let list : children_at new x ≡ children_at old x ++ c ∷ [] = rw e.1 a.list_there in
-          (node k (followed_by below.0 u) after.0, (n, a.contents x ∙ h.1, rw list (Stands-append new below.0 u (children_at old x) (c ∷ []) below.1 g), after.1)))
-      | inr d ↦ (node k below.0 after.0, (n, a.contents x ∙ h.1, rw (a.lists_elsewhere x d.1) below.1, after.1))
+        | inl e ↦ (let list : children_at new x ≡ children_at old x ++ c ∷ [] = rw e.1 a.list_there in
+            (node k (followed_by below.0 u) after.0, (n, a.contents x ∙ h.1, rw list (Stands-append new below.0 u (children_at old x) (c ∷ []) below.1 g), after.1)))
+        | inr d ↦ (node k below.0 after.0, (n, a.contents x ∙ h.1, rw (a.lists_elsewhere x d.1) below.1, after.1))
       ]
 
   -- a child in a new list is an old one, or c under p
   listed : (q x : ℕ) → Contains (children_at new q) x → Contains (children_at old q) x ⊎ ((q ≡ p) × (c ≡ x))
   listed q x m =
       elim (eqb_tells q p) [
-        inl e ↦ (let old_or_c = Contains-push_cases (children_at old p) c x (rw (e.1, a.list_there) at m) in
-          elim old_or_c [ inl l ↦ inl (rw e.1 l) | inr l ↦ inr (e.1, l) ])
-      | inr d ↦ inl (rw (a.lists_elsewhere q d.1) at m)
+        | inl e ↦ (let old_or_c = Contains-push_cases (children_at old p) c x (rw (e.1, a.list_there) at m) in
+            elim old_or_c [ inl l ↦ inl (rw e.1 l) | inr l ↦ inr (e.1, l) ])
+        | inr d ↦ inl (rw (a.lists_elsewhere q d.1) at m)
       ]
 
   -- a node in a list has a parent, so it isn't c
@@ -156,8 +155,8 @@ module _ {old new : Dom} {p c : ℕ} (a : AddsChild old new p c) where
   still f q x e =
       let m = f.parent_lists_child q x e in
       elim (eqb_tells q p) [
-        inl same ↦ rw (same.1, a.list_there) (Contains-append_left (children_at old p) (c ∷ []) x (rw same.1 at m))
-      | inr d ↦ rw (a.lists_elsewhere q d.1) m
+        | inl same ↦ rw (same.1, a.list_there) (Contains-append_left (children_at old p) (c ∷ []) x (rw same.1 at m))
+        | inr d ↦ rw (a.lists_elsewhere q d.1) m
       ]
 
   pub IsForest-attached : IsForest old → IsNode old p → IsNode old c → parent_at old c ≡ None → (IsInclusiveAncestor old c p → ⊥) → IsForest new
@@ -168,20 +167,20 @@ module _ {old new : Dom} {p c : ℕ} (a : AddsChild old new p c) where
         has_document = omega (arith, f.has_document, a.count);
         document_content = a.contents 0 ∙ f.document_content;
         child_is_node = λ q x m. elim (listed q x m) [
-          inl l ↦ omega (arith, f.child_is_node q x l, a.count)
-        | inr l ↦ omega (arith, l.1, at_c, a.count)
+          | inl l ↦ omega (arith, f.child_is_node q x l, a.count)
+          | inr l ↦ omega (arith, l.1, at_c, a.count)
         ];
         child_names_parent = λ q x m. elim (listed q x m) [
-          inl l ↦ a.parents_elsewhere x (not_c f lone_c q x l) ∙ f.child_names_parent q x l
-        | inr l ↦ rw (l.0, ← l.1) a.parent_there
+          | inl l ↦ a.parents_elsewhere x (not_c f lone_c q x l) ∙ f.child_names_parent q x l
+          | inr l ↦ rw (l.0, ← l.1) a.parent_there
         ];
         parent_lists_child = λ q x e. elim (eqb_tells x c) [
-          inl same ↦ (let q_is : p ≡ q = some_same p q (sym a.parent_there ∙ (rw same.1 at e)) in rw (same.1, ← q_is, a.list_there) (Contains-push (children_at old p) c))
-        | inr d ↦ still f q x (sym (a.parents_elsewhere x d.1) ∙ e)
+          | inl same ↦ (let q_is : p ≡ q = some_same p q (sym a.parent_there ∙ (rw same.1 at e)) in rw (same.1, ← q_is, a.list_there) (Contains-push (children_at old p) c))
+          | inr d ↦ still f q x (sym (a.parents_elsewhere x d.1) ∙ e)
         ];
         once = λ q. elim (eqb_tells q p) [
-          inl same ↦ rw (same.1, a.list_there) (IsDistinct-push nat_eq_equiv (children_at old p) c (f.once p) (any-from_absent (children_at old p) c (λ m. not_c f lone_c p c m refl)))
-        | inr d ↦ rw (a.lists_elsewhere q d.1) (f.once q)
+          | inl same ↦ rw (same.1, a.list_there) (IsDistinct-push nat_eq_equiv (children_at old p) c (f.once p) (any-from_absent (children_at old p) c (λ m. not_c f lone_c p c m refl)))
+          | inr d ↦ rw (a.lists_elsewhere q d.1) (f.once q)
         ];
         finite = λ h at. (let t = f.finite h (omega (arith, at, a.count)) in Stands-grafted own.0 g t.0 (h ∷ []) t.1);
       }
@@ -191,8 +190,8 @@ module _ {old new : Dom} {p c : ℕ} (a : AddsChild old new p c) where
 pub created-kept : {X : Type 0} (f : Node → X) (nodes : List Node) (c : Content) → f (lone c) ≡ f (lone document) → (h : ℕ) → f (node_in (created nodes c) h) ≡ f (node_in nodes h)
 created-kept f nodes c e h =
     elim (below_or_not h (length nodes)) [
-      inl lt ↦ ap f (get_or_append_left nodes (lone c ∷ []) (lone document) h lt)
-    | inr ge ↦ ap f (get_or-append_right nodes (lone c ∷ []) (length nodes) h (lone document) refl ge) ∙ one (h - length nodes) ∙ sym (ap f (get_or_past nodes h (lone document) ge))
+      | inl lt ↦ ap f (get_or_append_left nodes (lone c ∷ []) (lone document) h lt)
+      | inr ge ↦ ap f (get_or-append_right nodes (lone c ∷ []) (length nodes) h (lone document) refl ge) ∙ one (h - length nodes) ∙ sym (ap f (get_or_past nodes h (lone document) ge))
     ]
   where
     one : (k : ℕ) → f (node_in (lone c ∷ []) k) ≡ f (lone document)
@@ -242,10 +241,10 @@ IsForest-extend_text dom now same f h more at nodes e =
       parents = kept (λ x. x.parent) dom.nodes h n in_h refl;
     } in
     let top : content_at (record dom { nodes = slice_set dom.nodes h n }) 0 ≡ document =
-      elim (eqb_tells 0 h) [
-        inl s ↦ ap (λ k. (node_in (slice_set dom.nodes h n) k).content) s.1 ∙ there (λ x. x.content) dom.nodes h n in_h ∙ ap (λ c. joined c more) (ap (content_at dom) (sym s.1) ∙ f.document_content)
+    elim (eqb_tells 0 h) [
+      | inl s ↦ ap (λ k. (node_in (slice_set dom.nodes h n) k).content) s.1 ∙ there (λ x. x.content) dom.nodes h n in_h ∙ ap (λ c. joined c more) (ap (content_at dom) (sym s.1) ∙ f.document_content)
       | inr d ↦ elsewhere (λ x. x.content) dom.nodes h n 0 d.1 ∙ f.document_content
-      ] in
+    ] in
     subst (λ ns. IsForest (record dom { nodes = ns })) (sym e) (IsForest-same_shape shape top f)
 
 pub IsForest-attach_text : (dom now : Dom) → dom ≡ now → IsForest dom → (p : ℕ) (c : Content) (n : ℕ) → n ≡ node_count dom → IsNode now p → (nodes : List Node) → nodes ≡ attached (created dom.nodes c) p n → IsForest (record dom { nodes = nodes })

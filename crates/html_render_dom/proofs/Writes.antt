@@ -36,5 +36,5 @@ attached-created nodes c p at =
     let read : node_in (created nodes c) p ≡ node_in nodes p = get_or_append_left nodes (lone c ∷ []) (lone document) p at in
     let cs = (node_in nodes p).children ++ n ∷ [] in
     let first : with_children (created nodes c) p ((node_in (created nodes c) p).children ++ n ∷ []) ≡ with_children nodes p cs ++ lone c ∷ [] =
-      ap (λ m. slice_set (created nodes c) p (record m { children = m.children ++ n ∷ [] })) read ∙ set-append_left nodes (lone c ∷ []) p (record (node_in nodes p) { children = cs }) at in
+    ap (λ m. slice_set (created nodes c) p (record m { children = m.children ++ n ∷ [] })) read ∙ set-append_left nodes (lone c ∷ []) p (record (node_in nodes p) { children = cs }) at in
     ap (λ ns. with_parent ns n (Some p)) first ∙ last_parent (with_children nodes p cs) c n p (length-set nodes p _)

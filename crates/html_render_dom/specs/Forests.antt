@@ -27,8 +27,8 @@ All-children dom f h xs e k d at = f.child_is_node h _ (rw (← e) (Contains-get
 pub IsNode-above : (dom : Dom) (p c : ℕ) → Contains (children_at dom p) c → IsNode dom p
 IsNode-above dom p c m =
     elim (below_or_not p (node_count dom)) [
-      inl lt ↦ lt
-    | inr ge ↦ absurd (let m' = rw (children_at-past dom p ge) at m in let gone : m'.0 < 0 = m'.1 in omega arith)
+      | inl lt ↦ lt
+      | inr ge ↦ absurd (let m' = rw (children_at-past dom p ge) at m in let gone : m'.0 < 0 = m'.1 in omega arith)
     ]
 
 -- a parent is a node: a child stands in its list
@@ -58,5 +58,6 @@ IsForest-empty dom e = rw e (record {
   where
     alone : (p c : ℕ) → Contains (children_at empty_dom p) c → ⊥
     alone p c m = let m' : Contains [] c = rw (only p) at m in let gone : m'.0 < 0 = m'.1 in omega arith
+
     unnamed : (p c : ℕ) → parent_at empty_dom c ≡ Some p → ⊥
     unnamed p c q = let q' : None ≡ Some p = sym (ap (λ n. n.parent) (only c)) ∙ q in cc

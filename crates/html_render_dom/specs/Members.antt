@@ -17,8 +17,8 @@ Contains-tail x xs y h = Contains-append_right (x ∷ []) xs y h
 pub Contains-cons_cases : {X : Type 0} (x : X) (xs : List X) (y : X) → Contains (x ∷ xs) y → (x ≡ y) ⊎ Contains xs y
 Contains-cons_cases x xs y h =
     elim (Contains-append_cases (x ∷ []) xs y h) [
-      inl a ↦ elim (Contains-push_cases [] x y a) [ inl b ↦ absurd (Contains-nil y b) | inr e ↦ inl e ]
-    | inr b ↦ inr b
+      | inl a ↦ elim (Contains-push_cases [] x y a) [ inl b ↦ absurd (Contains-nil y b) | inr e ↦ inl e ]
+      | inr b ↦ inr b
     ]
 
 -- a number that a test finds stands in the list
@@ -26,8 +26,8 @@ pub Contains-from_any : (xs : List ℕ) (y : ℕ) → list_any (eqb y) xs ≡ tr
 Contains-from_any [] y e = absurd (false≢true e)
 Contains-from_any (x ∷ xs) y e =
     elim (eqb_tells y x) [
-      inl s ↦ rw s.1 (Contains-head x xs)
-    | inr d ↦ Contains-tail x xs y (Contains-from_any xs y (rw d.0 at e))
+      | inl s ↦ rw s.1 (Contains-head x xs)
+      | inr d ↦ Contains-tail x xs y (Contains-from_any xs y (rw d.0 at e))
     ]
 
 pub any-from_absent : (xs : List ℕ) (y : ℕ) → (Contains xs y → ⊥) → list_any (eqb y) xs ≡ false
@@ -38,9 +38,9 @@ pub any-from_Contains : (xs : List ℕ) (y : ℕ) → Contains xs y → list_any
 any-from_Contains [] y h = absurd (Contains-nil y h)
 any-from_Contains (x ∷ xs) y h =
     elim (eqb_tells y x) [
-      inl s ↦ rw s.0 refl
-    | inr d ↦ elim (Contains-cons_cases x xs y h) [
-        inl e ↦ absurd (d.1 (sym e))
-      | inr t ↦ rw d.0 (any-from_Contains xs y t)
+      | inl s ↦ rw s.0 refl
+      | inr d ↦ elim (Contains-cons_cases x xs y h) [
+        | inl e ↦ absurd (d.1 (sym e))
+        | inr t ↦ rw d.0 (any-from_Contains xs y t)
       ]
     ]

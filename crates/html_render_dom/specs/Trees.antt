@@ -40,13 +40,13 @@ one_of dom none (y ∷ hs) x m h = absurd h
 one_of dom (node c kids beside) [] x m h = absurd h
 one_of dom (node c kids beside) (y ∷ hs) x m h =
     elim (Contains-cons_cases y hs x m) [
-      inl e ↦ record {
+      | inl e ↦ record {
         tree = node c kids none;
         stands = subst (λ z. Stands dom (z ∷ []) (node c kids none)) e (h.0, h.1, h.2, tt);
         smaller = omega arith;
         flatter = omega arith;
       }
-    | inr l ↦ (let r = one_of dom beside hs x l h.3 in record { tree = r.tree; stands = r.stands; smaller = omega (arith, r.smaller); flatter = omega (arith, r.flatter) })
+      | inr l ↦ (let r = one_of dom beside hs x l h.3 in record { tree = r.tree; stands = r.stands; smaller = omega (arith, r.smaller); flatter = omega (arith, r.flatter) })
     ]
 
 -- a child's tree is smaller and less deep than its parent's
@@ -88,10 +88,14 @@ way_down : (dom : Dom) → IsForest dom → (up hs : List ℕ) (x : ℕ) → IsN
 way_down dom f up hs x at m w = record {
   distinct = IsDistinct-push nat_eq_equiv up x w.distinct (any-from_absent up x (λ l. let o = w.over x m x l in IsInclusiveAncestor-no_loop dom f x o.0 o.1 o.2));
   nodes = λ q l. elim (Contains-push_cases up x q l) [ inl o ↦ w.nodes q o | inr e ↦ subst (IsNode dom) e at ];
-  over = λ h l q u. (x, f.child_names_parent x h l, elim (Contains-push_cases up x q u) [
-    inl o ↦ (let v = w.over x m q o in above v.0 v.1 v.2)
-  | inr e ↦ subst (λ z. IsInclusiveAncestor dom z x) e itself
-  ]);
+  over = λ h l q u. (
+    x,
+    f.child_names_parent x h l,
+    elim (Contains-push_cases up x q u) [
+      | inl o ↦ (let v = w.over x m q o in above v.0 v.1 v.2)
+      | inr e ↦ subst (λ z. IsInclusiveAncestor dom z x) e itself
+    ],
+  );
 }
 
 way_tail : (dom : Dom) (up hs : List ℕ) (x : ℕ) → Way dom up (x ∷ hs) → Way dom up hs

@@ -10,6 +10,8 @@ mod handles;
 mod names;
 mod nodes;
 mod settings;
+#[cfg(test)]
+mod tests;
 
 pub use contents::{NodeData, NodeOrText};
 pub use documents::RcDom;

@@ -150,9 +150,9 @@ module _ (dom : Dom) (f : IsForest dom) where
         let in_children : n < length children = omega (arith, ahead, ap (λ (e : Open). e.ahead) same.1, sound.1, ap (λ (e : Open). length (children_at dom e.handle)) same.1) in
         let last : remaining dom o ≡ remaining dom shorter ++ h ∷ [] = ap (λ k. take k children) ahead ∙ take-suc children n h in_children ∙ ap (λ c. take n children ++ c ∷ []) (sym at) in
         let trees : still dom o ≡ followed_by (still dom shorter) (converted (tree_of dom h)) =
-            ap (λ hs. converted (trees_of dom hs)) last
-            ∙ ap converted (trees_of-append dom (remaining dom shorter) (h ∷ []))
-            ∙ converted-followed_by (trees_of dom (remaining dom shorter)) (tree_of dom h) in
+        ap (λ hs. converted (trees_of dom hs)) last
+        ∙ ap converted (trees_of-append dom (remaining dom shorter) (h ∷ []))
+        ∙ converted-followed_by (trees_of dom (remaining dom shorter)) (tree_of dom h) in
         record {
           path = (shorter, x.1) ∷ path;
           nodes = nodes;
@@ -188,8 +188,7 @@ module _ (dom : Dom) (f : IsForest dom) where
     close_at (x ∷ path) nodes ahead elements_are built_is result sound =
         let same = same_from_push elements (elements_of path) o x.0 elements_are in
         let s : SplitAt built o.mark = record { children = nodes; beside = outside (x ∷ path); is = built_is; mark_is = ap (λ (e : Open). e.mark) same.1 ∙ sound.2 } in
-        let over : still dom o ≡ none = ap (λ k. converted (trees_of dom (take k (children_at dom o.handle)))) ahead in
-        (
+        let over : still dom o ≡ none = ap (λ k. converted (trees_of dom (take k (children_at dom o.handle)))) ahead in (
           s,
           record {
             path = path;
@@ -265,14 +264,16 @@ work-child dom f elements o n h r built is ahead in_children at =
     let children = children_at dom o.handle in
     let shorter : Open = record o { ahead = n } in
     let last : remaining dom o ≡ take n children ++ h ∷ [] = ap (λ k. take k children) ahead ∙ take-suc children n h in_children ∙ ap (λ c. take n children ++ c ∷ []) (sym at) in
-    omega (arith,
+    omega (
+      arith,
       work-met dom h (record { open_elements = elements ++ shorter ∷ []; made_nodes = built }) r,
       work-append dom elements (shorter ∷ []),
       work-append dom elements (o ∷ []),
       ap (λ hs. count (trees_of dom hs)) last,
       ap count (trees_of-append dom (take n children) (h ∷ [])),
       count-followed_by (trees_of dom (take n children)) (tree_of dom h),
-      ap count (below-children dom f h is))
+      ap count (below-children dom f h is),
+    )
 
 -- ---- an element that is closed
 

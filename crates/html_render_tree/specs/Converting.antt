@@ -24,7 +24,8 @@ met dom handle (Parent kind if_empty) p = record p {
     mark = count p.made_nodes;
     kind = kind;
     if_empty = if_empty;
-  } ∷ [] }
+  } ∷ [];
+}
 
 abbrev pub progress : Vec Open Global → Forest NodeKind → Progress
 progress opened built = record { open_elements = opened.items; made_nodes = built }

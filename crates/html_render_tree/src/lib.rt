@@ -7,8 +7,6 @@ pub mod convert;
 mod rules;
 mod script;
 
-pub use html_render_dom::Error;
-pub use html_render_dom::dom;
+pub use html_render_dom::{Error, dom};
 pub use html_render_layout::tree;
-pub use html_render_parts::decorate;
-pub use html_render_parts::widths;
+pub use html_render_parts::{decorate, widths};

@@ -15,9 +15,13 @@ pub enum NodeData {
         system_id: String,
     },
     /// A text.
-    Text { contents: String },
+    Text {
+        contents: String,
+    },
     /// A comment.
-    Comment { contents: String },
+    Comment {
+        contents: String,
+    },
     /// An element.
     Element {
         name: QualName,
@@ -29,7 +33,10 @@ pub enum NodeData {
         mathml_annotation_xml_integration_point: bool,
     },
     /// A processing instruction.
-    ProcessingInstruction { target: String, contents: String },
+    ProcessingInstruction {
+        target: String,
+        contents: String,
+    },
 }
 
 /// What is put into a list of children.

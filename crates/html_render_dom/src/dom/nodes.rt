@@ -61,7 +61,12 @@ pub fn extend_text(nodes: &mut Vec<Node>, node: Handle, more: &str) -> Result<()
 }
 
 /// Makes a text node of the next number, the parent's last child.
-pub fn attach_text(alloc: Global, nodes: &mut Vec<Node>, parent: Handle, contents: String) -> Result<(), AllocError>
+pub fn attach_text(
+    alloc: Global,
+    nodes: &mut Vec<Node>,
+    parent: Handle,
+    contents: String,
+) -> Result<(), AllocError>
     requires { parent < vec_len nodes.old }
     ensures len { OnOk result (vec_len nodes.new ≡ vec_len nodes.old + 1) }
     ensures ok { OnOk result (map node_of nodes.new.items
@@ -102,7 +107,13 @@ pub fn attach(nodes: &mut Vec<Node>, parent: Handle, child: Handle) -> Result<()
 }
 
 /// Makes an element of the next number; a template's contents have the number after it.
-pub fn push_element(alloc: Global, nodes: &mut Vec<Node>, name: QualName, attrs: Vec<Attribute>, flags: ElementFlags) -> Result<(), AllocError>
+pub fn push_element(
+    alloc: Global,
+    nodes: &mut Vec<Node>,
+    name: QualName,
+    attrs: Vec<Attribute>,
+    flags: ElementFlags,
+) -> Result<(), AllocError>
     ensures ok { OnOk result (map node_of nodes.new.items
         ≡ element_created (map node_of nodes.old.items) (name_of name) (map property_of attrs.items) flags) }
     ensures err { OnErr result (map node_of nodes.new.items ≡ map node_of nodes.old.items) }

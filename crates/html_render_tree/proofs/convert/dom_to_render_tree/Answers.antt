@@ -13,7 +13,7 @@ converting-init c =
     let f = c.get_document.ensures.forest in
     let p : Progress = record { open_elements = c.new-open.result.items; made_nodes = c.new-builder.result } in
     let m : Meeting dom (render_tree_of dom) c.get_document.result p.open_elements p.made_nodes =
-        rw (c.get_document.ensures.document, c.new-open.ensures.items, c.new-builder.ensures) (Meeting-start dom f.has_document) in
+    rw (c.get_document.ensures.document, c.new-open.ensures.items, c.new-builder.ensures) (Meeting-start dom f.has_document) in
     subst (λ (q : Progress). Converting dom (render_tree_of dom) q.open_elements q.made_nodes) (sym c.in_ok-meet.ensures.ok) (Meeting-met dom f (render_tree_of dom) c.get_document.result p m)
 
 pub returns-in_default-clause-ok : goal.returns-in_default-clause-ok
@@ -58,7 +58,7 @@ bounds-child_list-element c = rw c.child_list.ensures.list (within (goal.at.boun
 pub offset_bounds-child_list-element : goal.offset_bounds-child_list-element
 offset_bounds-child_list-element c =
     let below : c.in-Some.element.ahead - 1 < length c.child_list.result.now =
-        rw c.child_list.ensures.list (within (goal.at.offset_bounds-child_list-element c).In-Some c.if-element-eq0.false) in
+    rw c.child_list.ensures.list (within (goal.at.offset_bounds-child_list-element c).In-Some c.if-element-eq0.false) in
     omega (arith, c.child_list.type_inv)
 
 met-child : (c : In-Some) (h : ℕ) → c.in-Some.element.ahead ≢ 0 →
@@ -92,8 +92,8 @@ converting-smaller c =
     let m = met-child (goal.at.converting-smaller c).In-Some h c.if-element-eq0.false at in
     let ahead : o.ahead ≡ suc (o.ahead - 1) = omega (arith, c.if-element-eq0.false) in
     let less = work-child dom c.get_document.ensures.forest c.pop.new.self.items o (o.ahead - 1) h (rule_of (content_at dom h)) c.converting.builder m.is_node ahead
-        (within (goal.at.converting-smaller c).In-Some c.if-element-eq0.false) at in
+    (within (goal.at.converting-smaller c).In-Some c.if-element-eq0.false) at in
     let after : c.meet-else-element-eq0.new.open.items ≡ (met dom h (rule_of (content_at dom h)) (record { open_elements = c.pop.new.self.items ++ record o { ahead = o.ahead - 1 } ∷ []; made_nodes = c.converting.builder })).open_elements =
-        ap (λ (q : Progress). q.open_elements) c.in_ok-meet-2.ensures.ok
-        ∙ ap (λ es. (met dom h (rule_of (content_at dom h)) (record { open_elements = es; made_nodes = c.converting.builder })).open_elements) c.in_ok-push.ensures.items in
+    ap (λ (q : Progress). q.open_elements) c.in_ok-meet-2.ensures.ok
+    ∙ ap (λ es. (met dom h (rule_of (content_at dom h)) (record { open_elements = es; made_nodes = c.converting.builder })).open_elements) c.in_ok-push.ensures.items in
     omega (arith, less, ap (work dom) after, ap (work dom) c.in-Some.ensures.items)

@@ -16,5 +16,5 @@ returns-clause-ok c =
     let child : c.new-child.result ≡ length old = omega (arith, len, c.reserve.ensures.len, c.len.ensures, c.new-child.ensures) in
     let at : parent < length old = omega (arith, len, c.requires) in
     let pushed : map node_of c.push_child.new.nodes.items ≡ with_children old parent ((node_in old parent).children ++ length old ∷ []) =
-      rw (c.reserve.ensures.items, child) at c.in_ok-push_child.ensures.ok in
+    rw (c.reserve.ensures.items, child) at c.in_ok-push_child.ensures.ok in
     rw (c.in_ok-push.ensures.items, map-append, pushed, len, c.new.ensures.items) (sym (attached-created old (text (string_bytes c.args.contents)) parent at))

@@ -26,11 +26,16 @@ loop-ancestor-preserved c =
     let e : parent_at dom at ≡ Some p = sym (ap (λ n. n.parent) c.entry.ensures.node) ∙ c.in-Some.is in
     let in_p : IsNode dom p = IfSome-parent dom f at (Some p) (sym e) in
     let other : at ≢ c.args.ancestor = search rules in
-    let kept = c.loop-ancestor.invariant.1 in
-    (in_p, (λ up. elim (IsInclusiveAncestor-cases dom c.args.ancestor at (kept.0 up)) [
-      inl same ↦ absurd (other (sym same))
-    | inr r ↦ some_is dom c.args.ancestor at p e r
-    ], λ up. kept.1 (above p e up)))
+    let kept = c.loop-ancestor.invariant.1 in (
+      in_p,
+      (
+        λ up. elim (IsInclusiveAncestor-cases dom c.args.ancestor at (kept.0 up)) [
+          | inl same ↦ absurd (other (sym same))
+          | inr r ↦ some_is dom c.args.ancestor at p e r
+        ],
+        λ up. kept.1 (above p e up),
+      ),
+    )
 
 pub returns : goal.returns
 returns c =

@@ -1,0 +1,74 @@
+use super::{
+    Attribute, ElementFlags, Handle, Namespace, NodeData, NodeOrText, QualName, QuirksMode, RcDom,
+};
+use crate::Error;
+use std::alloc::{AllocError, Global};
+use std::test::Fail;
+
+fn string(alloc: Global, text: &str) -> Result<String, AllocError> {
+    String::from_str(alloc, text)
+}
+
+fn html_name(alloc: Global, local: &str) -> Result<QualName, AllocError> {
+    Ok(QualName::html(string(alloc, local)?))
+}
+
+/// The text of a text node, and the local name of an element.
+fn label<'a>(dom: &'a RcDom, node: Handle) -> &'a str {
+    if !dom.is_node(node) {
+        return "none";
+    }
+    match dom.data(node) {
+        NodeData::Text { contents } => contents.as_str(),
+        NodeData::Element { name, .. } => name.local.as_str(),
+        _ => "",
+    }
+}
+
+#[test]
+fn a_new_document_is_alone(rt: HostRuntime) -> Result<(), Fail> {
+    let dom = RcDom::new(rt.alloc())?;
+    let document = dom.get_document();
+    assert!(rt; matches!(dom.data(document), NodeData::Document));
+    assert!(rt; dom.child_list(document).is_empty());
+    assert_eq!(rt; dom.get_parent(document), None);
+    assert!(rt; !dom.is_element(document));
+    Ok(())
+}
+
+#[test]
+fn appended_nodes_and_texts_stand_in_order(rt: HostRuntime) -> Result<(), Fail> {
+    let alloc = rt.alloc();
+    let mut dom = RcDom::new(alloc)?;
+    let document = dom.get_document();
+    let body = dom.create_element(
+        alloc,
+        html_name(alloc, "body")?,
+        Vec::new(alloc),
+        ElementFlags::default(),
+    )?;
+    dom.append(alloc, document, NodeOrText::AppendNode(body))?;
+    dom.append(alloc, body, NodeOrText::AppendText(string(alloc, "a")?))?;
+    dom.append(alloc, body, NodeOrText::AppendText(string(alloc, "b")?))?;
+    let em = dom.create_element(
+        alloc,
+        html_name(alloc, "em")?,
+        Vec::new(alloc),
+        ElementFlags::default(),
+    )?;
+    dom.append(alloc, body, NodeOrText::AppendNode(em))?;
+    dom.append(alloc, body, NodeOrText::AppendText(string(alloc, "c")?))?;
+    assert_eq!(rt; dom.child_list(document), [body].as_slice());
+    let children = dom.children(alloc, body)?;
+    assert_eq!(rt; children.len(), 3);
+    assert_eq!(rt; label(&dom, children[0]), "ab");
+    assert_eq!(rt; label(&dom, children[1]), "em");
+    assert_eq!(rt; label(&dom, children[2]), "c");
+    assert_eq!(rt; children[1], em);
+    assert!(rt; dom.has_parent(em));
+    assert!(rt; dom.is_element(em));
+    assert!(rt; dom.is_inclusive_ancestor(document, em));
+    assert!(rt; dom.is_inclusive_ancestor(em, em));
+    assert!(rt; !dom.is_inclusive_ancestor(em, body));
+    Ok(())
+}
