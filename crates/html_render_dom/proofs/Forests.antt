@@ -1,18 +1,16 @@
 -- The edits keep the forest.
-use Rattle.std.proofs.Common.{◌≡◌, ◌≢◌, ℕ, zero, suc, ◌<◌, ◌≤◌, ◌+◌, ◌-◌, Bool, true, false, if◌then◌else◌, List, [], ◌∷◌, ◌++◌, length, slice_set, Option, Some, None, Contains, nat_eq, ◌⊎◌, inl, inr, ltb, refl, sym, ap, ◌∙◌, subst, arith, length-append}
-use Rattle.std.specs.List.{IsDistinct}
-use Rattle.std.proofs.lemmas.Bool.{cases_Bool}
+use Rattle.std.proofs.Common.{◌≡◌, ◌≢◌, ℕ, zero, suc, ◌<◌, ◌≤◌, ◌+◌, ◌-◌, Bool, true, false, if◌then◌else◌, List, [], ◌∷◌, ◌++◌, length, slice_set, Option, Some, None, IfSome, Contains, ◌⊎◌, inl, inr, refl, sym, ap, ◌∙◌, subst, arith, length-append}
 use Rattle.std.proofs.lemmas.Bool.Decides.{eqb_tells}
 use Rattle.std.proofs.lemmas.Cmp.{nat_eq_equiv}
 use Rattle.std.proofs.lemmas.List.{get_or-set_same, get_or-set_other, length-set, get_or_past, get_or_append_left, get_or-append_right}
 use Rattle.std.proofs.lemmas.List.Elements.{Contains-push, Contains-push_cases, Contains-append_left}
 use Rattle.std.proofs.lemmas.Map.Keys.{IsDistinct-push}
-use Rattle.html_render_dom.specs.Content.{Content, Name, Property, document, doctype, text, comment, element, instruction}
+use Rattle.html_render_dom.specs.Content.{Content, Name, Property, document, text, element}
 use Rattle.html_render_dom.specs.declared.dom.settings.ElementFlags.{ElementFlags}
 use Rattle.html_render_dom.specs.Forest.{Forest, none, node, followed_by}
 use Rattle.html_render_dom.specs.Dom.{Node, Dom, lone, node_in, node_count, IsNode, content_at, children_at, parent_at, IsInclusiveAncestor, itself, above, Stands, IsForest}
 use Rattle.html_render_dom.specs.Forests.{below_or_not, children_at-past, parent_at-past, IfSome-parent}
-use Rattle.html_render_dom.specs.Edits.{with_content, with_children, with_parent, attached, created, joined, element_created, IsFresh}
+use Rattle.html_render_dom.specs.Edits.{with_content, with_children, attached, created, joined, element_created, text_put, IsFresh}
 use Rattle.html_render_dom.specs.Members.{Contains-nil, Contains-head, Contains-tail, Contains-cons_cases, any-from_absent}
 
 -- ---- what stands at a node after a write
@@ -231,7 +229,7 @@ IsForest-append_node dom now same f p c at_p can nodes e =
     let can' = subst (λ d. IsNode d c × (parent_at d c ≡ None) × ¬ IsInclusiveAncestor d c p) (sym same) can in
     subst (λ ns. IsForest (record dom { nodes = ns })) (sym e) (IsForest-attached (attached-adds dom p c in_p can'.0) f in_p can'.0 can'.1 can'.2)
 
-pub IsForest-extend_text : (dom now : Dom) → dom ≡ now → IsForest dom → (h : ℕ) (more : List ℕ) → IsNode now h → (nodes : List Node) → nodes ≡ with_content dom.nodes h (joined (content_at dom h) more) → IsForest (record dom { nodes = nodes })
+IsForest-extend_text : (dom now : Dom) → dom ≡ now → IsForest dom → (h : ℕ) (more : List ℕ) → IsNode now h → (nodes : List Node) → nodes ≡ with_content dom.nodes h (joined (content_at dom h) more) → IsForest (record dom { nodes = nodes })
 IsForest-extend_text dom now same f h more at nodes e =
     let in_h : IsNode dom h = subst (λ d. IsNode d h) (sym same) at in
     let n = record (node_in dom.nodes h) { content = joined (content_at dom h) more } in
@@ -247,15 +245,19 @@ IsForest-extend_text dom now same f h more at nodes e =
     ] in
     subst (λ ns. IsForest (record dom { nodes = ns })) (sym e) (IsForest-same_shape shape top f)
 
-pub IsForest-attach_text : (dom now : Dom) → dom ≡ now → IsForest dom → (p : ℕ) (c : Content) (n : ℕ) → n ≡ node_count dom → IsNode now p → (nodes : List Node) → nodes ≡ attached (created dom.nodes c) p n → IsForest (record dom { nodes = nodes })
-IsForest-attach_text dom now same f p c n next at nodes e =
+IsForest-attach_text : (dom now : Dom) → dom ≡ now → IsForest dom → (p : ℕ) (c : Content) → IsNode now p → (nodes : List Node) → nodes ≡ attached (created dom.nodes c) p (length dom.nodes) → IsForest (record dom { nodes = nodes })
+IsForest-attach_text dom now same f p c at nodes e =
     let in_p : IsNode dom p = subst (λ d. IsNode d p) (sym same) at in
     let mid = record dom { nodes = created dom.nodes c } in
     let count = length-append dom.nodes (lone c ∷ []) in
     let fresh = IsFresh-next (created-shape dom c) f (omega (arith, count)) in
     let mid_p : IsNode mid p = omega (arith, count, in_p) in
     let g = IsForest-attached (attached-adds mid p (node_count dom) mid_p fresh.is_node) (IsForest-created dom c f) mid_p fresh.is_node fresh.no_parent (fresh.above_none p in_p) in
-    subst (λ ns. IsForest (record dom { nodes = ns })) (sym (rw next at e)) g
+    subst (λ ns. IsForest (record dom { nodes = ns })) (sym e) g
+
+pub IsForest-put_text : (dom now : Dom) → dom ≡ now → IsForest dom → (p : ℕ) → IsNode now p → (before : Option ℕ) → IfSome before (IsNode now) → (more : List ℕ) (nodes : List Node) → nodes ≡ text_put dom.nodes p before more → IsForest (record dom { nodes = nodes })
+IsForest-put_text dom now same f p at None is more nodes e = IsForest-attach_text dom now same f p (text more) at nodes e
+IsForest-put_text dom now same f p at (Some h) is more nodes e = IsForest-extend_text dom now same f h more is nodes e
 
 shape-trans : {a b c : Dom} → SameShape a b → SameShape b c → SameShape a c
 shape-trans s t = record {

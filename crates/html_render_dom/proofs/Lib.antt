@@ -1,2 +1,3 @@
 pub mod Forests
+pub mod Outcomes
 pub mod Writes

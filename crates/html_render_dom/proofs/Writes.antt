@@ -1,6 +1,6 @@
 -- A write to one node of the vector, as an edit of the nodes that it stands for.
-use Rattle.std.proofs.Common.{◌≡◌, ℕ, ◌<◌, ◌-◌, List, [], ◌∷◌, ◌++◌, length, map, slice_set, slice_index_or, Option, Some, sym, ap, ◌∙◌, arith}
-use Rattle.std.proofs.lemmas.List.{map-set, get_or-map, set-get_or, length-set, get_or_append_left, get_or-append_right, set-append_left, set-append_right}
+use Rattle.std.proofs.Common.{◌≡◌, ℕ, ◌<◌, List, [], ◌∷◌, ◌++◌, length, map, slice_set, slice_index_or, Some, sym, ap, ◌∙◌}
+use Rattle.std.proofs.lemmas.List.{map-set, get_or-map, set-get_or, get_or_append_left, set-append_left}
 use Rattle.html_render_dom.specs.declared.dom.nodes.Node.{Node}
 use Rattle.html_render_dom.specs.Content.{Content, document}
 use Rattle.html_render_dom.specs.Dom as dom
@@ -21,20 +21,12 @@ written items i n m h e change q =
 pub written-same : (items : List Node) (i : ℕ) (n m : Node) → i < length items → n ≡ slice_index_or items i n → node_of m ≡ node_of n → map node_of (slice_set items i m) ≡ map node_of items
 written-same items i n m h e q = written items i n m h e (λ x. x) q ∙ set-get_or (map node_of items) i (lone document)
 
-last_parent : (nodes : List dom.Node) (c : Content) (n p : ℕ) → length nodes ≡ n → with_parent (nodes ++ lone c ∷ []) n (Some p) ≡ nodes ++ record { content = c; children = []; parent = Some p } ∷ []
-last_parent nodes c n p e =
-    let read : node_in (nodes ++ lone c ∷ []) n ≡ lone c = get_or-append_right nodes (lone c ∷ []) n n (lone document) e (omega arith) ∙ ap (λ k. node_in (lone c ∷ []) k) (sub_self n) in
-    ap (λ m. slice_set (nodes ++ lone c ∷ []) n (record m { parent = Some p })) read ∙ set-append_right nodes (lone c ∷ []) n n _ e (omega arith) ∙ ap (λ k. nodes ++ slice_set (lone c ∷ []) k (record (lone c) { parent = Some p })) (sub_self n)
-  where
-    sub_self : (n : ℕ) → n - n ≡ 0
-    sub_self n = omega arith
-
--- a new node as the last child of an older one
-pub attached-created : (nodes : List dom.Node) (c : Content) (p : ℕ) → p < length nodes → attached (created nodes c) p (length nodes) ≡ with_children nodes p ((node_in nodes p).children ++ length nodes ∷ []) ++ record { content = c; children = []; parent = Some p } ∷ []
+-- a new node as the last child of an older one, whose list is written first
+pub attached-created : (nodes : List dom.Node) (c : Content) (p : ℕ) → p < length nodes → attached (created nodes c) p (length nodes) ≡ with_parent (created (with_children nodes p ((node_in nodes p).children ++ length nodes ∷ [])) c) (length nodes) (Some p)
 attached-created nodes c p at =
     let n = length nodes in
     let read : node_in (created nodes c) p ≡ node_in nodes p = get_or_append_left nodes (lone c ∷ []) (lone document) p at in
     let cs = (node_in nodes p).children ++ n ∷ [] in
-    let first : with_children (created nodes c) p ((node_in (created nodes c) p).children ++ n ∷ []) ≡ with_children nodes p cs ++ lone c ∷ [] =
+    let first : with_children (created nodes c) p ((node_in (created nodes c) p).children ++ n ∷ []) ≡ created (with_children nodes p cs) c =
     ap (λ m. slice_set (created nodes c) p (record m { children = m.children ++ n ∷ [] })) read ∙ set-append_left nodes (lone c ∷ []) p (record (node_in nodes p) { children = cs }) at in
-    ap (λ ns. with_parent ns n (Some p)) first ∙ last_parent (with_children nodes p cs) c n p (length-set nodes p _)
+    ap (λ ns. with_parent ns n (Some p)) first

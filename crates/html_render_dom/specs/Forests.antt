@@ -1,13 +1,13 @@
 -- What holds of every forest.
-use Rattle.std.specs.Prelude.{◌≡◌, ℕ, zero, suc, ◌<◌, ◌≤◌, List, [], ◌∷◌, length, Option, Some, None, IfSome, All, Contains, nat_eq}
+use Rattle.std.specs.Prelude.{◌≡◌, ℕ, zero, suc, ◌<◌, ◌≤◌, List, [], Option, Some, None, IfSome, All, Contains, nat_eq}
 use Rattle.std.specs.List.{IsDistinct}
 use Rattle.std.proofs.Common.{refl, sym, ◌∙◌, ltb, arith, ◌⊎◌, inl, inr, ap}
 use Rattle.std.proofs.lemmas.Bool.{cases_Bool, ltb-true, ltb-false}
 use Rattle.std.proofs.lemmas.List.{get_or_past}
 use Rattle.std.proofs.lemmas.List.Elements.{Contains-get_or}
 use Rattle.html_render_dom.specs.Content.{document}
-use Rattle.html_render_dom.specs.Forest.{Forest, none, node}
-use Rattle.html_render_dom.specs.Dom.{Dom, lone, empty_dom, node_in, node_count, IsNode, content_at, children_at, parent_at, Stands, IsForest}
+use Rattle.html_render_dom.specs.Forest.{none, node}
+use Rattle.html_render_dom.specs.Dom.{Dom, lone, empty_dom, node_in, node_count, IsNode, children_at, parent_at, IsForest}
 
 pub below_or_not : (a b : ℕ) → (a < b) ⊎ (b ≤ a)
 below_or_not a b = elim (cases_Bool (ltb a b)) [ inl e ↦ inl (ltb-true a b e) | inr e ↦ inr (ltb-false a b e) ]

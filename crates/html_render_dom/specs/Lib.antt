@@ -8,3 +8,4 @@ pub mod Names
 pub mod Nodes
 pub mod Outcome
 pub mod Trees
+pub mod WhiteSpace

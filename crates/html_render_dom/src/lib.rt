@@ -4,6 +4,7 @@
 
 pub mod dom;
 mod errors;
+pub mod style;
 pub mod text;
 
 pub use errors::Error;

@@ -12,7 +12,7 @@ use super::names::{Attribute, QualName};
 use super::nodes;
 use super::settings::ElementFlags;
 use crate::Error;
-use std::alloc::Global;
+use std::alloc::{AllocError, Global};
 
 impl RcDom {
     /// Puts a node or a text behind the last child of a node.
@@ -30,13 +30,30 @@ impl RcDom {
         ensures grows { node_count self.old ≤ node_count self.new }
     {
         match child {
-            NodeOrText::AppendNode(child) => nodes::attach(&mut self.nodes, parent, child)?,
-            NodeOrText::AppendText(text) => match self.last_text(parent) {
-                Some(last) => nodes::extend_text(&mut self.nodes, last, text.as_str())?,
-                None => nodes::attach_text(alloc, &mut self.nodes, parent, text)?,
-            },
+            NodeOrText::AppendNode(child) => self.append_node(parent, child)?,
+            NodeOrText::AppendText(text) => self.append_text(alloc, parent, text)?,
         }
         Ok(())
+    }
+
+    fn append_node(&mut self, parent: Handle, child: Handle) -> Result<(), AllocError>
+        requires parent { IsNode self.old parent }
+        requires child { CanAppend self.old parent (NodeOrText.AppendNode child) }
+        ensures ok { OnOk result (self.new ≡ appended self.old parent (NodeOrText.AppendNode child)) }
+        ensures unchanged { OnErr result (self.new ≡ self.old) }
+        ensures grows { node_count self.old ≤ node_count self.new }
+    {
+        nodes::attach(&mut self.nodes, parent, child)
+    }
+
+    fn append_text(&mut self, alloc: Global, parent: Handle, text: String) -> Result<(), AllocError>
+        requires { IsNode self.old parent }
+        ensures ok { OnOk result (self.new ≡ appended self.old parent (NodeOrText.AppendText text)) }
+        ensures unchanged { OnErr result (self.new ≡ self.old) }
+        ensures grows { node_count self.old ≤ node_count self.new }
+    {
+        let last = self.last_text(parent);
+        nodes::put_text(alloc, &mut self.nodes, parent, last, text)
     }
 
     /// Makes an element of the next number, which hangs nowhere and has no children. A template's contents, a document

@@ -1,10 +1,11 @@
 //! The vector of nodes, and what one edit does to it.
 
-ghost use Rattle.std.specs.Prelude.{◌≡◌, ◌+◌, ◌<◌, ◌++◌, ◌∷◌, [], OnOk, OnErr, vec_len, vec_capacity, map, string_bytes};
+ghost use Rattle.std.specs.Prelude.{◌≡◌, ◌+◌, ◌<◌, ◌≤◌, ◌++◌, ◌∷◌, [], OnOk, OnErr, vec_len, vec_capacity, map, string_bytes};
+ghost use Rattle.std.specs.Option.{ForSome};
 ghost use Rattle.html_render_dom.specs.Content.{content_of, name_of, property_of, text};
 ghost use Rattle.html_render_dom.specs.Dom.{lone, node_in};
-ghost use Rattle.html_render_dom.specs.Nodes.{node_of};
-ghost use Rattle.html_render_dom.specs.Edits.{attached, created, element_created, joined, with_children, with_content, with_parent};
+ghost use Rattle.html_render_dom.specs.Nodes.{node_of, nodes_of};
+ghost use Rattle.html_render_dom.specs.Edits.{attached, created, element_created, joined, with_children, text_put, with_content, with_parent};
 
 use super::contents::NodeData;
 use super::handles::Handle;
@@ -38,21 +39,21 @@ fn push_child(nodes: &mut Vec<Node>, parent: Handle, child: Handle) -> Result<()
     requires { parent < vec_len nodes.old }
     ensures len { vec_len nodes.new ≡ vec_len nodes.old }
     ensures capacity { vec_capacity nodes.new ≡ vec_capacity nodes.old }
-    ensures ok { OnOk result (map node_of nodes.new.items
-        ≡ with_children (map node_of nodes.old.items) parent ((node_in (map node_of nodes.old.items) parent).children ++ child ∷ [])) }
-    ensures err { OnErr result (map node_of nodes.new.items ≡ map node_of nodes.old.items) }
+    ensures ok { let old = nodes_of nodes.old.items in
+        OnOk result (nodes_of nodes.new.items ≡ with_children old parent ((node_in old parent).children ++ child ∷ [])) }
+    ensures err { OnErr result (nodes_of nodes.new.items ≡ nodes_of nodes.old.items) }
 {
     nodes[parent.number()].children.push(child)?;
     Ok(())
 }
 
 /// Puts the text behind the text node's own.
-pub fn extend_text(nodes: &mut Vec<Node>, node: Handle, more: &str) -> Result<(), AllocError>
+fn extend_text(nodes: &mut Vec<Node>, node: Handle, more: &str) -> Result<(), AllocError>
     requires { node < vec_len nodes.old }
     ensures len { vec_len nodes.new ≡ vec_len nodes.old }
-    ensures ok { OnOk result (map node_of nodes.new.items
-        ≡ with_content (map node_of nodes.old.items) node (joined (node_in (map node_of nodes.old.items) node).content more.now)) }
-    ensures err { OnErr result (map node_of nodes.new.items ≡ map node_of nodes.old.items) }
+    ensures ok { let old = nodes_of nodes.old.items in
+        OnOk result (nodes_of nodes.new.items ≡ with_content old node (joined (node_in old node).content more.now)) }
+    ensures err { OnErr result (nodes_of nodes.new.items ≡ nodes_of nodes.old.items) }
 {
     if let NodeData::Text { contents } = &mut nodes[node.number()].data {
         contents.push_str(more)?;
@@ -61,7 +62,7 @@ pub fn extend_text(nodes: &mut Vec<Node>, node: Handle, more: &str) -> Result<()
 }
 
 /// Makes a text node of the next number, the parent's last child.
-pub fn attach_text(
+fn attach_text(
     alloc: Global,
     nodes: &mut Vec<Node>,
     parent: Handle,
@@ -69,26 +70,46 @@ pub fn attach_text(
 ) -> Result<(), AllocError>
     requires { parent < vec_len nodes.old }
     ensures len { OnOk result (vec_len nodes.new ≡ vec_len nodes.old + 1) }
-    ensures ok { OnOk result (map node_of nodes.new.items
-        ≡ attached (created (map node_of nodes.old.items) (text (string_bytes contents))) parent (vec_len nodes.old)) }
-    ensures err { OnErr result (map node_of nodes.new.items ≡ map node_of nodes.old.items) }
+    ensures ok { OnOk result (nodes_of nodes.new.items
+        ≡ attached (created (nodes_of nodes.old.items) (text (string_bytes contents))) parent (vec_len nodes.old)) }
+    ensures err { OnErr result (nodes_of nodes.new.items ≡ nodes_of nodes.old.items) }
 {
+    let text = Node::lone(alloc, NodeData::Text { contents });
+    let node = Handle::new(nodes.len());
     nodes.reserve(1)?;
-    let child = Handle::new(nodes.len());
-    push_child(nodes, parent, child)?;
-    nodes.push(Node {
-        data: NodeData::Text { contents },
-        children: Vec::new(alloc),
-        parent: Some(parent),
-    })?;
+    push_child(nodes, parent, node)?;
+    nodes.push(text)?;
+    set_parent(nodes, node, Some(parent));
     Ok(())
+}
+
+/// Puts the text behind that of the text node before its place; without one it makes a new text node, the parent's
+/// last child.
+pub fn put_text(
+    alloc: Global,
+    nodes: &mut Vec<Node>,
+    parent: Handle,
+    before: Option<Handle>,
+    contents: String,
+) -> Result<(), AllocError>
+    requires parent { parent < vec_len nodes.old }
+    requires before { ForSome before (λ node. node < vec_len nodes.old) }
+    ensures len { OnOk result (vec_len nodes.old ≤ vec_len nodes.new) }
+    ensures ok { OnOk result (nodes_of nodes.new.items
+        ≡ text_put (nodes_of nodes.old.items) parent before (string_bytes contents)) }
+    ensures err { OnErr result (nodes_of nodes.new.items ≡ nodes_of nodes.old.items) }
+{
+    match before {
+        Some(node) => extend_text(nodes, node, contents.as_str()),
+        None => attach_text(alloc, nodes, parent, contents),
+    }
 }
 
 /// Names the node's parent.
 fn set_parent(nodes: &mut Vec<Node>, node: Handle, parent: Option<Handle>)
     requires { node < vec_len nodes.old }
     ensures len { vec_len nodes.new ≡ vec_len nodes.old }
-    ensures parent { map node_of nodes.new.items ≡ with_parent (map node_of nodes.old.items) node parent }
+    ensures parent { nodes_of nodes.new.items ≡ with_parent (nodes_of nodes.old.items) node parent }
 {
     nodes[node.number()].parent = parent;
 }
@@ -98,8 +119,8 @@ pub fn attach(nodes: &mut Vec<Node>, parent: Handle, child: Handle) -> Result<()
     requires parent { parent < vec_len nodes.old }
     requires child { child < vec_len nodes.old }
     ensures len { vec_len nodes.new ≡ vec_len nodes.old }
-    ensures ok { OnOk result (map node_of nodes.new.items ≡ attached (map node_of nodes.old.items) parent child) }
-    ensures err { OnErr result (map node_of nodes.new.items ≡ map node_of nodes.old.items) }
+    ensures ok { OnOk result (nodes_of nodes.new.items ≡ attached (nodes_of nodes.old.items) parent child) }
+    ensures err { OnErr result (nodes_of nodes.new.items ≡ nodes_of nodes.old.items) }
 {
     push_child(nodes, parent, child)?;
     set_parent(nodes, child, Some(parent));
@@ -114,11 +135,11 @@ pub fn push_element(
     attrs: Vec<Attribute>,
     flags: ElementFlags,
 ) -> Result<(), AllocError>
-    ensures ok { OnOk result (map node_of nodes.new.items
-        ≡ element_created (map node_of nodes.old.items) (name_of name) (map property_of attrs.items) flags) }
-    ensures err { OnErr result (map node_of nodes.new.items ≡ map node_of nodes.old.items) }
+    ensures ok { OnOk result (nodes_of nodes.new.items
+        ≡ element_created (nodes_of nodes.old.items) (name_of name) (map property_of attrs.items) flags) }
+    ensures err { OnErr result (nodes_of nodes.new.items ≡ nodes_of nodes.old.items) }
 {
-    nodes.reserve(2)?;
+    nodes.reserve(if flags.template { 2 } else { 1 })?;
     let template_contents = flags.template.then_some(Handle::new(nodes.len() + 1));
     nodes.push(Node::lone(
         alloc,

@@ -1,7 +1,4 @@
-use super::{
-    Attribute, ElementFlags, Handle, Namespace, NodeData, NodeOrText, QualName, QuirksMode, RcDom,
-};
-use crate::Error;
+use super::{Attribute, ElementFlags, Handle, Namespace, NodeData, NodeOrText, QualName, RcDom};
 use std::alloc::{AllocError, Global};
 use std::test::Fail;
 
@@ -70,5 +67,56 @@ fn appended_nodes_and_texts_stand_in_order(rt: HostRuntime) -> Result<(), Fail> 
     assert!(rt; dom.is_inclusive_ancestor(document, em));
     assert!(rt; dom.is_inclusive_ancestor(em, em));
     assert!(rt; !dom.is_inclusive_ancestor(em, body));
+    Ok(())
+}
+
+#[test]
+fn a_template_has_contents_of_its_own(rt: HostRuntime) -> Result<(), Fail> {
+    let alloc = rt.alloc();
+    let mut dom = RcDom::new(alloc)?;
+    let flags = ElementFlags {
+        template: true,
+        mathml_annotation_xml_integration_point: false,
+    };
+    let template = dom.create_element(
+        alloc,
+        html_name(alloc, "template")?,
+        Vec::new(alloc),
+        flags,
+    )?;
+    let NodeData::Element {
+        template_contents,
+        ..
+    } = dom.data(template)
+    else {
+        return Err(Fail::from("not an element"));
+    };
+    let contents = template_contents.ok_or("no contents")?;
+    assert!(rt; dom.is_node(contents));
+    assert!(rt; matches!(dom.data(contents), NodeData::Document));
+    assert!(rt; !dom.has_parent(contents));
+    assert!(rt; !dom.has_parent(template));
+    Ok(())
+}
+
+#[test]
+fn names_are_equal_by_what_they_say(rt: HostRuntime) -> Result<(), Fail> {
+    let alloc = rt.alloc();
+    let other = |address: &str| -> Result<Namespace, AllocError> {
+        Ok(Namespace::Other(string(alloc, address)?))
+    };
+    assert!(rt; other("a")? == other("a")?);
+    assert!(rt; other("a")? != other("b")?);
+    assert!(rt; other("")? != Namespace::None);
+    assert!(rt; Namespace::Svg != Namespace::Html);
+    assert!(rt; html_name(alloc, "p")? == html_name(alloc, "p")?);
+    let id = |value: &str| -> Result<Attribute, AllocError> {
+        Ok(Attribute {
+            name: html_name(alloc, "id")?,
+            value: string(alloc, value)?,
+        })
+    };
+    assert!(rt; id("a")? == id("a")?);
+    assert!(rt; id("a")? != id("b")?);
     Ok(())
 }

@@ -1,4 +1,4 @@
-use Rattle.std.proofs.Common.{rules, arith, ◌≡◌, ◌<◌, ◌++◌, ◌∷◌, [], length, map, ap, sym, ◌∙◌, vec_len, string_bytes}
+use Rattle.std.proofs.Common.{rules, arith, ◌≡◌, ◌<◌, ◌++◌, ◌∷◌, [], length, map, sym, vec_len, string_bytes}
 use Rattle.std.proofs.lemmas.List.{length-map, map-append}
 use Rattle.html_render_dom.specs.Content.{text}
 use Rattle.html_render_dom.specs.Dom.{node_in}
@@ -9,12 +9,11 @@ use Rattle.html_render_dom.proofs.dom.nodes.attach_text.Goals as goal
 
 pub returns-clause-ok : goal.returns-clause-ok
 returns-clause-ok c =
-    let items = c.args.nodes.now.items in
-    let old = map node_of items in
+    let old = map node_of c.args.nodes.now.items in
     let parent = c.args.parent in
     let len : vec_len c.args.nodes.now ≡ length old = search (rules, length-map) in
-    let child : c.new-child.result ≡ length old = omega (arith, len, c.reserve.ensures.len, c.len.ensures, c.new-child.ensures) in
+    let node : c.new-node.result ≡ length old = omega (arith, len, c.reserve.ensures.len, c.len.ensures, c.new-node.ensures) in
     let at : parent < length old = omega (arith, len, c.requires) in
     let pushed : map node_of c.push_child.new.nodes.items ≡ with_children old parent ((node_in old parent).children ++ length old ∷ []) =
-    rw (c.reserve.ensures.items, child) at c.in_ok-push_child.ensures.ok in
-    rw (c.in_ok-push.ensures.items, map-append, pushed, len, c.new.ensures.items) (sym (attached-created old (text (string_bytes c.args.contents)) parent at))
+    rw (c.reserve.ensures.items, node) at c.in_ok-push_child.ensures.ok in
+    rw (c.set_parent.ensures.parent, c.in_ok-push.ensures.items, map-append, pushed, len, node, c.lone-text.ensures) (sym (attached-created old (text (string_bytes c.args.contents)) parent at))

@@ -1,0 +1,9 @@
+use Rattle.std.proofs.Common.{◌≡◌, drop}
+use Rattle.html_render_lines.specs.Word.{line_with, marks_with}
+use Rattle.html_render_lines.proofs.line.push_word.Given as goal
+
+-- what is wanted is what the items that are left give from here
+abbrev pub invariant-loop-item : goal.invariant-loop-item
+invariant-loop-item g l =
+    (line_with l.continues l.initial.line.items l.initial.waiting.items l.word ≡ line_with l.continues l.line.items l.waiting.items (drop l.item-index l.word))
+    × (marks_with l.initial.waiting.items l.word ≡ marks_with l.waiting.items (drop l.item-index l.word))

@@ -1,0 +1,26 @@
+-- Facts on values that may be missing, and on choices.
+use Rattle.std.proofs.Common.{◌≡◌, Bool, true, false, cond, Option, Some, None, refl, IfSome, IsSome, option_and_then}
+use Rattle.html_render_lines.specs.declared.character.Kind.{Kind}
+use Rattle.html_render_lines.specs.declared.character.Kind.TheVariants.{Letter, Space, Divider, Dropped, Preserved, Newline, Tab, SoftSpace, SoftTab}
+use Rattle.html_render_lines.specs.declared.character.Character.{Character}
+use Rattle.html_render_lines.specs.Paragraph.{Page, Setting, settled, settled_for}
+
+pub bind_some : {A B : Type 0} (P : A → Type 0) (Q : B → Type 0) (f : A → Option B) (o : Option A) → IfSome o P → ((x : A) → P x → IfSome (f x) Q) → IfSome (option_and_then f o) Q
+bind_some P Q f None h k = tt
+bind_some P Q f (Some x) h k = k x h
+
+pub if_cases : {X : Type 0} (P : X → Type 0) (b : Bool) (x y : X) → (b ≡ true → P x) → (b ≡ false → P y) → P (cond b x y)
+if_cases P true x y f g = f refl
+if_cases P false x y f g = g refl
+
+-- the page before a character that is placed by itself
+pub settled_cases : {T M : Type 0} (P : Page T M → Type 0) (s : Setting) (page : Page T M) (pending : Option (Character T)) (k : Kind) → P page → P (settled s page pending) → P (settled_for s page pending k)
+settled_cases P s page pending Newline h g = h
+settled_cases P s page pending Letter h g = g
+settled_cases P s page pending Space h g = g
+settled_cases P s page pending Divider h g = g
+settled_cases P s page pending Dropped h g = g
+settled_cases P s page pending Preserved h g = g
+settled_cases P s page pending Tab h g = g
+settled_cases P s page pending SoftSpace h g = g
+settled_cases P s page pending SoftTab h g = g

@@ -1,0 +1,12 @@
+pub mod Character
+pub mod Line
+pub mod Paragraph
+pub mod Stream
+pub mod Room
+pub mod Word
+pub mod Whole
+pub mod Cases
+pub mod Within
+pub mod Overflow
+pub mod Visible
+pub mod Tags

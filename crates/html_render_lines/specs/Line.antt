@@ -1,0 +1,34 @@
+-- A line, and how wide it is.
+use Rattle.std.specs.Prelude.{ℕ, ◌≤◌, List, All, map, sum_by}
+use Rattle.html_render_lines.specs.declared.character.Item.{Item}
+use Rattle.html_render_lines.specs.declared.character.Item.TheVariants as item
+use Rattle.html_render_lines.specs.declared.line.Element.{Element}
+use Rattle.html_render_lines.specs.declared.line.Element.TheVariants as element
+use Rattle.html_render_lines.specs.Character.{width_of}
+
+-- a line is a list of tagged characters and marks
+abbrev pub Line : Type 0 → Type 0 → Type 0
+Line T M = List (Element T M)
+
+abbrev pub element_width : {T M : Type 0} → Element T M → ℕ
+element_width (element.Character c tag) = width_of c
+element_width (element.Mark m) = 0
+
+-- the columns of a line, counted character by character
+abbrev pub columns : {T M : Type 0} → Line T M → ℕ
+columns {T} {M} line = sum_by (λ (e : Element T M). element_width e) line
+
+abbrev pub item_width : {T M : Type 0} → Item T M → ℕ
+item_width (item.Character c) = width_of c.code
+item_width (item.Mark m) = 0
+
+abbrev pub word_columns : {T M : Type 0} → List (Item T M) → ℕ
+word_columns {T} {M} word = sum_by (λ (x : Item T M). item_width x) word
+
+-- no line is wider
+abbrev pub AllWithinWidth : {T M : Type 0} → ℕ → List (Line T M) → Type 0
+AllWithinWidth {T} {M} width lines = All (λ (l : Line T M). columns l ≤ width) lines
+
+-- a line of marks alone
+abbrev pub marks_line : {T M : Type 0} → List M → Line T M
+marks_line {T} {M} ms = map (λ (m : M). element.Mark m) ms

@@ -1,0 +1,8 @@
+//! Lines of tagged characters and marks, and the paragraphs that are wrapped into them.
+//!
+//! A [`Paragraph`](paragraph::Paragraph) is fed texts and marks; its `flush` adds its lines to a list of lines.
+#![tactic(auto)]
+
+pub mod character;
+pub mod line;
+pub mod paragraph;
