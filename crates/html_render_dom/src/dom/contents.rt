@@ -10,8 +10,11 @@ pub enum NodeData {
     Document,
     /// A doctype.
     Doctype {
+        /// The name of the document's language, as `html`.
         name: String,
+        /// The public identifier.
         public_id: String,
+        /// The system identifier.
         system_id: String,
     },
     /// A text.
@@ -24,6 +27,7 @@ pub enum NodeData {
     },
     /// An element.
     Element {
+        /// The element's name.
         name: QualName,
         /// The attributes, in the order in which they were given.
         attrs: Vec<Attribute>,

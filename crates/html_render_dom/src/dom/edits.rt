@@ -20,7 +20,7 @@ impl RcDom {
     /// A text joins the last child if that is a text node; else it becomes a text node, of the next number. A node
     /// must stand in no list of children yet, and the parent must not be in its tree.
     ///
-    /// Its only error is `Error::OutOfMemory`. The document is then as it was.
+    /// Its only error is `Error::OutOfMemory`. The document is then as it was, and what was handed in is gone.
     pub fn append(&mut self, alloc: Global, parent: Handle, child: NodeOrText) -> Result<(), Error>
         requires parent { IsNode self.old parent }
         requires child { CanAppend self.old parent child }
@@ -36,6 +36,7 @@ impl RcDom {
         Ok(())
     }
 
+    /// Puts the node behind the last child.
     fn append_node(&mut self, parent: Handle, child: Handle) -> Result<(), AllocError>
         requires parent { IsNode self.old parent }
         requires child { CanAppend self.old parent (NodeOrText.AppendNode child) }
@@ -46,6 +47,7 @@ impl RcDom {
         nodes::attach(&mut self.nodes, parent, child)
     }
 
+    /// Puts the text behind the last child's, if that is a text node; else makes it the last child.
     fn append_text(&mut self, alloc: Global, parent: Handle, text: String) -> Result<(), AllocError>
         requires { IsNode self.old parent }
         ensures ok { OnOk result (self.new ≡ appended self.old parent (NodeOrText.AppendText text)) }
@@ -59,7 +61,7 @@ impl RcDom {
     /// Makes an element of the next number, which hangs nowhere and has no children. A template's contents, a document
     /// node, have the number after it.
     ///
-    /// Its only error is `Error::OutOfMemory`. The document is then as it was.
+    /// Its only error is `Error::OutOfMemory`. The document is then as it was, and what was handed in is gone.
     pub fn create_element(
         &mut self,
         alloc: Global,
