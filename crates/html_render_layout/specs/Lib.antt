@@ -3,3 +3,13 @@ pub mod Splits
 pub mod Pass
 pub mod Agree
 pub mod Runs
+pub mod Operations
+pub mod Block
+pub mod BlockState
+pub mod BlockFed
+pub mod Layout
+pub mod Leaving
+pub mod Translation
+pub mod LayoutKeeps
+pub mod LayoutLaws
+pub mod LayoutWorks

@@ -1,5 +1,7 @@
 //! The layout of a render tree: the tree in one vector, its walk, and what each node does.
 #![tactic(auto)]
 
+pub mod block;
+pub mod layout;
 pub mod tree;
 pub mod walk;

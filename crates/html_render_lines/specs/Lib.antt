@@ -10,3 +10,4 @@ pub mod Within
 pub mod Overflow
 pub mod Visible
 pub mod Tags
+pub mod Kept

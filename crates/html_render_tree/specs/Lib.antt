@@ -1,2 +1,4 @@
 pub mod Conversion
 pub mod Converting
+pub mod Texts
+pub mod Rendering

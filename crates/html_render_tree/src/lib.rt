@@ -1,12 +1,16 @@
 //! Documents as wrapped text: a DOM that is built by calls becomes a render tree, and that becomes lines.
 //!
-//! `convert::dom_to_render_tree(alloc, &dom)?` is the render tree of the DOM `dom`.
+//! `config::plain_no_decorate(alloc)` renders plain text: its `dom_to_render_tree(alloc, &dom)?` is the render tree of
+//! the DOM `dom`, and `render_to_string(alloc, tree, 80)?` the text of that in 80 columns.
 #![tactic(auto)]
 
+pub mod config;
 pub mod convert;
+pub mod htree;
 mod rules;
 mod script;
+mod texts;
 
-pub use html_render_dom::{Error, dom};
+pub use html_render_dom::{Error, dom, style};
 pub use html_render_layout::tree;
 pub use html_render_parts::{decorate, widths};

@@ -1,0 +1,191 @@
+//! The program `htree` as a function: a script of DOM calls becomes text.
+//!
+//! `run(alloc, words, &mut input, &mut output, &mut faults)` with the words `11`, `bare`, `overflow` and the input
+//! `<p` and `"Hello wide world` writes `Hello wide` and `world` to `output` and answers 0.
+
+ghost use Rattle.std.specs.Prelude.{IfOk, IfSome};
+ghost use Rattle.html_render_dom.specs.Dom.{IsNode};
+
+use crate::config::plain_no_decorate;
+use crate::script::{Call, line_of, unescaped};
+use html_render_dom::Error;
+use html_render_dom::dom::{ElementFlags, Handle, NodeOrText, QualName, RcDom};
+use std::alloc::{AllocError, Global};
+use std::io;
+use std::io::{ErrorKind, Read, Write};
+use thiserror::Error;
+
+/// Why there is no text.
+#[derive(Debug, Drop, Error)]
+enum Fault {
+    #[error("{0}")]
+    Refused(Error),
+    #[error("htree: arguments")]
+    Arguments,
+    #[error("htree: line {0}")]
+    Line(usize),
+    #[error("htree: input")]
+    Input,
+    #[error("htree: output")]
+    Output,
+}
+
+impl Fault {
+    /// The program's exit status.
+    fn status(&self) -> u8 {
+        match self {
+            Fault::Refused(_) => 1,
+            _ => 2,
+        }
+    }
+}
+
+impl From<Error> for Fault {
+    fn from(error: Error) -> Fault {
+        Fault::Refused(error)
+    }
+}
+
+impl From<AllocError> for Fault {
+    fn from(refusal: AllocError) -> Fault {
+        Fault::Refused(Error::from(refusal))
+    }
+}
+
+/// What the program's words ask for.
+#[derive(Clone, Copy)]
+struct Settings {
+    width: usize,
+    overflow: bool,
+}
+
+impl Settings {
+    /// The settings of `WIDTH bare [overflow]`.
+    fn read(words: &[String]) -> Result<Settings, Fault> {
+        let (width, style, overflow) = match words {
+            [width, style] => (width, style, false),
+            [width, style, last] if last.as_str() == "overflow" => (width, style, true),
+            _ => return Err(Fault::Arguments),
+        };
+        match (width.as_str().parse::<usize>(), style.as_str()) {
+            (Ok(width), "bare") => Ok(Settings { width, overflow }),
+            _ => Err(Fault::Arguments),
+        }
+    }
+}
+
+/// The whole input.
+fn read_all<R: Read>(alloc: Global, input: &mut R) -> Result<String, Fault> {
+    let mut bytes = Vec::new(alloc);
+    if let Err(error) = input.read_to_end(&mut bytes) {
+        return Err(match error.kind() {
+            ErrorKind::OutOfMemory => Fault::Refused(Error::OutOfMemory),
+            _ => Fault::Input,
+        });
+    }
+    String::from_utf8(bytes).map_err(|_| Fault::Input)
+}
+
+/// Takes one line of a script, and answers the node that is current behind it, or `None` where the line is faulty.
+fn take_line(
+    alloc: Global,
+    dom: &mut RcDom,
+    current: Handle,
+    line: &str,
+) -> Result<Option<Handle>, Fault>
+    requires { IsNode dom.old current }
+    ensures { IfOk result (λ next. IfSome next (λ node. IsNode dom.new node)) }
+{
+    if line.is_empty() {
+        return Ok(Some(current));
+    }
+    match Call::read(line) {
+        None => Ok(None),
+        Some(Call::Close) => Ok(dom.get_parent(current)),
+        Some(Call::Text(text)) => {
+            let Some(text) = unescaped(alloc, text)? else {
+                return Ok(None);
+            };
+            dom.append(alloc, current, NodeOrText::AppendText(text))?;
+            Ok(Some(current))
+        }
+        Some(Call::Open(name)) => {
+            let name = QualName::html(String::from_str(alloc, name)?);
+            let element = dom.create_element(
+                alloc,
+                name,
+                Vec::new(alloc),
+                ElementFlags::default(),
+            )?;
+            dom.append(alloc, current, NodeOrText::AppendNode(element))?;
+            Ok(Some(element))
+        }
+    }
+}
+
+/// The DOM that the lines of a script build.
+fn built(alloc: Global, script: &str) -> Result<RcDom, Fault> {
+    let mut dom = RcDom::new(alloc)?;
+    let mut current = dom.get_document();
+    let mut number = 0usize;
+    for piece in script.split_inclusive('\n') {
+        number = number.saturating_add(1);
+        match take_line(alloc, &mut dom, current, line_of(piece))? {
+            Some(next) => current = next,
+            None => return Err(Fault::Line(number)),
+        }
+    }
+    Ok(dom)
+}
+
+/// The text of the script in `input`.
+fn rendered<R: Read>(alloc: Global, words: &[String], input: &mut R) -> Result<String, Fault> {
+    let settings = Settings::read(words)?;
+    let script = read_all(alloc, input)?;
+    let dom = built(alloc, script.as_str())?;
+    let mut config = plain_no_decorate(alloc);
+    if settings.overflow {
+        config = config.allow_width_overflow();
+    }
+    let tree = config.dom_to_render_tree(alloc, &dom)?;
+    Ok(config.render_to_string(alloc, tree, settings.width)?)
+}
+
+/// Writes the text of the script in `input` to `output`, or one line on what is wrong to `faults`, and answers the
+/// program's exit status: 0 for a text; 1 with an [`Error`]'s text, where the document can't be rendered or memory
+/// is out; 2 with `htree: arguments` for words that are not `WIDTH bare [overflow]`, `htree: input` where `input`
+/// can't be read or isn't UTF-8, `htree: line N` (from 1) for a faulty line, `htree: output` where `output` can't be
+/// written. A failed write to `faults` changes no status.
+///
+/// The words are those behind the program's name, and are looked at first; then the whole input is read.
+pub fn run<R: Read, O: Write, F: Write>(
+    alloc: Global,
+    words: &[String],
+    input: &mut R,
+    output: &mut O,
+    faults: &mut F,
+) -> u8 {
+    match rendered(alloc, words, input) {
+        Ok(text) => match output.write_all(text.as_str().as_bytes()) {
+            Ok(()) => 0,
+            Err(_) => report(&Fault::Output, faults),
+        },
+        Err(fault) => report(&fault, faults),
+    }
+}
+
+/// What [`run`] does where the program's words can't be had: 1 and `Out of memory` where memory is out, otherwise 2
+/// and `htree: arguments`.
+pub fn run_without_words<F: Write>(error: &io::Error, faults: &mut F) -> u8 {
+    let fault = match error.kind() {
+        ErrorKind::OutOfMemory => Fault::Refused(Error::OutOfMemory),
+        _ => Fault::Arguments,
+    };
+    report(&fault, faults)
+}
+
+/// Writes a line on what is wrong, and answers the exit status.
+fn report<F: Write>(fault: &Fault, faults: &mut F) -> u8 {
+    let _ = writeln!(faults, "{fault}");
+    fault.status()
+}

@@ -1,0 +1,170 @@
+// Scripts of the program, and what it answers.
+
+use html_render_tree::htree::{run, run_without_words};
+use std::alloc::{AllocError, Global};
+use std::io;
+use std::io::{ErrorKind, Read, Write};
+use std::test::Fail;
+
+/// What one run of the program gave.
+#[derive(Drop)]
+struct Answer {
+    status: u8,
+    output: Vec<u8>,
+    faults: Vec<u8>,
+}
+
+fn words(alloc: Global, arguments: &str) -> Result<Vec<String>, AllocError> {
+    let mut words = Vec::new(alloc);
+    for word in arguments.split(' ') {
+        words.push(String::from_str(alloc, word)?)?;
+    }
+    Ok(words)
+}
+
+fn run_script(alloc: Global, arguments: &str, script: &[u8]) -> Result<Answer, AllocError> {
+    let words = words(alloc, arguments)?;
+    let mut input = script;
+    let mut output = Vec::new(alloc);
+    let mut faults = Vec::new(alloc);
+    let status = run(alloc, &words, &mut input, &mut output, &mut faults);
+    Ok(Answer {
+        status,
+        output,
+        faults,
+    })
+}
+
+fn text(bytes: &[u8]) -> &str {
+    str::from_utf8(bytes).unwrap_or("not UTF-8")
+}
+
+#[test]
+fn scripts_become_text(rt: HostRuntime) -> Result<(), Fail> {
+    for (arguments, script, output) in [
+        (
+            "11 bare overflow",
+            "<p\n\"Hello wide world\n",
+            "Hello wide\nworld\n",
+        ),
+        ("9 bare", "<div\n\"a\n<br\n>\n<br\n>\n\"b\n", "a\n\nb\n"),
+        ("9 bare", "<p\n\"a\n>\n\"\\n \n<p\n\"b\n", "a\n\nb\n"),
+        ("5 bare", "<p\n\"abcdefgh ij\n", "abcde\nfgh\nij\n"),
+        ("1 bare overflow", "<p\n\"世\n", "世\n"),
+        ("5 bare", "", ""),
+        ("5 bare", "\r\n\n<p\r\n\r\n\"x", "x\n"),
+        ("20 bare", "<head\n\"a\n>\n<style\n\"b\n>\n<svg\n\"c", "c\n"),
+        (
+            "20 bare",
+            "<p\n\"a\n>\n<p\n>\n<b\n\"c\n>\n<div\n\"d",
+            "a\n\nc\nd\n",
+        ),
+    ] {
+        let answer = run_script(rt.alloc(), arguments, script.as_bytes())?;
+        assert_eq!(rt; text(&answer.faults), "", "{arguments} over {script:?}");
+        assert_eq!(rt; text(&answer.output), output, "{arguments} over {script:?}");
+        assert_eq!(rt; answer.status, 0, "{arguments} over {script:?}");
+    }
+    Ok(())
+}
+
+#[test]
+fn faults_have_a_line_and_a_status(rt: HostRuntime) -> Result<(), Fail> {
+    let narrow = "Output width not wide enough.\n";
+    for (arguments, script, faults, status) in [
+        ("1 bare", "<p\n\"世\n", narrow, 1),
+        ("0 bare overflow", "<p\n\"a\n", narrow, 1),
+        ("10", "<p\n", "htree: arguments\n", 2),
+        ("10 plain", "<p\n", "htree: arguments\n", 2),
+        ("ten bare", "<p\n", "htree: arguments\n", 2),
+        ("-1 bare", "<p\n", "htree: arguments\n", 2),
+        ("10 bare wide", "<p\n", "htree: arguments\n", 2),
+        ("10 bare overflow more", "<p\n", "htree: arguments\n", 2),
+        ("10 bare", "<p\n@a\n", "htree: line 2\n", 2),
+        ("10 bare", "<p\n\n!a\n", "htree: line 3\n", 2),
+        ("10 bare", "<svg:a\n", "htree: line 1\n", 2),
+        ("10 bare", "<\n", "htree: line 1\n", 2),
+        ("10 bare", ">\n", "htree: line 1\n", 2),
+        ("10 bare", "<p\n>\n>\n", "htree: line 3\n", 2),
+        ("10 bare", "<p\n>a\n", "htree: line 2\n", 2),
+        ("10 bare", "\"a\\t\n", "htree: line 1\n", 2),
+        ("10 bare", "<p\n\"a\n\r", "htree: line 3\n", 2),
+    ] {
+        let answer = run_script(rt.alloc(), arguments, script.as_bytes())?;
+        assert_eq!(rt; text(&answer.output), "", "{arguments} over {script:?}");
+        assert_eq!(rt; text(&answer.faults), faults, "{arguments} over {script:?}");
+        assert_eq!(rt; answer.status, status, "{arguments} over {script:?}");
+    }
+    Ok(())
+}
+
+/// A reader or writer that fails at once.
+#[derive(Drop)]
+struct Broken {
+    kind: ErrorKind,
+}
+
+impl Read for Broken {
+    fn read(&mut self, _buf: &mut [u8]) -> io::Result<usize> {
+        Err(io::Error::from(self.kind))
+    }
+}
+
+impl Write for Broken {
+    fn write(&mut self, _buf: &[u8]) -> io::Result<usize> {
+        Err(io::Error::from(self.kind))
+    }
+
+    fn flush(&mut self) -> io::Result<()> {
+        Ok(())
+    }
+}
+
+#[test]
+fn input_and_output_may_fail(rt: HostRuntime) -> Result<(), Fail> {
+    let alloc = rt.alloc();
+    let not_utf8 = run_script(alloc, "10 bare", b"\"a\xff\n")?;
+    assert_eq!(rt; text(&not_utf8.faults), "htree: input\n");
+    assert_eq!(rt; not_utf8.status, 2);
+
+    let words = words(alloc, "10 bare")?;
+    for (kind, line, status) in [
+        (ErrorKind::BrokenPipe, "htree: input\n", 2),
+        (ErrorKind::OutOfMemory, "Out of memory\n", 1),
+    ] {
+        let mut output = Vec::new(alloc);
+        let mut faults = Vec::new(alloc);
+        let mut broken = Broken { kind };
+        let got = run(alloc, &words, &mut broken, &mut output, &mut faults);
+        assert_eq!(rt; text(&faults), line);
+        assert_eq!(rt; got, status);
+    }
+
+    let mut input = b"<p\n\"a\n".as_slice();
+    let mut faults = Vec::new(alloc);
+    let mut broken = Broken {
+        kind: ErrorKind::BrokenPipe,
+    };
+    let status = run(alloc, &words, &mut input, &mut broken, &mut faults);
+    assert_eq!(rt; text(&faults), "htree: output\n");
+    assert_eq!(rt; status, 2);
+
+    let mut input = b"<\n".as_slice();
+    let mut output = Vec::new(alloc);
+    let status = run(alloc, &words, &mut input, &mut output, &mut broken);
+    assert_eq!(rt; status, 2);
+    Ok(())
+}
+
+#[test]
+fn words_may_be_out_of_reach(rt: HostRuntime) {
+    for (kind, line, status) in [
+        (ErrorKind::OutOfMemory, "Out of memory\n", 1),
+        (ErrorKind::InvalidData, "htree: arguments\n", 2),
+    ] {
+        let mut faults = Vec::new(rt.alloc());
+        let got = run_without_words(&io::Error::from(kind), &mut faults);
+        assert_eq!(rt; text(&faults), line);
+        assert_eq!(rt; got, status);
+    }
+}
