@@ -2,4 +2,5 @@
 #![tactic(auto)]
 
 pub mod decorate;
+pub mod table;
 pub mod widths;

@@ -1,7 +1,19 @@
-//! What a call counted of its own work.
+//! Column widths, cut fairly, and what a call counted of its own work.
+//!
+//! `column_widths(alloc, &[3, 3], &[9, 4], 10)` is a [`ColumnCut`] of the widths 5 and 4, level 2 and none lowered.
 //!
 //! `Meter::default()` has nothing counted; a metered call sets the fields that it names from 0, also where it
 //! refuses, and leaves the others.
+
+mod check;
+mod cut;
+mod fit;
+mod levels;
+mod lowering;
+
+pub use check::check_cut;
+pub use cut::{ColumnCut, column_widths, column_widths_metered};
+pub use fit::cut_fits;
 
 /// Counts of the work of one call.
 #[derive(Clone, Copy, Debug, Default, PartialEq, Eq)]

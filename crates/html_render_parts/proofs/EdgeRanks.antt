@@ -1,0 +1,223 @@
+-- The edges, sorted and without repeats, and the numbers that they get.
+use Rattle.std.proofs.Common.{◌≡◌, ℕ, ◌+◌, ◌<◌, ◌≤◌, true, false, cond, List, [], ◌∷◌, length, get_or, All, Contains, nat_lt, refl, sym, subst, arith, inl, inr, ◌⊎◌, suc, zero}
+use Rattle.std.specs.List.{AllPairs, AllWithin}
+use Rattle.std.specs.List.Sorted.{IsNonDecreasingBy, IsStrictlyIncreasing}
+use Rattle.std.proofs.lemmas.Bool.{cases_lt}
+use Rattle.std.proofs.lemmas.List.Elements.{All-nil, All-cons, All-head, All-tail, All-weaker, All-contains}
+use Rattle.std.proofs.lemmas.List.Kept.{AllPairs-cons, AllPairs-from_increasing}
+use Rattle.std.proofs.lemmas.List.Sums.{sum_by-cons}
+use Rattle.html_render_parts.specs.Placement.{rising, rising_with}
+use Rattle.html_render_parts.specs.Grid.{rank, IsNumbering, IsLeastNumbering}
+use Rattle.html_render_parts.proofs.NumberTests.{ltb-tells}
+use Rattle.html_render_parts.proofs.RisingEnds.{All-rising_with}
+
+abbrev Rise : List ℕ → Type 0
+Rise xs = AllPairs (λ x y. x < y) xs
+
+Rise-head : (x : ℕ) (xs : List ℕ) → Rise (x ∷ xs) → All (λ y. x < y) xs
+Rise-head x xs h = λ k d inside. h 0 (suc k) d (omega arith) (omega arith)
+
+Rise-tail : (x : ℕ) (xs : List ℕ) → Rise (x ∷ xs) → Rise xs
+Rise-tail x xs h = λ i j d less inside. h (suc i) (suc j) d (omega arith) (omega arith)
+
+pub Contains-here : (x : ℕ) (xs : List ℕ) → Contains (x ∷ xs) x
+Contains-here x xs = (0, omega arith, refl)
+
+pub Contains-there : (x n : ℕ) (xs : List ℕ) → Contains xs n → Contains (x ∷ xs) n
+Contains-there x n xs h = (suc h.0, let inside = h.1 in omega arith, h.2)
+
+Contains-nil : (n : ℕ) → Contains [] n → ⊥
+Contains-nil n h = let inside = h.1 in omega arith
+
+pub Contains-cons : (x n : ℕ) (xs : List ℕ) → Contains (x ∷ xs) n → (x ≡ n) ⊎ Contains xs n
+Contains-cons x n xs h = by h.0 h.1 h.2
+  where
+    by : (k : ℕ) → k < length (x ∷ xs) → get_or (x ∷ xs) k n ≡ n → (x ≡ n) ⊎ Contains xs n
+    by zero inside e = inl e
+    by (suc k) inside e = inr (k, omega arith, e)
+
+-- ---- the numbers of a list in rising order
+
+Rise-with : (n : ℕ) (ms : List ℕ) → Rise ms → Rise (rising_with n ms)
+Rise-with n [] h = AllPairs-cons (λ x y. x < y) n [] (All-nil (λ y. n < y)) h
+Rise-with n (m ∷ ms) h = elim (ltb-tells n m) [
+  | inl t ↦ rw t.0 (AllPairs-cons (λ x y. x < y) n (m ∷ ms) (All-cons (λ y. n < y) m ms t.1 (All-weaker (λ y. m < y) (λ y. n < y) (λ y less. omega arith) ms (Rise-head m ms h))) h)
+  | inr t ↦ elim (ltb-tells m n) [
+    | inl u ↦ rw (t.0, u.0) (AllPairs-cons (λ x y. x < y) m (rising_with n ms) (All-rising_with (λ y. m < y) n ms u.1 (Rise-head m ms h)) (Rise-with n ms (Rise-tail m ms h)))
+    | inr u ↦ rw (t.0, u.0) h
+  ]
+]
+
+Rise-rising : (ns : List ℕ) → Rise (rising ns)
+Rise-rising [] = λ i j d less inside. absurd (omega arith)
+Rise-rising (n ∷ ns) = Rise-with n (rising ns) (Rise-rising ns)
+
+Contains-with : (n : ℕ) (ms : List ℕ) → Contains (rising_with n ms) n
+Contains-with n [] = Contains-here n []
+Contains-with n (m ∷ ms) = elim (ltb-tells n m) [
+  | inl t ↦ rw t.0 (Contains-here n (m ∷ ms))
+  | inr t ↦ elim (ltb-tells m n) [
+    | inl u ↦ rw (t.0, u.0) (Contains-there m n (rising_with n ms) (Contains-with n ms))
+    | inr u ↦ rw (t.0, u.0) (let e : m ≡ n = omega arith in subst (λ x. Contains (m ∷ ms) x) e (Contains-here m ms))
+  ]
+]
+
+Contains-with_more : (n k : ℕ) (ms : List ℕ) → Contains ms k → Contains (rising_with n ms) k
+Contains-with_more n k [] h = absurd (Contains-nil k h)
+Contains-with_more n k (m ∷ ms) h = elim (ltb-tells n m) [
+  | inl t ↦ rw t.0 (Contains-there n k (m ∷ ms) h)
+  | inr t ↦ elim (ltb-tells m n) [
+    | inl u ↦ rw (t.0, u.0) (elim (Contains-cons m k ms h) [
+      | inl e ↦ subst (λ x. Contains (m ∷ rising_with n ms) x) e (Contains-here m (rising_with n ms))
+      | inr g ↦ Contains-there m k (rising_with n ms) (Contains-with_more n k ms g)
+    ])
+    | inr u ↦ rw (t.0, u.0) h
+  ]
+]
+
+Contains-from_with : (n k : ℕ) (ms : List ℕ) → Contains (rising_with n ms) k → (n ≡ k) ⊎ Contains ms k
+Contains-from_with n k [] h = Contains-cons n k [] h
+Contains-from_with n k (m ∷ ms) h = elim (ltb-tells n m) [
+  | inl t ↦ Contains-cons n k (m ∷ ms) (rw t.0 at h)
+  | inr t ↦ elim (ltb-tells m n) [
+    | inl u ↦ elim (Contains-cons m k (rising_with n ms) (rw (t.0, u.0) at h)) [
+      | inl e ↦ inr (subst (λ x. Contains (m ∷ ms) x) e (Contains-here m ms))
+      | inr g ↦ elim (Contains-from_with n k ms g) [ inl e ↦ inl e | inr f ↦ inr (Contains-there m k ms f) ]
+    ]
+    | inr u ↦ inr (rw (t.0, u.0) at h)
+  ]
+]
+
+pub Contains-rising : (k : ℕ) (ns : List ℕ) → Contains ns k → Contains (rising ns) k
+Contains-rising k [] h = h
+Contains-rising k (n ∷ ns) h = elim (Contains-cons n k ns h) [
+  | inl e ↦ subst (λ x. Contains (rising_with n (rising ns)) x) e (Contains-with n (rising ns))
+  | inr g ↦ Contains-with_more n k (rising ns) (Contains-rising k ns g)
+]
+
+pub Contains-from_rising : (k : ℕ) (ns : List ℕ) → Contains (rising ns) k → Contains ns k
+Contains-from_rising k [] h = h
+Contains-from_rising k (n ∷ ns) h = elim (Contains-from_with n k (rising ns) h) [
+  | inl e ↦ subst (λ x. Contains (n ∷ ns) x) e (Contains-here n ns)
+  | inr g ↦ Contains-there n k ns (Contains-from_rising k ns g)
+]
+
+-- ---- two lists that rise and have the same elements are one
+
+same-rise : (xs ys : List ℕ) → Rise xs → Rise ys → ((n : ℕ) → Contains xs n → Contains ys n) → ((n : ℕ) → Contains ys n → Contains xs n) → xs ≡ ys
+same-rise [] [] p q f g = refl
+same-rise [] (y ∷ ys) p q f g = absurd (Contains-nil y (g y (Contains-here y ys)))
+same-rise (x ∷ xs) [] p q f g = absurd (Contains-nil x (f x (Contains-here x xs)))
+same-rise (x ∷ xs) (y ∷ ys) p q f g =
+    let e : x ≡ y = elim (Contains-cons y x ys (f x (Contains-here x xs))) [
+      | inl a ↦ sym a
+      | inr a ↦ elim (Contains-cons x y xs (g y (Contains-here y ys))) [
+        | inl b ↦ b
+        | inr b ↦
+            let less : y < x = All-contains (λ n. y < n) ys x (Rise-head y ys q) a in
+            let more : x < y = All-contains (λ n. x < n) xs y (Rise-head x xs p) b in
+            absurd (omega arith)
+      ]
+    ] in
+    let rest : xs ≡ ys = same-rise xs ys (Rise-tail x xs p) (Rise-tail y ys q)
+    (λ n h. elim (Contains-cons y n ys (f n (Contains-there x n xs h))) [
+      | inl a ↦ let less : x < n = All-contains (λ m. x < m) xs n (Rise-head x xs p) h in absurd (omega arith)
+      | inr a ↦ a
+    ])
+    (λ n h. elim (Contains-cons x n xs (g n (Contains-there y n ys h))) [
+      | inl a ↦ let less : y < n = All-contains (λ m. y < m) ys n (Rise-head y ys q) h in absurd (omega arith)
+      | inr a ↦ a
+    ]) in
+    cc
+
+-- what rises and has the numbers of a list is that list in rising order
+pub rising-only : (xs ns : List ℕ) → IsStrictlyIncreasing xs → ((n : ℕ) → Contains xs n → Contains ns n) → ((n : ℕ) → Contains ns n → Contains xs n) → xs ≡ rising ns
+rising-only xs ns h f g =
+    same-rise xs (rising ns) (AllPairs-from_increasing xs h) (Rise-rising ns) (λ n a. Contains-rising n ns (f n a)) (λ n a. g n (Contains-from_rising n ns a))
+
+-- ---- ranks
+
+rank-cons : (x : ℕ) (xs : List ℕ) (t : ℕ) → rank (x ∷ xs) t ≡ cond (nat_lt x t) 1 0 + rank xs t
+rank-cons x xs t = sum_by-cons (λ e. cond (nat_lt e t) 1 0) x xs
+
+pub rank-mono : (xs : List ℕ) (a b : ℕ) → a ≤ b → rank xs a ≤ rank xs b
+rank-mono [] a b le = omega arith
+rank-mono (x ∷ xs) a b le = rw (rank-cons x xs a, rank-cons x xs b) (let ih = rank-mono xs a b le in elim (ltb-tells x a) [
+  | inl t ↦ elim (ltb-tells x b) [ inl u ↦ rw (t.0, u.0) (omega arith) | inr u ↦ absurd (omega arith) ]
+  | inr t ↦ elim (ltb-tells x b) [ inl u ↦ rw (t.0, u.0) (omega arith) | inr u ↦ rw (t.0, u.0) (omega arith) ]
+])
+
+pub rank-less : (xs : List ℕ) (a b : ℕ) → Contains xs a → a < b → rank xs a < rank xs b
+rank-less [] a b h less = absurd (Contains-nil a h)
+rank-less (x ∷ xs) a b h less = rw (rank-cons x xs a, rank-cons x xs b) (elim (Contains-cons x a xs h) [
+  | inl e ↦ let mono = rank-mono xs a b (omega arith) in elim (ltb-tells x a) [
+    | inl t ↦ absurd (omega arith)
+    | inr t ↦ elim (ltb-tells x b) [ inl u ↦ rw (t.0, u.0) (omega arith) | inr u ↦ absurd (omega arith) ]
+  ]
+  | inr g ↦ let ih = rank-less xs a b g less in elim (ltb-tells x a) [
+    | inl t ↦ elim (ltb-tells x b) [ inl u ↦ rw (t.0, u.0) (omega arith) | inr u ↦ absurd (omega arith) ]
+    | inr t ↦ elim (ltb-tells x b) [ inl u ↦ rw (t.0, u.0) (omega arith) | inr u ↦ rw (t.0, u.0) (omega arith) ]
+  ]
+])
+
+pub rank-numbering : (xs : List ℕ) → IsNumbering xs (rank xs)
+rank-numbering xs = λ a b in_a in_b less. rank-less xs a b in_a less
+
+rank-none : (xs : List ℕ) (t : ℕ) → All (λ y. t < y) xs → rank xs t ≡ 0
+rank-none [] t h = refl
+rank-none (x ∷ xs) t h =
+    let here : t < x = All-head (λ y. t < y) x xs h in
+    let ih = rank-none xs t (All-tail (λ y. t < y) x xs h) in
+    elim (ltb-tells x t) [ inl u ↦ absurd (omega arith) | inr u ↦ rw (rank-cons x xs t, u.0) (omega arith) ]
+
+least-from : (xs : List ℕ) (k : ℕ) (number : ℕ → ℕ) → Rise xs → IsNumbering xs number → ((x : ℕ) → Contains xs x → k ≤ number x) → (e : ℕ) → Contains xs e → rank xs e + k ≤ number e
+least-from [] k number p is low e h = absurd (Contains-nil e h)
+least-from (x ∷ xs) k number p is low e h = elim (Contains-cons x e xs h) [
+  | inl f ↦
+      let none : rank xs x ≡ 0 = rank-none xs x (Rise-head x xs p) in
+      let here : k ≤ number x = low x (Contains-here x xs) in
+      subst (λ y. rank (x ∷ xs) y + k ≤ number y) f (rw (rank-cons x xs x) (elim (ltb-tells x x) [ inl u ↦ absurd (omega arith) | inr u ↦ rw (u.0, none) (omega arith) ]))
+  | inr g ↦
+      let less : x < e = All-contains (λ m. x < m) xs e (Rise-head x xs p) g in
+      let ih : rank xs e + (k + 1) ≤ number e = least-from xs (k + 1) number (Rise-tail x xs p)
+      (λ a b in_a in_b l. is a b (Contains-there x a xs in_a) (Contains-there x b xs in_b) l)
+      (λ y in_y.
+      let here : k ≤ number x = low x (Contains-here x xs) in
+      let up : number x < number y = is x y (Contains-here x xs) (Contains-there x y xs in_y) (All-contains (λ m. x < m) xs y (Rise-head x xs p) in_y) in
+      omega arith)
+      e g in
+      rw (rank-cons x xs e) (elim (ltb-tells x e) [ inl u ↦ rw u.0 (omega arith) | inr u ↦ absurd (omega arith) ])
+]
+
+pub rank-least : (xs : List ℕ) → IsStrictlyIncreasing xs → IsLeastNumbering xs (rank xs)
+rank-least xs h = λ number is e in_e. let t = least-from xs 0 number (AllPairs-from_increasing xs h) is (λ x in_x. omega arith) e in_e in omega arith
+
+-- an edge is below fewer edges than there are
+pub rank-below : (xs : List ℕ) (e : ℕ) → Contains xs e → rank xs e < length xs
+rank-below [] e h = absurd (Contains-nil e h)
+rank-below (x ∷ xs) e h = rw (rank-cons x xs e) (elim (Contains-cons x e xs h) [
+  | inl f ↦ let most = rank-most xs e in elim (ltb-tells x e) [ inl t ↦ absurd (omega arith) | inr t ↦ rw t.0 (omega arith) ]
+  | inr g ↦ let ih = rank-below xs e g in elim (ltb-tells x e) [ inl t ↦ rw t.0 (omega arith) | inr t ↦ rw t.0 (omega arith) ]
+])
+  where
+    rank-most : (ys : List ℕ) (t : ℕ) → rank ys t ≤ length ys
+    rank-most [] t = omega arith
+    rank-most (y ∷ ys) t = rw (rank-cons y ys t) (let ih = rank-most ys t in elim (ltb-tells y t) [ inl u ↦ rw u.0 (omega arith) | inr u ↦ rw u.0 (omega arith) ])
+
+-- where those below t stand in front, t's rank is how many they are
+pub rank-split : (xs : List ℕ) (t i : ℕ) → i ≤ length xs → AllWithin (λ y. nat_lt y t ≡ true) xs 0 i → AllWithin (λ y. nat_lt y t ≡ false) xs i (length xs) → rank xs t ≡ i
+rank-split [] t i le f g = omega arith
+rank-split (x ∷ xs) t zero le f g =
+    let here : nat_lt x t ≡ false = g 0 0 (omega arith) (omega arith) in
+    let ih = rank-split xs t zero (omega arith) (λ k d a b. absurd (omega arith)) (λ k d a b. g (suc k) d (omega arith) (omega arith)) in
+    rw (rank-cons x xs t, here) (omega arith)
+rank-split (x ∷ xs) t (suc i) le f g =
+    let here : nat_lt x t ≡ true = f 0 0 (omega arith) (omega arith) in
+    let ih = rank-split xs t i (omega arith) (λ k d a b. f (suc k) d (omega arith) (omega arith)) (λ k d a b. g (suc k) d (omega arith) (omega arith)) in
+    rw (rank-cons x xs t, here) (omega arith)
+
+pub IsNonDecreasing-rising : (xs : List ℕ) → IsStrictlyIncreasing xs → IsNonDecreasingBy (λ x. x) xs
+IsNonDecreasing-rising xs h = λ i j d le inside. elim (cases_lt i j) [
+  | inl less ↦ let t = AllPairs-from_increasing xs h i j d less inside in omega arith
+  | inr ge ↦ let e : i ≡ j = omega arith in rw e (omega arith)
+]

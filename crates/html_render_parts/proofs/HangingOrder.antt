@@ -1,0 +1,218 @@
+-- The cells that a row keeps, in the order in which it placed them, are the cells so far in order of own column.
+use Rattle.std.proofs.Common.{◌≡◌, ℕ, ◌+◌, ◌<◌, ◌≤◌, Bool, true, false, cond, List, [], ◌∷◌, ◌++◌, filter, nat_le, refl, sym, ap, ◌∙◌, arith, inl, inr, suc}
+use Rattle.std.proofs.lemmas.Bool.{cases_Bool, false≢true}
+use Rattle.std.proofs.lemmas.Bool.Decides.{leb_tells}
+use Rattle.html_render_parts.specs.declared.table.Span.{Span}
+use Rattle.html_render_parts.specs.declared.table.placement.Standing.{Standing}
+use Rattle.html_render_parts.specs.Placement.{by_column_with, by_column, end_of, hangs_into, hanging, due_end, not_due, own_from}
+
+-- ---- two lists in one, by own column: of equal ones the first list's comes first
+
+abbrev merged_with : Standing → (List Standing → List Standing) → List Standing → List Standing
+merged_with s rest [] = s ∷ rest []
+merged_with s rest (o ∷ os) = cond (nat_le s.column o.column) (s ∷ rest (o ∷ os)) (o ∷ merged_with s rest os)
+
+abbrev merged : List Standing → List Standing → List Standing
+merged [] os = os
+merged (s ∷ ss) os = merged_with s (merged ss) os
+
+merged-nil : (ss : List Standing) → merged ss [] ≡ ss
+merged-nil [] = refl
+merged-nil (s ∷ ss) = ap (λ r. s ∷ r) (merged-nil ss)
+
+-- one cell put in by column beside the other list
+with-alone : (a : Standing) (os : List Standing) → by_column_with a os ≡ merged (a ∷ []) os
+with-alone a [] = refl
+with-alone a (o ∷ os) = ap (λ r. cond (nat_le a.column o.column) (a ∷ o ∷ os) (o ∷ r)) (with-alone a os)
+
+-- where a comes before s
+with-before : (a s : Standing) (ss : List Standing) → (nat_le a.column s.column ≡ true) → a.column ≤ s.column → (os : List Standing) → by_column_with a (merged (s ∷ ss) os) ≡ merged (a ∷ s ∷ ss) os
+with-before a s ss e le [] = rw e refl
+with-before a s ss e le (o ∷ os) = elim (leb_tells s.column o.column) [
+  | inl t ↦ elim (leb_tells a.column o.column) [
+    | inl u ↦ rw (t.0, u.0, e) refl
+    | inr u ↦ absurd (omega arith)
+  ]
+  | inr t ↦ elim (leb_tells a.column o.column) [
+    | inl u ↦ rw (t.0, u.0) refl
+    | inr u ↦ rw (t.0, u.0) (ap (λ r. o ∷ r) (with-before a s ss e le os))
+  ]
+]
+
+-- where s comes before a
+with-behind : (a s : Standing) (ss : List Standing) → (nat_le a.column s.column ≡ false) → s.column < a.column → ((os : List Standing) → by_column_with a (merged ss os) ≡ merged (by_column_with a ss) os)
+    → (os : List Standing) → by_column_with a (merged (s ∷ ss) os) ≡ merged (s ∷ by_column_with a ss) os
+with-behind a s ss e less ih [] = rw e (ap (λ r. s ∷ r) (ih []))
+with-behind a s ss e less ih (o ∷ os) = elim (leb_tells s.column o.column) [
+  | inl t ↦ rw (t.0, e) (ap (λ r. s ∷ r) (ih (o ∷ os)))
+  | inr t ↦ elim (leb_tells a.column o.column) [
+    | inl u ↦ absurd (omega arith)
+    | inr u ↦ rw (t.0, u.0) (ap (λ r. o ∷ r) (with-behind a s ss e less ih os))
+  ]
+]
+
+with-merged : (a : Standing) (ss os : List Standing) → by_column_with a (merged ss os) ≡ merged (by_column_with a ss) os
+with-merged a [] os = with-alone a os
+with-merged a (s ∷ ss) os = elim (leb_tells a.column s.column) [
+  | inl t ↦ with-before a s ss t.0 t.1 os ∙ sym (rw t.0 refl)
+  | inr t ↦ with-behind a s ss t.0 t.1 (with-merged a ss) os ∙ sym (rw t.0 refl)
+]
+
+by_column-append : (xs os : List Standing) → by_column os ≡ os → by_column (xs ++ os) ≡ merged (by_column xs) os
+by_column-append [] os e = e
+by_column-append (x ∷ xs) os e = ap (by_column_with x) (by_column-append xs os e) ∙ with-merged x (by_column xs) os
+
+-- ---- order
+
+abbrev AllFrom : ℕ → List Standing → Type 0
+AllFrom n [] = Unit {0}
+AllFrom n (c ∷ cs) = (n ≤ c.column) × AllFrom n cs
+
+abbrev IsByColumn : List Standing → Type 0
+IsByColumn [] = Unit {0}
+IsByColumn (c ∷ cs) = AllFrom c.column cs × IsByColumn cs
+
+AllFrom-less : (m n : ℕ) (cs : List Standing) → m ≤ n → AllFrom n cs → AllFrom m cs
+AllFrom-less m n [] le h = tt
+AllFrom-less m n (c ∷ cs) le h = (let k = h.0 in omega arith, AllFrom-less m n cs le h.1)
+
+AllFrom-with : (n : ℕ) (a : Standing) (cs : List Standing) → n ≤ a.column → AllFrom n cs → AllFrom n (by_column_with a cs)
+AllFrom-with n a [] le h = (le, tt)
+AllFrom-with n a (c ∷ cs) le h = elim (leb_tells a.column c.column) [
+  | inl t ↦ rw t.0 (le, h)
+  | inr t ↦ rw t.0 (h.0, AllFrom-with n a cs le h.1)
+]
+
+IsByColumn-with : (a : Standing) (cs : List Standing) → IsByColumn cs → IsByColumn (by_column_with a cs)
+IsByColumn-with a [] h = (tt, tt)
+IsByColumn-with a (c ∷ cs) h = elim (leb_tells a.column c.column) [
+  | inl t ↦ rw t.0 ((t.1, AllFrom-less a.column c.column cs t.1 h.0), h)
+  | inr t ↦ rw t.0 (AllFrom-with c.column a cs (omega arith) h.0, IsByColumn-with a cs h.1)
+]
+
+IsByColumn-by_column : (xs : List Standing) → IsByColumn (by_column xs)
+IsByColumn-by_column [] = tt
+IsByColumn-by_column (x ∷ xs) = IsByColumn-with x (by_column xs) (IsByColumn-by_column xs)
+
+-- ---- what is left out before the two lists are put together is left out after
+
+merged-later : (n : ℕ) (ss : List Standing) (o : Standing) (os : List Standing) → AllFrom n ss → o.column < n → merged ss (o ∷ os) ≡ o ∷ merged ss os
+merged-later n [] o os h less = refl
+merged-later n (s ∷ ss) o os h less = elim (leb_tells s.column o.column) [
+  | inl t ↦ absurd (let k = h.0 in omega arith)
+  | inr t ↦ rw t.0 refl
+]
+
+-- a cell that is left out needs no place
+left-out : (p : Standing → Bool) (s : Standing) (ss : List Standing) → p s ≡ false → AllFrom s.column ss → (os : List Standing) → filter p (merged ss os) ≡ filter p (merged (s ∷ ss) os)
+left-out p s ss e h [] = rw e refl
+left-out p s ss e h (o ∷ os) = elim (leb_tells s.column o.column) [
+  | inl t ↦ rw (t.0, e) refl
+  | inr t ↦ rw (t.0, merged-later s.column ss o os h t.1) (ap (λ r. cond (p o) (o ∷ r) r) (left-out p s ss e h os))
+]
+
+-- a cell that stays does so in both
+kept : (p : Standing → Bool) (s : Standing) (ss ts : List Standing) → ((os : List Standing) → filter p (merged ts os) ≡ filter p (merged ss os)) → (os : List Standing) → filter p (merged (s ∷ ts) os) ≡ filter p (merged (s ∷ ss) os)
+kept p s ss ts ih [] = ap (λ r. cond (p s) (s ∷ r) r) (ih [])
+kept p s ss ts ih (o ∷ os) = elim (leb_tells s.column o.column) [
+  | inl t ↦ rw t.0 (ap (λ r. cond (p s) (s ∷ r) r) (ih (o ∷ os)))
+  | inr t ↦ rw t.0 (ap (λ r. cond (p o) (o ∷ r) r) (kept p s ss ts ih os))
+]
+
+filter-merged : (p q : Standing → Bool) → ((c : Standing) → q c ≡ false → p c ≡ false) → (ss : List Standing) → IsByColumn ss → (os : List Standing) → filter p (merged (filter q ss) os) ≡ filter p (merged ss os)
+filter-merged p q weaker [] h os = refl
+filter-merged p q weaker (s ∷ ss) h os = elim (cases_Bool (q s)) [
+  | inl e ↦ rw e (kept p s ss (filter q ss) (filter-merged p q weaker ss h.1) os)
+  | inr e ↦ rw e (filter-merged p q weaker ss h.1 os ∙ left-out p s ss (weaker s e) h.0 os)
+]
+
+-- ---- one row
+
+-- the hanging cells that are due
+abbrev pub due_taken : ℕ → List Standing → List Standing
+due_taken cursor [] = []
+due_taken cursor (h ∷ hs) = cond (nat_le h.column cursor) (h ∷ due_taken (cursor + h.span.colspan) hs) []
+
+-- the cells of a row and those that hang into it, in the order in which they are placed
+abbrev pub in_row : ℕ → ℕ → List Standing → List Span → List Standing
+in_row row cursor hs [] = hs
+in_row row cursor hs (s ∷ ss) =
+    let column = due_end cursor hs in
+    due_taken cursor hs ++ (record { row = row; column = column; span = s }) ∷ in_row row (column + s.colspan) (not_due cursor hs) ss
+
+due_end-from : (cursor : ℕ) (hs : List Standing) → cursor ≤ due_end cursor hs
+due_end-from cursor [] = omega arith
+due_end-from cursor (h ∷ hs) = elim (leb_tells h.column cursor) [
+  | inl t ↦ rw t.0 (let k = due_end-from (cursor + h.span.colspan) hs in omega arith)
+  | inr t ↦ rw t.0 (omega arith)
+]
+
+merged-due : (cursor : ℕ) (hs : List Standing) (o : Standing) (os : List Standing) → o.column ≡ due_end cursor hs → merged hs (o ∷ os) ≡ due_taken cursor hs ++ o ∷ merged (not_due cursor hs) os
+merged-due cursor [] o os e = refl
+merged-due cursor (h ∷ hs) o os e = elim (leb_tells h.column cursor) [
+  | inl t ↦
+      let f = rw t.0 at e in
+      let g = due_end-from (cursor + h.span.colspan) hs in
+      elim (leb_tells h.column o.column) [
+        | inl u ↦ rw (t.0, u.0) (ap (λ r. h ∷ r) (merged-due (cursor + h.span.colspan) hs o os f))
+        | inr u ↦ absurd (omega arith)
+      ]
+  | inr t ↦
+      let f = rw t.0 at e in
+      elim (leb_tells h.column o.column) [
+        | inl u ↦ absurd (omega arith)
+        | inr u ↦ rw (t.0, u.0) refl
+      ]
+]
+
+in_row-merged : (row cursor : ℕ) (hs : List Standing) (ss : List Span) → in_row row cursor hs ss ≡ merged hs (own_from row cursor hs ss)
+in_row-merged row cursor hs [] = sym (merged-nil hs)
+in_row-merged row cursor hs (s ∷ ss) =
+    let column = due_end cursor hs in
+    let o : Standing = record { row = row; column = column; span = s } in
+    ap (λ r. due_taken cursor hs ++ o ∷ r) (in_row-merged row (column + s.colspan) (not_due cursor hs) ss)
+    ∙ sym (merged-due cursor hs o (own_from row (column + s.colspan) (not_due cursor hs) ss) refl)
+
+-- ---- a row's own cells stand in order
+
+by_column_with-front : (a : Standing) (cs : List Standing) → AllFrom a.column cs → by_column_with a cs ≡ a ∷ cs
+by_column_with-front a [] h = refl
+by_column_with-front a (c ∷ cs) h = elim (leb_tells a.column c.column) [
+  | inl t ↦ rw t.0 refl
+  | inr t ↦ absurd (let k = h.0 in omega arith)
+]
+
+own-from : (row cursor : ℕ) (hs : List Standing) (ss : List Span) → AllFrom cursor (own_from row cursor hs ss)
+own-from row cursor hs [] = tt
+own-from row cursor hs (s ∷ ss) =
+    let k = due_end-from cursor hs in
+    (k, AllFrom-less cursor (due_end cursor hs + s.colspan) _ (omega arith) (own-from row (due_end cursor hs + s.colspan) (not_due cursor hs) ss))
+
+by_column-own : (row cursor : ℕ) (hs : List Standing) (ss : List Span) → by_column (own_from row cursor hs ss) ≡ own_from row cursor hs ss
+by_column-own row cursor hs [] = refl
+by_column-own row cursor hs (s ∷ ss) =
+    let column = due_end cursor hs in
+    let o : Standing = record { row = row; column = column; span = s } in
+    let os = own_from row (column + s.colspan) (not_due cursor hs) ss in
+    ap (by_column_with o) (by_column-own row (column + s.colspan) (not_due cursor hs) ss)
+    ∙ by_column_with-front o os (AllFrom-less column (column + s.colspan) os (omega arith) (own-from row (column + s.colspan) (not_due cursor hs) ss))
+
+-- ---- from row to row
+
+stops : (row : ℕ) (c : Standing) → hangs_into row c ≡ false → hangs_into (row + 1) c ≡ false
+stops row c e = elim (leb_tells (suc (row + 1)) (end_of c)) [
+  | inl t ↦ elim (leb_tells (suc row) (end_of c)) [
+    | inl u ↦ absurd (false≢true (sym e ∙ u.0))
+    | inr u ↦ absurd (omega arith)
+  ]
+  | inr t ↦ t.0
+]
+
+-- what a row leaves to the next one is what hangs into that one of all cells so far
+pub hanging-next : (row : ℕ) (above : List Standing) (ss : List Span) → filter (hangs_into (row + 1)) (in_row row 0 (hanging row above) ss) ≡ hanging (row + 1) (above ++ own_from row 0 (hanging row above) ss)
+hanging-next row above ss =
+    let hs = hanging row above in
+    let own = own_from row 0 hs ss in
+    ap (filter (hangs_into (row + 1))) (in_row-merged row 0 hs ss)
+    ∙ filter-merged (hangs_into (row + 1)) (hangs_into row) (stops row) (by_column above) (IsByColumn-by_column above) own
+    ∙ ap (filter (hangs_into (row + 1))) (sym (by_column-append above own (by_column-own row 0 hs ss)))

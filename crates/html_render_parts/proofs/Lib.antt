@@ -1,0 +1,12 @@
+pub mod CutColumns
+pub mod CutLevels
+pub mod CutLowering
+pub mod EdgeRanks
+pub mod EdgesOfCells
+pub mod FairestCut
+pub mod GridMade
+pub mod HangingOrder
+pub mod NumberTests
+pub mod PlacingRows
+pub mod RisingEnds
+pub mod SideBySide

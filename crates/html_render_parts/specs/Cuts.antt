@@ -1,0 +1,120 @@
+-- How the columns of a table are cut to its width. Each column has a minimum, the least width that it can have, and a share,
+-- the width that it would like. Between neighbouring columns stands a separator, 1 wide.
+use Rattle.std.specs.Prelude.{◌≡◌, ◌≢◌, ℕ, ◌+◌, ◌-◌, ◌/◌, ◌<◌, ◌≤◌, ◌⊎◌, List, [], ◌∷◌, zero, suc, length, min, max, sum, sum_by, slice_index, slice_range, slice_set, nat_lt, ◌==◌, ◌||◌, ◌&&◌, if◌then◌else◌}
+
+-- the shares can be cut to the width
+pub record CutFits (minimums shares : List ℕ) (width : ℕ) : Type 0 where
+  pub lengths : length minimums ≡ length shares
+  pub each : (k : ℕ) → k < length minimums → slice_index minimums k ≤ slice_index shares k
+  pub room : sum minimums + (length minimums - 1) ≤ width
+
+-- what the columns' widths add up to: all of the shares, or what the separators leave of the width
+abbrev pub total_width : List ℕ → ℕ → ℕ
+total_width shares width = min (sum shares) (width - (length shares - 1))
+
+-- how far a column is above its minimum
+abbrev pub slack : List ℕ → List ℕ → ℕ → ℕ
+slack minimums widths k = slice_index widths k - slice_index minimums k
+
+-- the largest slack, 0 where there is no column; that of the shares is the greatest range
+abbrev pub largest_slack : List ℕ → List ℕ → ℕ
+largest_slack (minimum ∷ minimums) (width ∷ widths) = max (width - minimum) (largest_slack minimums widths)
+largest_slack minimums widths = 0
+
+-- how many units of the shares the widths leave out
+abbrev pub units_taken : List ℕ → List ℕ → ℕ
+units_taken shares widths = sum shares - sum widths
+
+-- columns side by side that are each at least their part of a size have that size together, with the separators between them
+abbrev pub HoldTogether : List ℕ → List ℕ → Type 0
+HoldTogether minimums widths = (from count size : ℕ) → 0 < count → from + count ≤ length minimums
+    → ((k : ℕ) → from ≤ k → k < from + count → size / count ≤ slice_index minimums k)
+    → size ≤ sum (slice_range widths from (from + count)) + (count - 1)
+
+-- ---- the fairest cut
+
+-- each width is between its minimum and its share, and where there is a column they add up
+pub record IsCut (minimums shares : List ℕ) (width : ℕ) (widths : List ℕ) : Type 0 where
+  pub lengths : length widths ≡ length minimums
+  pub lower : (k : ℕ) → k < length minimums → slice_index minimums k ≤ slice_index widths k
+  pub upper : (k : ℕ) → k < length minimums → slice_index widths k ≤ slice_index shares k
+  pub total : 0 < length minimums → sum widths ≡ total_width shares width
+
+-- of two columns, the first gives a unit before the second: by greater slack, then by greater width, then as the left one
+abbrev pub GivesBefore : (slack width place slack' width' place' : ℕ) → Type 0
+GivesBefore slack width place slack' width' place' =
+    (slack' < slack) ⊎ ((slack' ≡ slack) × ((width' < width) ⊎ ((width' ≡ width) × (place < place'))))
+
+-- a cut whose last unit was taken from the right column, whichever it was: with that unit back, its column gives before each other
+pub record IsFairestCut (minimums shares : List ℕ) (width : ℕ) (widths : List ℕ) : Type 0 where
+  pub is_cut : IsCut minimums shares width widths
+  pub last_unit : (i j : ℕ) → i < length minimums → j < length minimums → i ≢ j → slice_index widths i < slice_index shares i →
+      GivesBefore ((slice_index widths i + 1) - slice_index minimums i) (slice_index widths i + 1) i (slack minimums widths j) (slice_index widths j) j
+
+-- ---- the level form
+
+-- the range of each column: its share less its minimum
+abbrev pub ranges : List ℕ → List ℕ → List ℕ
+ranges (minimum ∷ minimums) (share ∷ shares) = (share - minimum) ∷ ranges minimums shares
+ranges minimums shares = []
+
+-- the sum of the ranges, each capped at the level
+abbrev pub capped_sum : ℕ → List ℕ → ℕ
+capped_sum level ranges = sum_by (λ range. min range level) ranges
+
+-- what the widths have above the minimums
+abbrev pub wanted : List ℕ → List ℕ → ℕ → ℕ
+wanted minimums shares width = total_width shares width - sum minimums
+
+-- the least level at which the capped ranges are enough
+pub record IsLevel (level : ℕ) (ranges : List ℕ) (wanted : ℕ) : Type 0 where
+  pub enough : wanted ≤ capped_sum level ranges
+  pub least : (l : ℕ) → l < level → capped_sum l ranges < wanted
+
+-- a column's width where its range is capped at the level
+abbrev pub full_width : List ℕ → List ℕ → ℕ → ℕ → ℕ
+full_width minimums shares level k = slice_index minimums k + min (slice_index shares k - slice_index minimums k) level
+
+-- a column's range reaches the level
+abbrev pub IsAtLevel : List ℕ → List ℕ → ℕ → ℕ → Type 0
+IsAtLevel minimums shares level k = level ≤ slice_index shares k - slice_index minimums k
+
+-- a column at the level is 1 narrower than its full width
+abbrev pub IsLowered : List ℕ → List ℕ → List ℕ → ℕ → ℕ → Type 0
+IsLowered minimums shares widths level k =
+    (0 < level) × IsAtLevel minimums shares level k × (slice_index widths k + 1 ≡ full_width minimums shares level k)
+
+-- each column has its full width or is lowered; so many are lowered that the widths add up, and they are the first of the columns
+-- at the level, by greater width and then from the left
+pub record IsLevelForm (minimums shares : List ℕ) (width : ℕ) (widths : List ℕ) (level lowered : ℕ) : Type 0 where
+  pub is_level : IsLevel level (ranges minimums shares) (wanted minimums shares width)
+  pub rest : lowered + wanted minimums shares width ≡ capped_sum level (ranges minimums shares)
+  pub lengths : length widths ≡ length minimums
+  pub each : (k : ℕ) → k < length minimums → (slice_index widths k ≡ full_width minimums shares level k) ⊎ IsLowered minimums shares widths level k
+  pub count : sum widths + lowered ≡ sum minimums + capped_sum level (ranges minimums shares)
+  pub first : (i j : ℕ) → i < length minimums → j < length minimums → IsLowered minimums shares widths level i
+      → IsAtLevel minimums shares level j → slice_index widths j ≡ full_width minimums shares level j
+      → (full_width minimums shares level j < full_width minimums shares level i) ⊎ ((full_width minimums shares level j ≡ full_width minimums shares level i) × (i < j))
+
+-- ---- the loop of single units
+
+-- the column that gives the next unit, among the first n: that of greatest slack, of these the widest, of these the leftmost
+unfoldable pub giver : List ℕ → List ℕ → ℕ → ℕ
+giver minimums widths zero = 0
+giver minimums widths (suc n) =
+    let best = giver minimums widths n in
+    if nat_lt (slack minimums widths best) (slack minimums widths n)
+    || (slack minimums widths best == slack minimums widths n && nat_lt (slice_index widths best) (slice_index widths n))
+    then n
+    else best
+
+-- so many units taken, one after the other
+unfoldable pub without_units : ℕ → List ℕ → List ℕ → List ℕ
+without_units zero minimums widths = widths
+without_units (suc n) minimums widths =
+    let from = giver minimums widths (length widths) in
+    without_units n minimums (slice_set widths from (slice_index widths from - 1))
+
+-- the shares with units taken until they have the total width
+unfoldable pub cut_by_units : List ℕ → List ℕ → ℕ → List ℕ
+cut_by_units minimums shares width = without_units (sum shares - total_width shares width) minimums shares

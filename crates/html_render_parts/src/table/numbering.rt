@@ -1,0 +1,90 @@
+//! The edges of a table's grid, and the numbers of its columns.
+
+ghost use Rattle.std.specs.Prelude.{◌≡◌, ◌≤◌, ◌∷◌, ◌++◌, All, map, IfOk, OnOk};
+ghost use Rattle.std.specs.List.Sorted.{IsStrictlyIncreasing};
+ghost use Rattle.html_render_parts.specs.Placement.{lists};
+ghost use Rattle.html_render_parts.specs.Grid.{ends, edges_of, numbered, rank};
+
+use crate::table::PlacedCell;
+use crate::table::placement::Place;
+use std::alloc::{AllocError, Global};
+
+/// Puts the ends of a row's places behind other positions.
+fn push_ends(positions: &mut Vec<u128>, places: &[Place]) -> Result<(), AllocError>
+    ensures { OnOk result (positions.new.items ≡ positions.old.items ++ map (λ p. p.end) places.now) }
+{
+    for place in places {
+        positions.push(place.end)?;
+    }
+    Ok(())
+}
+
+/// 0 and the ends of all places.
+fn zero_and_ends(alloc: Global, placed: &[Vec<Place>]) -> Result<Vec<u128>, AllocError>
+    ensures { IfOk result (λ v. v.items ≡ 0 ∷ ends (lists placed.now)) }
+{
+    let mut positions = Vec::new(alloc);
+    positions.push(0)?;
+    for places in placed {
+        push_ends(&mut positions, places)?;
+    }
+    Ok(positions)
+}
+
+/// The edges of a grid, rising: 0 and the ends of all places, each once.
+pub(crate) fn edges_of(alloc: Global, placed: &[Vec<Place>]) -> Result<Vec<u128>, AllocError>
+    ensures edges { IfOk result (λ v. v.items ≡ edges_of (lists placed.now)) }
+    ensures rising { IfOk result (λ v. IsStrictlyIncreasing v.items) }
+{
+    let mut edges = zero_and_ends(alloc, placed)?;
+    edges.sort_unstable();
+    edges.dedup();
+    Ok(edges)
+}
+
+/// How many edges are below a position.
+fn rank(edges: &[u128], position: u128) -> usize
+    requires { IsStrictlyIncreasing edges.now }
+    ensures { result ≡ rank edges.now position }
+{
+    edges.partition_point(|edge| *edge < position)
+}
+
+/// A row's places with their columns counted.
+fn numbered_row(
+    alloc: Global,
+    edges: &[u128],
+    places: &[Place],
+) -> Result<Vec<PlacedCell>, AllocError>
+    requires rising { IsStrictlyIncreasing edges.now }
+    requires ordered { All (λ p. p.start ≤ p.end) places.now }
+    ensures { IfOk result (λ v. v.items ≡ map (numbered edges.now) places.now) }
+{
+    let mut cells = Vec::with_capacity(alloc, places.len())?;
+    for place in places {
+        cells.push(PlacedCell {
+            kind: place.kind,
+            start: place.start,
+            end: place.end,
+            columns: rank(edges, place.end) - rank(edges, place.start),
+        })?;
+    }
+    Ok(cells)
+}
+
+/// All rows with their cells' columns counted.
+pub(crate) fn numbered_rows(
+    alloc: Global,
+    edges: &[u128],
+    placed: &[Vec<Place>],
+) -> Result<Vec<Vec<PlacedCell>>, AllocError>
+    requires rising { IsStrictlyIncreasing edges.now }
+    requires ordered { All (λ places. All (λ p. p.start ≤ p.end) places) (lists placed.now) }
+    ensures { IfOk result (λ v. lists v.items ≡ map (map (numbered edges.now)) (lists placed.now)) }
+{
+    let mut rows = Vec::with_capacity(alloc, placed.len())?;
+    for places in placed {
+        rows.push(numbered_row(alloc, edges, places)?)?;
+    }
+    Ok(rows)
+}

@@ -1,0 +1,59 @@
+//! The least level at which the capped ranges are enough, found by halving.
+
+ghost use Rattle.std.specs.Prelude.{◌≡◌, ℕ, ◌+◌, ◌-◌, ◌*◌, ◌^◌, ◌<◌, ◌≤◌, length, sum, slice_index};
+ghost use Rattle.html_render_parts.specs.Cuts.{ranges, capped_sum, IsLevel};
+
+/// A level, and the sum of the ranges, each capped at it.
+#[derive(Clone, Copy)]
+pub(super) struct Level {
+    pub(super) level: usize,
+    pub(super) sum: u128,
+}
+
+/// The sum of the ranges, each capped at the level: one probe.
+pub(super) fn capped_sum(minimums: &[usize], shares: &[usize], level: usize) -> u128
+    requires lengths { length minimums.now ≡ length shares.now }
+    requires each { (k : ℕ) → k < length minimums.now → slice_index minimums.now k ≤ slice_index shares.now k }
+    ensures { result ≡ capped_sum level (ranges minimums.now shares.now) }
+{
+    let mut all = 0u128;
+    for (i, least) in minimums.iter().enumerate() {
+        all += (shares[i] - *least).min(level) as u128;
+    }
+    all
+}
+
+/// The least level that is enough, and how many probes found it. `highest` is a level that is enough.
+pub(super) fn find_level(
+    minimums: &[usize],
+    shares: &[usize],
+    highest: Level,
+    wanted: u128,
+) -> (Level, usize)
+    requires lengths { length minimums.now ≡ length shares.now }
+    requires each { (k : ℕ) → k < length minimums.now → slice_index minimums.now k ≤ slice_index shares.now k }
+    requires sum { highest.sum ≡ capped_sum highest.level (ranges minimums.now shares.now) }
+    requires enough { wanted ≤ highest.sum }
+    ensures level { IsLevel result.0.level (ranges minimums.now shares.now) wanted }
+    ensures sum { result.0.sum ≡ capped_sum result.0.level (ranges minimums.now shares.now) }
+    ensures probes { result.1 ≤ 64 }
+    ensures probes_least { highest.level + 2 ≤ 2 * 2 ^ result.1 }
+    ensures probes_most { 2 ^ result.1 ≤ 2 * highest.level + 1 }
+{
+    let mut low = 0usize;
+    let mut high = highest.level;
+    let mut sum = highest.sum;
+    let mut probes = 0usize;
+    while low < high {
+        let middle = low + (high - low) / 2;
+        let capped = capped_sum(minimums, shares, middle);
+        probes += 1;
+        if capped >= wanted {
+            high = middle;
+            sum = capped;
+        } else {
+            low = middle + 1;
+        }
+    }
+    (Level { level: high, sum }, probes)
+}
