@@ -6,8 +6,9 @@ use Rattle.html_render_lines.specs.Paragraph.{Page, Setting, paragraph, all_line
 use Rattle.html_render_lines.specs.Stream.{State, start, after, finished, styled}
 use Rattle.html_render_lines.specs.Whole.{finished-after, after-append}
 use Rattle.html_render_lines.specs.Kept.{setting-after}
-use Rattle.html_render_layout.specs.Block.{Flow, flushed, with_page, with_empty_line, separated_by, started, ended, hard_broken, with_text, fed_more, is_blank}
-use Rattle.html_render_layout.specs.BlockState.{BlockState, state_flushed, flushed_by, state_with_page, state_with_empty_line, state_separated_by, state_started, state_ended, state_hard_broken, state_with_text, state_fed_more}
+use Rattle.html_render_layout.specs.Operations.{Commutes}
+use Rattle.html_render_layout.specs.Block.{Flow, flushed, with_page, with_empty_line, separated_by, started, ended, hard_broken, with_text, fed_more, is_blank, flow_operations}
+use Rattle.html_render_layout.specs.BlockState.{BlockState, state_flushed, flushed_by, state_with_empty_line, state_separated_by, state_started, state_ended, state_hard_broken, state_with_text, state_fed_more, state_operations}
 
 -- the block to whose paragraph the list was fed
 abbrev pub block_of : {T M : Type 0} → Flow T M → BlockState T M
@@ -82,3 +83,13 @@ state_with_text-block {T} {M} d style cs =
     (if_both (option_map block_of) (not d.at_block_end) _ _ _ _ (ap Some (fed_more-block d style cs))
     (if_both (option_map block_of) (is_blank style.mode cs) _ _ _ _ refl
     (map_both block_of (λ (e : Flow T M). fed_more e style cs) (λ (c : BlockState T M). state_fed_more c style cs) (started d) _ (state_started-block d) (λ e. fed_more-block e style cs))))
+
+-- THE THEOREM: each operation on a block that was fed is the definition's
+pub block_of-commutes : {T M : Type 0} → Commutes block_of (λ (s : TextStyle T). s) (flow_operations {T = T} {M = M}) state_operations
+block_of-commutes = record {
+  add_inline_text = state_with_text-block;
+  new_line = state_flushed-block;
+  new_line_hard = state_hard_broken-block;
+  start_block = state_started-block;
+  end_block = state_ended-block;
+}

@@ -48,11 +48,11 @@ lines_of o lines t s = do
   Some (lines b)
 
 -- the style of texts that no node styles
-abbrev pub plain_style : TextStyle ℕ
-plain_style = record { mode = Normal; tag = 0; continuation_tag = 0 }
+abbrev pub plain_style : TextStyle (Unit {0})
+plain_style = record { mode = Normal; tag = tt; continuation_tag = tt }
 
 -- THE LINES of a render tree; none where it is too narrow
-abbrev pub layout_lines : Forest NodeKind → ℕ → Bool → Option (List (Line ℕ ℕ))
+abbrev pub layout_lines : Forest NodeKind → ℕ → Bool → Option (List (Line (Unit {0}) (Unit {0})))
 layout_lines t width overflow =
     if width == 0 then None
-    else lines_of flow_operations (λ (b : Flow ℕ ℕ). b.lines) t (record { style = plain_style; block = empty_flow (record { width = width; overflow = overflow }) })
+    else lines_of flow_operations (λ (b : Flow (Unit {0}) (Unit {0})). b.lines) t (record { style = plain_style; block = empty_flow (record { width = width; overflow = overflow }) })

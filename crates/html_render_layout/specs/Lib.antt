@@ -6,7 +6,9 @@ pub mod Runs
 pub mod Operations
 pub mod Block
 pub mod BlockState
+pub mod BlockTags
 pub mod BlockFed
+pub mod BlockLaws
 pub mod Layout
 pub mod Leaving
 pub mod Translation

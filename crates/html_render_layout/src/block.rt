@@ -260,3 +260,6 @@ fn marks_line<T: Copy, M: Copy>(
     }
     Ok(line)
 }
+
+#[cfg(test)]
+mod tests;

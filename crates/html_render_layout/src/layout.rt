@@ -49,7 +49,7 @@ struct Layout;
 impl Pass for Layout {
     type Node = NodeKind;
 
-    type State = Desk<Block<usize, usize>, TextStyle<usize>>;
+    type State = Desk<Block<(), ()>, TextStyle<()>>;
 
     type Kept = Leaving;
 
@@ -64,7 +64,7 @@ impl Pass for Layout {
     fn enter(
         _alloc: Global,
         node: &NodeKind,
-        state: &mut Desk<Block<usize, usize>, TextStyle<usize>>,
+        state: &mut Desk<Block<(), ()>, TextStyle<()>>,
     ) -> Result<Leaving, Error> {
         steps::enter(node, state)
     }
@@ -72,7 +72,7 @@ impl Pass for Layout {
     fn leave(
         _alloc: Global,
         kept: Leaving,
-        state: &mut Desk<Block<usize, usize>, TextStyle<usize>>,
+        state: &mut Desk<Block<(), ()>, TextStyle<()>>,
     ) -> Result<(), Error> {
         steps::leave(kept, state)
     }
@@ -83,9 +83,9 @@ impl Pass for Layout {
 fn lines_on(
     alloc: Global,
     tree: &RenderTree,
-    desk: Desk<Block<usize, usize>, TextStyle<usize>>,
+    desk: Desk<Block<(), ()>, TextStyle<()>>,
     meter: &mut Meter,
-) -> Result<Vec<Vec<Element<usize, usize>>>, Error>
+) -> Result<Vec<Vec<Element<(), ()>>>, Error>
     ensures ok { IfOk result (λ v. lines_of state_operations (λ b. b.lines) tree.now desk ≡ Some (lines_in v)) }
     ensures err { IfErr result (λ e. Refuses e (lines_of state_operations (λ b. b.lines) tree.now desk)) }
     ensures entered { OnOk result (meter.new.entered ≡ count tree.now) }
@@ -113,7 +113,7 @@ pub fn lay_out(
     width: usize,
     overflow: bool,
     meter: &mut Meter,
-) -> Result<Vec<Vec<Element<usize, usize>>>, Error>
+) -> Result<Vec<Vec<Element<(), ()>>>, Error>
     ensures ok { IfOk result (λ v. layout_lines tree.now width overflow ≡ Some (lines_in v)) }
     ensures err { IfErr result (λ e. Refuses e (layout_lines tree.now width overflow)) }
 
@@ -139,8 +139,8 @@ pub fn lay_out(
     }
     let style = TextStyle {
         mode: WhiteSpace::Normal,
-        tag: 0,
-        continuation_tag: 0,
+        tag: (),
+        continuation_tag: (),
     };
     let block = Block::new(alloc, width, overflow);
     lines_on(alloc, tree, Desk { style, block }, meter)

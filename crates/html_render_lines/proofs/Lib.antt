@@ -1,3 +1,5 @@
 pub mod Rooms
 pub mod Words
 pub mod Copies
+pub mod Letters
+pub mod WholeWords

@@ -1,15 +1,13 @@
 -- A word that fits is put as a whole.
-use Rattle.std.proofs.Common.{◌≡◌, ℕ, ◌+◌, ◌≤◌, Bool, true, false, cond, leb, List, [], ◌∷◌, ◌++◌, Option, None, Some, refl, ap, sym, ◌∙◌, option_and_then, arith}
+use Rattle.std.proofs.Common.{◌≡◌, ◌+◌, ◌≤◌, Bool, true, false, cond, leb, List, [], ◌∷◌, Option, None, Some, refl, ap, ◌∙◌, option_and_then, arith}
 use Rattle.std.proofs.lemmas.List.Sums.{sum_by-append}
 use Rattle.std.proofs.lemmas.Bool.{leb-true, le-leb}
 use Rattle.html_render_lines.specs.declared.character.Character.{Character}
 use Rattle.html_render_lines.specs.declared.character.Item.{Item}
 use Rattle.html_render_lines.specs.declared.character.Item.TheVariants as item
-use Rattle.html_render_lines.specs.declared.line.Element.{Element}
-use Rattle.html_render_lines.specs.declared.line.Element.TheVariants as element
 use Rattle.html_render_lines.specs.Character.{width_of}
 use Rattle.html_render_lines.specs.Line.{Line, columns, word_columns, item_width}
-use Rattle.html_render_lines.specs.Paragraph.{Page, Setting, tag_on, with_character, wait, put_items, put_word, place_for, spaced, spaced_by, continued, continued_by, fits, gap_width, gap_width_of}
+use Rattle.html_render_lines.specs.Paragraph.{Page, Setting, tag_on, with_character, wait, put_items, put_word, spaced, spaced_by, continued, continued_by, fits, gap_width, gap_width_of}
 use Rattle.html_render_lines.specs.Word.{with_word}
 use Rattle.html_render_lines.proofs.Rooms.{columns-push, columns-push_space}
 

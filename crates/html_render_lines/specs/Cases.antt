@@ -1,5 +1,5 @@
 -- Facts on values that may be missing, and on choices.
-use Rattle.std.proofs.Common.{◌≡◌, Bool, true, false, cond, Option, Some, None, refl, IfSome, IsSome, option_and_then}
+use Rattle.std.proofs.Common.{◌≡◌, Bool, true, false, cond, Option, Some, None, refl, IfSome, option_and_then}
 use Rattle.html_render_lines.specs.declared.character.Kind.{Kind}
 use Rattle.html_render_lines.specs.declared.character.Kind.TheVariants.{Letter, Space, Divider, Dropped, Preserved, Newline, Tab, SoftSpace, SoftTab}
 use Rattle.html_render_lines.specs.declared.character.Character.{Character}

@@ -1,5 +1,5 @@
 -- What a character is to the wrapping of a paragraph, in each of the three white space modes.
-use Rattle.std.specs.Prelude.{ℕ, Bool, false, not, ◌&&◌, ◌==◌, is_none, unwrap_or, if◌then◌else◌}
+use Rattle.std.specs.Prelude.{ℕ, Bool, false, not, ◌&&◌, ◌==◌, is_none, nat_le, unwrap_or, if◌then◌else◌}
 use Rattle.std.specs.Char.{is_whitespace}
 use Rattle.unicode_width.specs.Width.{char_width}
 use Rattle.html_render_dom.specs.declared.style.WhiteSpace.{WhiteSpace}
@@ -36,3 +36,7 @@ kind PreWrap c =
     else if is_collapsible c then SoftSpace
     else if c == 0x200B then Divider
     else Letter
+
+-- a printable ASCII character other than the space
+abbrev pub is_plain : ℕ → Bool
+is_plain c = nat_le 0x21 c && nat_le c 0x7E

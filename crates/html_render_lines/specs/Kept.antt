@@ -1,5 +1,5 @@
 -- Feeding leaves a paragraph's setting as it is.
-use Rattle.std.proofs.Common.{◌≡◌, Bool, List, [], ◌∷◌, ◌++◌, Option, None, Some, refl, ◌∙◌, IfSome, option_map}
+use Rattle.std.proofs.Common.{◌≡◌, Bool, List, [], ◌∷◌, Option, None, Some, refl, ◌∙◌, IfSome, option_map}
 use Rattle.html_render_dom.specs.WhiteSpace.{preserves}
 use Rattle.html_render_lines.specs.declared.character.Kind.{Kind}
 use Rattle.html_render_lines.specs.declared.character.Kind.TheVariants.{Letter, Space, Divider, Dropped, Preserved, Newline, Tab, SoftSpace, SoftTab}
@@ -8,7 +8,7 @@ use Rattle.html_render_lines.specs.declared.character.Item.{Item}
 use Rattle.html_render_lines.specs.declared.character.Item.TheVariants as item
 use Rattle.html_render_lines.specs.Character.{kind}
 use Rattle.html_render_lines.specs.Paragraph.{Page, Setting, put_word, put_single, settled_for}
-use Rattle.html_render_lines.specs.Stream.{State, end_by, end_word, joins, begin_word, letter_step, single_step, then_single, with_pending, character_step, mark_by, step, after}
+use Rattle.html_render_lines.specs.Stream.{State, end_by, end_word, joins, begin_word, single_step, then_single, with_pending, character_step, mark_by, step, after}
 use Rattle.html_render_lines.specs.Cases.{bind_some, if_cases}
 
 abbrev Has : {T M : Type 0} → Setting → State T M → Type 0

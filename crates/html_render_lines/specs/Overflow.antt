@@ -7,7 +7,7 @@ use Rattle.html_render_lines.specs.declared.character.Item.{Item}
 use Rattle.html_render_lines.specs.declared.character.Item.TheVariants as item
 use Rattle.html_render_lines.specs.Character.{width_of}
 use Rattle.html_render_lines.specs.Line.{columns}
-use Rattle.html_render_lines.specs.Paragraph.{Piece, Word, Gap, Cut, Single, Loose, pieces, with_kind, with_letter, with_mark, Page, Setting, without_overflow, with_overflow, wait, with_character, with_line, broken, put_character, put_characters, put_items, put_word, put_single, place_for, spaced, spaced_by, continued, continued_by, settled, settled_for, put_fitting, put_all_fitting, tab_spaces, place, paragraph, blank_page, all_lines, first_of, is_same, gap_width, gap_width_of, tag_on, fits}
+use Rattle.html_render_lines.specs.Paragraph.{Piece, Word, Gap, Cut, Single, Loose, pieces, Page, without_overflow, with_overflow, wait, put_character, put_characters, put_items, put_word, put_single, place_for, settled_for, put_fitting, put_all_fitting, tab_spaces, place, paragraph, blank_page, first_of}
 
 same_then : {A B : Type 0} (f g : A → Option B) (o p : Option A) (y : B) → option_and_then f o ≡ Some y → ((x : A) → o ≡ Some x → p ≡ Some x) → ((x : A) → f x ≡ Some y → g x ≡ Some y) → option_and_then g p ≡ Some y
 same_then f g None p y e h k = cc

@@ -7,7 +7,6 @@ use Rattle.html_render_lines.specs.declared.character.Kind.TheVariants.{Letter, 
 use Rattle.html_render_lines.specs.declared.character.Character.{Character}
 use Rattle.html_render_lines.specs.declared.character.Item.{Item}
 use Rattle.html_render_lines.specs.declared.character.Item.TheVariants as item
-use Rattle.html_render_lines.specs.declared.line.Element.{Element}
 use Rattle.html_render_lines.specs.declared.line.Element.TheVariants as element
 use Rattle.html_render_lines.specs.Character.{kind, width_of}
 use Rattle.html_render_lines.specs.Line.{Line, columns, word_columns}

@@ -95,8 +95,13 @@ character_of style c = record { code = c; mode = style.mode; tag = style.tag; co
 
 -- the characters of a text, each with the style's mode and tags
 abbrev pub styled : {T M : Type 0} → TextStyle T → List ℕ → List (Item T M)
-styled style [] = []
-styled style (c ∷ cs) = item.Character (character_of style c) ∷ styled style cs
+styled style cs = map (λ c. item.Character (character_of style c)) cs
+
+-- letters, some, that come together: they join the open word, or begin another
+abbrev pub letters_step : {T M : Type 0} → State T M → TextStyle T → List ℕ → Option (State T M)
+letters_step {T} {M} st style cs =
+    if joins st.open_word (preserves style.mode) then Some (record st { word = st.word ++ styled style cs })
+    else option_map (λ (t : State T M). record t { word = styled style cs; open_word = Some (preserves style.mode) }) (end_word st)
 
 -- the lines as a vector of vectors holds them
 abbrev pub lines_in : {T M : Type 0} → Vec (Vec (Element T M) Global) Global → List (Line T M)

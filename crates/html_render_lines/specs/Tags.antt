@@ -14,7 +14,7 @@ use Rattle.html_render_lines.specs.declared.line.Element.TheVariants as element
 use Rattle.html_render_lines.specs.Character.{kind, width_of}
 use Rattle.html_render_lines.specs.Line.{Line, columns, element_width, item_width, word_columns}
 use Rattle.html_render_lines.specs.Paragraph.{Page, Setting, wait, with_character, with_space, with_line, broken, put_character, put_characters, put_items, put_fitting, put_all_fitting, put_word, put_single, place_for, spaced_by, continued, continued_by, settled, settled_for, first_of, gap_width, gap_width_of, tag_on, tab_spaces, fits, all_lines}
-use Rattle.html_render_lines.specs.Stream.{State, placed_word, end_by, end_word, joins, begin_word, letter_step, single_step, then_single, with_pending, character_step, mark_by, step, after, finished, styled}
+use Rattle.html_render_lines.specs.Stream.{State, end_by, end_word, joins, begin_word, letter_step, single_step, then_single, with_pending, character_step, mark_by, step, after, finished, styled}
 
 pub if_with : {X Y : Type 0} (h : X → Y) (b d : Bool) (x y : X) (u v : Y) → d ≡ b → u ≡ h x → v ≡ h y → cond d u v ≡ h (cond b x y)
 if_with h true d x y u v s e f = ap (λ b. cond b u v) s ∙ e
@@ -82,7 +82,7 @@ module _ {T U M : Type 0} (f : T → U) where
   word_columns-with : (w : List (Item T M)) → word_columns (map item_with w) ≡ word_columns w
   word_columns-with w = sum_same item_with (λ e. item_width e) (λ e. item_width e) item_same 0 w
 
-  marks-with : (ms : List M) → line_with (map (λ (m : M). element.Mark m) ms) ≡ map (λ (m : M). element.Mark m) ms
+  pub marks-with : (ms : List M) → line_with (map (λ (m : M). element.Mark m) ms) ≡ map (λ (m : M). element.Mark m) ms
   marks-with [] = refl
   marks-with (m ∷ ms) = ap (λ l. element.Mark m ∷ l) (marks-with ms)
 

@@ -1,5 +1,5 @@
 -- No visible character is lost, none is added, and they keep their order.
-use Rattle.std.proofs.Common.{◌≡◌, ℕ, ◌+◌, ◌-◌, ◌%◌, Bool, true, false, not, cond, ◌||◌, ◌&&◌, ◌==◌, List, [], ◌∷◌, ◌++◌, Option, Some, None, refl, sym, ap, ◌∙◌, leb, eqb, map, replicate, append_assoc, IfSome, zero, suc, if◌then◌else◌}
+use Rattle.std.proofs.Common.{◌≡◌, ℕ, ◌+◌, ◌-◌, ◌%◌, Bool, true, false, not, cond, ◌||◌, ◌&&◌, ◌==◌, List, [], ◌∷◌, ◌++◌, Option, Some, None, refl, sym, ap, ◌∙◌, leb, eqb, replicate, append_assoc, IfSome, zero, suc, if◌then◌else◌}
 use Rattle.std.specs.Char.{is_whitespace}
 use Rattle.std.proofs.lemmas.Bool.{eqb-true}
 use Rattle.std.proofs.lemmas.Option.{IfSome_then}
@@ -11,11 +11,10 @@ use Rattle.html_render_lines.specs.declared.character.Kind.TheVariants.{Letter, 
 use Rattle.html_render_lines.specs.declared.character.Character.{Character}
 use Rattle.html_render_lines.specs.declared.character.Item.{Item}
 use Rattle.html_render_lines.specs.declared.character.Item.TheVariants as item
-use Rattle.html_render_lines.specs.declared.line.Element.{Element}
 use Rattle.html_render_lines.specs.declared.line.Element.TheVariants as element
 use Rattle.html_render_lines.specs.Character.{kind, is_collapsible, has_no_width, width_of}
 use Rattle.html_render_lines.specs.Line.{Line, columns, marks_line, word_columns}
-use Rattle.html_render_lines.specs.Paragraph.{Piece, Word, Gap, Cut, Single, Loose, pieces, with_kind, with_letter, with_mark, Page, Setting, without_overflow, with_overflow, wait, with_character, with_line, broken, put_character, put_characters, put_items, put_word, put_single, place_for, spaced, spaced_by, continued, continued_by, settled, settled_for, put_fitting, put_all_fitting, tab_spaces, place, paragraph, blank_page, all_lines, first_of, is_same, gap_width, gap_width_of, tag_on, fits}
+use Rattle.html_render_lines.specs.Paragraph.{Piece, Word, Gap, Cut, Single, Loose, pieces, with_kind, with_letter, with_mark, Page, Setting, wait, with_character, with_line, broken, put_character, put_characters, put_items, put_word, put_single, place_for, spaced, spaced_by, continued, continued_by, settled, settled_for, put_fitting, put_all_fitting, tab_spaces, place, paragraph, blank_page, all_lines, first_of, is_same, gap_width, tag_on}
 use Rattle.html_render_lines.specs.Cases.{bind_some, if_cases, settled_cases}
 
 -- the visible characters: no white space, no U+200B, and with a width

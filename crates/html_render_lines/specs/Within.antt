@@ -1,5 +1,5 @@
 -- With overflow off no line passes the width.
-use Rattle.std.proofs.Common.{◌≡◌, ℕ, ◌+◌, ◌≤◌, Bool, true, false, ◌||◌, List, [], ◌∷◌, ◌++◌, Option, Some, None, refl, ap, subst, arith, leb, map, IfSome}
+use Rattle.std.proofs.Common.{◌≡◌, ℕ, ◌+◌, ◌≤◌, Bool, true, false, ◌||◌, List, [], ◌∷◌, ◌++◌, Option, Some, None, refl, ap, subst, arith, leb, IfSome}
 use Rattle.std.proofs.lemmas.List.Sums.{sum_by-append}
 use Rattle.std.proofs.lemmas.List.Elements.{All-push, All-nil}
 use Rattle.std.proofs.lemmas.Bool.{leb-true}
@@ -14,7 +14,7 @@ use Rattle.html_render_lines.specs.declared.line.Element.{Element}
 use Rattle.html_render_lines.specs.declared.line.Element.TheVariants as element
 use Rattle.html_render_lines.specs.Character.{width_of}
 use Rattle.html_render_lines.specs.Line.{Line, columns, marks_line, word_columns, element_width, AllWithinWidth}
-use Rattle.html_render_lines.specs.Paragraph.{Piece, Word, Gap, Cut, Single, Loose, pieces, with_kind, with_letter, with_mark, Page, Setting, without_overflow, with_overflow, wait, with_character, with_line, broken, put_character, put_characters, put_items, put_word, put_single, place_for, spaced, spaced_by, continued, continued_by, settled, settled_for, put_fitting, put_all_fitting, tab_spaces, place, paragraph, blank_page, all_lines, first_of, is_same, gap_width, gap_width_of, tag_on, fits}
+use Rattle.html_render_lines.specs.Paragraph.{Piece, Word, Gap, Cut, Single, Loose, pieces, Page, without_overflow, wait, with_character, with_line, put_character, put_characters, put_items, put_word, put_single, place_for, spaced, spaced_by, continued, continued_by, settled, settled_for, put_fitting, put_all_fitting, tab_spaces, place, paragraph, blank_page, all_lines, first_of, gap_width, gap_width_of, tag_on}
 use Rattle.html_render_lines.specs.Cases.{bind_some, if_cases, settled_cases}
 
 record IsWithin {T M : Type 0} (w : ℕ) (page : Page T M) : Type 0 where
@@ -24,7 +24,7 @@ record IsWithin {T M : Type 0} (w : ℕ) (page : Page T M) : Type 0 where
 columns-append : {T M : Type 0} (a b : Line T M) → columns (a ++ b) ≡ columns a + columns b
 columns-append {T} {M} a b = sum_by-append (λ (e : Element T M). element_width e) a b
 
-columns-marks : (T : Type 0) {M : Type 0} (ms : List M) → columns (marks_line {T = T} ms) ≡ 0
+pub columns-marks : (T : Type 0) {M : Type 0} (ms : List M) → columns (marks_line {T = T} ms) ≡ 0
 columns-marks T [] = refl
 columns-marks T {M} (m ∷ ms) = let e = columns-append {T = T} (element.Mark m ∷ []) (marks_line ms) in omega (arith, e, columns-marks T ms)
 

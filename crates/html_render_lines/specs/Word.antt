@@ -1,5 +1,7 @@
 -- A word behind which there is room, put on a line as a whole.
-use Rattle.std.specs.Prelude.{Bool, List, [], ◌∷◌, ◌++◌, map}
+use Rattle.std.specs.Prelude.{◌≡◌, Bool, List, [], ◌∷◌, ◌++◌, map}
+use Rattle.html_render_lines.specs.declared.character.Character.{Character}
+use Rattle.html_render_lines.specs.declared.line.Element.{Element}
 use Rattle.html_render_lines.specs.declared.character.Item.{Item}
 use Rattle.html_render_lines.specs.declared.character.Item.TheVariants as item
 use Rattle.html_render_lines.specs.declared.line.Element.TheVariants as element
@@ -24,3 +26,12 @@ with_word page word = record page {
   line = line_with page.continues page.line page.waiting word;
   waiting = marks_with page.waiting word;
 }
+
+-- a word whose last part is a character, so that no mark is left over
+abbrev pub EndsInCharacter : {T M : Type 0} → List (Item T M) → Type 0
+EndsInCharacter {T} {M} word = (front : List (Item T M)) × (c : Character T) × (word ≡ front ++ item.Character c ∷ [])
+
+-- what stands on a line for a part of a word
+abbrev pub element_of : {T M : Type 0} → Bool → Item T M → Element T M
+element_of continues (item.Character c) = element.Character c.code (tag_on continues c)
+element_of continues (item.Mark m) = element.Mark m

@@ -104,6 +104,10 @@ pub fn class_of(mode: WhiteSpace, c: char) -> Class
             },
             width: 1,
         },
+        ' ' if mode == WhiteSpace::Normal => Class {
+            kind: Kind::Space,
+            width: 1,
+        },
         _ => rare_class(mode, c),
     }
 }

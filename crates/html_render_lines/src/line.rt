@@ -6,7 +6,8 @@ ghost use Rattle.std.specs.Prelude.{◌≡◌, ◌+◌, ◌%◌, ◌∷◌, [], 
 ghost use Rattle.html_render_lines.specs.Line.{columns, element_width};
 ghost use Rattle.html_render_lines.specs.Paragraph.{tag_on};
 ghost use Rattle.html_render_lines.specs.Room.{room_behind};
-ghost use Rattle.html_render_lines.specs.Word.{line_with, marks_with};
+ghost use Rattle.html_render_lines.specs.Word.{line_with, marks_with, element_of, EndsInCharacter};
+ghost use Rattle.std.specs.Bool.{OnTrue};
 
 use crate::character::{Character, Item, width_of};
 use std::alloc::AllocError;
@@ -87,11 +88,24 @@ pub(crate) fn push_behind<T: Copy, M: Copy>(
     ensures line { OnOk result (line.new.items ≡ line.old.items ++ (map (λ m. Element.Mark m) waiting.old.items ++ element ∷ [])) }
     ensures waiting { OnOk result (waiting.new.items ≡ []) }
 {
+    push_waiting(line, waiting)?;
+    line.push(element)?;
+    Ok(())
+}
+
+// Puts the marks that wait.
+#[inline]
+fn push_waiting<T: Copy, M: Copy>(
+    line: &mut Vec<Element<T, M>>,
+    waiting: &mut Vec<M>,
+) -> Result<(), AllocError>
+    ensures line { OnOk result (line.new.items ≡ line.old.items ++ map (λ m. Element.Mark m) waiting.old.items) }
+    ensures waiting { OnOk result (waiting.new.items ≡ []) }
+{
     if !waiting.is_empty() {
         push_marks(line, waiting.as_slice())?;
         waiting.clear();
     }
-    line.push(element)?;
     Ok(())
 }
 
@@ -109,6 +123,74 @@ fn push_marks<T: Copy, M: Copy>(
 
 /// Puts a word's characters, each behind the marks that wait for it.
 pub(crate) fn push_word<T: Copy, M: Copy>(
+    line: &mut Vec<Element<T, M>>,
+    waiting: &mut Vec<M>,
+    continues: bool,
+    word: &[Item<T, M>],
+) -> Result<(), AllocError>
+    ensures line { OnOk result (line.new.items ≡ line_with continues line.old.items waiting.old.items word.now) }
+    ensures waiting { OnOk result (waiting.new.items ≡ marks_with waiting.old.items word.now) }
+{
+    if ends_in_character(word) {
+        push_whole_word(line, waiting, continues, word)
+    } else {
+        push_items(line, waiting, continues, word)
+    }
+}
+
+fn ends_in_character<T, M>(word: &[Item<T, M>]) -> bool
+    ensures { OnTrue result (EndsInCharacter word.now) }
+{
+    match word {
+        [.., last] => match last {
+            Item::Character(_) => true,
+            Item::Mark(_) => false,
+        },
+        [] => false,
+    }
+}
+
+// Puts a word whose last part is a character.
+#[tactic(auto, using(crate::proofs::WholeWords::whole))]
+fn push_whole_word<T: Copy, M: Copy>(
+    line: &mut Vec<Element<T, M>>,
+    waiting: &mut Vec<M>,
+    continues: bool,
+    word: &[Item<T, M>],
+) -> Result<(), AllocError>
+    requires { EndsInCharacter word.now }
+    ensures line { OnOk result (line.new.items ≡ line_with continues line.old.items waiting.old.items word.now) }
+    ensures waiting { OnOk result (waiting.new.items ≡ marks_with waiting.old.items word.now) }
+{
+    push_waiting(line, waiting)?;
+    extend_line(line, continues, word)
+}
+
+fn extend_line<T: Copy, M: Copy>(
+    line: &mut Vec<Element<T, M>>,
+    continues: bool,
+    word: &[Item<T, M>],
+) -> Result<(), AllocError>
+    ensures { OnOk result (line.new.items ≡ line.old.items ++ map (element_of continues) word.now) }
+{
+    line.extend(word.iter().map(|item| element_of(continues, item)))
+}
+
+#[inline]
+fn element_of<T: Copy, M: Copy>(continues: bool, item: &Item<T, M>) -> Element<T, M>
+    ensures { result ≡ element_of continues item.now }
+{
+    match item {
+        Item::Character(character) => Element::Character(
+            character.code,
+            tag_on(continues, character),
+        ),
+        Item::Mark(mark) => Element::Mark(*mark),
+    }
+}
+
+// Puts the parts of a word one by one.
+fn push_items<T: Copy, M: Copy>(
     line: &mut Vec<Element<T, M>>,
     waiting: &mut Vec<M>,
     continues: bool,

@@ -3,14 +3,15 @@
 //! `paragraph.add_text("Hello wide world", style)?` feeds a text; `paragraph.flush(&mut lines)?` then adds the lines
 //! `Hello wide` and `world` at a width of 11.
 
-ghost use Rattle.std.specs.Prelude.{List, true, false, ◌≡◌, ◌+◌, ◌-◌, ◌≤◌, ◌%◌, [], ◌∷◌, ◌++◌, Some, None, OnOk, IfErr, if◌then◌else◌, map, option_map, replicate, nat_le};
-ghost use Rattle.std.specs.Str.{chars};
+ghost use Rattle.std.specs.Prelude.{List, IfOk, length, take, drop, ◌<◌, true, false, ◌≡◌, ◌+◌, ◌-◌, ◌≤◌, ◌%◌, [], ◌∷◌, ◌++◌, Some, None, OnOk, IfErr, if◌then◌else◌, map, option_map, replicate, nat_le};
+ghost use Rattle.std.specs.List.{list_all};
+ghost use Rattle.std.specs.Str.{chars, IsUtf8};
 ghost use Rattle.html_render_dom.specs.Outcome.{Refuses};
-ghost use Rattle.html_render_lines.specs.Character.{width_of, kind};
+ghost use Rattle.html_render_lines.specs.Character.{width_of, kind, is_plain};
 ghost use Rattle.html_render_lines.specs.Line.{columns, word_columns};
 ghost use Rattle.html_render_lines.specs.Room.{room_behind};
 ghost use Rattle.html_render_lines.specs.Paragraph.{fits, with_character, with_space, continued, broken, put_character, put_characters, put_items, put_fitting, put_all_fitting, spaced, settled_for, gap_width, wait, put_single, tab_spaces, all_lines, Setting};
-ghost use Rattle.html_render_lines.specs.Stream.{start, on_page, placed_word, end_word, step, letter_step, then_single, character_step, after, character_of, styled, finished, flushed_to, lines_in};
+ghost use Rattle.html_render_lines.specs.Stream.{start, on_page, placed_word, end_word, step, letter_step, letters_step, then_single, character_step, after, character_of, styled, finished, flushed_to, lines_in};
 ghost use Rattle.html_render_lines.specs.Word.{with_word};
 
 use crate::character::{Character, Class, Item, Kind, TextStyle, class_of, width_of};
@@ -82,24 +83,11 @@ impl<T: Copy, M: Copy> Paragraph<T, M> {
         }
     }
 
-    // The room behind the line and so many columns more.
-    fn room_after(&self, width: usize) -> Option<usize>
-        ensures { result ≡ room_behind self.now.setting.width (columns self.now.page.line + width) }
-    {
-        left_behind(self.room, width)
-    }
-
     fn take_marks(&mut self) -> Vec<M>
         ensures marks { result.items ≡ self.old.page.waiting }
         ensures after { self.new ≡ record self.old { page = record self.old.page { waiting = [] } } }
     {
         mem::replace(&mut self.waiting, Vec::new(self.alloc))
-    }
-
-    fn set_marks(&mut self, marks: Vec<M>)
-        ensures { self.new ≡ record self.old { page = record self.old.page { waiting = marks.items } } }
-    {
-        self.waiting = marks;
     }
 
     // Takes the open line out.
@@ -109,14 +97,6 @@ impl<T: Copy, M: Copy> Paragraph<T, M> {
     {
         self.room = Some(self.width);
         mem::replace(&mut self.line, Vec::new(self.alloc))
-    }
-
-    fn set_line(&mut self, line: Vec<Element<T, M>>, room: Option<usize>)
-        requires { room ≡ room_behind self.old.setting.width (columns line.items) }
-        ensures { self.new ≡ record self.old { page = record self.old.page { line = line.items } } }
-    {
-        self.line = line;
-        self.room = room;
     }
 
     // Puts the marks that wait and a character, of this width, on the line.
@@ -132,24 +112,31 @@ impl<T: Copy, M: Copy> Paragraph<T, M> {
         requires { width ≡ width_of code }
         ensures { OnOk result (self.new ≡ record self.old { page = record self.old.page { line = self.old.page.line ++ (map (λ m. Element.Mark m) self.old.page.waiting ++ Element.Character code tag ∷ []); waiting = [] } }) }
     {
-        let room = self.room_after(width);
-        let mut marks = self.take_marks();
-        let mut line = self.take_line();
-        push_behind(&mut line, &mut marks, Element::Character(code, tag))?;
-        self.set_line(line, room);
-        self.set_marks(marks);
-        Ok(())
+        let room = left_behind(self.room, width);
+        let pushed = push_behind(
+            &mut self.line,
+            &mut self.waiting,
+            Element::Character(code, tag),
+        );
+        match pushed {
+            Ok(()) => self.room = room,
+            // Memory ran out.
+            Err(_) => {
+                self.line.clear();
+                self.room = Some(self.width);
+            }
+        }
+        pushed
     }
 
     // Puts a separating space.
     fn push_space(&mut self, character: Character<T>) -> Result<(), AllocError>
         ensures { OnOk result (self.new ≡ record self.old { page = with_space self.old.page character }) }
     {
-        let room = self.room_after(1);
+        let room = left_behind(self.room, 1);
         let tag = tag_on(self.continues, &character);
-        let mut line = self.take_line();
-        line.push(Element::Character(' ', tag))?;
-        self.set_line(line, room);
+        self.line.push(Element::Character(' ', tag))?;
+        self.room = room;
         Ok(())
     }
 
@@ -322,14 +309,24 @@ impl<T: Copy, M: Copy> Paragraph<T, M> {
         ensures { OnOk result (self.new ≡ record self.old { page = with_word self.old.page self.old.word; word = []; open_word = None }) }
     {
         let room = self.room_after_word();
-        let word = self.take_word();
-        let mut marks = self.take_marks();
-        let mut line = self.take_line();
-        push_word(&mut line, &mut marks, self.continues, word.as_slice())?;
-        self.set_line(line, room);
-        self.set_marks(marks);
-        self.reuse_word(word);
-        Ok(())
+        let pushed = push_word(
+            &mut self.line,
+            &mut self.waiting,
+            self.continues,
+            self.word.as_slice(),
+        );
+        self.word.clear();
+        self.word_room = Some(self.width);
+        self.open_word = None;
+        match pushed {
+            Ok(()) => self.room = room,
+            // Memory ran out.
+            Err(_) => {
+                self.line.clear();
+                self.room = Some(self.width);
+            }
+        }
+        pushed
     }
 
     // Puts the open word's characters and marks one after the other.
@@ -617,12 +614,67 @@ impl<T: Copy, M: Copy> Paragraph<T, M> {
         self.feed(text, style)
     }
 
+    // Puts letters one column wide behind the open word.
+    fn push_letters(&mut self, letters: &[u8], style: TextStyle<T>) -> Result<(), AllocError>
+        requires { list_all is_plain letters.now ≡ true }
+        ensures { OnOk result (self.new ≡ record self.old { word = self.old.word ++ styled style letters.now }) }
+    {
+        let room = left_behind(self.word_room, letters.len());
+        let pushed = extend_word(&mut self.word, letters, style);
+        match pushed {
+            Ok(()) => self.word_room = room,
+            // Memory ran out.
+            Err(_) => {
+                self.word.clear();
+                self.word_room = Some(self.width);
+            }
+        }
+        pushed
+    }
+
+    // Takes letters that come together.
+    #[tactic(auto, using(html_render_dom::specs::Outcome::refusals))]
+    fn add_letters(&mut self, letters: &[u8], style: TextStyle<T>) -> Result<(), Error>
+        requires { list_all is_plain letters.now ≡ true }
+        ensures ok { OnOk result (letters_step self.old style letters.now ≡ Some self.new) }
+        ensures err { IfErr result (λ e. Refuses e (letters_step self.old style letters.now)) }
+    {
+        let preserved = style.mode.preserve_whitespace();
+        if self.open_word != Some(preserved) {
+            self.end_word()?;
+            self.begin_word(preserved);
+        }
+        self.push_letters(letters, style)?;
+        Ok(())
+    }
+
+    // Takes the letters at the front of a text, or else its first character, and gives the rest back.
+    fn feed_front<'a>(&mut self, text: &'a str, style: TextStyle<T>) -> Result<&'a str, Error>
+        requires { 0 < length text.now }
+        ensures ok { IfOk result (λ rest. after self.old (styled style (chars text.now)) ≡ after self.new (styled style (chars rest.now))) }
+        ensures text { IfOk result (λ rest. IsUtf8 rest.now) }
+        ensures shorter { IfOk result (λ rest. length rest.now < length text.now) }
+        ensures err { IfErr result (λ e. Refuses e (after self.old (styled style (chars text.now)))) }
+    {
+        if style.mode.do_wrap() {
+            let count = letters_in_front(text.as_bytes());
+            if count > 0 {
+                self.add_letters(text[..count].as_bytes(), style)?;
+                return Ok(&text[count..]);
+            }
+        }
+        let (c, rest) = split_first_character(text);
+        self.add_styled(c, style)?;
+        Ok(rest)
+    }
+
     fn feed(&mut self, text: &str, style: TextStyle<T>) -> Result<(), Error>
         ensures ok { OnOk result (after self.old (styled style (chars text.now)) ≡ Some self.new) }
         ensures err { IfErr result (λ e. Refuses e (after self.old (styled style (chars text.now)))) }
     {
-        for c in text.chars() {
-            self.add_styled(c, style)?;
+        let mut rest = text;
+        while !rest.is_empty() {
+            rest = self.feed_front(rest, style)?;
         }
         Ok(())
     }
@@ -668,6 +720,52 @@ impl<T: Copy, M: Copy> Paragraph<T, M> {
     {
         self.take_marks()
     }
+}
+
+// Puts letters behind a word.
+fn extend_word<T: Copy, M: Copy>(
+    word: &mut Vec<Item<T, M>>,
+    letters: &[u8],
+    style: TextStyle<T>,
+) -> Result<(), AllocError>
+    ensures { OnOk result (word.new.items ≡ word.old.items ++ styled style letters.now) }
+{
+    word.extend(
+        letters.iter().map(|letter| {
+            Item::Character(Character {
+                code: char::from(*letter),
+                mode: style.mode,
+                tag: style.tag,
+                continuation_tag: style.continuation_tag,
+            })
+        }),
+    )
+}
+
+// How many letters of one byte and one column stand in front.
+fn letters_in_front(text: &[u8]) -> usize
+    ensures within { result ≤ length text.now }
+    ensures plain { list_all is_plain (take result text.now) ≡ true }
+{
+    let mut count = 0;
+    while count < text.len() && matches!(text[count], b'!'..=b'~') {
+        count += 1;
+    }
+    count
+}
+
+// A text's first character, and the rest.
+fn split_first_character(text: &str) -> (char, &str)
+    requires { 0 < length text.now }
+    ensures characters { chars text.now ≡ result.0 ∷ chars result.1.now }
+    ensures shorter { length result.1.now < length text.now }
+    ensures text { IsUtf8 result.1.now }
+{
+    let mut chars = text.chars();
+    let Some(c) = chars.next() else {
+        unreachable!()
+    };
+    (c, chars.as_str())
 }
 
 #[cfg(test)]

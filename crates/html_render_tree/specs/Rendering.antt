@@ -17,4 +17,4 @@ rendered tree width overflow = option_map text_of (layout_lines tree width overf
 
 -- it is the text of lines none of which is wider
 abbrev pub IsTextWithin : (width : ℕ) → List ℕ → Type 0
-IsTextWithin width text = (lines : List (Line ℕ ℕ)) × (text_of lines ≡ text) × AllWithinWidth width lines
+IsTextWithin width text = (lines : List (Line (Unit {0}) (Unit {0}))) × (text_of lines ≡ text) × AllWithinWidth width lines

@@ -2,6 +2,7 @@
 //!
 //! `Call::read("<p")` is `Some(Call::Open("p"))`, and `Call::read("p")` is `None`: a faulty line.
 
+use memchr::memchr;
 use std::alloc::{AllocError, Global};
 
 /// What a line of a script asks for.
@@ -46,7 +47,7 @@ pub fn line_of(piece: &str) -> &str {
 /// A text in which `\n` stands for a line feed and `\\` for a backslash, or `None` where a backslash stands before
 /// anything else.
 pub fn unescaped(alloc: Global, text: &str) -> Result<Option<String>, AllocError> {
-    if !text.contains('\\') {
+    if memchr(b'\\', text.as_bytes()).is_none() {
         return Ok(Some(String::from_str(alloc, text)?));
     }
     let mut plain = String::new(alloc);

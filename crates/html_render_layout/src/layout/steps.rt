@@ -16,7 +16,7 @@ use html_render_lines::character::TextStyle;
 #[tactic(auto, using(html_render_dom::specs::Outcome::refusals))]
 pub fn enter(
     kind: &NodeKind,
-    desk: &mut Desk<Block<usize, usize>, TextStyle<usize>>,
+    desk: &mut Desk<Block<(), ()>, TextStyle<()>>,
 ) -> Result<Leaving, Error>
     ensures ok { OnOk result (entered state_operations kind.now desk.old ≡ Some desk.new) }
     ensures kept { IfOk result (λ l. l ≡ leaving kind.now desk.old) }
@@ -45,10 +45,7 @@ pub fn enter(
 
 /// The desk becomes the one behind the node.
 #[tactic(auto, using(html_render_dom::specs::Outcome::refusals))]
-pub fn leave(
-    leaving: Leaving,
-    desk: &mut Desk<Block<usize, usize>, TextStyle<usize>>,
-) -> Result<(), Error>
+pub fn leave(leaving: Leaving, desk: &mut Desk<Block<(), ()>, TextStyle<()>>) -> Result<(), Error>
     ensures ok { OnOk result (leave state_operations leaving desk.old ≡ Some desk.new) }
     ensures err { IfErr result (λ e. Refuses e (leave state_operations leaving desk.old)) }
 {

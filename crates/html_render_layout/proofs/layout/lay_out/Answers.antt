@@ -2,7 +2,7 @@ use Rattle.std.proofs.Common.{◌≡◌, Some, IfOk, IfErr, subst}
 use Rattle.html_render_dom.specs.Outcome.{Refuses}
 use Rattle.html_render_lines.specs.Stream.{lines_in}
 use Rattle.html_render_layout.specs.LayoutWorks.{layout_lines-works}
-use Rattle.html_render_layout.specs.LayoutLaws.{within-answered, answers-answered}
+use Rattle.html_render_layout.specs.LayoutLaws.{within-answered, succeeds-answered}
 use Rattle.html_render_layout.proofs.layout.lay_out.Goals as goal
 
 pub returns-clause-ok : goal.returns-clause-ok
@@ -17,4 +17,4 @@ pub returns-clause-within : goal.returns-clause-within
 returns-clause-within c = within-answered c.args.tree.now c.args.width c.args.overflow lines_in c.lines_on.result (returns-clause-ok c)
 
 pub returns-clause-answered : goal.returns-clause-answered
-returns-clause-answered c = answers-answered c.args.tree.now c.args.width c.args.overflow c.lines_on.result (returns-clause-err c)
+returns-clause-answered c = succeeds-answered c.args.tree.now c.args.width c.args.overflow c.lines_on.result (returns-clause-err c)

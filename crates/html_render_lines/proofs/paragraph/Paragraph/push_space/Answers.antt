@@ -1,8 +1,9 @@
-use Rattle.std.proofs.Common.{◌++◌, ◌≡◌}
+use Rattle.html_render_lines.specs.Line.{columns}
 use Rattle.html_render_lines.proofs.Rooms.{room-push_space}
 use Rattle.html_render_lines.proofs.paragraph.Paragraph.push_space.Goals as goal
 
-pub set_line-requires : goal.set_line-requires
-set_line-requires g c =
-    let e : c.push.new.self.items ≡ c.args.self.now.page.line ++ _ = rw c.take_line-line.ensures.line at c.in_ok-push.ensures.items in
-    rw c.take_line-line.ensures.after (room-push_space c.args.self.now.page.line _ _ _ _ e c.room_after-room.ensures)
+pub invariant_of-self-2 : goal.invariant_of-self-2
+invariant_of-self-2 g c = record {
+  line_room = room-push_space c.self.inside.line.items _ _ _ _ c.in_ok-push.ensures.items (c.left_behind-room.ensures c.self.inside.width (columns c.self.inside.line.items) c.self.invariant.line_room);
+  word_room = c.self.invariant.word_room;
+}

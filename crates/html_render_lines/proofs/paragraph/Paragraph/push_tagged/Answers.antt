@@ -1,8 +1,9 @@
-use Rattle.std.proofs.Common.{◌++◌, ◌≡◌}
+use Rattle.html_render_lines.specs.Line.{columns}
 use Rattle.html_render_lines.proofs.Rooms.{room-push}
 use Rattle.html_render_lines.proofs.paragraph.Paragraph.push_tagged.Goals as goal
 
-pub set_line-requires : goal.set_line-requires
-set_line-requires g c =
-    let e : c.push_behind.new.line.items ≡ c.args.self.now.page.line ++ _ = rw (c.take_line-line.ensures.line, c.take_marks-marks.ensures.after) at c.in_ok-push_behind.ensures.line in
-    rw (c.take_line-line.ensures.after, c.take_marks-marks.ensures.after) (room-push c.args.self.now.page.line _ _ _ _ _ _ e (rw c.requires at c.room_after-room.ensures))
+pub invariant_of-self : goal.invariant_of-self
+invariant_of-self g c = record {
+  line_room = room-push c.self.inside.line.items _ c.self.inside.waiting.items _ _ _ _ c.in-Ok.ensures.line (rw c.requires at (c.left_behind-room.ensures c.self.inside.width (columns c.self.inside.line.items) c.self.invariant.line_room));
+  word_room = c.self.invariant.word_room;
+}

@@ -1,6 +1,6 @@
 use Rattle.std.proofs.Common.{◌≡◌, drop}
 use Rattle.html_render_lines.specs.Word.{line_with, marks_with}
-use Rattle.html_render_lines.proofs.line.push_word.Given as goal
+use Rattle.html_render_lines.proofs.line.push_items.Given as goal
 
 -- what is wanted is what the items that are left give from here
 abbrev pub invariant-loop-item : goal.invariant-loop-item
