@@ -10,7 +10,7 @@ use Rattle.html_render_dom.specs.declared.dom.settings.ElementFlags.{ElementFlag
 use Rattle.html_render_dom.specs.Forest.{Forest, none, node, followed_by}
 use Rattle.html_render_dom.specs.Dom.{Node, Dom, lone, node_in, node_count, IsNode, content_at, children_at, parent_at, IsInclusiveAncestor, itself, above, Stands, IsForest}
 use Rattle.html_render_dom.specs.Forests.{below_or_not, children_at-past, parent_at-past, IfSome-parent}
-use Rattle.html_render_dom.specs.Edits.{with_content, with_children, attached, created, joined, element_created, text_put, IsFresh}
+use Rattle.html_render_dom.specs.Edits.{with_content, with_children, attached, attached_new, created, joined, element_created, text_put, IsFresh}
 use Rattle.html_render_dom.specs.Members.{Contains-nil, Contains-head, Contains-tail, Contains-cons_cases, any-from_absent}
 
 -- ---- what stands at a node after a write
@@ -229,10 +229,10 @@ IsForest-append_node dom now same f p c at_p can nodes e =
     let can' = subst (λ d. IsNode d c × (parent_at d c ≡ None) × ¬ IsInclusiveAncestor d c p) (sym same) can in
     subst (λ ns. IsForest (record dom { nodes = ns })) (sym e) (IsForest-attached (attached-adds dom p c in_p can'.0) f in_p can'.0 can'.1 can'.2)
 
-IsForest-extend_text : (dom now : Dom) → dom ≡ now → IsForest dom → (h : ℕ) (more : List ℕ) → IsNode now h → (nodes : List Node) → nodes ≡ with_content dom.nodes h (joined (content_at dom h) more) → IsForest (record dom { nodes = nodes })
-IsForest-extend_text dom now same f h more at nodes e =
+pub IsForest-with_content : (dom now : Dom) → dom ≡ now → IsForest dom → (h : ℕ) (change : Content → Content) → change document ≡ document → IsNode now h → (nodes : List Node) → nodes ≡ with_content dom.nodes h (change (content_at dom h)) → IsForest (record dom { nodes = nodes })
+IsForest-with_content dom now same f h change keeps at nodes e =
     let in_h : IsNode dom h = subst (λ d. IsNode d h) (sym same) at in
-    let n = record (node_in dom.nodes h) { content = joined (content_at dom h) more } in
+    let n = record (node_in dom.nodes h) { content = change (content_at dom h) } in
     let shape : SameShape dom (record dom { nodes = slice_set dom.nodes h n }) = record {
       grows = omega (arith, length-set dom.nodes h n);
       children = kept (λ x. x.children) dom.nodes h n in_h refl;
@@ -240,13 +240,13 @@ IsForest-extend_text dom now same f h more at nodes e =
     } in
     let top : content_at (record dom { nodes = slice_set dom.nodes h n }) 0 ≡ document =
     elim (eqb_tells 0 h) [
-      | inl s ↦ ap (λ k. (node_in (slice_set dom.nodes h n) k).content) s.1 ∙ there (λ x. x.content) dom.nodes h n in_h ∙ ap (λ c. joined c more) (ap (content_at dom) (sym s.1) ∙ f.document_content)
+      | inl s ↦ ap (λ k. (node_in (slice_set dom.nodes h n) k).content) s.1 ∙ there (λ x. x.content) dom.nodes h n in_h ∙ ap change (ap (content_at dom) (sym s.1) ∙ f.document_content) ∙ keeps
       | inr d ↦ elsewhere (λ x. x.content) dom.nodes h n 0 d.1 ∙ f.document_content
     ] in
     subst (λ ns. IsForest (record dom { nodes = ns })) (sym e) (IsForest-same_shape shape top f)
 
-IsForest-attach_text : (dom now : Dom) → dom ≡ now → IsForest dom → (p : ℕ) (c : Content) → IsNode now p → (nodes : List Node) → nodes ≡ attached (created dom.nodes c) p (length dom.nodes) → IsForest (record dom { nodes = nodes })
-IsForest-attach_text dom now same f p c at nodes e =
+pub IsForest-attach_new : (dom now : Dom) → dom ≡ now → IsForest dom → (p : ℕ) (c : Content) → IsNode now p → (nodes : List Node) → nodes ≡ attached_new dom.nodes c p → IsForest (record dom { nodes = nodes })
+IsForest-attach_new dom now same f p c at nodes e =
     let in_p : IsNode dom p = subst (λ d. IsNode d p) (sym same) at in
     let mid = record dom { nodes = created dom.nodes c } in
     let count = length-append dom.nodes (lone c ∷ []) in
@@ -256,8 +256,8 @@ IsForest-attach_text dom now same f p c at nodes e =
     subst (λ ns. IsForest (record dom { nodes = ns })) (sym e) g
 
 pub IsForest-put_text : (dom now : Dom) → dom ≡ now → IsForest dom → (p : ℕ) → IsNode now p → (before : Option ℕ) → IfSome before (IsNode now) → (more : List ℕ) (nodes : List Node) → nodes ≡ text_put dom.nodes p before more → IsForest (record dom { nodes = nodes })
-IsForest-put_text dom now same f p at None is more nodes e = IsForest-attach_text dom now same f p (text more) at nodes e
-IsForest-put_text dom now same f p at (Some h) is more nodes e = IsForest-extend_text dom now same f h more is nodes e
+IsForest-put_text dom now same f p at None is more nodes e = IsForest-attach_new dom now same f p (text more) at nodes e
+IsForest-put_text dom now same f p at (Some h) is more nodes e = IsForest-with_content dom now same f h (λ c. joined c more) refl is nodes e
 
 shape-trans : {a b c : Dom} → SameShape a b → SameShape b c → SameShape a c
 shape-trans s t = record {
@@ -299,3 +299,12 @@ pub IsFresh-create_element : (dom now : Dom) → dom ≡ now → IsForest dom �
 IsFresh-create_element dom now same f name properties flags nodes e h next =
     let g = grown-element dom f name properties flags nodes e in
     subst (λ d. IsFresh d (record dom { nodes = nodes }) h) same (subst (λ k. IsFresh dom (record dom { nodes = nodes }) k) (sym next) (IsFresh-next g.shape f g.more))
+
+pub IsForest-create : (dom : Dom) → IsForest dom → (c : Content) (nodes : List Node) → nodes ≡ created dom.nodes c → IsForest (record dom { nodes = nodes })
+IsForest-create dom f c nodes e = subst (λ ns. IsForest (record dom { nodes = ns })) (sym e) (IsForest-created dom c f)
+
+pub IsFresh-create : (dom now : Dom) → dom ≡ now → IsForest dom → (c : Content) (nodes : List Node) → nodes ≡ created dom.nodes c → (h : ℕ) → h ≡ node_count dom → IsFresh now (record dom { nodes = nodes }) h
+IsFresh-create dom now same f c nodes e h next =
+    let g = grown-one dom c f in
+    let fresh = IsFresh-next g.shape f g.more in
+    subst (λ d. IsFresh d (record dom { nodes = nodes }) h) same (subst (λ k. IsFresh dom (record dom { nodes = nodes }) k) (sym next) (subst (λ ns. IsFresh dom (record dom { nodes = ns }) (node_count dom)) (sym e) fresh))

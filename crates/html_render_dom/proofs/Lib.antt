@@ -1,3 +1,10 @@
+pub mod Applies
+pub mod Dumps
 pub mod Forests
+pub mod Keeps
+pub mod Lists
+pub mod Moves
+pub mod Names
 pub mod Outcomes
+pub mod Words
 pub mod Writes

@@ -24,6 +24,10 @@ attached nodes parent child =
 abbrev pub created : List Node → Content → List Node
 created nodes c = nodes ++ lone c ∷ []
 
+-- a node more, the parent's last child
+abbrev pub attached_new : List Node → Content → (parent : ℕ) → List Node
+attached_new nodes c parent = attached (created nodes c) parent (length nodes)
+
 abbrev pub is_text : Content → Bool
 is_text document = false
 is_text (doctype name public_id system_id) = false
@@ -55,7 +59,7 @@ last_text nodes parent =
 -- the text joins the text node that stands before its place; without one a new text node is put last
 abbrev pub text_put : List Node → (parent : ℕ) → (before : Option ℕ) → List ℕ → List Node
 text_put nodes parent (Some before) more = with_content nodes before (joined (node_in nodes before).content more)
-text_put nodes parent None more = attached (created nodes (text more)) parent (length nodes)
+text_put nodes parent None more = attached_new nodes (text more) parent
 
 abbrev pub appended : Dom → (parent : ℕ) → NodeOrText → Dom
 appended dom parent (AppendNode child) = record dom { nodes = attached dom.nodes parent child }

@@ -2,12 +2,12 @@
 use Rattle.std.specs.Prelude.{◌≡◌, ℕ, zero, suc, ◌<◌, ◌≤◌, List, [], Option, Some, None, IfSome, All, Contains, nat_eq}
 use Rattle.std.specs.List.{IsDistinct}
 use Rattle.std.proofs.Common.{refl, sym, ◌∙◌, ltb, arith, ◌⊎◌, inl, inr, ap}
-use Rattle.std.proofs.lemmas.Bool.{cases_Bool, ltb-true, ltb-false}
+use Rattle.std.proofs.lemmas.Bool.{cases_Bool, ltb-true, ltb-false, false≢true}
 use Rattle.std.proofs.lemmas.List.{get_or_past}
 use Rattle.std.proofs.lemmas.List.Elements.{Contains-get_or}
 use Rattle.html_render_dom.specs.Content.{document}
 use Rattle.html_render_dom.specs.Forest.{none, node}
-use Rattle.html_render_dom.specs.Dom.{Dom, lone, empty_dom, node_in, node_count, IsNode, children_at, parent_at, IsForest}
+use Rattle.html_render_dom.specs.Dom.{Dom, lone, empty_dom, node_in, node_count, IsNode, IsElement, content_at, children_at, parent_at, IsForest}
 
 pub below_or_not : (a b : ℕ) → (a < b) ⊎ (b ≤ a)
 below_or_not a b = elim (cases_Bool (ltb a b)) [ inl e ↦ inl (ltb-true a b e) | inr e ↦ inr (ltb-false a b e) ]
@@ -22,6 +22,14 @@ parent_at-past dom h ge = ap (λ n. n.parent) (get_or_past dom.nodes h (lone doc
 -- children are nodes
 pub All-children : (dom : Dom) → IsForest dom → (h : ℕ) (xs : List ℕ) → xs ≡ children_at dom h → All (IsNode dom) xs
 All-children dom f h xs e k d at = f.child_is_node h _ (rw (← e) (Contains-get_or xs k d at))
+
+-- an element is a node
+pub IsNode-element : (dom : Dom) (h : ℕ) → IsElement (content_at dom h) → IsNode dom h
+IsNode-element dom h is =
+    elim (below_or_not h (node_count dom)) [
+      | inl lt ↦ lt
+      | inr ge ↦ (let past : content_at dom h ≡ document = ap (λ n. n.content) (get_or_past dom.nodes h (lone document) ge) in let no : IsElement document = rw past at is in absurd (false≢true no))
+    ]
 
 -- what has children is a node
 pub IsNode-above : (dom : Dom) (p c : ℕ) → Contains (children_at dom p) c → IsNode dom p

@@ -5,10 +5,15 @@
 
 mod contents;
 mod documents;
+mod dump;
 mod edits;
 mod handles;
+mod lists;
+mod moves;
 mod names;
 mod nodes;
+mod paths;
+mod queries;
 mod settings;
 #[cfg(test)]
 mod tests;

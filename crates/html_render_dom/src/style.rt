@@ -1,9 +1,33 @@
-//! How text is styled.
+//! How text is styled: the cascade, the rules that it is made of, and the styles that come of them.
 //!
-//! `WhiteSpace::PreWrap.preserve_whitespace()` is true, and so is `WhiteSpace::PreWrap.do_wrap()`.
+//! `computed_style(alloc, &rules, "p", &attrs)?` gives each property of a `p` with these attributes the value that
+//! wins among the declarations of the rules that match it. `WhiteSpace::PreWrap.preserve_whitespace()` is true, and so
+//! is `WhiteSpace::PreWrap.do_wrap()`.
+//!
+//! Importance, origin and specificity decide as CSS Cascading and Inheritance Level 3, section 6, has them; elements
+//! are selected as Selectors Level 3 has it.
+
+mod colours;
+mod computed;
+mod laws;
+mod origins;
+mod rules;
+mod selectors;
+mod specificities;
+#[cfg(test)]
+mod tests;
+mod updates;
+mod winners;
 
 ghost use Rattle.std.specs.Prelude.{◌≡◌};
 ghost use Rattle.html_render_dom.specs.WhiteSpace.{preserves, wraps};
+
+pub use colours::Colour;
+pub use computed::{ComputedStyle, computed_style};
+pub use origins::StyleOrigin;
+pub use rules::{Declaration, Display, PseudoElement, Style, StyleRule};
+pub use specificities::Specificity;
+pub use winners::WithSpec;
 
 /// How white space is treated: the CSS property `white-space`.
 #[derive(Clone, Copy, Debug, Default, PartialEq, Eq)]

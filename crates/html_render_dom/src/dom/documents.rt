@@ -1,6 +1,6 @@
 //! The document object model as a whole, and what can be asked of it.
 
-ghost use Rattle.std.specs.Prelude.{◌≡◌, ◌↔◌, IsTrue, IsSome, IfOk, IfErr, IfSome, All};
+ghost use Rattle.std.specs.Prelude.{◌≡◌, ◌↔◌, map, string_bytes, IsTrue, IsSome, IfOk, IfErr, IfSome, All};
 ghost use Rattle.html_render_dom.specs.Content.{content_of};
 ghost use Rattle.html_render_dom.specs.Dom.{empty_dom, IsForest, IsNode, IsElement, IsInclusiveAncestor, content_at, children_at, parent_at, node_in};
 ghost use Rattle.html_render_dom.specs.Nodes.{node_of};
@@ -20,8 +20,8 @@ use std::marker::Model;
 #[derive(Drop)]
 pub struct RcDom {
     pub(super) nodes: Vec<Node>,
-    errors: Vec<String>,
-    quirks_mode: QuirksMode,
+    pub(super) errors: Vec<String>,
+    pub(super) quirks_mode: QuirksMode,
 }
 
 impl Model for RcDom {
@@ -60,6 +60,20 @@ impl RcDom {
     {
         let _ = &self.nodes;
         Handle::new(0)
+    }
+
+    /// The messages of the errors that a parser met, in order.
+    pub fn errors(&self) -> &[String]
+        ensures { map string_bytes result.now ≡ self.now.messages }
+    {
+        self.errors.as_slice()
+    }
+
+    /// The quirks mode: at first none.
+    pub fn quirks_mode(&self) -> QuirksMode
+        ensures { result ≡ self.now.mode }
+    {
+        self.quirks_mode
     }
 
     /// Whether there is a node of this name.
@@ -138,7 +152,7 @@ impl RcDom {
     }
 
     /// The node of this name.
-    fn entry(&self, node: Handle) -> &Node
+    pub(super) fn entry(&self, node: Handle) -> &Node
         requires { IsNode self.now node }
         ensures node { node_of result.now ≡ node_in self.now.nodes node }
         ensures forest { IsForest self.now }

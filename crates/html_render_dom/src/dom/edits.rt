@@ -1,16 +1,17 @@
 //! The calls that change a document. Each grows whatever it has to before it changes anything.
 
-ghost use Rattle.std.specs.Prelude.{◌≡◌, ◌≤◌, OnOk, OnErr, IfOk, IfErr, map};
-ghost use Rattle.html_render_dom.specs.Content.{name_of, property_of};
-ghost use Rattle.html_render_dom.specs.Dom.{IsNode, node_count};
-ghost use Rattle.html_render_dom.specs.Edits.{CanAppend, IsFresh, appended, element_created};
+ghost use Rattle.std.specs.Prelude.{◌≡◌, ◌≤◌, ◌++◌, ◌∷◌, [], OnOk, OnErr, IfOk, IfErr, map, string_bytes};
+ghost use Rattle.html_render_dom.specs.Content.{name_of, property_of, content_of, doctype, comment, instruction};
+ghost use Rattle.html_render_dom.specs.Dom.{IsNode, IsElement, node_count, content_at};
+ghost use Rattle.html_render_dom.specs.Elements.{completed};
+ghost use Rattle.html_render_dom.specs.Edits.{CanAppend, IsFresh, appended, attached_new, created, element_created, with_content};
 
-use super::contents::NodeOrText;
+use super::contents::{NodeData, NodeOrText};
 use super::documents::RcDom;
 use super::handles::Handle;
 use super::names::{Attribute, QualName};
-use super::nodes;
-use super::settings::ElementFlags;
+use super::nodes::{self, Node};
+use super::settings::{ElementFlags, QuirksMode};
 use crate::Error;
 use std::alloc::{AllocError, Global};
 
@@ -80,5 +81,121 @@ impl RcDom {
         let number = self.nodes.len();
         nodes::push_element(alloc, &mut self.nodes, name, attrs, flags)?;
         Ok(Handle::new(number))
+    }
+
+    /// Makes a comment of the next number, which hangs nowhere.
+    ///
+    /// Its only error is `Error::OutOfMemory`. The document is then as it was, and the text is gone.
+    pub fn create_comment(&mut self, alloc: Global, contents: String) -> Result<Handle, Error>
+        ensures number { IfOk result (λ made. made ≡ node_count self.old) }
+        ensures ok { OnOk result (self.new
+            ≡ record self.old { nodes = created self.old.nodes (comment (string_bytes contents)) }) }
+        ensures fresh { IfOk result (IsFresh self.old self.new) }
+        ensures unchanged { OnErr result (self.new ≡ self.old) }
+        ensures err { IfErr result (λ e. e ≡ Error.OutOfMemory) }
+        ensures grows { node_count self.old ≤ node_count self.new }
+    {
+        Ok(self.create(alloc, NodeData::Comment { contents })?)
+    }
+
+    /// Makes a processing instruction of the next number, which hangs nowhere.
+    ///
+    /// Its only error is `Error::OutOfMemory`. The document is then as it was, and the texts are gone.
+    pub fn create_pi(
+        &mut self,
+        alloc: Global,
+        target: String,
+        contents: String,
+    ) -> Result<Handle, Error>
+        ensures number { IfOk result (λ made. made ≡ node_count self.old) }
+        ensures ok { OnOk result (self.new ≡ record self.old
+            { nodes = created self.old.nodes (instruction (string_bytes target) (string_bytes contents)) }) }
+        ensures fresh { IfOk result (IsFresh self.old self.new) }
+        ensures unchanged { OnErr result (self.new ≡ self.old) }
+        ensures err { IfErr result (λ e. e ≡ Error.OutOfMemory) }
+        ensures grows { node_count self.old ≤ node_count self.new }
+    {
+        Ok(self.create(alloc, NodeData::ProcessingInstruction { target, contents })?)
+    }
+
+    /// Makes a node of the next number, which hangs nowhere and has no children.
+    fn create(&mut self, alloc: Global, contents: NodeData) -> Result<Handle, AllocError>
+        ensures number { IfOk result (λ made. made ≡ node_count self.old) }
+        ensures ok { OnOk result (self.new
+            ≡ record self.old { nodes = created self.old.nodes (content_of contents) }) }
+        ensures fresh { IfOk result (IsFresh self.old self.new) }
+        ensures unchanged { OnErr result (self.new ≡ self.old) }
+        ensures grows { node_count self.old ≤ node_count self.new }
+    {
+        let made = Handle::new(self.nodes.len());
+        self.nodes.push(Node::lone(alloc, contents))?;
+        Ok(made)
+    }
+
+    /// Makes a doctype of the next number, the document's last child.
+    ///
+    /// Its only error is `Error::OutOfMemory`. The document is then as it was, and the texts are gone.
+    pub fn append_doctype_to_document(
+        &mut self,
+        alloc: Global,
+        name: String,
+        public_id: String,
+        system_id: String,
+    ) -> Result<(), Error>
+        ensures ok { let made = doctype (string_bytes name) (string_bytes public_id) (string_bytes system_id) in
+            OnOk result (self.new ≡ record self.old { nodes = attached_new self.old.nodes made 0 }) }
+        ensures unchanged { OnErr result (self.new ≡ self.old) }
+        ensures err { IfErr result (λ e. e ≡ Error.OutOfMemory) }
+        ensures grows { node_count self.old ≤ node_count self.new }
+    {
+        let doctype = NodeData::Doctype {
+            name,
+            public_id,
+            system_id,
+        };
+        let document = self.get_document();
+        nodes::attach_new(alloc, &mut self.nodes, document, doctype)?;
+        Ok(())
+    }
+
+    /// Adds to the element's attributes, in order, those given whose name none of them has: two new ones of one name
+    /// are both added.
+    ///
+    /// Its only error is `Error::OutOfMemory`. The document is then as it was, and the attributes given are gone.
+    pub fn add_attrs_if_missing(
+        &mut self,
+        _alloc: Global,
+        node: Handle,
+        attrs: Vec<Attribute>,
+    ) -> Result<(), Error>
+        requires { IsElement (content_at self.old node) }
+        ensures ok { OnOk result (self.new ≡ record self.old
+            { nodes = with_content self.old.nodes node (completed (content_at self.old node) (map property_of attrs.items)) }) }
+        ensures unchanged { OnErr result (self.new ≡ self.old) }
+        ensures err { IfErr result (λ e. e ≡ Error.OutOfMemory) }
+        ensures grows { node_count self.old ≤ node_count self.new }
+    {
+        nodes::complete(&mut self.nodes, node, attrs)?;
+        Ok(())
+    }
+
+    /// Puts a parser's message behind those that came before.
+    ///
+    /// Its only error is `Error::OutOfMemory`. The document is then as it was, and the message is gone.
+    pub fn parse_error(&mut self, _alloc: Global, message: String) -> Result<(), Error>
+        ensures ok { OnOk result (self.new
+            ≡ record self.old { messages = self.old.messages ++ string_bytes message ∷ [] }) }
+        ensures unchanged { OnErr result (self.new ≡ self.old) }
+        ensures err { IfErr result (λ e. e ≡ Error.OutOfMemory) }
+    {
+        self.errors.push(message)?;
+        Ok(())
+    }
+
+    /// Sets the quirks mode.
+    pub fn set_quirks_mode(&mut self, mode: QuirksMode)
+        ensures { self.new ≡ record self.old { mode = mode } }
+    {
+        self.quirks_mode = mode;
     }
 }

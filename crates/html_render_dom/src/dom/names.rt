@@ -3,8 +3,11 @@
 ghost use Rattle.std.specs.Cmp.{on_equiv, partial_equiv_from_equiv};
 ghost use Rattle.html_render_dom.specs.Content.{name_of, property_of, space_of};
 ghost use Rattle.html_render_dom.specs.Names.{name_eq, name_eq_equiv, property_eq, property_eq_equiv, space_eq, space_eq_equiv};
-ghost use Rattle.std.specs.Prelude.{◌≡◌, string_bytes};
+ghost use Rattle.std.specs.Prelude.{◌≡◌, map, OnOk, OnErr, string_bytes};
+ghost use Rattle.html_render_dom.specs.Elements.{has_name, with_missing};
 ghost use Rattle.html_render_dom.specs.Content as content;
+
+use std::alloc::AllocError;
 
 /// The namespace of a name.
 #[derive(Debug, Drop)]
@@ -98,4 +101,22 @@ impl PartialEq for Attribute {
 
 impl Eq for Attribute {
     ghost laws = { on_equiv property_of property_eq_equiv };
+}
+
+/// Whether one of the attributes has the name.
+fn has_name(attrs: &[Attribute], name: &QualName) -> bool
+    ensures { result ≡ has_name (map property_of attrs.now) (name_of name.now) }
+{
+    attrs.iter().any(|a| a.name == *name)
+}
+
+/// Adds, in order, those given whose name none of the attributes has.
+pub fn add_missing(attrs: &mut Vec<Attribute>, mut given: Vec<Attribute>) -> Result<(), AllocError>
+    ensures ok { OnOk result (map property_of attrs.new.items
+        ≡ with_missing (map property_of attrs.old.items) (map property_of given.items)) }
+    ensures err { OnErr result (map property_of attrs.new.items ≡ map property_of attrs.old.items) }
+{
+    let present = attrs.as_slice();
+    given.retain(|a| !has_name(present, &a.name));
+    attrs.append(&mut given)
 }

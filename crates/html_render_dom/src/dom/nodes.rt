@@ -2,14 +2,16 @@
 
 ghost use Rattle.std.specs.Prelude.{◌≡◌, ◌+◌, ◌<◌, ◌≤◌, ◌++◌, ◌∷◌, [], OnOk, OnErr, vec_len, vec_capacity, map, string_bytes};
 ghost use Rattle.std.specs.Option.{ForSome};
-ghost use Rattle.html_render_dom.specs.Content.{content_of, name_of, property_of, text};
+ghost use Rattle.html_render_dom.specs.Content.{content_of, name_of, property_of};
+ghost use Rattle.html_render_dom.specs.Elements.{completed};
 ghost use Rattle.html_render_dom.specs.Dom.{lone, node_in};
 ghost use Rattle.html_render_dom.specs.Nodes.{node_of, nodes_of};
-ghost use Rattle.html_render_dom.specs.Edits.{attached, created, element_created, joined, with_children, text_put, with_content, with_parent};
+ghost use Rattle.html_render_dom.specs.Room.{KeepsRoom};
+ghost use Rattle.html_render_dom.specs.Edits.{attached, attached_new, element_created, joined, with_children, text_put, with_content, with_parent};
 
 use super::contents::NodeData;
 use super::handles::Handle;
-use super::names::{Attribute, QualName};
+use super::names::{self, Attribute, QualName};
 use super::settings::ElementFlags;
 use std::alloc::{AllocError, Global};
 
@@ -48,7 +50,7 @@ fn push_child(nodes: &mut Vec<Node>, parent: Handle, child: Handle) -> Result<()
 }
 
 /// Puts the text behind the text node's own.
-fn extend_text(nodes: &mut Vec<Node>, node: Handle, more: &str) -> Result<(), AllocError>
+pub fn extend_text(nodes: &mut Vec<Node>, node: Handle, more: &str) -> Result<(), AllocError>
     requires { node < vec_len nodes.old }
     ensures len { vec_len nodes.new ≡ vec_len nodes.old }
     ensures ok { let old = nodes_of nodes.old.items in
@@ -61,24 +63,24 @@ fn extend_text(nodes: &mut Vec<Node>, node: Handle, more: &str) -> Result<(), Al
     Ok(())
 }
 
-/// Makes a text node of the next number, the parent's last child.
-fn attach_text(
+/// Makes a node of the next number, the parent's last child.
+pub fn attach_new(
     alloc: Global,
     nodes: &mut Vec<Node>,
     parent: Handle,
-    contents: String,
+    contents: NodeData,
 ) -> Result<(), AllocError>
     requires { parent < vec_len nodes.old }
     ensures len { OnOk result (vec_len nodes.new ≡ vec_len nodes.old + 1) }
     ensures ok { OnOk result (nodes_of nodes.new.items
-        ≡ attached (created (nodes_of nodes.old.items) (text (string_bytes contents))) parent (vec_len nodes.old)) }
+        ≡ attached_new (nodes_of nodes.old.items) (content_of contents) parent) }
     ensures err { OnErr result (nodes_of nodes.new.items ≡ nodes_of nodes.old.items) }
 {
-    let text = Node::lone(alloc, NodeData::Text { contents });
+    let made = Node::lone(alloc, contents);
     let node = Handle::new(nodes.len());
     nodes.reserve(1)?;
     push_child(nodes, parent, node)?;
-    nodes.push(text)?;
+    nodes.push(made)?;
     set_parent(nodes, node, Some(parent));
     Ok(())
 }
@@ -101,15 +103,16 @@ pub fn put_text(
 {
     match before {
         Some(node) => extend_text(nodes, node, contents.as_str()),
-        None => attach_text(alloc, nodes, parent, contents),
+        None => attach_new(alloc, nodes, parent, NodeData::Text { contents }),
     }
 }
 
 /// Names the node's parent.
-fn set_parent(nodes: &mut Vec<Node>, node: Handle, parent: Option<Handle>)
+pub fn set_parent(nodes: &mut Vec<Node>, node: Handle, parent: Option<Handle>)
     requires { node < vec_len nodes.old }
     ensures len { vec_len nodes.new ≡ vec_len nodes.old }
     ensures parent { nodes_of nodes.new.items ≡ with_parent (nodes_of nodes.old.items) node parent }
+    ensures room { KeepsRoom nodes.old.items nodes.new.items }
 {
     nodes[node.number()].parent = parent;
 }
@@ -152,6 +155,24 @@ pub fn push_element(
     ))?;
     if flags.template {
         nodes.push(Node::lone(alloc, NodeData::Document))?;
+    }
+    Ok(())
+}
+
+/// Adds to the element's attributes those given whose name none of them has.
+pub fn complete(
+    nodes: &mut Vec<Node>,
+    node: Handle,
+    given: Vec<Attribute>,
+) -> Result<(), AllocError>
+    requires { node < vec_len nodes.old }
+    ensures len { vec_len nodes.new ≡ vec_len nodes.old }
+    ensures ok { let old = nodes_of nodes.old.items in OnOk result (nodes_of nodes.new.items
+        ≡ with_content old node (completed (node_in old node).content (map property_of given.items))) }
+    ensures err { OnErr result (nodes_of nodes.new.items ≡ nodes_of nodes.old.items) }
+{
+    if let NodeData::Element { attrs, .. } = &mut nodes[node.number()].data {
+        names::add_missing(attrs, given)?;
     }
     Ok(())
 }

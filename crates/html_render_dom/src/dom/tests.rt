@@ -1,3 +1,12 @@
+ghost use Rattle.std.specs.Prelude.{IsTrue};
+ghost use Rattle.html_render_dom.specs.Dom.{IsNode};
+ghost use Rattle.html_render_dom.specs.Edits.{CanAppend};
+
+mod dumps;
+mod edits;
+mod moves;
+mod paths;
+
 use super::{Attribute, ElementFlags, Handle, Namespace, NodeData, NodeOrText, QualName, RcDom};
 use std::alloc::{AllocError, Global};
 use std::test::Fail;
@@ -8,6 +17,68 @@ fn string(alloc: Global, text: &str) -> Result<String, AllocError> {
 
 fn html_name(alloc: Global, local: &str) -> Result<QualName, AllocError> {
     Ok(QualName::html(string(alloc, local)?))
+}
+
+/// An element of HTML, without attributes, which hangs nowhere.
+fn element(alloc: Global, dom: &mut RcDom, local: &str) -> Result<Handle, Fail> {
+    let name = html_name(alloc, local)?;
+    Ok(dom.create_element(alloc, name, Vec::new(alloc), ElementFlags::default())?)
+}
+
+/// Puts the child last, where it may be put.
+fn put(alloc: Global, dom: &mut RcDom, parent: Handle, child: Handle) -> Result<(), Fail> {
+    if !can_append(dom, parent, child) {
+        return Err(Fail::from("can't be appended"));
+    }
+    Ok(dom.append(alloc, parent, NodeOrText::AppendNode(child))?)
+}
+
+/// Puts a text last.
+fn put_text(alloc: Global, dom: &mut RcDom, parent: Handle, text: &str) -> Result<(), Fail> {
+    if !dom.is_node(parent) {
+        return Err(Fail::from("no node"));
+    }
+    let text = string(alloc, text)?;
+    Ok(dom.append(alloc, parent, NodeOrText::AppendText(text))?)
+}
+
+/// Whether the child may be put last below the parent, by the public tests of conditions.
+fn can_append(dom: &RcDom, parent: Handle, child: Handle) -> bool
+    ensures { IsTrue result → IsNode dom.now parent × CanAppend dom.now parent (NodeOrText.AppendNode child) }
+{
+    dom.is_node(parent)
+        && dom.is_node(child)
+        && !dom.has_parent(child)
+        && !dom.is_inclusive_ancestor(child, parent)
+}
+
+/// An element below the parent, its last child.
+fn put_element(
+    alloc: Global,
+    dom: &mut RcDom,
+    parent: Handle,
+    local: &str,
+) -> Result<Handle, Fail> {
+    if !dom.is_node(parent) {
+        return Err(Fail::from("no node"));
+    }
+    let name = html_name(alloc, local)?;
+    let child = dom.create_element(alloc, name, Vec::new(alloc), ElementFlags::default())?;
+    dom.append(alloc, parent, NodeOrText::AppendNode(child))?;
+    Ok(child)
+}
+
+/// What the children say, each behind a space: texts, and the local names of elements.
+fn labels(alloc: Global, dom: &RcDom, node: Handle) -> Result<String, Fail> {
+    let mut all = String::new(alloc);
+    if !dom.is_node(node) {
+        return Err(Fail::from("no node"));
+    }
+    for child in dom.child_list(node) {
+        all.push(' ')?;
+        all.push_str(label(dom, *child))?;
+    }
+    Ok(all)
 }
 
 /// The text of a text node, and the local name of an element.

@@ -1,11 +1,11 @@
-use Rattle.std.proofs.Common.{rules, arith, ◌≡◌, ◌<◌, ◌++◌, ◌∷◌, [], length, map, sym, vec_len, string_bytes}
+use Rattle.std.proofs.Common.{rules, arith, ◌≡◌, ◌<◌, ◌++◌, ◌∷◌, [], length, map, sym, vec_len}
 use Rattle.std.proofs.lemmas.List.{length-map, map-append}
-use Rattle.html_render_dom.specs.Content.{text}
+use Rattle.html_render_dom.specs.Content.{content_of}
 use Rattle.html_render_dom.specs.Dom.{node_in}
 use Rattle.html_render_dom.specs.Nodes.{node_of}
 use Rattle.html_render_dom.specs.Edits.{with_children}
 use Rattle.html_render_dom.proofs.Writes.{attached-created}
-use Rattle.html_render_dom.proofs.dom.nodes.attach_text.Goals as goal
+use Rattle.html_render_dom.proofs.dom.nodes.attach_new.Goals as goal
 
 pub returns-clause-ok : goal.returns-clause-ok
 returns-clause-ok c =
@@ -16,4 +16,4 @@ returns-clause-ok c =
     let at : parent < length old = omega (arith, len, c.requires) in
     let pushed : map node_of c.push_child.new.nodes.items ≡ with_children old parent ((node_in old parent).children ++ length old ∷ []) =
     rw (c.reserve.ensures.items, node) at c.in_ok-push_child.ensures.ok in
-    rw (c.set_parent.ensures.parent, c.in_ok-push.ensures.items, map-append, pushed, len, node, c.lone-text.ensures) (sym (attached-created old (text (string_bytes c.args.contents)) parent at))
+    rw (c.set_parent.ensures.parent, c.in_ok-push.ensures.items, map-append, pushed, node, c.lone-made.ensures) (sym (attached-created old (content_of c.args.contents) parent at))

@@ -1,0 +1,199 @@
+-- Lists of children, after the calls that change them.
+use Rattle.std.proofs.Common.{◌≡◌, ◌≢◌, ◌==◌, ℕ, zero, suc, ◌+◌, ◌-◌, ◌<◌, ◌≤◌, false, not, cond, nat_eq, ltb, if◌then◌else◌, List, [], ◌∷◌, ◌++◌, length, slice_get, slice_index_or, Option, Some, None, Contains, Result, Ok, Err, IsOk, ◌⊎◌, inl, inr, refl, sym, ap, ◌∙◌, subst, arith}
+use Rattle.std.specs.Result.{is_ok}
+use Rattle.std.specs.List.{insert, position_or_len, IsDistinct, AllByRecursion}
+use Rattle.std.proofs.lemmas.Bool.{false≢true, cases_Bool, ltb-true, ltb-false}
+use Rattle.std.proofs.lemmas.Bool.Decides.{eqb_tells}
+use Rattle.std.proofs.lemmas.List.Edits.{insert-append_right}
+use Rattle.std.proofs.lemmas.List.Elements.{Contains-get_or, All-filter, All-from_recursion, recursion_from_All, Contains-append_cases}
+use Rattle.std.proofs.lemmas.Map.Keys.{IsDistinct-head, IsDistinct-tail, IsDistinct-cons}
+use Rattle.html_render_dom.specs.Forests.{IsDistinct-nil}
+use Rattle.html_render_dom.specs.Members.{Contains-nil, Contains-head, Contains-tail, Contains-cons_cases}
+use Rattle.html_render_dom.specs.Moves.{without, before, previous}
+
+-- what a call that can't be refused leaves
+pub ok_list : {T E X : Type 0} (r : Result T E) (xs ys zs : List X) → IsOk r → zs ≡ (if is_ok r then xs else ys) → zs ≡ xs
+ok_list (Ok x) xs ys zs h e = e
+ok_list (Err y) xs ys zs h e = absurd (false≢true h)
+
+-- where a node stands, or the length
+abbrev pub place_of : ℕ → List ℕ → ℕ
+place_of s xs = position_or_len (λ x. x == s) xs
+
+-- what `position` answered
+pub place_found : (r : Option ℕ) (n len i : ℕ) → r ≡ cond (ltb n len) (Some n) None → r ≡ Some i → (i ≡ n) × (n < len)
+place_found r n len i e f =
+    elim (cases_Bool (ltb n len)) [
+      | inl t ↦ (let g : r ≡ Some n = rw t at e in (cc, ltb-true n len t))
+      | inr t ↦ (let g : r ≡ None = rw t at e in cc)
+    ]
+
+pub place_absent : (r : Option ℕ) (n len : ℕ) → r ≡ cond (ltb n len) (Some n) None → r ≡ None → len ≤ n
+place_absent r n len e f =
+    elim (cases_Bool (ltb n len)) [
+      | inl t ↦ (let g : r ≡ Some n = rw t at e in cc)
+      | inr t ↦ ltb-false n len t
+    ]
+
+pub insert-before : (s c : ℕ) (xs : List ℕ) → place_of s xs < length xs → insert xs (place_of s xs) c ≡ before s c xs
+insert-before s c [] lt = absurd (omega arith)
+insert-before s c (x ∷ xs) lt =
+    elim (eqb_tells x s) [
+      | inl e ↦ rw e.0 refl
+      | inr d ↦ (let lt' : 1 + place_of s xs < length (x ∷ xs) = rw d.0 at lt in
+          let less : 1 + place_of s xs - 1 ≡ place_of s xs = omega arith in
+          let moved : insert ((x ∷ []) ++ xs) (1 + place_of s xs) c ≡ (x ∷ []) ++ insert xs (1 + place_of s xs - 1) c = insert-append_right (x ∷ []) xs 1 (1 + place_of s xs) c refl (omega arith) in
+          rw d.0 (moved ∙ ap (λ i. x ∷ insert xs i c) less ∙ ap (λ ys. x ∷ ys) (insert-before s c xs (omega arith))))
+    ]
+
+pub before-absent : (s c : ℕ) (xs : List ℕ) → length xs ≤ place_of s xs → before s c xs ≡ xs
+before-absent s c [] le = refl
+before-absent s c (x ∷ xs) le =
+    elim (eqb_tells x s) [
+      | inl e ↦ absurd (let le' : length (x ∷ xs) ≤ 0 = rw e.0 at le in omega arith)
+      | inr d ↦ (let le' : length (x ∷ xs) ≤ 1 + place_of s xs = rw d.0 at le in rw d.0 (ap (λ ys. x ∷ ys) (before-absent s c xs (omega arith))))
+    ]
+
+pub previous-absent : (s : ℕ) (last : Option ℕ) (xs : List ℕ) → length xs ≤ place_of s xs → previous s last xs ≡ None
+previous-absent s last [] le = refl
+previous-absent s last (x ∷ xs) le =
+    elim (eqb_tells x s) [
+      | inl e ↦ absurd (let le' : length (x ∷ xs) ≤ 0 = rw e.0 at le in omega arith)
+      | inr d ↦ (let le' : length (x ∷ xs) ≤ 1 + place_of s xs = rw d.0 at le in rw d.0 (previous-absent s (Some x) xs (omega arith)))
+    ]
+
+-- the one before the first
+pub previous-first : (s : ℕ) (last : Option ℕ) (xs : List ℕ) → place_of s xs < length xs → place_of s xs ≡ 0 → previous s last xs ≡ last
+previous-first s last [] lt e = absurd (omega arith)
+previous-first s last (x ∷ xs) lt e =
+    elim (eqb_tells x s) [
+      | inl t ↦ rw t.0 refl
+      | inr d ↦ absurd (let e' : 1 + place_of s xs ≡ 0 = rw d.0 at e in omega arith)
+    ]
+
+pub previous-later : (s : ℕ) (last : Option ℕ) (xs : List ℕ) (k : ℕ) → place_of s xs < length xs → place_of s xs ≡ suc k → previous s last xs ≡ slice_get xs k
+previous-later s last [] k lt e = absurd (omega arith)
+previous-later s last (x ∷ xs) zero lt e =
+    elim (eqb_tells x s) [
+      | inl t ↦ absurd (let e' : 0 ≡ 1 = rw t.0 at e in omega arith)
+      | inr d ↦ (let e' : 1 + place_of s xs ≡ 1 = rw d.0 at e in let lt' : 1 + place_of s xs < length (x ∷ xs) = rw d.0 at lt in
+          rw d.0 (previous-first s (Some x) xs (omega arith) (omega arith)))
+    ]
+previous-later s last (x ∷ xs) (suc k) lt e =
+    elim (eqb_tells x s) [
+      | inl t ↦ absurd (let e' : 0 ≡ suc (suc k) = rw t.0 at e in omega arith)
+      | inr d ↦ (let e' : 1 + place_of s xs ≡ suc (suc k) = rw d.0 at e in let lt' : 1 + place_of s xs < length (x ∷ xs) = rw d.0 at lt in
+          rw d.0 (previous-later s (Some x) xs k (omega arith) (omega arith)))
+    ]
+
+pub slice_get-at : (xs : List ℕ) (k d : ℕ) → k < length xs → slice_get xs k ≡ Some (slice_index_or xs k d)
+slice_get-at [] k d lt = absurd (omega arith)
+slice_get-at (x ∷ xs) zero d lt = refl
+slice_get-at (x ∷ xs) (suc k) d lt = slice_get-at xs k d (omega arith)
+
+-- ---- what stands in them
+
+pub Contains-from_without : (h : ℕ) (xs : List ℕ) (x : ℕ) → Contains (without h xs) x → Contains xs x × (x ≢ h)
+Contains-from_without h [] x m = absurd (Contains-nil x m)
+Contains-from_without h (y ∷ xs) x m =
+    elim (eqb_tells y h) [
+      | inl e ↦ (let r = Contains-from_without h xs x (rw e.0 at m) in (Contains-tail y xs x r.0, r.1))
+      | inr d ↦ elim (Contains-cons_cases y (without h xs) x (rw d.0 at m)) [
+        | inl e ↦ (rw e (Contains-head x xs), λ q. d.1 (e ∙ q))
+        | inr t ↦ (let r = Contains-from_without h xs x t in (Contains-tail y xs x r.0, r.1))
+      ]
+    ]
+
+pub Contains-without : (h : ℕ) (xs : List ℕ) (x : ℕ) → Contains xs x → x ≢ h → Contains (without h xs) x
+Contains-without h [] x m other = absurd (Contains-nil x m)
+Contains-without h (y ∷ xs) x m other =
+    elim (eqb_tells y h) [
+      | inl e ↦ elim (Contains-cons_cases y xs x m) [
+        | inl q ↦ absurd (other (sym q ∙ e.1))
+        | inr t ↦ rw e.0 (Contains-without h xs x t other)
+      ]
+      | inr d ↦ elim (Contains-cons_cases y xs x m) [
+        | inl q ↦ rw d.0 (subst (λ z. Contains (z ∷ without h xs) x) (sym q) (Contains-head x (without h xs)))
+        | inr t ↦ rw d.0 (Contains-tail y (without h xs) x (Contains-without h xs x t other))
+      ]
+    ]
+
+pub IsDistinct-without : (h : ℕ) (xs : List ℕ) → IsDistinct nat_eq xs → IsDistinct nat_eq (without h xs)
+IsDistinct-without h [] d = IsDistinct-nil
+IsDistinct-without h (x ∷ xs) d =
+    let kept = IsDistinct-without h xs (IsDistinct-tail nat_eq x xs d) in
+    elim (eqb_tells x h) [
+      | inl e ↦ rw e.0 kept
+      | inr n ↦ rw n.0 (IsDistinct-cons nat_eq x (without h xs) (recursion_from_All (λ y. nat_eq x y ≡ false) (without h xs) (All-filter (λ y. not (y == h)) (λ y. nat_eq x y ≡ false) xs (All-from_recursion (λ y. nat_eq x y ≡ false) xs (IsDistinct-head nat_eq x xs d)))) kept)
+    ]
+
+pub Contains-from_before : (s c : ℕ) (xs : List ℕ) (x : ℕ) → Contains (before s c xs) x → Contains xs x ⊎ (c ≡ x)
+Contains-from_before s c [] x m = absurd (Contains-nil x m)
+Contains-from_before s c (y ∷ xs) x m =
+    elim (eqb_tells y s) [
+      | inl e ↦ elim (Contains-cons_cases c (y ∷ xs) x (rw e.0 at m)) [ inl q ↦ inr q | inr t ↦ inl t ]
+      | inr d ↦ elim (Contains-cons_cases y (before s c xs) x (rw d.0 at m)) [
+        | inl q ↦ inl (rw q (Contains-head x xs))
+        | inr t ↦ elim (Contains-from_before s c xs x t) [ inl k ↦ inl (Contains-tail y xs x k) | inr q ↦ inr q ]
+      ]
+    ]
+
+pub Contains-before : (s c : ℕ) (xs : List ℕ) (x : ℕ) → Contains xs x → Contains (before s c xs) x
+Contains-before s c [] x m = absurd (Contains-nil x m)
+Contains-before s c (y ∷ xs) x m =
+    elim (eqb_tells y s) [
+      | inl e ↦ rw e.0 (Contains-tail c (y ∷ xs) x m)
+      | inr d ↦ elim (Contains-cons_cases y xs x m) [
+        | inl q ↦ rw d.0 (subst (λ z. Contains (z ∷ before s c xs) x) (sym q) (Contains-head x (before s c xs)))
+        | inr t ↦ rw d.0 (Contains-tail y (before s c xs) x (Contains-before s c xs x t))
+      ]
+    ]
+
+pub Contains-placed : (s c : ℕ) (xs : List ℕ) → Contains xs s → Contains (before s c xs) c
+Contains-placed s c [] m = absurd (Contains-nil s m)
+Contains-placed s c (y ∷ xs) m =
+    elim (eqb_tells y s) [
+      | inl e ↦ rw e.0 (Contains-head c (y ∷ xs))
+      | inr d ↦ elim (Contains-cons_cases y xs s m) [
+        | inl q ↦ absurd (d.1 q)
+        | inr t ↦ rw d.0 (Contains-tail y (before s c xs) c (Contains-placed s c xs t))
+      ]
+    ]
+
+-- the first of a list is none of the others
+apart_from : (x : ℕ) (xs : List ℕ) → ((y : ℕ) → Contains xs y → y ≢ x) → AllByRecursion (λ y. nat_eq x y ≡ false) xs
+apart_from x xs other = recursion_from_All (λ y. nat_eq x y ≡ false) xs (λ k d lt. one k d lt)
+  where
+    one : (k : ℕ) (d : ℕ) → k < length xs → nat_eq x (slice_index_or xs k d) ≡ false
+    one k d lt =
+        elim (eqb_tells x (slice_index_or xs k d)) [
+          | inl e ↦ absurd (other (slice_index_or xs k d) (Contains-get_or xs k d lt) (sym e.1))
+          | inr n ↦ n.0
+        ]
+
+pub first_apart : (x : ℕ) (xs : List ℕ) → IsDistinct nat_eq (x ∷ xs) → (y : ℕ) → Contains xs y → y ≢ x
+first_apart x xs d y m e =
+    let differs : nat_eq x (slice_index_or xs m.0 y) ≡ false = All-from_recursion (λ y. nat_eq x y ≡ false) xs (IsDistinct-head nat_eq x xs d) m.0 y m.1 in
+    elim (eqb_tells x (slice_index_or xs m.0 y)) [
+      | inl s ↦ absurd (false≢true (sym differs ∙ s.0))
+      | inr n ↦ absurd (n.1 (sym e ∙ sym m.2))
+    ]
+
+pub IsDistinct-before : (s c : ℕ) (xs : List ℕ) → IsDistinct nat_eq xs → (Contains xs c → ⊥) → IsDistinct nat_eq (before s c xs)
+IsDistinct-before s c [] d absent = IsDistinct-nil
+IsDistinct-before s c (x ∷ xs) d absent =
+    elim (eqb_tells x s) [
+      | inl e ↦ rw e.0 (IsDistinct-cons nat_eq c (x ∷ xs) (apart_from c (x ∷ xs) (λ y m q. absent (subst (Contains (x ∷ xs)) q m))) d)
+      | inr n ↦ rw n.0 (IsDistinct-cons nat_eq x (before s c xs) (apart_from x (before s c xs) (λ y m q. elim (Contains-from_before s c xs y m) [
+        | inl o ↦ first_apart x xs d y o q
+        | inr p ↦ absent (rw (p ∙ q) (Contains-head x xs))
+      ])) (IsDistinct-before s c xs (IsDistinct-tail nat_eq x xs d) (λ m. absent (Contains-tail x xs c m))))
+    ]
+
+pub IsDistinct-append : (xs ys : List ℕ) → IsDistinct nat_eq xs → IsDistinct nat_eq ys → ((x : ℕ) → Contains xs x → Contains ys x → ⊥) → IsDistinct nat_eq (xs ++ ys)
+IsDistinct-append [] ys d e apart = e
+IsDistinct-append (x ∷ xs) ys d e apart =
+    IsDistinct-cons nat_eq x (xs ++ ys) (apart_from x (xs ++ ys) (λ y m q. elim (Contains-append_cases xs ys y m) [
+      | inl o ↦ first_apart x xs d y o q
+      | inr o ↦ apart x (Contains-head x xs) (subst (Contains ys) q o)
+    ])) (IsDistinct-append xs ys (IsDistinct-tail nat_eq x xs d) e (λ y m n. apart y (Contains-tail x xs y m) n))

@@ -1,0 +1,19 @@
+use Rattle.std.proofs.Common.{rules, ◌≡◌, map}
+use Rattle.std.proofs.lemmas.List.{length-map, map-append}
+use Rattle.html_render_dom.specs.Content.{content_of}
+use Rattle.html_render_dom.specs.Nodes.{dom_of, node_of}
+use Rattle.html_render_dom.specs.Edits.{created}
+use Rattle.html_render_dom.proofs.Forests.{IsForest-create, IsFresh-create}
+use Rattle.html_render_dom.proofs.dom.documents.RcDom.create.Goals as goal
+
+pub invariant_of-self-2 : goal.invariant_of-self-2
+invariant_of-self-2 c =
+    let made : map node_of c.push.new.self.items ≡ created (map node_of c.self.inside.nodes.items) (content_of c.args.contents) =
+    rw (c.in_ok-push.ensures.items, map-append, c.lone.ensures) in
+    IsForest-create (dom_of c.self.inside) c.self.invariant _ _ made
+
+pub returns-clause-fresh : goal.returns-clause-fresh
+returns-clause-fresh c =
+    let made : map node_of c.push.new.self.items ≡ created (map node_of c.self.inside.nodes.items) (content_of c.args.contents) =
+    rw (c.in_ok-push.ensures.items, map-append, c.lone.ensures) in
+    IsFresh-create (dom_of c.self.inside) _ c.self.view_is c.self.invariant _ _ made _ (search (rules, length-map))

@@ -1,0 +1,14 @@
+use Rattle.std.proofs.Common.{rules, tests, ◌==◌, ◌<◌, length, ap, not}
+use Rattle.std.proofs.lemmas.Fn.{filter_same}
+use Rattle.html_render_dom.specs.Nodes.{node_of}
+use Rattle.html_render_dom.specs.Moves.{without}
+use Rattle.html_render_dom.proofs.Writes.{written}
+use Rattle.html_render_dom.proofs.dom.lists.drop_child.Goals as goal
+
+pub returns-clause-list : goal.returns-clause-list
+returns-clause-list c =
+    let items = c.args.nodes.now.items in
+    let n = c.index_mut.result.now in
+    let at : c.number.result < length items = search rules in
+    let child = c.args.child in
+    rw (← c.number.ensures) (written items c.number.result n _ at c.index_mut.ensures.value (λ x. record x { children = without child x.children }) (ap (λ cs. record (node_of n) { children = cs }) (filter_same _ (λ x. not (x == child)) _ (λ x b q k. search (rules, tests)) _ _ c.retain.ensures.filtered)))

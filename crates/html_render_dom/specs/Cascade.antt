@@ -1,0 +1,48 @@
+-- Which of several updates of a property wins, as CSS Cascading and Inheritance Level 3, section 6, has it: importance
+-- and origin decide first, then specificity, then the order of appearance.
+use Rattle.std.specs.Prelude.{ℕ, Bool, true, false, List, Option, None, option_map, filter}
+use Rattle.std.specs.declared.cmp.Ordering.{Ordering}
+use Rattle.std.specs.Ordering.{is_le, nat_cmp, bool_cmp, on, then_cmp}
+use Rattle.std.specs.List.{list_all, last_or}
+use Rattle.html_render_dom.specs.declared.style.origins.StyleOrigin.{StyleOrigin}
+use Rattle.html_render_dom.specs.declared.style.origins.StyleOrigin.TheVariants as origin
+use Rattle.html_render_dom.specs.declared.style.specificities.Specificity.{Specificity}
+use Rattle.html_render_dom.specs.declared.style.updates.Update.{Update}
+use Rattle.html_render_dom.specs.Specificities.{specificity_cmp}
+
+-- normal declarations of a later origin win, and important ones of an earlier origin
+abbrev pub rank_of : (important : Bool) → StyleOrigin → ℕ
+rank_of false origin.None = 0
+rank_of false origin.Agent = 1
+rank_of false origin.User = 2
+rank_of false origin.Author = 3
+rank_of true origin.Author = 0
+rank_of true origin.User = 1
+rank_of true origin.Agent = 2
+rank_of true origin.None = 3
+
+-- what decides between two updates, the order of appearance aside
+pub record Key : Type 0 where
+  pub important : Bool
+  pub origin_rank : ℕ
+  pub specificity : Specificity
+
+abbrev pub key_of : {T : Type 0} → Update T → Key
+key_of u = record { important = u.important; origin_rank = rank_of u.important u.origin; specificity = u.specificity }
+
+abbrev pub key_cmp : Key → Key → Ordering
+key_cmp =
+    then_cmp (on (λ k. k.important) bool_cmp)
+    (then_cmp (on (λ k. k.origin_rank) nat_cmp) (on (λ k. k.specificity) specificity_cmp))
+
+-- no update of the list has a greater key
+abbrev pub is_greatest : {T : Type 0} → List (Update T) → Update T → Bool
+is_greatest us u = list_all (λ v. is_le (key_cmp (key_of v) (key_of u))) us
+
+-- the last update whose key is greatest; the empty list has none
+abbrev pub winner : {T : Type 0} → List (Update T) → Option (Update T)
+winner us = last_or None (filter (is_greatest us) us)
+
+-- the value of an update, if there is one
+abbrev pub value_of : {T : Type 0} → Option (Update T) → Option T
+value_of u = option_map (λ v. v.value) u

@@ -1,0 +1,34 @@
+-- The dump of trees: a line for each doctype, text, and start and end of an element.
+use Rattle.std.specs.Prelude.{ℕ, ◌+◌, ◌==◌, Bool, if◌then◌else◌, List, [], ◌∷◌, ◌++◌, length, codes, replicate}
+use Rattle.std.specs.Str.{trim}
+use Rattle.html_render_dom.specs.Content.{Content, document, doctype, text, comment, element, instruction}
+use Rattle.html_render_dom.specs.Forest.{Forest, none, node}
+
+-- a piece behind its indent in spaces, and a line feed
+abbrev pub line : (indent : ℕ) → List ℕ → List ℕ
+line indent piece = replicate indent 32 ++ (piece ++ 10 ∷ [])
+
+-- a text of white space alone
+abbrev pub is_blank : List ℕ → Bool
+is_blank contents = length (trim contents) == 0
+
+abbrev pub start_line : (indent : ℕ) → (name : List ℕ) → List ℕ
+start_line indent name = line indent (codes "<" ++ (name ++ codes ">"))
+
+abbrev pub end_line : (indent : ℕ) → (name : List ℕ) → List ℕ
+end_line indent name = line indent (codes "</" ++ (name ++ codes ">"))
+
+abbrev pub text_line : (indent : ℕ) → (contents : List ℕ) → List ℕ
+text_line indent contents = if is_blank contents then [] else line indent (codes "Text:" ++ contents)
+
+-- the trees beside each other, in order; what hangs below an element stands one space deeper than it, and what hangs
+-- below a document as deep as it
+abbrev pub dump : (indent : ℕ) → Forest Content → List ℕ
+dump indent none = []
+dump indent (node document children beside) = dump indent children ++ dump indent beside
+dump indent (node (doctype name public_id system_id) children beside) = line indent (codes "<doctype>") ++ dump indent beside
+dump indent (node (text contents) children beside) = text_line indent contents ++ dump indent beside
+dump indent (node (comment contents) children beside) = dump indent beside
+dump indent (node (element name properties template_contents integration_point) children beside) =
+    (start_line indent name.local ++ (dump (indent + 1) children ++ end_line indent name.local)) ++ dump indent beside
+dump indent (node (instruction target contents) children beside) = dump indent beside

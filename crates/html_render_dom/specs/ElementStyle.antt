@@ -1,0 +1,132 @@
+-- The style of an element: for each property the winner among the declarations of the rules that select it.
+use Rattle.std.specs.Prelude.{ℕ, Bool, false, List, ◌++◌, codes, Option, Some, None, map, filter, option_map, option_to_list}
+use Rattle.std.specs.List.{filter_map, flat_map}
+use Rattle.html_render_dom.specs.declared.style.colours.Colour.{Colour}
+use Rattle.html_render_dom.specs.declared.style.origins.StyleOrigin.{StyleOrigin}
+use Rattle.html_render_dom.specs.declared.style.specificities.Specificity.{Specificity}
+use Rattle.html_render_dom.specs.declared.style.WhiteSpace.{WhiteSpace}
+use Rattle.html_render_dom.specs.declared.style.rules.Display.{Display}
+use Rattle.html_render_dom.specs.declared.style.rules.PseudoElement.{PseudoElement}
+use Rattle.html_render_dom.specs.declared.style.rules.PseudoElement.TheVariants.{Before, After}
+use Rattle.html_render_dom.specs.declared.style.updates.Update.{Update}
+use Rattle.html_render_dom.specs.declared.style.computed.ComputedStyle.{ComputedStyle}
+use Rattle.html_render_dom.specs.Cascade.{winner}
+use Rattle.html_render_dom.specs.Content.{Property}
+use Rattle.html_render_dom.specs.Rules.{Setting, colour, bg_colour, display, white_space, content, Declared, Rule}
+use Rattle.html_render_dom.specs.Selectors.{Subject, first_value, selects, specificity_of}
+use Rattle.html_render_dom.specs.TextUpdates.{text_update}
+
+-- a declaration with what its rule says of it
+pub record Applied : Type 0 where
+  pub origin : StyleOrigin
+  pub specificity : Specificity
+  pub pseudo : Option PseudoElement
+  pub declared : Declared
+
+-- the declarations of a rule, in order
+abbrev pub applied : Rule → List Applied
+applied rule =
+    map (λ d. record { origin = rule.origin; specificity = specificity_of rule; pseudo = rule.pseudo; declared = d }) rule.declarations
+
+-- what is declared of each property: with a pseudo-element only content counts
+abbrev pub colour_in : Option PseudoElement → Setting → Option Colour
+colour_in None (colour c) = Some c
+colour_in _ _ = None
+
+abbrev pub bg_colour_in : Option PseudoElement → Setting → Option Colour
+bg_colour_in None (bg_colour c) = Some c
+bg_colour_in _ _ = None
+
+abbrev pub display_in : Option PseudoElement → Setting → Option Display
+display_in None (display d) = Some d
+display_in _ _ = None
+
+abbrev pub white_space_in : Option PseudoElement → Setting → Option WhiteSpace
+white_space_in None (white_space w) = Some w
+white_space_in _ _ = None
+
+abbrev pub content_in : Option PseudoElement → Setting → Option (List ℕ)
+content_in None (content text) = Some text
+content_in _ _ = None
+
+abbrev pub content_before_in : Option PseudoElement → Setting → Option (List ℕ)
+content_before_in (Some Before) (content text) = Some text
+content_before_in _ _ = None
+
+abbrev pub content_after_in : Option PseudoElement → Setting → Option (List ℕ)
+content_after_in (Some After) (content text) = Some text
+content_after_in _ _ = None
+
+-- the update of a property that a declaration makes, if it is one of that property
+abbrev pub update_by : {T : Type 0} → (Option PseudoElement → Setting → Option T) → Applied → Option (Update T)
+update_by property a =
+    option_map
+    (λ x. record { important = a.declared.important; origin = a.origin; specificity = a.specificity; value = x })
+    (property a.pseudo a.declared.setting)
+
+-- the updates of a property, in order
+abbrev pub updates : {T : Type 0} → (Option PseudoElement → Setting → Option T) → List Applied → List (Update T)
+updates property declarations = filter_map (update_by property) declarations
+
+-- for each property the update that wins, if there is one
+pub record ElementStyle : Type 0 where
+  pub colour : Option (Update Colour)
+  pub bg_colour : Option (Update Colour)
+  pub display : Option (Update Display)
+  pub white_space : Option (Update WhiteSpace)
+  pub content : Option (Update (List ℕ))
+  pub content_before : Option (Update (List ℕ))
+  pub content_after : Option (Update (List ℕ))
+  pub internal_pre : Bool
+
+-- the declarations of the rules that select an element, in the order in which the rules were added
+abbrev pub declarations_for : List Rule → (name : List ℕ) → List Property → List Applied
+declarations_for rules name properties =
+    let subject : Subject = record { name = name; id = first_value (codes "id") properties; classes = first_value (codes "class") properties } in
+    flat_map applied (filter (λ rule. selects rule subject) rules)
+
+-- the style that declarations give
+abbrev pub style_by : List Applied → ElementStyle
+style_by declarations = record {
+  colour = winner (updates colour_in declarations);
+  bg_colour = winner (updates bg_colour_in declarations);
+  display = winner (updates display_in declarations);
+  white_space = winner (updates white_space_in declarations);
+  content = winner (updates content_in declarations);
+  content_before = winner (updates content_before_in declarations);
+  content_after = winner (updates content_after_in declarations);
+  internal_pre = false;
+}
+
+-- the style of an element of this local name and these attributes
+abbrev pub element_style : List Rule → (name : List ℕ) → List Property → ElementStyle
+element_style rules name properties = style_by (declarations_for rules name properties)
+
+-- the style that a `ComputedStyle` holds
+abbrev pub style_of : ComputedStyle → ElementStyle
+style_of s = record {
+  colour = s.colour;
+  bg_colour = s.bg_colour;
+  display = s.display;
+  white_space = s.white_space;
+  content = option_map text_update s.content;
+  content_before = option_map text_update s.content_before;
+  content_after = option_map text_update s.content_after;
+  internal_pre = s.internal_pre;
+}
+
+-- the style that is kept, and declarations behind it
+abbrev pub with_more : {T : Type 0} → (Option PseudoElement → Setting → Option T) → Option (Update T) → List Applied → Option (Update T)
+with_more property kept declarations = winner (option_to_list kept ++ updates property declarations)
+
+abbrev pub with_declarations : ElementStyle → List Applied → ElementStyle
+with_declarations s declarations = record {
+  colour = with_more colour_in s.colour declarations;
+  bg_colour = with_more bg_colour_in s.bg_colour declarations;
+  display = with_more display_in s.display declarations;
+  white_space = with_more white_space_in s.white_space declarations;
+  content = with_more content_in s.content declarations;
+  content_before = with_more content_before_in s.content_before declarations;
+  content_after = with_more content_after_in s.content_after declarations;
+  internal_pre = s.internal_pre;
+}

@@ -1,0 +1,56 @@
+-- Which elements a rule selects, and how specific it is: CSS Selectors Level 3, sections 6.1, 6.2, 6.4, 6.5 and 9.
+use Rattle.std.specs.Prelude.{ℕ, ◌+◌, min, Bool, true, false, ◌&&◌, List, [], ◌∷◌, length, Option, Some, None, option_map, is_some, filter, find}
+use Rattle.std.specs.List.{list_any, list_all, slice_split}
+use Rattle.std.specs.Char.{is_ascii_whitespace}
+use Rattle.std.specs.Str.{bytes_eq}
+use Rattle.html_render_dom.specs.declared.style.specificities.Specificity.{Specificity}
+use Rattle.html_render_dom.specs.Content.{Property}
+use Rattle.html_render_dom.specs.Rules.{Rule}
+
+-- the value of the first attribute of this local name
+abbrev pub first_value : (name : List ℕ) → List Property → Option (List ℕ)
+first_value name properties = option_map (λ p. p.value) (find (λ p. bytes_eq p.name.local name) properties)
+
+-- whether a text has a character
+abbrev pub is_filled : List ℕ → Bool
+is_filled [] = false
+is_filled (c ∷ cs) = true
+
+-- the words of a text: what stands between space, tab, LF, FF and CR
+abbrev pub words : List ℕ → List (List ℕ)
+words text = filter is_filled (slice_split is_ascii_whitespace text)
+
+-- a part of a rule that is stated equals what the element has; one that isn't stated asks for nothing
+abbrev pub meets : (stated : Option (List ℕ)) → (has : Option (List ℕ)) → Bool
+meets None has = true
+meets (Some part) None = false
+meets (Some part) (Some value) = bytes_eq part value
+
+-- whether a class is a word of the element's classes; an empty one never is
+abbrev pub has_class : (classes : Option (List ℕ)) → (class : List ℕ) → Bool
+has_class None class = false
+has_class (Some classes) class = list_any (bytes_eq class) (words classes)
+
+-- what rules select an element by: its local name, its id and the text of its classes
+pub record Subject : Type 0 where
+  pub name : List ℕ
+  pub id : Option (List ℕ)
+  pub classes : Option (List ℕ)
+
+-- whether the rule selects the element
+abbrev pub selects : Rule → Subject → Bool
+selects rule subject =
+    meets rule.element (Some subject.name) && meets rule.id subject.id && list_all (has_class subject.classes) rule.classes
+
+-- 1 for each id, each class, and each element name and pseudo-element
+abbrev pub specificity_of : Rule → Specificity
+specificity_of rule = record {
+  inline = false;
+  id = counted (is_some rule.id);
+  class = min (length rule.classes) 65535;
+  typ = counted (is_some rule.element) + counted (is_some rule.pseudo);
+}
+  where
+    counted : Bool → ℕ
+    counted true = 1
+    counted false = 0

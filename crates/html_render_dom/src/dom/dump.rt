@@ -1,0 +1,185 @@
+//! A dump of nodes as lines of text, to look at: `<p>`, ` Text:x` and `</p>` for a paragraph with an `x`.
+
+ghost use Rattle.std.specs.Prelude.{◌≡◌, ◌+◌, ◌*◌, ◌<◌, ◌≤◌, ◌++◌, ◌∷◌, [], All, IfOk, IfErr, OnOk, codes, replicate, string_bytes};
+ghost use Rattle.html_render_dom.specs.Forest.{count, depth};
+ghost use Rattle.html_render_dom.specs.Dom.{IsForest, IsNode, content_at, node_count, tree_of};
+ghost use Rattle.html_render_dom.specs.Dump.{dump, line, text_line};
+ghost use Rattle.html_render_dom.specs.Frames.{FrameFits, end_of, rest, rest_of, steps, steps_of};
+
+use super::contents::NodeData;
+use super::documents::RcDom;
+use super::handles::Handle;
+use crate::Error;
+use std::alloc::{AllocError, Global};
+
+/// A node whose start is written: how many of its children are, and the indent of the children.
+#[derive(Drop)]
+pub struct Frame {
+    pub node: Handle,
+    pub passed: usize,
+    pub indent: usize,
+}
+
+impl RcDom {
+    /// The node and what hangs below it, as lines of text.
+    ///
+    /// A document writes its children at its own indent, a doctype `<doctype>`, a text that is not of white space alone
+    /// `Text:` and the text as it is, an element `<name>`, its children one space deeper and `</name>`; comments and
+    /// processing instructions write nothing. Each piece stands behind its indent in spaces and ends with a line feed.
+    ///
+    /// Its only error is `Error::OutOfMemory`.
+    pub fn node_as_dom_string(&self, alloc: Global, node: Handle) -> Result<String, Error>
+        requires { IsNode self.now node }
+        ensures ok { IfOk result (λ text. string_bytes text ≡ dump 0 (tree_of self.now node)) }
+        ensures err { IfErr result (λ e. e ≡ Error.OutOfMemory) }
+    {
+        let _ = &self.nodes;
+        let mut text = String::new(alloc);
+        let mut frames = Vec::new(alloc);
+        self.write_start(&mut text, &mut frames, node, 0)?;
+        while let Some(frame) = frames.pop() {
+            self.write_next(&mut text, &mut frames, frame)?;
+        }
+        Ok(text)
+    }
+
+    /// The whole document, as lines of text: see `node_as_dom_string`.
+    ///
+    /// Its only error is `Error::OutOfMemory`.
+    pub fn as_dom_string(&self, alloc: Global) -> Result<String, Error>
+        ensures ok { IfOk result (λ text. string_bytes text ≡ dump 0 (tree_of self.now 0)) }
+        ensures err { IfErr result (λ e. e ≡ Error.OutOfMemory) }
+    {
+        self.node_as_dom_string(alloc, self.get_document())
+    }
+
+    /// Writes the start of the next child of an open node; behind the last one, the node's end.
+    fn write_next(
+        &self,
+        text: &mut String,
+        frames: &mut Vec<Frame>,
+        frame: Frame,
+    ) -> Result<(), AllocError>
+        requires frame { FrameFits self.now frame }
+        requires frames { All (FrameFits self.now) frames.old.items }
+        ensures ok { OnOk result (string_bytes text.new ++ rest self.now frames.new.items
+            ≡ string_bytes text.old ++ (rest_of self.now frame ++ rest self.now frames.old.items)) }
+        ensures frames { OnOk result (All (FrameFits self.now) frames.new.items) }
+        ensures steps { OnOk result (steps self.now frames.new.items
+            < steps_of self.now frame + steps self.now frames.old.items) }
+    {
+        let children = self.entry(frame.node).children.as_slice();
+        if frame.passed < children.len() {
+            let child = children[frame.passed];
+            frames.push(Frame {
+                node: frame.node,
+                passed: frame.passed + 1,
+                indent: frame.indent,
+            })?;
+            self.write_start(text, frames, child, frame.indent)
+        } else {
+            self.write_end(text, frame.node, frame.indent)
+        }
+    }
+
+    /// Writes the start of a node, and leaves its children and its end to an open node.
+    fn write_start(
+        &self,
+        text: &mut String,
+        frames: &mut Vec<Frame>,
+        node: Handle,
+        indent: usize,
+    ) -> Result<(), AllocError>
+        requires node { IsNode self.now node }
+        requires indent { indent + depth (tree_of self.now node) ≤ node_count self.now }
+        requires frames { All (FrameFits self.now) frames.old.items }
+        ensures ok { OnOk result (string_bytes text.new ++ rest self.now frames.new.items
+            ≡ string_bytes text.old ++ (dump indent (tree_of self.now node) ++ rest self.now frames.old.items)) }
+        ensures frames { OnOk result (All (FrameFits self.now) frames.new.items) }
+        ensures steps { OnOk result (steps self.now frames.new.items
+            < 2 * count (tree_of self.now node) + steps self.now frames.old.items) }
+    {
+        let _ = &self.nodes;
+        match self.data(node) {
+            NodeData::Document => open_children(frames, node, indent),
+            NodeData::Doctype { .. } => write_line(text, indent, "<doctype>", "", ""),
+            NodeData::Text { contents } => write_text(text, indent, contents.as_str()),
+            NodeData::Element { name, .. } => {
+                write_line(text, indent, "<", name.local.as_str(), ">")?;
+                open_children(frames, node, indent + 1)
+            }
+            NodeData::Comment { .. } | NodeData::ProcessingInstruction { .. } => Ok(()),
+        }
+    }
+
+    /// Writes the end of a node whose children stand at the indent.
+    fn write_end(&self, text: &mut String, node: Handle, indent: usize) -> Result<(), AllocError>
+        requires { IsNode self.now node }
+        ensures { OnOk result (string_bytes text.new
+            ≡ string_bytes text.old ++ end_of indent (content_at self.now node)) }
+    {
+        match self.data(node) {
+            NodeData::Element { name, .. } => {
+                write_line(
+                    text,
+                    indent.saturating_sub(1),
+                    "</",
+                    name.local.as_str(),
+                    ">",
+                )
+            }
+            _ => Ok(()),
+        }
+    }
+}
+
+/// Opens a node whose children stand at the indent.
+fn open_children(frames: &mut Vec<Frame>, node: Handle, indent: usize) -> Result<(), AllocError>
+    ensures { OnOk result (frames.new.items
+        ≡ frames.old.items ++ record { node = node; passed = 0; indent = indent } ∷ []) }
+{
+    frames.push(Frame {
+        node,
+        passed: 0,
+        indent,
+    })?;
+    Ok(())
+}
+
+/// Writes a text that is not of white space alone.
+fn write_text(text: &mut String, indent: usize, contents: &str) -> Result<(), AllocError>
+    ensures { OnOk result (string_bytes text.new ≡ string_bytes text.old ++ text_line indent contents.now) }
+{
+    if contents.trim().is_empty() {
+        return Ok(());
+    }
+    write_line(text, indent, "Text:", contents, "")
+}
+
+/// Writes the three pieces behind the indent, and a line feed.
+fn write_line(
+    text: &mut String,
+    indent: usize,
+    first: &str,
+    middle: &str,
+    last: &str,
+) -> Result<(), AllocError>
+    ensures { OnOk result (string_bytes text.new
+        ≡ string_bytes text.old ++ line indent (first.now ++ (middle.now ++ last.now))) }
+{
+    write_indent(text, indent)?;
+    text.push_str(first)?;
+    text.push_str(middle)?;
+    text.push_str(last)?;
+    text.push('\n')
+}
+
+/// Writes so many spaces.
+fn write_indent(text: &mut String, indent: usize) -> Result<(), AllocError>
+    ensures { OnOk result (string_bytes text.new ≡ string_bytes text.old ++ replicate indent 32) }
+{
+    for _ in 0..indent {
+        text.push(' ')?;
+    }
+    Ok(())
+}

@@ -1,0 +1,203 @@
+//! The style of an element, computed from rules.
+
+ghost use Rattle.std.specs.Prelude.{◌≡◌, [], ◌∷◌, ◌++◌, IfErr, IfOk, None, OnOk, Some, map, option_map, option_to_list, string_bytes};
+ghost use Rattle.html_render_dom.specs.declared.errors.Error.TheVariants.{OutOfMemory};
+ghost use Rattle.html_render_dom.specs.Content.{property_of};
+ghost use Rattle.html_render_dom.specs.Cascade.{winner};
+ghost use Rattle.html_render_dom.specs.ElementStyle.{applied, element_style, style_by, style_of, with_declarations};
+ghost use Rattle.html_render_dom.specs.Rules.{declared_of, rule_of};
+ghost use Rattle.html_render_dom.specs.TextUpdates.{text_update};
+
+use super::WhiteSpace;
+use super::colours::Colour;
+use super::origins::StyleOrigin;
+use super::rules::{Declaration, Display, PseudoElement, Style, StyleRule};
+use super::selectors::first_value;
+use super::specificities::Specificity;
+use super::winners::WithSpec;
+use crate::Error;
+use crate::dom::Attribute;
+use std::alloc::{AllocError, Global};
+
+/// The style of an element: for each property the value that wins.
+///
+/// Nothing is inherited from the element above it.
+#[derive(Drop)]
+pub struct ComputedStyle {
+    /// The colour of the text.
+    pub colour: WithSpec<Colour>,
+    /// The colour of the background.
+    pub bg_colour: WithSpec<Colour>,
+    /// Whether there is a box.
+    pub display: WithSpec<Display>,
+    /// How white space is treated.
+    pub white_space: WithSpec<WhiteSpace>,
+    /// The content of the element itself, which isn't shown.
+    pub content: WithSpec<String>,
+    /// The content that is put before the element's children.
+    pub content_before: WithSpec<String>,
+    /// The content that is put after the element's children.
+    pub content_after: WithSpec<String>,
+    /// Whether the element is `pre`; it is false in a style that comes from rules alone.
+    pub internal_pre: bool,
+}
+
+/// What a rule says of each of its declarations.
+#[derive(Clone, Copy)]
+struct Source {
+    origin: StyleOrigin,
+    specificity: Specificity,
+    pseudo: Option<PseudoElement>,
+}
+
+/// Takes a content, which is cloned only where it wins.
+#[tactic(auto, using(crate::proofs::Applies::contents))]
+fn update_content(
+    kept: &mut WithSpec<String>,
+    important: bool,
+    origin: StyleOrigin,
+    specificity: Specificity,
+    text: &String,
+) -> Result<(), AllocError>
+    ensures ok { OnOk result (option_map text_update kept.new
+        ≡ winner (option_to_list (option_map text_update kept.old) ++ record { important = important; origin = origin; specificity = specificity; value = string_bytes text.now } ∷ [])) }
+{
+    if kept.yields_to(important, origin, specificity) {
+        kept.maybe_update(important, origin, specificity, text.clone()?);
+    }
+    Ok(())
+}
+
+impl ComputedStyle {
+    /// The style without any declaration.
+    fn unset() -> ComputedStyle
+        ensures { style_of result ≡ style_by [] }
+    {
+        ComputedStyle {
+            colour: WithSpec::default(),
+            bg_colour: WithSpec::default(),
+            display: WithSpec::default(),
+            white_space: WithSpec::default(),
+            content: WithSpec::default(),
+            content_before: WithSpec::default(),
+            content_after: WithSpec::default(),
+            internal_pre: false,
+        }
+    }
+
+    /// Takes one declaration more, of the element itself.
+    fn update_own(
+        &mut self,
+        origin: StyleOrigin,
+        specificity: Specificity,
+        declaration: &Declaration,
+    ) -> Result<(), AllocError>
+        ensures { OnOk result (style_of self.new ≡ with_declarations (style_of self.old)
+            (record { origin = origin; specificity = specificity; pseudo = None; declared = declared_of declaration.now } ∷ [])) }
+    {
+        let important = declaration.important;
+        match &declaration.style {
+            Style::Colour(colour) => {
+                self.colour
+                    .maybe_update(important, origin, specificity, *colour);
+            }
+            Style::BgColour(colour) => {
+                self.bg_colour
+                    .maybe_update(important, origin, specificity, *colour);
+            }
+            Style::Display(display) => {
+                self.display
+                    .maybe_update(important, origin, specificity, *display);
+            }
+            Style::WhiteSpace(white_space) => {
+                self.white_space
+                    .maybe_update(important, origin, specificity, *white_space);
+            }
+            Style::Content(text) => {
+                update_content(&mut self.content, important, origin, specificity, text)?;
+            }
+        }
+        Ok(())
+    }
+
+    /// Takes one declaration more, of what stands beside the element's children: only content counts there.
+    fn update_beside(
+        &mut self,
+        origin: StyleOrigin,
+        specificity: Specificity,
+        place: PseudoElement,
+        declaration: &Declaration,
+    ) -> Result<(), AllocError>
+        ensures { OnOk result (style_of self.new ≡ with_declarations (style_of self.old)
+            (record { origin = origin; specificity = specificity; pseudo = Some place; declared = declared_of declaration.now } ∷ [])) }
+    {
+        if let Style::Content(text) = &declaration.style {
+            let important = declaration.important;
+            match place {
+                PseudoElement::Before => {
+                    let kept = &mut self.content_before;
+                    update_content(kept, important, origin, specificity, text)?;
+                }
+                PseudoElement::After => {
+                    let kept = &mut self.content_after;
+                    update_content(kept, important, origin, specificity, text)?;
+                }
+            }
+        }
+        Ok(())
+    }
+
+    /// Takes one declaration more.
+    fn update(&mut self, source: Source, declaration: &Declaration) -> Result<(), AllocError>
+        ensures { OnOk result (style_of self.new ≡ with_declarations (style_of self.old)
+            (record { origin = source.origin; specificity = source.specificity; pseudo = source.pseudo; declared = declared_of declaration.now } ∷ [])) }
+    {
+        match source.pseudo {
+            None => self.update_own(source.origin, source.specificity, declaration),
+            Some(place) => {
+                self.update_beside(source.origin, source.specificity, place, declaration)
+            }
+        }
+    }
+
+    /// Takes all declarations of a rule.
+    fn update_all(&mut self, rule: &StyleRule) -> Result<(), AllocError>
+        ensures { OnOk result (style_of self.new ≡ with_declarations (style_of self.old) (applied (rule_of rule.now))) }
+    {
+        let source = Source {
+            origin: rule.origin,
+            specificity: rule.specificity(),
+            pseudo: rule.pseudo,
+        };
+        for declaration in &rule.declarations {
+            self.update(source, declaration)?;
+        }
+        Ok(())
+    }
+}
+
+/// The style of an element of this local name and these attributes, computed from the rules in the order in which they
+/// were added.
+///
+/// For each property the declaration that wins is the last one whose importance, origin and specificity are greatest,
+/// among those of the rules that select the element: CSS Cascading and Inheritance Level 3, section 6. `OutOfMemory`
+/// comes where the clone of a content was refused.
+pub fn computed_style(
+    alloc: Global,
+    rules: &[StyleRule],
+    element: &str,
+    attrs: &[Attribute],
+) -> Result<ComputedStyle, Error>
+    ensures ok { IfOk result (λ style. style_of style ≡ element_style (map rule_of rules.now) element.now (map property_of attrs.now)) }
+    ensures err { IfErr result (λ e. e ≡ OutOfMemory) }
+{
+    let id = first_value(attrs, "id");
+    let classes = first_value(attrs, "class");
+    let mut style = ComputedStyle::unset();
+    for rule in rules {
+        if rule.selects(element, id, classes) {
+            style.update_all(rule)?;
+        }
+    }
+    Ok(style)
+}
