@@ -3,14 +3,16 @@
 //! `run(alloc, words, &mut input, &mut output, &mut faults)` with the words `11`, `bare`, `overflow` and the input
 //! `<p` and `"Hello wide world` writes `Hello wide` and `world` to `output` and answers 0.
 
-ghost use Rattle.std.specs.Prelude.{IfOk, IfSome};
-ghost use Rattle.html_render_dom.specs.Dom.{IsNode};
+ghost use Rattle.std.specs.Prelude.{IfOk, IfSome, ◌≤◌};
+ghost use Rattle.html_render_dom.specs.Dom.{IsNode, IsElement, content_at, node_count};
 
 use crate::config::plain_no_decorate;
 use crate::script::{Call, line_of, unescaped};
 use html_render_dom::Error;
-use html_render_dom::dom::{ElementFlags, Handle, NodeOrText, QualName, RcDom};
-use std::alloc::{AllocError, Global};
+use html_render_dom::dom::{
+    Attribute, ElementFlags, Handle, Namespace, NodeOrText, QualName, RcDom,
+};
+use std::alloc::{AllocError, AllocFailed, Global};
 use std::io;
 use std::io::{ErrorKind, Read, Write};
 use thiserror::Error;
@@ -52,6 +54,12 @@ impl From<AllocError> for Fault {
     }
 }
 
+impl<T: Drop> From<AllocFailed<T>> for Fault {
+    fn from(refusal: AllocFailed<T>) -> Fault {
+        Fault::Refused(Error::from(refusal))
+    }
+}
+
 /// What the program's words ask for.
 #[derive(Clone, Copy)]
 struct Settings {
@@ -86,6 +94,92 @@ fn read_all<R: Read>(alloc: Global, input: &mut R) -> Result<String, Fault> {
     String::from_utf8(bytes).map_err(|_| Fault::Input)
 }
 
+/// Appends an element to the current node, and answers it.
+fn open_element(
+    alloc: Global,
+    dom: &mut RcDom,
+    current: Handle,
+    ns: Namespace,
+    name: &str,
+) -> Result<Handle, Fault>
+    requires { IsNode dom.old current }
+    ensures { IfOk result (λ element. IsNode dom.new element) }
+{
+    let local = String::from_str(alloc, name)?;
+    let name = QualName { ns, local };
+    let element = dom.create_element(alloc, name, Vec::new(alloc), ElementFlags::default())?;
+    dom.append(alloc, current, NodeOrText::AppendNode(element))?;
+    Ok(element)
+}
+
+/// Gives an element an attribute, unless it has one of that name.
+fn set_attribute(
+    alloc: Global,
+    dom: &mut RcDom,
+    element: Handle,
+    name: &str,
+    value: String,
+) -> Result<(), Fault>
+    requires { IsElement (content_at dom.old element) }
+    ensures { node_count dom.old ≤ node_count dom.new }
+{
+    let name = QualName {
+        ns: Namespace::None,
+        local: String::from_str(alloc, name)?,
+    };
+    let mut attributes = Vec::new(alloc);
+    attributes.push(Attribute { name, value })?;
+    Ok(dom.add_attrs_if_missing(alloc, element, attributes)?)
+}
+
+/// Appends a comment to the current node.
+fn append_comment(
+    alloc: Global,
+    dom: &mut RcDom,
+    current: Handle,
+    contents: String,
+) -> Result<(), Fault>
+    requires { IsNode dom.old current }
+    ensures { node_count dom.old ≤ node_count dom.new }
+{
+    let comment = dom.create_comment(alloc, contents)?;
+    Ok(dom.append(alloc, current, NodeOrText::AppendNode(comment))?)
+}
+
+/// Makes a call whose text is plain by now, and answers the node that is current behind it, or `None` where an
+/// attribute is given to the document.
+fn take_call(
+    alloc: Global,
+    dom: &mut RcDom,
+    current: Handle,
+    call: Call<'_>,
+    text: String,
+) -> Result<Option<Handle>, Fault>
+    requires { IsNode dom.old current }
+    ensures { IfOk result (λ next. IfSome next (λ node. IsNode dom.new node)) }
+{
+    match call {
+        Call::Open(name) => Ok(Some(open_element(alloc, dom, current, Namespace::Html, name)?)),
+        Call::OpenSvg(name) => Ok(Some(open_element(alloc, dom, current, Namespace::Svg, name)?)),
+        Call::Close => Ok(dom.get_parent(current)),
+        Call::Text(_) => {
+            dom.append(alloc, current, NodeOrText::AppendText(text))?;
+            Ok(Some(current))
+        }
+        Call::Comment(_) => {
+            append_comment(alloc, dom, current, text)?;
+            Ok(Some(current))
+        }
+        Call::Attribute { name, .. } => {
+            if !dom.is_element(current) {
+                return Ok(None);
+            }
+            set_attribute(alloc, dom, current, name, text)?;
+            Ok(Some(current))
+        }
+    }
+}
+
 /// Takes one line of a script, and answers the node that is current behind it, or `None` where the line is faulty.
 fn take_line(
     alloc: Global,
@@ -99,27 +193,12 @@ fn take_line(
     if line.is_empty() {
         return Ok(Some(current));
     }
-    match Call::read(line) {
+    let Some(call) = Call::read(line) else {
+        return Ok(None);
+    };
+    match unescaped(alloc, call.text())? {
+        Some(text) => take_call(alloc, dom, current, call, text),
         None => Ok(None),
-        Some(Call::Close) => Ok(dom.get_parent(current)),
-        Some(Call::Text(text)) => {
-            let Some(text) = unescaped(alloc, text)? else {
-                return Ok(None);
-            };
-            dom.append(alloc, current, NodeOrText::AppendText(text))?;
-            Ok(Some(current))
-        }
-        Some(Call::Open(name)) => {
-            let name = QualName::html(String::from_str(alloc, name)?);
-            let element = dom.create_element(
-                alloc,
-                name,
-                Vec::new(alloc),
-                ElementFlags::default(),
-            )?;
-            dom.append(alloc, current, NodeOrText::AppendNode(element))?;
-            Ok(Some(element))
-        }
     }
 }
 

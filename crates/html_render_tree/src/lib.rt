@@ -13,4 +13,4 @@ mod texts;
 
 pub use html_render_dom::{Error, dom, style};
 pub use html_render_layout::tree;
-pub use html_render_parts::{decorate, widths};
+pub use html_render_parts::{decorate, table, widths};

@@ -5,35 +5,57 @@
 use memchr::memchr;
 use std::alloc::{AllocError, Global};
 
-/// What a line of a script asks for.
+/// What a line of a script asks for. Texts stand here as they are written, with their escapes.
 #[derive(Clone, Copy, Debug, PartialEq, Eq)]
 pub enum Call<'a> {
     /// `<name`: an HTML element is appended and becomes the current node.
     Open(&'a str),
-    /// `"text`: a text is appended. It stands here as it is written, with its escapes.
+    /// `<svg:name`: the same in the SVG namespace.
+    OpenSvg(&'a str),
+    /// `@name=value`: the current element gets an attribute, unless it has one of that name.
+    Attribute { name: &'a str, value: &'a str },
+    /// `"text`: a text is appended.
     Text(&'a str),
+    /// `!comment`: a comment is appended.
+    Comment(&'a str),
     /// `>`: the parent becomes the current node.
     Close,
 }
 
 impl<'a> Call<'a> {
-    /// The call of a line, or `None` where the line is faulty: another first character, an element of no name or of
-    /// another namespace than HTML's, or more behind `>`.
+    /// The call of a line, or `None` where the line is faulty: another first character, an element or an attribute
+    /// without a name, an attribute without `=`, or more behind `>`.
     pub fn read(line: &'a str) -> Option<Call<'a>> {
-        if let Some(name) = line.strip_prefix('<') {
-            if name.is_empty() || name.starts_with("svg:") {
-                None
-            } else {
-                Some(Call::Open(name))
-            }
+        if let Some(name) = line.strip_prefix("<svg:") {
+            named(name).map(Call::OpenSvg)
+        } else if let Some(name) = line.strip_prefix('<') {
+            named(name).map(Call::Open)
+        } else if let Some(attribute) = line.strip_prefix('@') {
+            let (name, value) = attribute.split_once('=')?;
+            named(name).map(|name| Call::Attribute { name, value })
         } else if let Some(text) = line.strip_prefix('"') {
             Some(Call::Text(text))
+        } else if let Some(comment) = line.strip_prefix('!') {
+            Some(Call::Comment(comment))
         } else if line == ">" {
             Some(Call::Close)
         } else {
             None
         }
     }
+
+    /// The part of the line in which escapes count: a text, a comment or an attribute's value.
+    pub fn text(self) -> &'a str {
+        match self {
+            Call::Text(text) | Call::Comment(text) | Call::Attribute { value: text, .. } => text,
+            Call::Open(_) | Call::OpenSvg(_) | Call::Close => "",
+        }
+    }
+}
+
+/// A name, if it has a character.
+fn named(name: &str) -> Option<&str> {
+    if name.is_empty() { None } else { Some(name) }
 }
 
 /// The line of a piece that may end with a line feed, without it and without a carriage return before it.
@@ -82,11 +104,28 @@ mod tests {
             ("\"a>", Some(Call::Text("a>"))),
             ("\"", Some(Call::Text(""))),
             (">", Some(Call::Close)),
+            ("<svg:a", Some(Call::OpenSvg("a"))),
+            (
+                "@a=b=c",
+                Some(Call::Attribute {
+                    name: "a",
+                    value: "b=c",
+                }),
+            ),
+            (
+                "@a=",
+                Some(Call::Attribute {
+                    name: "a",
+                    value: "",
+                }),
+            ),
+            ("!a", Some(Call::Comment("a"))),
+            ("!", Some(Call::Comment(""))),
             ("<", None),
-            ("<svg:a", None),
+            ("<svg:", None),
             ("> ", None),
-            ("@a=b", None),
-            ("!a", None),
+            ("@a", None),
+            ("@=v", None),
             (" <p", None),
             ("p", None),
         ] {

@@ -4,7 +4,7 @@ use html_render_dom::text::Text;
 use std::test::Fail;
 
 // what lines say, each with a bar behind it
-fn shown(alloc: Global, lines: &[Vec<Element<usize, usize>>]) -> Result<String, Fail> {
+fn shown(alloc: Global, lines: &[Vec<Element<(), ()>>]) -> Result<String, Fail> {
     let mut text = String::new(alloc);
     for line in lines {
         for element in line {
