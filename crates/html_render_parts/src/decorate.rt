@@ -3,8 +3,8 @@
 //! `PlainDecorator::new()` is the decorator of plain text. Its annotations say nothing, and a sub-block has the
 //! same decorator: `PlainDecorator::new().make_subblock_decorator(alloc)?` is `PlainDecorator::new()`.
 
-ghost use Rattle.std.specs.Prelude.{◌≡◌, IfOk, IfErr, refl};
-ghost use Rattle.html_render_parts.specs.Decoration.{Decoration};
+ghost use Rattle.std.specs.Prelude.{◌≡◌, [], IfOk, IfErr, refl, string_bytes};
+ghost use Rattle.html_render_parts.specs.Decoration.{Decoration, nothing_round};
 
 use html_render_dom::Error;
 use std::alloc::Global;
@@ -19,6 +19,39 @@ pub trait TextDecorator: Drop {
 
     // what the decorator answers
     ghost decoration: { Decoration Self Self.Annotation };
+
+    /// The text before emphasised text, and what the characters in it are annotated with.
+    fn decorate_em_start(&self, alloc: Global) -> Result<(String, Self::Annotation), Error>
+        ensures text { IfOk result (λ r. string_bytes r.0 ≡ (decoration.em.start self.now).text) }
+        ensures annotation { IfOk result (λ r. r.1 ≡ (decoration.em.start self.now).annotation) }
+        ensures err { IfErr result (λ e. e ≡ Error.OutOfMemory) };
+
+    /// The text behind emphasised text.
+    fn decorate_em_end(&self, alloc: Global) -> Result<String, Error>
+        ensures ok { IfOk result (λ text. string_bytes text ≡ decoration.em.end self.now) }
+        ensures err { IfErr result (λ e. e ≡ Error.OutOfMemory) };
+
+    /// The text before strong text, and what the characters in it are annotated with.
+    fn decorate_strong_start(&self, alloc: Global) -> Result<(String, Self::Annotation), Error>
+        ensures text { IfOk result (λ r. string_bytes r.0 ≡ (decoration.strong.start self.now).text) }
+        ensures annotation { IfOk result (λ r. r.1 ≡ (decoration.strong.start self.now).annotation) }
+        ensures err { IfErr result (λ e. e ≡ Error.OutOfMemory) };
+
+    /// The text behind strong text.
+    fn decorate_strong_end(&self, alloc: Global) -> Result<String, Error>
+        ensures ok { IfOk result (λ text. string_bytes text ≡ decoration.strong.end self.now) }
+        ensures err { IfErr result (λ e. e ≡ Error.OutOfMemory) };
+
+    /// The text before code, and what the characters in it are annotated with.
+    fn decorate_code_start(&self, alloc: Global) -> Result<(String, Self::Annotation), Error>
+        ensures text { IfOk result (λ r. string_bytes r.0 ≡ (decoration.code.start self.now).text) }
+        ensures annotation { IfOk result (λ r. r.1 ≡ (decoration.code.start self.now).annotation) }
+        ensures err { IfErr result (λ e. e ≡ Error.OutOfMemory) };
+
+    /// The text behind code.
+    fn decorate_code_end(&self, alloc: Global) -> Result<String, Error>
+        ensures ok { IfOk result (λ text. string_bytes text ≡ decoration.code.end self.now) }
+        ensures err { IfErr result (λ e. e ≡ Error.OutOfMemory) };
 
     /// The decorator of a block inside the decorator's own.
     fn make_subblock_decorator(&self, alloc: Global) -> Result<Self, Error>
@@ -43,9 +76,33 @@ impl PlainDecorator {
 impl TextDecorator for PlainDecorator {
     type Annotation = ();
 
-    ghost decoration = { record { subblock = λ plain. plain } };
+    ghost decoration = { record { em = nothing_round; strong = nothing_round; code = nothing_round; subblock = λ plain. plain } };
 
     ghost clone_is_same = { λ a b h. refl };
+
+    fn decorate_em_start(&self, alloc: Global) -> Result<(String, ()), Error> {
+        Ok((String::new(alloc), ()))
+    }
+
+    fn decorate_em_end(&self, alloc: Global) -> Result<String, Error> {
+        Ok(String::new(alloc))
+    }
+
+    fn decorate_strong_start(&self, alloc: Global) -> Result<(String, ()), Error> {
+        Ok((String::new(alloc), ()))
+    }
+
+    fn decorate_strong_end(&self, alloc: Global) -> Result<String, Error> {
+        Ok(String::new(alloc))
+    }
+
+    fn decorate_code_start(&self, alloc: Global) -> Result<(String, ()), Error> {
+        Ok((String::new(alloc), ()))
+    }
+
+    fn decorate_code_end(&self, alloc: Global) -> Result<String, Error> {
+        Ok(String::new(alloc))
+    }
 
     fn make_subblock_decorator(&self, _alloc: Global) -> Result<PlainDecorator, Error> {
         Ok(*self)
@@ -61,6 +118,26 @@ mod tests {
         decorator
             .make_subblock_decorator(alloc)?
             .make_subblock_decorator(alloc)
+    }
+
+    /// What stands round emphasised text, strong text and code, without annotations.
+    fn texts<D: TextDecorator>(alloc: Global, decorator: &D) -> Result<Vec<String>, Error> {
+        let mut texts = Vec::new(alloc);
+        texts.push(decorator.decorate_em_start(alloc)?.0)?;
+        texts.push(decorator.decorate_em_end(alloc)?)?;
+        texts.push(decorator.decorate_strong_start(alloc)?.0)?;
+        texts.push(decorator.decorate_strong_end(alloc)?)?;
+        texts.push(decorator.decorate_code_start(alloc)?.0)?;
+        texts.push(decorator.decorate_code_end(alloc)?)?;
+        Ok(texts)
+    }
+
+    #[test]
+    fn plain_text_has_nothing_round_its_parts(rt: HostRuntime) -> Result<(), Fail> {
+        for text in &texts(rt.alloc(), &PlainDecorator::new())? {
+            assert_eq!(rt; text.as_str(), "");
+        }
+        Ok(())
     }
 
     #[test]

@@ -34,7 +34,10 @@ enum Fault {
 
 impl Fault {
     /// The program's exit status.
-    fn status(&self) -> u8 {
+    fn status(&self) -> u8
+        ensures refused { 1 ≤ result }
+        ensures at_most { result ≤ 2 }
+    {
         match self {
             Fault::Refused(_) => 1,
             _ => 2,
@@ -243,7 +246,9 @@ pub fn run<R: Read, O: Write, F: Write>(
     input: &mut R,
     output: &mut O,
     faults: &mut F,
-) -> u8 {
+) -> u8
+    ensures { result ≤ 2 }
+{
     match rendered(alloc, words, input) {
         Ok(text) => match output.write_all(text.as_str().as_bytes()) {
             Ok(()) => 0,
@@ -255,7 +260,10 @@ pub fn run<R: Read, O: Write, F: Write>(
 
 /// What [`run`] does where the program's words can't be had: 1 and `Out of memory` where memory is out, otherwise 2
 /// and `htree: arguments`.
-pub fn run_without_words<F: Write>(error: &io::Error, faults: &mut F) -> u8 {
+pub fn run_without_words<F: Write>(error: &io::Error, faults: &mut F) -> u8
+    ensures refused { 1 ≤ result }
+    ensures at_most { result ≤ 2 }
+{
     let fault = match error.kind() {
         ErrorKind::OutOfMemory => Fault::Refused(Error::OutOfMemory),
         _ => Fault::Arguments,
@@ -264,7 +272,10 @@ pub fn run_without_words<F: Write>(error: &io::Error, faults: &mut F) -> u8 {
 }
 
 /// Writes a line on what is wrong, and answers the exit status.
-fn report<F: Write>(fault: &Fault, faults: &mut F) -> u8 {
+fn report<F: Write>(fault: &Fault, faults: &mut F) -> u8
+    ensures refused { 1 ≤ result }
+    ensures at_most { result ≤ 2 }
+{
     let _ = writeln!(faults, "{fault}");
     fault.status()
 }
