@@ -30,6 +30,13 @@ Agree-map f (Some x) (Some y) e = same_Some _ _ e
 Agree-map f None (Some y) e = cc
 Agree-map f (Some x) None e = cc
 
+-- two that become the same under each of some maps
+pub Agree-along : {X Y Z I : Type 0} (g : I → X → Z) (h : Y → Z) (i : I) (o : Option X) (p : Option Y) → ((i : I) → option_map (g i) o ≡ option_map h p) → Agree (λ x y. (i : I) → g i x ≡ h y) o p
+Agree-along g h i None None e = tt
+Agree-along g h i (Some x) (Some y) e = λ j. same_Some _ _ (e j)
+Agree-along g h i None (Some y) e = let f = e i in cc
+Agree-along g h i (Some x) None e = let f = e i in cc
+
 pub same-Agree : {X : Type 0} (o p : Option X) → Agree (λ x y. x ≡ y) o p → o ≡ p
 same-Agree None None h = refl
 same-Agree (Some x) (Some y) h = ap Some h

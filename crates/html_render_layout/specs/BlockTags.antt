@@ -1,14 +1,14 @@
 -- Whatever the tags are, the operations on a block are the same: each commutes with a map of tags.
-use Rattle.std.proofs.Common.{◌≡◌, ℕ, Bool, true, false, not, cond, eqb, List, [], ◌∷◌, ◌++◌, length, Option, Some, None, refl, sym, ap, ◌∙◌, map, option_map, option_and_then}
+use Rattle.std.proofs.Common.{◌≡◌, ℕ, false, not, cond, eqb, List, [], ◌∷◌, ◌++◌, length, Option, Some, None, refl, sym, ap, ◌∙◌, option_map}
 use Rattle.std.proofs.lemmas.List.{map-append, length-map}
 use Rattle.html_render_lines.specs.declared.character.TextStyle.{TextStyle}
 use Rattle.html_render_lines.specs.Line.{Line, marks_line}
-use Rattle.html_render_lines.specs.Paragraph.{Page, Setting, all_lines}
+use Rattle.html_render_lines.specs.Paragraph.{Page, all_lines}
 use Rattle.html_render_lines.specs.Stream.{State, start, after, finished, styled}
 use Rattle.html_render_lines.specs.Tags.{if_with, then_with, map_with, page_with, state_with, line_with, lines_with, style_with, marks-with, after-with, finished-with, styled-with, all_lines-with}
 use Rattle.html_render_layout.specs.Operations.{Commutes}
 use Rattle.html_render_layout.specs.Block.{is_blank}
-use Rattle.html_render_layout.specs.BlockState.{BlockState, state_flushed, flushed_by, state_with_page, state_with_empty_line, state_separated_by, state_started, state_ended, state_hard_broken, state_with_text, state_fed_more, waiting_in, without_waiting, state_operations}
+use Rattle.html_render_layout.specs.BlockState.{BlockState, state_flushed, flushed_by, state_with_page, state_with_empty_line, state_separated_by, state_started, state_hard_broken, state_with_text, state_fed_more, waiting_in, without_waiting, state_operations}
 
 module _ {T U M : Type 0} (f : T → U) where
   abbrev pub block_with : BlockState T M → BlockState U M

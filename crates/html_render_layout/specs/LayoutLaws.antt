@@ -8,75 +8,80 @@ use Rattle.html_render_dom.specs.declared.errors.Error.{Error}
 use Rattle.html_render_dom.specs.declared.errors.Error.TheVariants.{TooNarrow}
 use Rattle.html_render_dom.specs.Outcome.{Refuses}
 use Rattle.html_render_dom.specs.Forest.{Forest}
-use Rattle.html_render_lines.specs.declared.character.TextStyle.{TextStyle}
+use Rattle.html_render_parts.specs.Decoration.{Decoration}
 use Rattle.html_render_lines.specs.Line.{Line, columns, AllWithinWidth}
-use Rattle.html_render_layout.specs.declared.tree.NodeKind.{NodeKind}
-use Rattle.html_render_layout.specs.declared.layout.Desk.{Desk}
+use Rattle.html_render_layout.specs.declared.tree.RenderNode.{RenderNode}
 use Rattle.html_render_layout.specs.Pass.{run}
-use Rattle.html_render_layout.specs.Block.{Flow, empty_flow, flow_operations}
+use Rattle.html_render_layout.specs.Runs.{IfSome-then}
+use Rattle.html_render_layout.specs.Block.{Flow, flow_operations}
 use Rattle.html_render_layout.specs.BlockLaws.{IsWithin, Overflows, flow_within, flow_succeeds}
-use Rattle.html_render_layout.specs.Layout.{meaning, lines_of, plain_style, layout_lines}
+use Rattle.html_render_layout.specs.Layout.{on_block, onto, shown_after, Defined, defined, empty_desk, layout_lines}
 use Rattle.html_render_layout.specs.LayoutKeeps.{layout-keeps, layout-succeeds}
-
-then_if : {X Y : Type 0} (P : X → Type 0) (Q : Y → Type 0) (o : Option X) (f : X → Option Y) → IfSome o P → ((x : X) → P x → IfSome (f x) Q) → IfSome (option_and_then f o) Q
-then_if P Q None f h next = tt
-then_if P Q (Some x) f h next = next x h
 
 then_some : {X Y : Type 0} (P : X → Type 0) (o : Option X) (f : X → Option Y) → IsSomeAnd o P → ((x : X) → P x → IsSome (f x)) → IsSome (option_and_then f o)
 then_some P None f h next = absurd h
 then_some P (Some x) f h next = next x h
 
-abbrev start : (w : ℕ) (overflow : Bool) → Desk (Flow (Unit {0}) (Unit {0})) (TextStyle (Unit {0}))
-start w overflow = record { style = plain_style; block = empty_flow (record { width = w; overflow = overflow }) }
+module _ {S A : Type 0} (d : Decoration S A) where
+  abbrev lines_from : Forest RenderNode → Defined S A → Option (List (Line (List A) (Unit {0})))
+  lines_from t s = shown_after d onto flow_operations (λ (r : Defined S A). r.block.lines) t s
 
--- with overflow off no line passes the width
-pub layout_within : (t : Forest NodeKind) (w : ℕ) → IfSome (layout_lines t w false) (λ lines. AllWithinWidth w lines)
-layout_within t w = by (w == 0)
-  where
-    lines : IfSome (lines_of flow_operations (λ (b : Flow (Unit {0}) (Unit {0})). b.lines) t (start w false)) (λ lines. AllWithinWidth w lines)
-    lines =
-        then_if (λ r. IsWithin w r.block) (λ lines. AllWithinWidth w lines) (run (meaning flow_operations) t (start w false)) _
-        (layout-keeps flow_operations (IsWithin w) (flow_within w) t (start w false) (record { setting = refl; lines = All-nil (λ (l : Line (Unit {0}) (Unit {0})). columns l ≤ w) })) (λ r h.
-        then_if (IsWithin w) (λ lines. AllWithinWidth w lines) (flow_operations.new_line r.block) _ ((flow_within w).new_line r.block h) (λ b k. k.lines))
+  -- with overflow off no line passes the width
+  pub layout_within : (t : Forest RenderNode) (decorator : S) (w : ℕ) → IfSome (layout_lines d t decorator w false) (λ lines. AllWithinWidth w lines)
+  layout_within t decorator w = by (w == 0)
+    where
+      lines : IfSome (lines_from t (empty_desk d decorator w false)) (λ lines. AllWithinWidth w lines)
+      lines =
+          IfSome-then (λ (r : Defined S A). IsWithin w r.block) (λ lines. AllWithinWidth w lines) (run (defined d) t (empty_desk d decorator w false)) _
+          (layout-keeps d onto flow_operations (IsWithin w) (flow_within w) t (empty_desk d decorator w false) (record { setting = refl; lines = All-nil (λ (l : Line (List A) (Unit {0})). columns l ≤ w) })) (λ r h.
+          IfSome-then (λ (q : Defined S A). IsWithin w q.block) (λ lines. AllWithinWidth w lines) (on_block flow_operations.new_line r) _
+          (IfSome-then (IsWithin w) (λ (q : Defined S A). IsWithin w q.block) (flow_operations.new_line r.block) _ ((flow_within w).new_line r.block h) (λ b k. k)) (λ q k. k.lines))
 
-    by : (z : Bool) → IfSome (cond z None (lines_of flow_operations (λ (b : Flow (Unit {0}) (Unit {0})). b.lines) t (start w false))) (λ lines. AllWithinWidth w lines)
-    by true = tt
-    by false = lines
+      by : (z : Bool) → IfSome (cond z None (lines_from t (empty_desk d decorator w false))) (λ lines. AllWithinWidth w lines)
+      by true = tt
+      by false = lines
 
--- with overflow on it is never too narrow, but at width 0
-pub layout_succeeds : (t : Forest NodeKind) (w : ℕ) → 0 < w → IsSome (layout_lines t w true)
-layout_succeeds t w h = by (w == 0) refl
-  where
-    lines : IsSome (lines_of flow_operations (λ (b : Flow (Unit {0}) (Unit {0})). b.lines) t (start w true))
-    lines =
-        then_some (λ r. Overflows w r.block) (run (meaning flow_operations) t (start w true)) _
-        (layout-succeeds flow_operations (Overflows w) (flow_succeeds w) t (start w true) refl) (λ r k.
-        then_some (Overflows w) (flow_operations.new_line r.block) _ ((flow_succeeds w).new_line r.block k) (λ b n. refl))
+  -- with overflow on it is never too narrow, but at width 0
+  pub layout_succeeds : (t : Forest RenderNode) (decorator : S) (w : ℕ) → 0 < w → IsSome (layout_lines d t decorator w true)
+  layout_succeeds t decorator w h = by (w == 0) refl
+    where
+      flushes : (r : Defined S A) → Overflows w r.block → IsSomeAnd (on_block flow_operations.new_line r) (λ q. Overflows w q.block)
+      flushes r k = at (flow_operations.new_line r.block) ((flow_succeeds w).new_line r.block k)
+        where
+          at : (o : Option (Flow (List A) (Unit {0}))) → IsSomeAnd o (Overflows w) → IsSomeAnd (option_and_then (λ b. Some (record r { block = b })) o) (λ q. Overflows w q.block)
+          at None n = n
+          at (Some b) n = n
 
-    by : (z : Bool) → (w == 0) ≡ z → IsSome (cond z None (lines_of flow_operations (λ (b : Flow (Unit {0}) (Unit {0})). b.lines) t (start w true)))
-    by true e = absurd (omega (arith, eqb-true w 0 e))
-    by false e = lines
+      lines : IsSome (lines_from t (empty_desk d decorator w true))
+      lines =
+          then_some (λ (r : Defined S A). Overflows w r.block) (run (defined d) t (empty_desk d decorator w true)) _
+          (layout-succeeds d onto flow_operations (Overflows w) (flow_succeeds w) t (empty_desk d decorator w true) refl) (λ r k.
+          then_some (λ (q : Defined S A). Overflows w q.block) (on_block flow_operations.new_line r) _ (flushes r k) (λ q n. refl))
 
--- ---- the laws, of what a call answers
+      by : (z : Bool) → (w == 0) ≡ z → IsSome (cond z None (lines_from t (empty_desk d decorator w true)))
+      by true e = absurd (let zero = eqb-true w 0 e in omega arith)
+      by false e = lines
 
-pub within-answered : {X : Type 0} (t : Forest NodeKind) (w : ℕ) (o : Bool) (lines : X → List (Line (Unit {0}) (Unit {0}))) (r : Result X Error) →
-    IfOk r (λ v. layout_lines t w o ≡ Some (lines v)) → IfOk r (λ v. o ≡ false → AllWithinWidth w (lines v))
-within-answered t w o lines (Err e) h = tt
-within-answered t w o lines (Ok v) h = λ off. by (layout_lines t w false) (layout_within t w) (ap (λ b. layout_lines t w b) (sym off) ∙ h)
-  where
-    by : (q : Option (List (Line (Unit {0}) (Unit {0})))) → IfSome q (λ ls. AllWithinWidth w ls) → q ≡ Some (lines v) → AllWithinWidth w (lines v)
-    by None k e = cc
-    by (Some ls) k e = subst (λ x. AllWithinWidth w x) (same_Some ls (lines v) e) k
+  -- ---- the laws, of what a call answers
 
-pub succeeds-answered : {X : Type 0} (t : Forest NodeKind) (w : ℕ) (o : Bool) (r : Result X Error) →
-    IfErr r (λ e. Refuses e (layout_lines t w o)) → 0 < w → o ≡ true → r ≢ Err TooNarrow
-succeeds-answered t w o (Ok v) h positive on e = cc
-succeeds-answered {X} t w o (Err d) h positive on e =
-    by (layout_lines t w true) (layout_succeeds t w positive) (ap (λ b. layout_lines t w b) (sym on) ∙ subst (λ (x : Error). Refuses x (layout_lines t w o)) (same_error d e) h)
-  where
-    same_error : (d : Error) → ◌≡◌ {A = Result X Error} (Err d) (Err TooNarrow) → d ≡ TooNarrow
-    same_error d e = cc
+  pub within-answered : {X : Type 0} (t : Forest RenderNode) (decorator : S) (w : ℕ) (o : Bool) (lines : X → List (Line (List A) (Unit {0}))) (r : Result X Error) →
+      IfOk r (λ v. layout_lines d t decorator w o ≡ Some (lines v)) → IfOk r (λ v. o ≡ false → AllWithinWidth w (lines v))
+  within-answered t decorator w o lines (Err e) h = tt
+  within-answered t decorator w o lines (Ok v) h = λ off. by (layout_lines d t decorator w false) (layout_within t decorator w) (ap (λ b. layout_lines d t decorator w b) (sym off) ∙ h)
+    where
+      by : (q : Option (List (Line (List A) (Unit {0})))) → IfSome q (λ ls. AllWithinWidth w ls) → q ≡ Some (lines v) → AllWithinWidth w (lines v)
+      by None k e = cc
+      by (Some ls) k e = subst (λ x. AllWithinWidth w x) (same_Some ls (lines v) e) k
 
-    by : (q : Option (List (Line (Unit {0}) (Unit {0})))) → IsSome q → q ≡ None → ⊥
-    by None k e = cc
-    by (Some p) k e = cc
+  pub succeeds-answered : {X : Type 0} (t : Forest RenderNode) (decorator : S) (w : ℕ) (o : Bool) (r : Result X Error) →
+      IfErr r (λ e. Refuses e (layout_lines d t decorator w o)) → 0 < w → o ≡ true → r ≢ Err TooNarrow
+  succeeds-answered t decorator w o (Ok v) h positive on e = cc
+  succeeds-answered {X} t decorator w o (Err x) h positive on e =
+      by (layout_lines d t decorator w true) (layout_succeeds t decorator w positive) (ap (λ b. layout_lines d t decorator w b) (sym on) ∙ subst (λ (y : Error). Refuses y (layout_lines d t decorator w o)) (same_error x e) h)
+    where
+      same_error : (x : Error) → ◌≡◌ {A = Result X Error} (Err x) (Err TooNarrow) → x ≡ TooNarrow
+      same_error x e = cc
+
+      by : (q : Option (List (Line (List A) (Unit {0})))) → IsSome q → q ≡ None → ⊥
+      by None k e = cc
+      by (Some p) k e = cc

@@ -1,3 +1,4 @@
+pub mod RenderNodes
 pub mod Preorder
 pub mod Splits
 pub mod Pass
@@ -9,9 +10,10 @@ pub mod BlockState
 pub mod BlockTags
 pub mod BlockFed
 pub mod BlockLaws
+pub mod Stacks
 pub mod Layout
 pub mod Leaving
-pub mod Translation
+pub mod Standing
 pub mod LayoutKeeps
 pub mod LayoutLaws
 pub mod LayoutWorks

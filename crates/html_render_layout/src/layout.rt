@@ -1,93 +1,111 @@
 //! The layout of a render tree into lines.
 //!
-//! `lay_out(alloc, &tree, 10, false, &mut meter)?` answers the lines of the tree, wrapped to 10 columns.
+//! `lay_out(alloc, &decorator, &tree, 10, false, &mut meter)?` answers the lines of the tree, wrapped to 10 columns.
 
-ghost use Rattle.std.specs.Prelude.{◌≡◌, ◌≢◌, ◌≤◌, ◌<◌, Some, None, ℕ, true, false, Err, OnOk, OnErr, IfOk, IfErr};
+ghost use Rattle.std.specs.Prelude.{◌≡◌, ◌≢◌, ◌≤◌, ◌<◌, Some, ℕ, true, false, Err, OnOk, OnErr, IfOk, IfErr, IfSome};
 ghost use Rattle.html_render_dom.specs.Forest.{count, depth};
 ghost use Rattle.html_render_dom.specs.Outcome.{Refuses};
 ghost use Rattle.html_render_lines.specs.Line.{AllWithinWidth};
-ghost use Rattle.html_render_lines.specs.Stream.{lines_in};
 ghost use Rattle.html_render_layout.specs.BlockState.{state_operations};
-ghost use Rattle.html_render_layout.specs.Layout.{meaning, lines_of, layout_lines};
-ghost use Rattle.html_render_layout.specs.Leaving.{leaving, leave, leave-leaving};
+ghost use Rattle.html_render_layout.specs.Pass.{run};
+ghost use Rattle.html_render_layout.specs.Layout.{shown_after, Defined, defined, layout_lines};
+ghost use Rattle.html_render_layout.specs.Leaving.{leaving, leave, leave-leaving, tabled, worked, work_lines, laid_out};
 
 use crate::block::Block;
-use crate::tree::{NodeKind, RenderTree};
+use crate::stacks::Stacks;
+use crate::tree::{Emphasis, RenderNode, RenderTree};
 use crate::walk::{Pass, walk};
 use html_render_dom::Error;
-use html_render_dom::style::WhiteSpace;
-use html_render_lines::character::TextStyle;
 use html_render_lines::line::Element;
+use html_render_parts::decorate::TextDecorator;
 use html_render_parts::widths::Meter;
 use std::alloc::Global;
+use std::marker::PhantomData;
 
 mod steps;
 
 /// Where a layout stands.
 #[derive(Drop)]
-pub struct Desk<B, S> {
-    /// The style of the texts that come.
-    pub style: S,
+pub struct Desk<D, K, T, B> {
+    /// The decorator of the block.
+    pub decorator: D,
+    /// The stacks of annotations that tags stand for.
+    pub stacks: K,
+    /// The tag of the texts that come.
+    pub tag: T,
     /// The block that is laid out into.
     pub block: B,
 }
 
 /// What is to be done once a node's children are laid out.
 #[derive(Clone, Copy)]
-pub enum Leaving {
+pub enum Leaving<T> {
     /// Nothing.
     Nothing,
     /// The block is at its end.
     EndBlock,
     /// A new line begins.
     NewLine,
+    /// The emphasis ends, and the tag is again the one before it.
+    EndEmphasis(Emphasis, T),
+}
+
+/// Lines, and the stacks of annotations that the tags of their characters stand for.
+#[derive(Drop)]
+pub struct LaidOut<A> {
+    /// The lines.
+    pub lines: Vec<Vec<Element<usize, ()>>>,
+    /// What their tags stand for.
+    pub stacks: Stacks<A>,
 }
 
 /// The pass that lays out a tree.
-struct Layout;
+struct Layout<D: TextDecorator> {
+    of: PhantomData<D>,
+}
 
-impl Pass for Layout {
-    type Node = NodeKind;
+impl<D: TextDecorator> Pass for Layout<D> {
+    type Node = RenderNode;
 
-    type State = Desk<Block<(), ()>, TextStyle<()>>;
+    type State = Desk<D, Stacks<D::Annotation>, usize, Block<usize, ()>>;
 
-    type Kept = Leaving;
+    type Kept = Leaving<usize>;
 
-    ghost meaning = { meaning state_operations };
+    ghost meaning = { worked D.decoration };
 
-    ghost kept_of = { leaving };
+    ghost kept_of = { λ n s. leaving n.kind s };
 
-    ghost leaves = { leave state_operations };
+    ghost leaves = { leave D.decoration tabled state_operations };
 
-    ghost leaves_kept = { leave-leaving state_operations };
+    ghost leaves_kept = { λ n s r. leave-leaving D.decoration tabled state_operations n.kind s r };
 
     fn enter(
-        _alloc: Global,
-        node: &NodeKind,
-        state: &mut Desk<Block<(), ()>, TextStyle<()>>,
-    ) -> Result<Leaving, Error> {
-        steps::enter(node, state)
+        alloc: Global,
+        node: &RenderNode,
+        state: &mut Desk<D, Stacks<D::Annotation>, usize, Block<usize, ()>>,
+    ) -> Result<Leaving<usize>, Error> {
+        steps::enter(alloc, &node.kind, state)
     }
 
     fn leave(
-        _alloc: Global,
-        kept: Leaving,
-        state: &mut Desk<Block<(), ()>, TextStyle<()>>,
+        alloc: Global,
+        kept: Leaving<usize>,
+        state: &mut Desk<D, Stacks<D::Annotation>, usize, Block<usize, ()>>,
     ) -> Result<(), Error> {
-        steps::leave(kept, state)
+        steps::leave(alloc, kept, state)
     }
 }
 
 // The lines of a tree on a desk.
 #[tactic(auto, using(html_render_dom::specs::Outcome::refusals))]
-fn lines_on(
+fn lines_on<D: TextDecorator>(
     alloc: Global,
     tree: &RenderTree,
-    desk: Desk<Block<(), ()>, TextStyle<()>>,
+    desk: Desk<D, Stacks<D::Annotation>, usize, Block<usize, ()>>,
     meter: &mut Meter,
-) -> Result<Vec<Vec<Element<(), ()>>>, Error>
-    ensures ok { IfOk result (λ v. lines_of state_operations (λ b. b.lines) tree.now desk ≡ Some (lines_in v)) }
-    ensures err { IfErr result (λ e. Refuses e (lines_of state_operations (λ b. b.lines) tree.now desk)) }
+) -> Result<LaidOut<D::Annotation>, Error>
+    ensures ok { IfOk result (λ lines. work_lines D.decoration tree.now desk ≡ Some (laid_out lines)) }
+    ensures err { IfErr result (λ e. Refuses e (work_lines D.decoration tree.now desk)) }
     ensures entered { OnOk result (meter.new.entered ≡ count tree.now) }
     ensures left { OnOk result (meter.new.left ≡ count tree.now) }
     ensures frames { OnOk result (meter.new.frames ≡ depth tree.now) }
@@ -97,30 +115,37 @@ fn lines_on(
     ensures probes { meter.new.probes ≡ meter.old.probes }
 {
     let mut desk = desk;
-    walk::<Layout>(alloc, tree.nodes(), &mut desk, meter)?;
+    walk::<Layout<D>>(alloc, tree.nodes(), &mut desk, meter)?;
     desk.block.flush()?;
-    Ok(desk.block.into_lines())
+    Ok(LaidOut {
+        lines: desk.block.into_lines(),
+        stacks: desk.stacks,
+    })
 }
 
-/// The lines of a tree, wrapped to `width` columns. Where a character is wider than a line, it stands alone on one with
-/// `overflow`. The meter's `entered`, `left` and `frames` count from 0.
+/// The lines of a tree, wrapped to `width` columns, with what a sub-block of the decorator's writes. Where a character
+/// is wider than a line, it stands alone on one with `overflow`. The meter's `entered`, `left` and `frames` count from 0.
 ///
 /// [`Error::TooNarrow`] comes at width 0, and, without `overflow`, where a character is wider than a line;
 /// [`Error::OutOfMemory`] where an allocation was refused.
-pub fn lay_out(
+pub fn lay_out<D: TextDecorator>(
     alloc: Global,
+    decorator: &D,
     tree: &RenderTree,
     width: usize,
     overflow: bool,
     meter: &mut Meter,
-) -> Result<Vec<Vec<Element<(), ()>>>, Error>
-    ensures ok { IfOk result (λ v. layout_lines tree.now width overflow ≡ Some (lines_in v)) }
-    ensures err { IfErr result (λ e. Refuses e (layout_lines tree.now width overflow)) }
+) -> Result<LaidOut<D::Annotation>, Error>
+    ensures ok { IfOk result (λ lines. layout_lines D.decoration tree.now decorator.now width overflow ≡ Some (laid_out lines)) }
+    ensures err { IfErr result (λ e. Refuses e (layout_lines D.decoration tree.now decorator.now width overflow)) }
 
     // no line is too wide, and with overflow no width is too small but 0, before anything is allocated
-    ensures within { IfOk result (λ v. overflow ≡ false → AllWithinWidth width (lines_in v)) }
+    ensures within { IfOk result (λ lines. overflow ≡ false → AllWithinWidth width (laid_out lines)) }
     ensures answered { 0 < width → overflow ≡ true → result ≢ Err Error.TooNarrow }
     ensures no_width { width ≡ 0 → result ≡ Err Error.TooNarrow }
+
+    // a tree that is laid out leaves the annotations and the decorator of any desk as they were
+    ensures stacks { (s : Defined D D.Annotation) → IfSome (run (defined D.decoration) tree.now s) (λ r. (r.tag ≡ s.tag) × (r.decorator ≡ s.decorator)) }
 
     // what was counted, where there are lines, and where there are none
     ensures entered { OnOk result (meter.new.entered ≡ count tree.now) }
@@ -131,19 +156,19 @@ pub fn lay_out(
     ensures frames_at_most { OnErr result (meter.new.frames ≤ depth tree.now) }
     ensures probes { meter.new.probes ≡ meter.old.probes }
 {
+    meter.entered = 0;
+    meter.left = 0;
+    meter.frames = 0;
     if width == 0 {
-        meter.entered = 0;
-        meter.left = 0;
-        meter.frames = 0;
         return Err(Error::TooNarrow);
     }
-    let style = TextStyle {
-        mode: WhiteSpace::Normal,
-        tag: (),
-        continuation_tag: (),
+    let desk = Desk {
+        decorator: decorator.make_subblock_decorator(alloc)?,
+        stacks: Stacks::new(alloc),
+        tag: 0,
+        block: Block::new(alloc, width, overflow),
     };
-    let block = Block::new(alloc, width, overflow);
-    lines_on(alloc, tree, Desk { style, block }, meter)
+    lines_on(alloc, tree, desk, meter)
 }
 
 #[cfg(test)]

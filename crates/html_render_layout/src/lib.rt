@@ -3,5 +3,6 @@
 
 pub mod block;
 pub mod layout;
+pub mod stacks;
 pub mod tree;
 pub mod walk;

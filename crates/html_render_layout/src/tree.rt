@@ -9,6 +9,7 @@ ghost use Rattle.html_render_layout.specs.Preorder.{flatten};
 ghost use Rattle.html_render_layout.specs.Splits.{SplitAt};
 
 use html_render_dom::Error;
+use html_render_dom::style::{Colour, WhiteSpace};
 use html_render_dom::text::Text;
 use std::alloc::Global;
 use std::marker::Model;
@@ -144,6 +145,17 @@ impl<K: Drop> Builder<K> {
     }
 }
 
+/// How a part of a line is emphasised.
+#[derive(Clone, Copy, Debug, PartialEq, Eq)]
+pub enum Emphasis {
+    /// Stressed: HTML's `em`, and what is shown like it.
+    Em,
+    /// Important: HTML's `strong`, and what is shown like it.
+    Strong,
+    /// A piece of a program: HTML's `code`.
+    Code,
+}
+
 /// What a node of a render tree is.
 #[derive(Drop)]
 pub enum NodeKind {
@@ -157,12 +169,49 @@ pub enum NodeKind {
     Block,
     /// A part that begins a line and ends one.
     Div,
+    /// A part of a line between what the decorator writes round it.
+    Emphasis(Emphasis),
+}
+
+/// What the style of an element gives the node that it becomes. [`NodeStyle::default`] is the one of texts, and of what
+/// is inserted: it gives nothing.
+#[derive(Clone, Copy, Debug, Default, PartialEq, Eq)]
+pub struct NodeStyle {
+    /// The colour of the text.
+    pub colour: Option<Colour>,
+    /// The colour of the background.
+    pub background: Option<Colour>,
+    /// How white space is treated: under [`WhiteSpace::Normal`] as round the node.
+    pub white_space: WhiteSpace,
+}
+
+/// A node of a render tree.
+#[derive(Drop)]
+pub struct RenderNode {
+    /// What the node is.
+    pub kind: NodeKind,
+    /// What its element's style gives it.
+    pub style: NodeStyle,
+}
+
+impl From<NodeKind> for RenderNode {
+    ghost use Rattle.html_render_layout.specs.RenderNodes.{without_style};
+
+    ghost from_gives = { λ k n. n ≡ without_style k };
+
+    /// A node without a style.
+    fn from(kind: NodeKind) -> RenderNode {
+        RenderNode {
+            kind,
+            style: NodeStyle::default(),
+        }
+    }
 }
 
 /// A document that is ready to be laid out.
 #[derive(Drop)]
 pub struct RenderTree {
-    nodes: Flat<NodeKind>,
+    nodes: Flat<RenderNode>,
 }
 
 impl Model for RenderTree {
@@ -170,20 +219,20 @@ impl Model for RenderTree {
     ghost use Rattle.std.specs.Coded.{codes, code_by, coded_list};
     ghost use Rattle.html_render_dom.specs.Forest.{Forest};
     ghost use Rattle.html_render_layout.specs.declared.tree.Entry.{Entry};
-    ghost use Rattle.html_render_layout.specs.declared.tree.NodeKind.{NodeKind};
+    ghost use Rattle.html_render_layout.specs.declared.tree.RenderNode.{RenderNode};
     ghost use Rattle.html_render_layout.specs.Preorder.{forest_of, flatten, forest_of-flatten};
 
-    ghost Value = { Forest NodeKind };
+    ghost Value = { Forest RenderNode };
 
-    ghost coded = { code_by (List (Entry NodeKind)) (coded_list (Prim.hlevel codes)) flatten forest_of forest_of-flatten };
+    ghost coded = { code_by (List (Entry RenderNode)) (coded_list (Prim.hlevel codes)) flatten forest_of forest_of-flatten };
 
     ghost view = { λ t. t.nodes };
 }
 
-impl From<Builder<NodeKind>> for RenderTree {
+impl From<Builder<RenderNode>> for RenderTree {
     ghost from_gives = { λ b t. t ≡ b };
 
-    fn from(builder: Builder<NodeKind>) -> RenderTree {
+    fn from(builder: Builder<RenderNode>) -> RenderTree {
         RenderTree {
             nodes: builder.finish(),
         }
@@ -192,7 +241,7 @@ impl From<Builder<NodeKind>> for RenderTree {
 
 impl RenderTree {
     /// The nodes.
-    pub fn nodes(&self) -> &Flat<NodeKind>
+    pub fn nodes(&self) -> &Flat<RenderNode>
         ensures { result.now ≡ self.now }
     {
         &self.nodes

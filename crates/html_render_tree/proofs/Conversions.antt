@@ -1,21 +1,63 @@
 -- What a conversion keeps true: the nodes made so far, with what is still ahead, are those of the definition.
-use Rattle.std.proofs.Common.{◌≡◌, ◌≢◌, ℕ, zero, suc, ◌+◌, ◌*◌, ◌<◌, ◌≤◌, List, [], ◌∷◌, ◌++◌, length, take, get_or, refl, sym, ap, subst, ◌∙◌, arith, length-append, add-one}
+use Rattle.std.proofs.Common.{◌≡◌, ℕ, suc, ◌+◌, ◌*◌, ◌<◌, ◌≤◌, Bool, true, false, if◌then◌else◌, List, [], ◌∷◌, ◌++◌, length, take, get_or, Option, Some, None, is_some, option_map, refl, sym, ap, subst, ◌∙◌, arith, length-append}
 use Rattle.std.proofs.lemmas.List.{same_from_push}
 use Rattle.std.proofs.lemmas.List.Elements.{Contains-get_or}
 use Rattle.std.proofs.Math.Seq.{take-suc, take-length}
-use Rattle.html_render_dom.specs.Forest.{Forest, none, node, count, followed_by}
-use Rattle.html_render_dom.specs.Content.{Content}
+use Rattle.html_render_dom.specs.Cascade.{value_of}
+use Rattle.html_render_dom.specs.Content.{Content, document, doctype, text, comment, element, instruction}
 use Rattle.html_render_dom.specs.Dom.{Dom, IsForest, IsNode, node_count, content_at, children_at, below, trees_of, tree_of}
+use Rattle.html_render_dom.specs.ElementStyle.{ElementStyle, element_style}
+use Rattle.html_render_dom.specs.Forest.{Forest, none, node, count, followed_by}
+use Rattle.html_render_dom.specs.Rules.{Rule as StyleRule}
 use Rattle.html_render_dom.specs.Trees.{below-children}
-use Rattle.html_render_layout.specs.declared.tree.NodeKind.{NodeKind}
-use Rattle.html_render_layout.specs.Splits.{SplitAt, followed_by-none, followed_by-followed_by, count-followed_by}
+use Rattle.html_render_layout.specs.declared.tree.RenderNode.{RenderNode}
+use Rattle.html_render_layout.specs.Splits.{followed_by-none, followed_by-followed_by, count-followed_by}
 use Rattle.html_render_tree.specs.declared.rules.IfEmpty.{IfEmpty}
-use Rattle.html_render_tree.specs.declared.rules.IfEmpty.TheVariants.{Stands, Vanishes}
+use Rattle.html_render_tree.specs.declared.rules.IfEmpty.TheVariants.{Stands}
+use Rattle.html_render_tree.specs.declared.rules.Outline.{Outline}
+use Rattle.html_render_tree.specs.declared.rules.Outline.TheVariants.{Alone, Over}
+use Rattle.html_render_tree.specs.declared.rules.Outline.TheVariants as outline
 use Rattle.html_render_tree.specs.declared.rules.Rule.{Rule}
 use Rattle.html_render_tree.specs.declared.rules.Rule.TheVariants.{Nothing, Leaf, Parent}
 use Rattle.html_render_tree.specs.declared.convert.Open.{Open}
-use Rattle.html_render_tree.specs.Conversion.{rule_of, made, converted, render_tree_of}
-use Rattle.html_render_tree.specs.Converting.{Progress, met}
+use Rattle.html_render_tree.specs.Insertion.{Tree, in_front, with_contents}
+use Rattle.html_render_tree.specs.Conversion.{element_rule, node_style, over, styled, result_of, converted, render_tree_of}
+use Rattle.html_render_tree.specs.Converting.{Progress, styled_outline, outline_of, put_content, met, closed, ClosingAt}
+
+-- ---- what an outline says
+
+-- what a node of this outline becomes, from what its children become
+abbrev result_by : Outline → Forest RenderNode → Option Tree
+result_by outline.Nothing children = None
+result_by (Alone n) children = Some (record { top = n; children = none })
+result_by (Over n if_empty has_children before after) children =
+    option_map (with_contents before after) (over n if_empty (if has_children then children else none))
+
+displayed_result : (hidden : Bool) (n : RenderNode) (if_empty : IfEmpty) (has_children : Bool) (before after : Option (List ℕ)) (children : Forest RenderNode) →
+    result_by (if hidden then outline.Nothing else Over n if_empty has_children before after) children
+    ≡ (if hidden then None else option_map (with_contents before after) (over n if_empty (if has_children then children else none)))
+displayed_result true n if_empty has_children before after children = refl
+displayed_result false n if_empty has_children before after children = refl
+
+none_either_way : {A : Type 0} (b : Bool) → (if b then (let n : Option A = None in n) else None) ≡ None
+none_either_way true = refl
+none_either_way false = refl
+
+styled_result : (rule : Rule) (style : ElementStyle) (children : Forest RenderNode) → result_by (styled_outline rule style) children ≡ styled rule style children
+styled_result Nothing style children = sym (none_either_way (is_some style.display))
+styled_result (Leaf kind) style children =
+    displayed_result (is_some style.display) (record { kind = kind; style = node_style style }) Stands false (value_of style.content_before) (value_of style.content_after) children
+styled_result (Parent kind if_empty) style children =
+    displayed_result (is_some style.display) (record { kind = kind; style = node_style style }) if_empty true (value_of style.content_before) (value_of style.content_after) children
+
+outline_result : (rules : List StyleRule) (content : Content) (children : Forest RenderNode) → result_by (outline_of rules content) children ≡ result_of rules content children
+outline_result rules document children = refl
+outline_result rules (text contents) children = refl
+outline_result rules (element name properties template_contents integration_point) children =
+    styled_result (element_rule name.space name.local) (element_style rules name.local properties) children
+outline_result rules (doctype name public_id system_id) children = refl
+outline_result rules (comment contents) children = refl
+outline_result rules (instruction target contents) children = refl
 
 -- ---- trees beside each other
 
@@ -23,191 +65,248 @@ trees_of-append : (dom : Dom) (xs ys : List ℕ) → trees_of dom (xs ++ ys) ≡
 trees_of-append dom [] ys = refl
 trees_of-append dom (x ∷ xs) ys = ap (λ t. node (content_at dom x) (below (node_count dom) dom x) t) (trees_of-append dom xs ys)
 
-converted-followed_by : (t u : Forest Content) → converted (followed_by t u) ≡ followed_by (converted t) (converted u)
-converted-followed_by none u = refl
-converted-followed_by (node c children beside) u =
-    ap (λ v. followed_by (made (rule_of c) (converted children)) v) (converted-followed_by beside u)
-    ∙ sym (followed_by-followed_by (made (rule_of c) (converted children)) (converted beside) (converted u))
+in_front-followed_by : (r : Option Tree) (t u : Forest RenderNode) → followed_by (in_front r t) u ≡ in_front r (followed_by t u)
+in_front-followed_by None t u = refl
+in_front-followed_by (Some tree) t u = refl
+
+converted-followed_by : (rules : List StyleRule) (t u : Forest Content) → converted rules (followed_by t u) ≡ followed_by (converted rules t) (converted rules u)
+converted-followed_by rules none u = refl
+converted-followed_by rules (node c children beside) u =
+    ap (in_front (result_of rules c (converted rules children))) (converted-followed_by rules beside u)
+    ∙ sym (in_front-followed_by (result_of rules c (converted rules children)) (converted rules beside) (converted rules u))
 
 -- ---- where the conversion stands
 
--- the open elements, the innermost first, each with what stands beside it
+-- an open element, the content behind its children, and what stands beside it
+pub record Step : Type 0 where
+  pub element : Open
+  pub after : Option (List ℕ)
+  pub beside : Forest RenderNode
+
+-- the open elements, the innermost first
 abbrev pub Path : Type 0
-Path = List (Open × Forest NodeKind)
+Path = List Step
 
 -- the children of an open element that are still to be converted
 abbrev pub remaining : Dom → Open → List ℕ
 remaining dom o = take o.ahead (children_at dom o.handle)
 
 -- what they become
-abbrev pub still : Dom → Open → Forest NodeKind
-still dom o = converted (trees_of dom (remaining dom o))
-
--- what the element becomes, once its children have become these
-abbrev pub closed : Open → Forest NodeKind → Forest NodeKind
-closed o children = made (Parent o.kind o.if_empty) children
+abbrev pub still : List StyleRule → Dom → Open → Forest RenderNode
+still rules dom o = converted rules (trees_of dom (remaining dom o))
 
 -- the open elements, the innermost last
 abbrev pub elements_of : Path → List Open
 elements_of [] = []
-elements_of (x ∷ path) = elements_of path ++ x.0 ∷ []
+elements_of (x ∷ path) = elements_of path ++ x.element ∷ []
 
--- what had been made before the innermost open element
-abbrev pub outside : Path → Forest NodeKind
-outside [] = none
-outside (x ∷ path) = followed_by x.1 (outside path)
+-- what had been made before the children of the innermost element
+abbrev pub inside : Path → Forest RenderNode
+inside [] = none
+inside (x ∷ path) = put_content x.after (followed_by x.beside (inside path))
 
--- what all becomes, where these are the nodes made since the innermost element was opened
-abbrev pub resumed : Dom → Path → Forest NodeKind → Forest NodeKind
-resumed dom [] nodes = nodes
-resumed dom (x ∷ path) nodes = resumed dom path (followed_by (closed x.0 (followed_by (still dom x.0) nodes)) x.1)
+-- what all becomes, where these are the nodes made since the children of the innermost element were begun
+abbrev pub resumed : List StyleRule → Dom → Path → Forest RenderNode → Forest RenderNode
+resumed rules dom [] nodes = nodes
+resumed rules dom (x ∷ path) nodes =
+    resumed rules dom path (in_front (closed x.element x.after (followed_by (still rules dom x.element) nodes)) x.beside)
+
+abbrev pub IsSound : Dom → Step → Path → Type 0
+IsSound dom x path = record {
+  is_node : IsNode dom x.element.handle;
+  ahead_within : x.element.ahead ≤ length (children_at dom x.element.handle);
+  inner_is : x.element.inner ≡ count (inside (x ∷ path));
+  outer_is : x.element.outer ≡ count (followed_by x.beside (inside path));
+}
 
 abbrev pub AreSound : Dom → Path → Type 0
 AreSound dom [] = Unit {0}
-AreSound dom (x ∷ path) =
-    IsNode dom x.0.handle × (x.0.ahead ≤ length (children_at dom x.0.handle)) × (x.0.mark ≡ count (outside (x ∷ path))) × AreSound dom path
+AreSound dom (x ∷ path) = IsSound dom x path × AreSound dom path
 
-pub record Converting (dom : Dom) (total : Forest NodeKind) (elements : List Open) (built : Forest NodeKind) : Type 0 where
+pub record Converting (rules : List StyleRule) (dom : Dom) (elements : List Open) (built : Forest RenderNode) : Type 0 where
   pub path : Path
-  pub nodes : Forest NodeKind
+  pub nodes : Forest RenderNode
   pub elements_are : elements ≡ elements_of path
-  pub built_is : built ≡ followed_by nodes (outside path)
-  pub result : resumed dom path nodes ≡ total
+  pub built_is : built ≡ followed_by nodes (inside path)
+  pub result : resumed rules dom path nodes ≡ render_tree_of rules dom
   pub sound : AreSound dom path
 
 -- the same, where a node is about to be converted
-pub record Meeting (dom : Dom) (total : Forest NodeKind) (h : ℕ) (elements : List Open) (built : Forest NodeKind) : Type 0 where
+pub record Meeting (rules : List StyleRule) (dom : Dom) (h : ℕ) (elements : List Open) (built : Forest RenderNode) : Type 0 where
   pub path : Path
-  pub nodes : Forest NodeKind
+  pub nodes : Forest RenderNode
   pub elements_are : elements ≡ elements_of path
-  pub built_is : built ≡ followed_by nodes (outside path)
-  pub result : resumed dom path (followed_by (converted (tree_of dom h)) nodes) ≡ total
+  pub built_is : built ≡ followed_by nodes (inside path)
+  pub result : resumed rules dom path (followed_by (converted rules (tree_of dom h)) nodes) ≡ render_tree_of rules dom
   pub sound : AreSound dom path
   pub is_node : IsNode dom h
 
-pub Meeting-start : (dom : Dom) → IsNode dom 0 → Meeting dom (render_tree_of dom) 0 [] none
-Meeting-start dom is = record {
+pub Meeting-start : (rules : List StyleRule) (dom : Dom) → IsNode dom 0 → Meeting rules dom 0 [] none
+Meeting-start rules dom is = record {
   path = [];
   nodes = none;
   elements_are = refl;
   built_is = refl;
-  result = followed_by-none (render_tree_of dom);
+  result = followed_by-none (render_tree_of rules dom);
   sound = tt;
   is_node = is;
 }
 
-module _ (dom : Dom) (f : IsForest dom) where
-  module _ (total : Forest NodeKind) (h : ℕ) (p : Progress) (path : Path) (nodes : Forest NodeKind)
-      (is : IsNode dom h) (elements_are : p.open_elements ≡ elements_of path) (built_is : p.made_nodes ≡ followed_by nodes (outside path))
+module _ (rules : List StyleRule) (dom : Dom) (f : IsForest dom) where
+  -- ---- a node is met
+
+  module _ (h : ℕ) (p : Progress) (path : Path) (nodes : Forest RenderNode)
+      (is : IsNode dom h) (elements_are : p.open_elements ≡ elements_of path) (built_is : p.made_nodes ≡ followed_by nodes (inside path))
       (sound : AreSound dom path) where
-    met-by : (r : Rule) → resumed dom path (followed_by (followed_by (made r (converted (trees_of dom (children_at dom h)))) none) nodes) ≡ total →
-        Converting dom total (met dom h r p).open_elements (met dom h r p).made_nodes
-    met-by Nothing result = record { path = path; nodes = nodes; elements_are = elements_are; built_is = built_is; result = result; sound = sound }
-    met-by (Leaf k) result = record {
+    -- how many of its children are ahead, and what these become
+    ahead_within : (has_children : Bool) (n : ℕ) → (if has_children then n else 0) ≤ n
+    ahead_within true n = omega arith
+    ahead_within false n = omega arith
+
+    ahead_become : (has_children : Bool) → let children = children_at dom h in
+        converted rules (trees_of dom (take (if has_children then length children else 0) children)) ≡ (if has_children then converted rules (trees_of dom children) else none)
+    ahead_become true = ap (λ hs. converted rules (trees_of dom hs)) (take-length (children_at dom h))
+    ahead_become false = refl
+
+    met-by : (o : Outline) → resumed rules dom path (in_front (result_by o (converted rules (trees_of dom (children_at dom h)))) nodes) ≡ render_tree_of rules dom →
+        Converting rules dom (met dom h o p).open_elements (met dom h o p).made_nodes
+    met-by outline.Nothing result = record { path = path; nodes = nodes; elements_are = elements_are; built_is = built_is; result = result; sound = sound }
+    met-by (Alone n) result = record {
       path = path;
-      nodes = node k none nodes;
+      nodes = node n none nodes;
       elements_are = elements_are;
-      built_is = ap (λ t. node k none t) built_is;
+      built_is = ap (λ t. node n none t) built_is;
       result = result;
       sound = sound;
     }
-    met-by (Parent k e) result =
+    met-by (Over n if_empty has_children before after) result =
         let children = children_at dom h in
-        let o : Open = record { handle = h; ahead = length children; mark = count p.made_nodes; kind = k; if_empty = e } in
-        let all : take (length children) children ≡ children = take-length children in
+        let o : Open = record {
+          handle = h;
+          ahead = if has_children then length children else 0;
+          outer = count p.made_nodes;
+          inner = count (put_content after p.made_nodes);
+          node = n;
+          if_empty = if_empty;
+          before = before;
+        } in
         record {
-          path = (o, nodes) ∷ path;
+          path = record { element = o; after = after; beside = nodes } ∷ path;
           nodes = none;
           elements_are = ap (λ es. es ++ o ∷ []) elements_are;
-          built_is = built_is;
+          built_is = ap (put_content after) built_is;
           result =
-              ap (λ t. resumed dom path (followed_by (closed o t) nodes)) (followed_by-none (still dom o))
-              ∙ ap (λ cs. resumed dom path (followed_by (closed o (converted (trees_of dom cs))) nodes)) all
-              ∙ ap (λ t. resumed dom path (followed_by t nodes)) (sym (followed_by-none (closed o (converted (trees_of dom children)))))
+              ap (λ t. resumed rules dom path (in_front (closed o after t) nodes)) (followed_by-none (still rules dom o) ∙ ahead_become has_children)
               ∙ result;
-          sound = (is, omega arith, ap count built_is, sound);
+          sound = (
+            record {
+              is_node = is;
+              ahead_within = ahead_within has_children (length children);
+              inner_is = ap (λ t. count (put_content after t)) built_is;
+              outer_is = ap count built_is;
+            },
+            sound,
+          );
         }
 
-  pub Meeting-met : (total : Forest NodeKind) (h : ℕ) (p : Progress) → Meeting dom total h p.open_elements p.made_nodes →
-      Converting dom total (met dom h (rule_of (content_at dom h)) p).open_elements (met dom h (rule_of (content_at dom h)) p).made_nodes
-  Meeting-met total h p m =
-      met-by total h p m.path m.nodes m.is_node m.elements_are m.built_is m.sound (rule_of (content_at dom h))
-      (ap (λ t. resumed dom m.path (followed_by (followed_by (made (rule_of (content_at dom h)) (converted t)) none) m.nodes)) (sym (below-children dom f h m.is_node)) ∙ m.result)
+  pub Meeting-met : (h : ℕ) (p : Progress) → Meeting rules dom h p.open_elements p.made_nodes →
+      let o = outline_of rules (content_at dom h) in
+      Converting rules dom (met dom h o p).open_elements (met dom h o p).made_nodes
+  Meeting-met h p m =
+      let content = content_at dom h in
+      met-by h p m.path m.nodes m.is_node m.elements_are m.built_is m.sound (outline_of rules content)
+      (ap (λ r. resumed rules dom m.path (in_front r m.nodes)) (outline_result rules content (converted rules (trees_of dom (children_at dom h))))
+      ∙ ap (λ t. resumed rules dom m.path (in_front (result_of rules content (converted rules t)) m.nodes)) (sym (below-children dom f h m.is_node))
+      ∙ ap (λ t. resumed rules dom m.path t) (sym (in_front-followed_by (result_of rules content (converted rules (below (node_count dom) dom h))) none m.nodes))
+      ∙ m.result)
 
   -- ---- the next child of the innermost element
 
-  module _ (total : Forest NodeKind) (elements : List Open) (o : Open) (n : ℕ) (built : Forest NodeKind) where
+  module _ (elements : List Open) (o : Open) (n : ℕ) (built : Forest RenderNode) where
     abbrev shorter : Open
     shorter = record o { ahead = n }
 
-    child_at : (h : ℕ) (path : Path) (nodes : Forest NodeKind) → o.ahead ≡ suc n → h ≡ get_or (children_at dom o.handle) n h →
-        elements ++ o ∷ [] ≡ elements_of path → built ≡ followed_by nodes (outside path) → resumed dom path nodes ≡ total → AreSound dom path →
-        Meeting dom total h (elements ++ shorter ∷ []) built
+    child_at : (h : ℕ) (path : Path) (nodes : Forest RenderNode) → o.ahead ≡ suc n → h ≡ get_or (children_at dom o.handle) n h →
+        elements ++ o ∷ [] ≡ elements_of path → built ≡ followed_by nodes (inside path) → resumed rules dom path nodes ≡ render_tree_of rules dom → AreSound dom path →
+        Meeting rules dom h (elements ++ shorter ∷ []) built
     child_at h [] nodes ahead at elements_are built_is result sound = absurd (omega (arith, ap length elements_are, length-append elements (o ∷ [])))
     child_at h (x ∷ path) nodes ahead at elements_are built_is result sound =
-        let same = same_from_push elements (elements_of path) o x.0 elements_are in
+        let same = same_from_push elements (elements_of path) o x.element elements_are in
         let children = children_at dom o.handle in
-        let in_children : n < length children = omega (arith, ahead, ap (λ (e : Open). e.ahead) same.1, sound.1, ap (λ (e : Open). length (children_at dom e.handle)) same.1) in
+        let in_children : n < length children =
+        omega (arith, ahead, ap (λ (e : Open). e.ahead) same.1, sound.0.ahead_within, ap (λ (e : Open). length (children_at dom e.handle)) same.1) in
         let last : remaining dom o ≡ remaining dom shorter ++ h ∷ [] = ap (λ k. take k children) ahead ∙ take-suc children n h in_children ∙ ap (λ c. take n children ++ c ∷ []) (sym at) in
-        let trees : still dom o ≡ followed_by (still dom shorter) (converted (tree_of dom h)) =
-        ap (λ hs. converted (trees_of dom hs)) last
-        ∙ ap converted (trees_of-append dom (remaining dom shorter) (h ∷ []))
-        ∙ converted-followed_by (trees_of dom (remaining dom shorter)) (tree_of dom h) in
+        let trees : still rules dom o ≡ followed_by (still rules dom shorter) (converted rules (tree_of dom h)) =
+        ap (λ hs. converted rules (trees_of dom hs)) last
+        ∙ ap (converted rules) (trees_of-append dom (remaining dom shorter) (h ∷ []))
+        ∙ converted-followed_by rules (trees_of dom (remaining dom shorter)) (tree_of dom h) in
         record {
-          path = (shorter, x.1) ∷ path;
+          path = record x { element = shorter } ∷ path;
           nodes = nodes;
           elements_are = ap (λ es. es ++ shorter ∷ []) same.0;
           built_is = built_is;
           result =
-              ap (λ t. resumed dom path (followed_by (closed o t) x.1))
-              (sym (followed_by-followed_by (still dom shorter) (converted (tree_of dom h)) nodes) ∙ ap (λ t. followed_by t nodes) (sym trees))
-              ∙ ap (λ (e : Open). resumed dom path (followed_by (closed e (followed_by (still dom e) nodes)) x.1)) same.1
+              ap (λ t. resumed rules dom path (in_front (closed o x.after t) x.beside))
+              (sym (followed_by-followed_by (still rules dom shorter) (converted rules (tree_of dom h)) nodes) ∙ ap (λ t. followed_by t nodes) (sym trees))
+              ∙ ap (λ (e : Open). resumed rules dom path (in_front (closed e x.after (followed_by (still rules dom e) nodes)) x.beside)) same.1
               ∙ result;
           sound = (
-            subst (λ (e : Open). IsNode dom e.handle) (sym same.1) sound.0,
-            omega arith,
-            ap (λ (e : Open). e.mark) same.1 ∙ sound.2,
-            sound.3,
+            record {
+              is_node = subst (λ (e : Open). IsNode dom e.handle) (sym same.1) sound.0.is_node;
+              ahead_within = omega arith;
+              inner_is = ap (λ (e : Open). e.inner) same.1 ∙ sound.0.inner_is;
+              outer_is = ap (λ (e : Open). e.outer) same.1 ∙ sound.0.outer_is;
+            },
+            sound.1,
           );
           is_node = subst (λ c. IsNode dom c) (sym at) (f.child_is_node o.handle _ (Contains-get_or children n h in_children));
         }
 
-  pub Converting-child : (total : Forest NodeKind) (elements : List Open) (o : Open) (n : ℕ) (built : Forest NodeKind) (h : ℕ) →
-      o.ahead ≡ suc n → h ≡ get_or (children_at dom o.handle) n h → Converting dom total (elements ++ o ∷ []) built →
-      Meeting dom total h (elements ++ record o { ahead = n } ∷ []) built
-  Converting-child total elements o n built h ahead at c =
-      child_at total elements o n built h c.path c.nodes ahead at c.elements_are c.built_is c.result c.sound
+  pub Converting-child : (elements : List Open) (o : Open) (n : ℕ) (built : Forest RenderNode) (h : ℕ) →
+      o.ahead ≡ suc n → h ≡ get_or (children_at dom o.handle) n h → Converting rules dom (elements ++ o ∷ []) built →
+      Meeting rules dom h (elements ++ record o { ahead = n } ∷ []) built
+  Converting-child elements o n built h ahead at c =
+      child_at elements o n built h c.path c.nodes ahead at c.elements_are c.built_is c.result c.sound
 
   -- ---- the end of the innermost element
 
-  module _ (total : Forest NodeKind) (elements : List Open) (o : Open) (built : Forest NodeKind) where
-    close_at : (path : Path) (nodes : Forest NodeKind) → o.ahead ≡ 0 →
-        elements ++ o ∷ [] ≡ elements_of path → built ≡ followed_by nodes (outside path) → resumed dom path nodes ≡ total → AreSound dom path →
-        (s : SplitAt built o.mark) × Converting dom total elements (followed_by (closed o s.children) s.beside)
+  module _ (elements : List Open) (o : Open) (built : Forest RenderNode) where
+    abbrev pub Closed : Type 0
+    Closed = (s : ClosingAt built o.inner o.outer) × Converting rules dom elements (in_front (closed o s.after s.children) s.beside)
+
+    close_at : (path : Path) (nodes : Forest RenderNode) → o.ahead ≡ 0 →
+        elements ++ o ∷ [] ≡ elements_of path → built ≡ followed_by nodes (inside path) → resumed rules dom path nodes ≡ render_tree_of rules dom → AreSound dom path →
+        Closed
     close_at [] nodes ahead elements_are built_is result sound = absurd (omega (arith, ap length elements_are, length-append elements (o ∷ [])))
     close_at (x ∷ path) nodes ahead elements_are built_is result sound =
-        let same = same_from_push elements (elements_of path) o x.0 elements_are in
-        let s : SplitAt built o.mark = record { children = nodes; beside = outside (x ∷ path); is = built_is; mark_is = ap (λ (e : Open). e.mark) same.1 ∙ sound.2 } in
-        let over : still dom o ≡ none = ap (λ k. converted (trees_of dom (take k (children_at dom o.handle)))) ahead in (
+        let same = same_from_push elements (elements_of path) o x.element elements_are in
+        let s : ClosingAt built o.inner o.outer = record {
+          children = nodes;
+          after = x.after;
+          beside = followed_by x.beside (inside path);
+          is = built_is;
+          inner_is = ap (λ (e : Open). e.inner) same.1 ∙ sound.0.inner_is;
+          outer_is = ap (λ (e : Open). e.outer) same.1 ∙ sound.0.outer_is;
+        } in
+        let over : still rules dom o ≡ none = ap (λ k. converted rules (trees_of dom (take k (children_at dom o.handle)))) ahead in (
           s,
           record {
             path = path;
-            nodes = followed_by (closed o nodes) x.1;
+            nodes = in_front (closed o x.after nodes) x.beside;
             elements_are = same.0;
-            built_is = sym (followed_by-followed_by (closed o nodes) x.1 (outside path));
+            built_is = sym (in_front-followed_by (closed o x.after nodes) x.beside (inside path));
             result =
-                ap (λ t. resumed dom path (followed_by (closed o (followed_by t nodes)) x.1)) (sym over)
-                ∙ ap (λ (e : Open). resumed dom path (followed_by (closed e (followed_by (still dom e) nodes)) x.1)) same.1
+                ap (λ t. resumed rules dom path (in_front (closed o x.after (followed_by t nodes)) x.beside)) (sym over)
+                ∙ ap (λ (e : Open). resumed rules dom path (in_front (closed e x.after (followed_by (still rules dom e) nodes)) x.beside)) same.1
                 ∙ result;
-            sound = sound.3;
+            sound = sound.1;
           },
         )
 
-  pub Converting-close : (total : Forest NodeKind) (elements : List Open) (o : Open) (built : Forest NodeKind) →
-      o.ahead ≡ 0 → Converting dom total (elements ++ o ∷ []) built →
-      (s : SplitAt built o.mark) × Converting dom total elements (followed_by (closed o s.children) s.beside)
-  Converting-close total elements o built ahead c =
-      close_at total elements o built c.path c.nodes ahead c.elements_are c.built_is c.result c.sound
+  pub Converting-close : (elements : List Open) (o : Open) (built : Forest RenderNode) →
+      o.ahead ≡ 0 → Converting rules dom (elements ++ o ∷ []) built → Closed elements o built
+  Converting-close elements o built ahead c =
+      close_at elements o built c.path c.nodes ahead c.elements_are c.built_is c.result c.sound
 
   -- ---- the innermost element
 
@@ -215,24 +314,24 @@ module _ (dom : Dom) (f : IsForest dom) where
       IsNode dom o.handle × (o.ahead ≤ length (children_at dom o.handle))
   top_at elements o [] elements_are sound = absurd (omega (arith, ap length elements_are, length-append elements (o ∷ [])))
   top_at elements o (x ∷ path) elements_are sound =
-      let same = same_from_push elements (elements_of path) o x.0 elements_are in
-      subst (λ (e : Open). IsNode dom e.handle × (e.ahead ≤ length (children_at dom e.handle))) (sym same.1) (sound.0, sound.1)
+      let same = same_from_push elements (elements_of path) o x.element elements_are in
+      subst (λ (e : Open). IsNode dom e.handle × (e.ahead ≤ length (children_at dom e.handle))) (sym same.1) (sound.0.is_node, sound.0.ahead_within)
 
-  pub Converting-top : (total : Forest NodeKind) (elements : List Open) (o : Open) (built : Forest NodeKind) →
-      Converting dom total (elements ++ o ∷ []) built → IsNode dom o.handle × (o.ahead ≤ length (children_at dom o.handle))
-  Converting-top total elements o built c = top_at elements o c.path c.elements_are c.sound
+  pub Converting-top : (elements : List Open) (o : Open) (built : Forest RenderNode) →
+      Converting rules dom (elements ++ o ∷ []) built → IsNode dom o.handle × (o.ahead ≤ length (children_at dom o.handle))
+  Converting-top elements o built c = top_at elements o c.path c.elements_are c.sound
 
   -- ---- the end of it all
 
-  done_at : (total : Forest NodeKind) (elements : List Open) (built : Forest NodeKind) (path : Path) (nodes : Forest NodeKind) → length elements ≡ 0 →
-      elements ≡ elements_of path → built ≡ followed_by nodes (outside path) → resumed dom path nodes ≡ total → built ≡ total
-  done_at total elements built [] nodes empty elements_are built_is result = built_is ∙ followed_by-none nodes ∙ result
-  done_at total elements built (x ∷ path) nodes empty elements_are built_is result =
-      absurd (omega (arith, ap length elements_are, length-append (elements_of path) (x.0 ∷ [])))
+  done_at : (elements : List Open) (built : Forest RenderNode) (path : Path) (nodes : Forest RenderNode) → length elements ≡ 0 →
+      elements ≡ elements_of path → built ≡ followed_by nodes (inside path) → resumed rules dom path nodes ≡ render_tree_of rules dom → built ≡ render_tree_of rules dom
+  done_at elements built [] nodes empty elements_are built_is result = built_is ∙ followed_by-none nodes ∙ result
+  done_at elements built (x ∷ path) nodes empty elements_are built_is result =
+      absurd (omega (arith, ap length elements_are, length-append (elements_of path) (x.element ∷ [])))
 
-  pub Converting-done : (total : Forest NodeKind) (elements : List Open) (built : Forest NodeKind) → length elements ≡ 0 →
-      Converting dom total elements built → built ≡ total
-  Converting-done total elements built empty c = done_at total elements built c.path c.nodes empty c.elements_are c.built_is c.result
+  pub Converting-done : (elements : List Open) (built : Forest RenderNode) → length elements ≡ 0 →
+      Converting rules dom elements built → built ≡ render_tree_of rules dom
+  Converting-done elements built empty c = done_at elements built c.path c.nodes empty c.elements_are c.built_is c.result
 
 -- ---- why it ends
 
@@ -249,15 +348,28 @@ pub work-close : (dom : Dom) (elements : List Open) (o : Open) → work dom elem
 work-close dom elements o = omega (arith, work-append dom elements (o ∷ []))
 
 module _ (dom : Dom) (h : ℕ) (p : Progress) where
-  work-met : (r : Rule) → work dom (met dom h r p).open_elements ≤ work dom p.open_elements + (2 * count (trees_of dom (children_at dom h)) + 1)
-  work-met Nothing = omega arith
-  work-met (Leaf k) = omega arith
-  work-met (Parent k e) =
-      let children = children_at dom h in
-      let o : Open = record { handle = h; ahead = length children; mark = count p.made_nodes; kind = k; if_empty = e } in
-      omega (arith, work-append dom p.open_elements (o ∷ []), ap (λ cs. count (trees_of dom cs)) (take-length children))
+  ahead_count : (has_children : Bool) → let children = children_at dom h in
+      count (trees_of dom (take (if has_children then length children else 0) children)) ≤ count (trees_of dom children)
+  ahead_count true = omega (arith, ap (λ hs. count (trees_of dom hs)) (take-length (children_at dom h)))
+  ahead_count false = omega arith
 
-pub work-child : (dom : Dom) → IsForest dom → (elements : List Open) (o : Open) (n h : ℕ) (r : Rule) (built : Forest NodeKind) → IsNode dom h → o.ahead ≡ suc n → n < length (children_at dom o.handle) →
+  work-met : (o : Outline) → work dom (met dom h o p).open_elements ≤ work dom p.open_elements + (2 * count (trees_of dom (children_at dom h)) + 1)
+  work-met outline.Nothing = omega arith
+  work-met (Alone n) = omega arith
+  work-met (Over n if_empty has_children before after) =
+      let children = children_at dom h in
+      let o : Open = record {
+        handle = h;
+        ahead = if has_children then length children else 0;
+        outer = count p.made_nodes;
+        inner = count (put_content after p.made_nodes);
+        node = n;
+        if_empty = if_empty;
+        before = before;
+      } in
+      omega (arith, work-append dom p.open_elements (o ∷ []), ahead_count has_children)
+
+pub work-child : (dom : Dom) → IsForest dom → (elements : List Open) (o : Open) (n h : ℕ) (r : Outline) (built : Forest RenderNode) → IsNode dom h → o.ahead ≡ suc n → n < length (children_at dom o.handle) →
     h ≡ get_or (children_at dom o.handle) n h →
     work dom (met dom h r (record { open_elements = elements ++ record o { ahead = n } ∷ []; made_nodes = built })).open_elements < work dom (elements ++ o ∷ [])
 work-child dom f elements o n h r built is ahead in_children at =
@@ -274,29 +386,3 @@ work-child dom f elements o n h r built is ahead in_children at =
       count-followed_by (trees_of dom (take n children)) (tree_of dom h),
       ap count (below-children dom f h is),
     )
-
--- ---- an element that is closed
-
-split_children : {K : Type 0} (t : Forest K) (mark : ℕ) (s : SplitAt t mark) → count t ≡ count s.children + mark
-split_children t mark s = omega (arith, ap count s.is, count-followed_by s.children s.beside, s.mark_is)
-
--- nothing was made since the mark, so the element vanishes
-pub close-vanishes : (t : Forest NodeKind) (mark : ℕ) (k : NodeKind) → count t ≡ mark → (s : SplitAt t mark) →
-    t ≡ followed_by (made (Parent k Vanishes) s.children) s.beside
-close-vanishes t mark k empty s = by s.children (split_children t mark s) s.is
-  where
-    by : (children : Forest NodeKind) → count t ≡ count children + mark → t ≡ followed_by children s.beside →
-        t ≡ followed_by (made (Parent k Vanishes) children) s.beside
-    by none counts is = is
-    by (node j below beside) counts is = absurd (omega arith)
-
--- otherwise it is a node over what was made
-pub close-stands : (t : Forest NodeKind) (mark : ℕ) (k : NodeKind) (e : IfEmpty) → (e ≡ Vanishes → count t ≢ mark) → (s : SplitAt t mark) →
-    node k s.children s.beside ≡ followed_by (made (Parent k e) s.children) s.beside
-close-stands t mark k Stands full s = refl
-close-stands t mark k Vanishes full s = by s.children (split_children t mark s)
-  where
-    by : (children : Forest NodeKind) → count t ≡ count children + mark →
-        node k children s.beside ≡ followed_by (made (Parent k Vanishes) children) s.beside
-    by none counts = absurd (full refl (omega arith))
-    by (node j below beside) counts = refl

@@ -1,31 +1,91 @@
 -- Where a conversion stands that goes from the last node to the first: the elements that are open, and the nodes made.
-use Rattle.std.specs.Prelude.{ℕ, List, [], ◌∷◌, ◌++◌, length, Vec}
+use Rattle.std.specs.Prelude.{◌≡◌, ℕ, Bool, true, false, List, [], ◌∷◌, ◌++◌, length, Option, Some, None, is_some, option_map, if◌then◌else◌, Vec}
 use Rattle.std.specs.declared.alloc.Global.{Global}
-use Rattle.html_render_dom.specs.Forest.{Forest, none, node, count}
+use Rattle.html_render_dom.specs.Cascade.{value_of}
+use Rattle.html_render_dom.specs.Content.{Content, document, doctype, text, comment, element, instruction}
 use Rattle.html_render_dom.specs.Dom.{Dom, children_at}
+use Rattle.html_render_dom.specs.ElementStyle.{ElementStyle, element_style}
+use Rattle.html_render_dom.specs.Forest.{Forest, none, node, count, followed_by}
+use Rattle.html_render_dom.specs.Rules.{Rule as StyleRule}
 use Rattle.html_render_layout.specs.declared.tree.NodeKind.{NodeKind}
+use Rattle.html_render_layout.specs.declared.tree.NodeKind.TheVariants.{Container}
+use Rattle.html_render_layout.specs.declared.tree.RenderNode.{RenderNode}
+use Rattle.html_render_layout.specs.RenderNodes.{without_style}
+use Rattle.html_render_tree.specs.declared.convert.Open.{Open}
+use Rattle.html_render_tree.specs.declared.rules.IfEmpty.{IfEmpty}
+use Rattle.html_render_tree.specs.declared.rules.IfEmpty.TheVariants.{Stands}
+use Rattle.html_render_tree.specs.declared.rules.Outline.{Outline}
+use Rattle.html_render_tree.specs.declared.rules.Outline.TheVariants.{Alone, Over}
+use Rattle.html_render_tree.specs.declared.rules.Outline.TheVariants as outline
 use Rattle.html_render_tree.specs.declared.rules.Rule.{Rule}
 use Rattle.html_render_tree.specs.declared.rules.Rule.TheVariants.{Nothing, Leaf, Parent}
-use Rattle.html_render_tree.specs.declared.convert.Open.{Open}
+use Rattle.html_render_tree.specs.Insertion.{Tree, text_node, with_contents}
+use Rattle.html_render_tree.specs.Conversion.{element_rule, node_style, over}
+
+-- ---- what becomes of a node, its children aside
+
+abbrev pub displayed_outline : NodeKind → IfEmpty → (has_children : Bool) → ElementStyle → Outline
+displayed_outline kind if_empty has_children style =
+    if is_some style.display then outline.Nothing
+    else Over (record { kind = kind; style = node_style style }) if_empty has_children (value_of style.content_before) (value_of style.content_after)
+
+abbrev pub styled_outline : Rule → ElementStyle → Outline
+styled_outline Nothing style = outline.Nothing
+styled_outline (Leaf kind) style = displayed_outline kind Stands false style
+styled_outline (Parent kind if_empty) style = displayed_outline kind if_empty true style
+
+abbrev pub outline_of : List StyleRule → Content → Outline
+outline_of rules document = Over (without_style Container) Stands true None None
+outline_of rules (text contents) = Alone (text_node contents)
+outline_of rules (element name properties template_contents integration_point) =
+    styled_outline (element_rule name.space name.local) (element_style rules name.local properties)
+outline_of rules (doctype name public_id system_id) = outline.Nothing
+outline_of rules (comment contents) = outline.Nothing
+outline_of rules (instruction target contents) = outline.Nothing
+
+-- ---- where the conversion stands
 
 -- the open elements, the innermost last, and the nodes that have been made
 pub record Progress : Type 0 where
   pub open_elements : List Open
-  pub made_nodes : Forest NodeKind
+  pub made_nodes : Forest RenderNode
 
--- a node is met under its rule: an element opens, with all its children still to be converted
-abbrev pub met : Dom → (handle : ℕ) → Rule → Progress → Progress
-met dom handle Nothing p = p
-met dom handle (Leaf kind) p = record p { made_nodes = node kind none p.made_nodes }
-met dom handle (Parent kind if_empty) p = record p {
+abbrev pub progress : Vec Open Global → Forest RenderNode → Progress
+progress opened built = record { open_elements = opened.items; made_nodes = built }
+
+-- trees with a content in front of them, where there is one
+abbrev pub put_content : Option (List ℕ) → Forest RenderNode → Forest RenderNode
+put_content None trees = trees
+put_content (Some content) trees = node (text_node content) none trees
+
+-- a node is met: an element opens in front of its after content, with its children, if they count, still to be converted
+abbrev pub met : Dom → (handle : ℕ) → Outline → Progress → Progress
+met dom handle outline.Nothing p = p
+met dom handle (Alone n) p = record p { made_nodes = node n none p.made_nodes }
+met dom handle (Over n if_empty has_children before after) p = record {
   open_elements = p.open_elements ++ record {
     handle = handle;
-    ahead = length (children_at dom handle);
-    mark = count p.made_nodes;
-    kind = kind;
+    ahead = if has_children then length (children_at dom handle) else 0;
+    outer = count p.made_nodes;
+    inner = count (put_content after p.made_nodes);
+    node = n;
     if_empty = if_empty;
+    before = before;
   } ∷ [];
+  made_nodes = put_content after p.made_nodes;
 }
 
-abbrev pub progress : Vec Open Global → Forest NodeKind → Progress
-progress opened built = record { open_elements = opened.items; made_nodes = built }
+-- ---- the end of an element
+
+-- what the element becomes with this content behind it, once its children have become these
+abbrev pub closed : Open → (after : Option (List ℕ)) → Forest RenderNode → Option Tree
+closed o after children = option_map (with_contents o.before after) (over o.node o.if_empty children)
+
+-- the nodes that have been made, parted at an element: what its children became, its content behind these, and the rest
+pub record ClosingAt (built : Forest RenderNode) (inner outer : ℕ) : Type 0 where
+  pub children : Forest RenderNode
+  pub after : Option (List ℕ)
+  pub beside : Forest RenderNode
+  pub is : built ≡ followed_by children (put_content after beside)
+  pub inner_is : inner ≡ count (put_content after beside)
+  pub outer_is : outer ≡ count beside

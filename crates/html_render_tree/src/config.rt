@@ -1,17 +1,21 @@
 //! How a document is rendered: options, and the calls that render.
 //!
-//! `plain_no_decorate(alloc).allow_width_overflow()` is a configuration; its `dom_to_render_tree(alloc, &dom)?` is a
-//! document's render tree, and `render_to_string(alloc, tree, 80)?` the text of that, in 80 columns.
+//! `plain(alloc)?.allow_width_overflow()` is a configuration; its `dom_to_render_tree(alloc, &dom)?` is a document's
+//! render tree, and `render_to_string(alloc, tree, 80)?` the text of that, in 80 columns.
 
-ghost use Rattle.std.specs.Prelude.{◌≡◌, ◌≢◌, ◌≤◌, true, false, Some, Err, IfOk, IfErr, string_bytes};
+ghost use Rattle.std.specs.Prelude.{◌≡◌, ◌≢◌, ◌≤◌, ◌∷◌, ◌++◌, [], true, false, Some, Err, IfOk, IfErr, string_bytes};
 ghost use Rattle.html_render_dom.specs.Outcome.{Refuses};
+ghost use Rattle.html_render_dom.specs.Rules.{rule_of};
 ghost use Rattle.html_render_tree.specs.Conversion.{render_tree_of};
-ghost use Rattle.html_render_tree.specs.Rendering.{rendered, IsTextWithin};
+ghost use Rattle.html_render_tree.specs.Decorations.{decorations};
+ghost use Rattle.html_render_tree.specs.Rendering.{rendered, initial_options};
+ghost use Rattle.html_render_tree.specs.Texts.{IsTextWithin};
 
 use crate::convert;
 use crate::texts::string_of;
 use html_render_dom::Error;
 use html_render_dom::dom::RcDom;
+use html_render_dom::style::StyleRule;
 use html_render_layout::layout::lay_out;
 use html_render_layout::tree::RenderTree;
 use html_render_parts::decorate::{PlainDecorator, TextDecorator};
@@ -19,32 +23,97 @@ use html_render_parts::widths::Meter;
 use std::alloc::Global;
 use std::marker::Model;
 
-/// How documents are rendered, with a decorator.
+/// How documents are rendered: with a decorator, by rules, and with settings of its own.
+///
+/// Each call that takes a configuration and answers one changes what it names, and nothing else.
 #[derive(Drop)]
 pub struct Config<D: TextDecorator> {
     decorator: D,
+    // in the order in which they were added
+    rules: Vec<StyleRule>,
     overflow: bool,
+    link_footnotes: bool,
 }
 
 impl<D: TextDecorator> Model for Config<D> {
+    ghost use Rattle.std.specs.Prelude.{map};
+    ghost use Rattle.html_render_dom.specs.Rules.{rule_of};
     ghost use Rattle.html_render_tree.specs.Rendering.{Options};
 
     ghost Value = { Options D };
 
-    ghost view = { λ c. record { decorator = c.decorator; overflow = c.overflow } };
+    ghost view = { λ c. record {
+      decorator = c.decorator;
+      rules = map rule_of c.rules.items;
+      overflow = c.overflow;
+      link_footnotes = c.link_footnotes;
+    } };
 }
 
-/// Plain text without decorations. It takes no memory.
-pub fn plain_no_decorate(_alloc: Global) -> Config<PlainDecorator>
-    ensures { result.overflow ≡ false }
+/// Plain text with decorations, as [`Config::do_decorate`] adds them, and with footnotes for links; no overflow.
+///
+/// # Errors
+///
+/// `OutOfMemory`.
+pub fn plain(alloc: Global) -> Result<Config<PlainDecorator>, Error>
+    ensures ok { IfOk result (λ config. config ≡ record (initial_options config.decorator) { rules = decorations; link_footnotes = true }) }
+    ensures err { IfErr result (λ e. e ≡ Error.OutOfMemory) }
+{
+    let config = plain_no_decorate(alloc).do_decorate(alloc)?;
+    Ok(Config {
+        link_footnotes: true,
+        ..config
+    })
+}
+
+/// Plain text without decorations: no rules, no overflow and no footnotes. It takes no memory.
+pub fn plain_no_decorate(alloc: Global) -> Config<PlainDecorator>
+    ensures { result ≡ initial_options result.decorator }
+{
+    with_decorator(alloc, PlainDecorator::new())
+}
+
+/// Text with a decorator of the caller's: no rules, no overflow and no footnotes. It takes no memory.
+pub fn with_decorator<D: TextDecorator>(alloc: Global, decorator: D) -> Config<D>
+    ensures { result ≡ initial_options decorator }
 {
     Config {
-        decorator: PlainDecorator::new(),
+        decorator,
+        rules: Vec::new(alloc),
         overflow: false,
+        link_footnotes: false,
     }
 }
 
 impl<D: TextDecorator> Config<D> {
+    /// Ten rules are added behind those that are there: they put `*` before and after what stands in an `em` or a
+    /// `dt`, `**` in a `strong` or a `b`, and a backquote in a `code`. They are normal rules of the agent, each for an
+    /// element's name and a pseudo-element.
+    ///
+    /// # Errors
+    ///
+    /// `OutOfMemory`. The configuration is then gone.
+    pub fn do_decorate(mut self, alloc: Global) -> Result<Config<D>, Error>
+        ensures ok { IfOk result (λ config. config ≡ record self { rules = self.rules ++ decorations }) }
+        ensures err { IfErr result (λ e. e ≡ Error.OutOfMemory) }
+    {
+        decorations::add_all(alloc, &mut self.rules)?;
+        Ok(self)
+    }
+
+    /// A rule is added behind those that are there.
+    ///
+    /// # Errors
+    ///
+    /// `OutOfMemory`. The configuration and the rule are then gone.
+    pub fn add_style_rule(mut self, _alloc: Global, rule: StyleRule) -> Result<Config<D>, Error>
+        ensures ok { IfOk result (λ config. config ≡ record self { rules = self.rules ++ rule_of rule ∷ [] }) }
+        ensures err { IfErr result (λ e. e ≡ Error.OutOfMemory) }
+    {
+        self.rules.push(rule)?;
+        Ok(self)
+    }
+
     /// A character that is wider than a line stands alone on its line, where it would be too narrow otherwise.
     pub fn allow_width_overflow(self) -> Config<D>
         ensures { result ≡ record self { overflow = true } }
@@ -61,10 +130,10 @@ impl<D: TextDecorator> Config<D> {
     ///
     /// `OutOfMemory`.
     pub fn dom_to_render_tree(&self, alloc: Global, dom: &RcDom) -> Result<RenderTree, Error>
-        ensures ok { IfOk result (λ tree. tree ≡ render_tree_of dom.now) }
+        ensures ok { IfOk result (λ tree. tree ≡ render_tree_of self.now.rules dom.now) }
         ensures err { IfErr result (λ e. e ≡ Error.OutOfMemory) }
     {
-        convert::dom_to_render_tree(alloc, dom)
+        convert::dom_to_render_tree(alloc, &self.rules, dom)
     }
 
     /// The text of a render tree, wrapped to a width in columns. The tree is consumed, also by a refusal.
@@ -79,8 +148,8 @@ impl<D: TextDecorator> Config<D> {
         tree: RenderTree,
         width: usize,
     ) -> Result<String, Error>
-        ensures ok { IfOk result (λ text. rendered tree width self.now.overflow ≡ Some (string_bytes text)) }
-        ensures err { IfErr result (λ e. Refuses e (rendered tree width self.now.overflow)) }
+        ensures ok { IfOk result (λ text. rendered D.decoration tree self.now.decorator width self.now.overflow ≡ Some (string_bytes text)) }
+        ensures err { IfErr result (λ e. Refuses e (rendered D.decoration tree self.now.decorator width self.now.overflow)) }
         ensures no_width { width ≡ 0 → result ≡ Err Error.TooNarrow }
 
         // With overflow off each line keeps to the width; with overflow on nothing is too narrow.
@@ -90,12 +159,19 @@ impl<D: TextDecorator> Config<D> {
         if width == 0 {
             return Err(Error::TooNarrow);
         }
-        let _decorator = self.decorator.make_subblock_decorator(alloc)?;
         let mut meter = Meter::default();
-        let lines = lay_out(alloc, &tree, width, self.overflow, &mut meter)?;
-        Ok(string_of(alloc, &lines)?)
+        let laid_out = lay_out(
+            alloc,
+            &self.decorator,
+            &tree,
+            width,
+            self.overflow,
+            &mut meter,
+        )?;
+        Ok(string_of(alloc, &laid_out)?)
     }
 }
 
+mod decorations;
 #[cfg(test)]
 mod tests;

@@ -1,95 +1,169 @@
 //! A document as a render tree.
 //!
-//! `dom_to_render_tree(alloc, &dom)?` is the tree of the DOM `dom`: that of a document that holds `p("a")` alone is a
-//! `Container` over a `Block` over the `Text` `a`.
+//! `dom_to_render_tree(alloc, &rules, &dom)?` is the tree of the DOM `dom` under the style rules `rules`: that of a
+//! document that holds `p("a")` alone is, without rules, a `Container` over a `Block` over the `Text` `a`.
 
-ghost use Rattle.std.specs.Prelude.{◌≡◌, ◌<◌, IfOk, OnOk, IfErr};
+ghost use Rattle.std.specs.Prelude.{◌≡◌, Some, IfOk, OnOk, IfErr, map};
 ghost use Rattle.html_render_dom.specs.Dom.{IsNode, content_at};
-ghost use Rattle.html_render_dom.specs.Forest.{followed_by};
-ghost use Rattle.html_render_layout.specs.Splits.{SplitAt};
-ghost use Rattle.html_render_tree.specs.declared.rules.Rule.TheVariants.{Parent};
-ghost use Rattle.html_render_tree.specs.Conversion.{rule_of, made, render_tree_of};
-ghost use Rattle.html_render_tree.specs.Converting.{progress, met};
+ghost use Rattle.html_render_dom.specs.Rules.{rule_of};
+ghost use Rattle.html_render_tree.specs.Insertion.{in_front, with_contents};
+ghost use Rattle.html_render_tree.specs.Conversion.{render_tree_of};
+ghost use Rattle.html_render_tree.specs.Converting.{progress, met, put_content, closed, outline_of, ClosingAt};
 
-use crate::rules::{IfEmpty, Rule, rule_of};
+use crate::rules::{IfEmpty, Outline, holds_insertions, outline_of};
 use html_render_dom::Error;
 use html_render_dom::dom::{Handle, RcDom};
-use html_render_layout::tree::{Builder, NodeKind, RenderTree};
+use html_render_dom::style::StyleRule;
+use html_render_dom::text::Text;
+use html_render_layout::tree::{Builder, NodeKind, RenderNode, RenderTree};
 use std::alloc::Global;
 
-/// An element whose children are being converted, from the last to the first.
+/// An element whose children are being converted, from the last to the first. The content behind them has been made.
 #[derive(Drop)]
 pub struct Open {
     /// The element.
     pub handle: Handle,
     /// How many of its children are still to be converted.
     pub ahead: usize,
-    /// How many nodes had been made before its own.
-    pub mark: usize,
-    /// What it becomes.
-    pub kind: NodeKind,
+    /// How many nodes had been made before anything of it.
+    pub outer: usize,
+    /// How many nodes had been made before what its children become.
+    pub inner: usize,
+    /// The node that it becomes.
+    pub node: RenderNode,
     /// What becomes of it if its children become nothing.
     pub if_empty: IfEmpty,
+    /// The content that comes before what its children become.
+    pub before: Option<Text>,
+}
+
+/// Puts a content in front of what has been made, if there is one.
+fn put_content(builder: &mut Builder<RenderNode>, content: Option<Text>) -> Result<(), Error>
+    ensures ok { OnOk result (builder.new ≡ put_content content builder.old) }
+    ensures err { IfErr result (λ e. e ≡ Error.OutOfMemory) }
+{
+    match content {
+        Some(text) => builder.put(RenderNode::from(NodeKind::Text(text))),
+        None => Ok(()),
+    }
 }
 
 /// Converts a node as far as can be without its children.
 fn meet(
+    alloc: Global,
+    rules: &[StyleRule],
     dom: &RcDom,
     handle: Handle,
-    open: &mut Vec<Open>,
-    builder: &mut Builder<NodeKind>,
+    elements: &mut Vec<Open>,
+    builder: &mut Builder<RenderNode>,
 ) -> Result<(), Error>
     requires { IsNode dom.now handle }
-    ensures ok { OnOk result (progress open.new builder.new ≡ met dom.now handle (rule_of (content_at dom.now handle)) (progress open.old builder.old)) }
+    ensures ok { OnOk result (progress elements.new builder.new ≡ met dom.now handle (outline_of (map rule_of rules.now) (content_at dom.now handle)) (progress elements.old builder.old)) }
     ensures err { IfErr result (λ e. e ≡ Error.OutOfMemory) }
 {
-    match rule_of(dom.data(handle))? {
-        Rule::Nothing => {}
-        Rule::Leaf(kind) => builder.put(kind)?,
-        Rule::Parent(kind, if_empty) => open.push(Open {
-            handle,
-            ahead: dom.child_list(handle).len(),
-            mark: builder.len(),
-            kind,
+    match outline_of(alloc, rules, dom.data(handle))? {
+        Outline::Nothing => {}
+        Outline::Alone(node) => builder.put(node)?,
+        Outline::Over {
+            node,
             if_empty,
-        })?,
+            has_children,
+            before,
+            after,
+        } => {
+            let ahead = if has_children {
+                dom.child_list(handle).len()
+            } else {
+                0
+            };
+            let outer = builder.len();
+            put_content(builder, after)?;
+            elements.push(Open {
+                handle,
+                ahead,
+                outer,
+                inner: builder.len(),
+                node,
+                if_empty,
+                before,
+            })?;
+        }
     }
     Ok(())
 }
 
+/// Makes an element's node, with its contents, where its children are made and the content behind them.
+fn stand(
+    node: RenderNode,
+    before: Option<Text>,
+    inner: usize,
+    outer: usize,
+    builder: &mut Builder<RenderNode>,
+) -> Result<(), Error>
+    requires { ClosingAt builder.old inner outer }
+    ensures ok { OnOk result ((s : ClosingAt builder.old inner outer) →
+        builder.new ≡ in_front (Some (with_contents before s.after (record { top = node; children = s.children }))) s.beside) }
+    ensures err { IfErr result (λ e. e ≡ Error.OutOfMemory) }
+{
+    if holds_insertions(&node.kind) {
+        put_content(builder, before)?;
+        return builder.enclose(node, outer);
+    }
+    builder.enclose(node, inner)?;
+    if before.is_none() && inner == outer {
+        return Ok(());
+    }
+    put_content(builder, before)?;
+    builder.enclose(RenderNode::from(NodeKind::Container), outer)
+}
+
 /// Makes the node of an element whose children are converted.
-fn close(element: Open, builder: &mut Builder<NodeKind>) -> Result<(), Error>
-    requires { SplitAt builder.old element.mark }
-    ensures ok { OnOk result ((s : SplitAt builder.old element.mark) → builder.new ≡ followed_by (made (Parent element.kind element.if_empty) s.children) s.beside) }
+fn close(element: Open, builder: &mut Builder<RenderNode>) -> Result<(), Error>
+    requires { ClosingAt builder.old element.inner element.outer }
+    ensures ok { OnOk result ((s : ClosingAt builder.old element.inner element.outer) → builder.new ≡ in_front (closed element s.after s.children) s.beside) }
     ensures err { IfErr result (λ e. e ≡ Error.OutOfMemory) }
 {
     let Open {
-        mark,
-        kind,
+        outer,
+        inner,
+        node,
         if_empty,
+        before,
         ..
     } = element;
     match if_empty {
-        IfEmpty::Vanishes if builder.len() == mark => Ok(()),
-        _ => {
-            builder.enclose(kind, mark)?;
+        IfEmpty::Vanishes if builder.len() == inner => {
+            builder.truncate(outer);
             Ok(())
         }
+        _ => stand(node, before, inner, outer, builder),
     }
 }
 
-/// The render tree of a document. It takes no more stack for a deep document than for a flat one.
+/// The render tree of a document, whose elements are styled by rules in the order in which these were added. It takes
+/// no more stack for a deep document than for a flat one.
 ///
 /// # Errors
 ///
 /// `OutOfMemory`.
-pub fn dom_to_render_tree(alloc: Global, dom: &RcDom) -> Result<RenderTree, Error>
-    ensures ok { IfOk result (λ tree. tree ≡ render_tree_of dom.now) }
+pub fn dom_to_render_tree(
+    alloc: Global,
+    rules: &[StyleRule],
+    dom: &RcDom,
+) -> Result<RenderTree, Error>
+    ensures ok { IfOk result (λ tree. tree ≡ render_tree_of (map rule_of rules.now) dom.now) }
     ensures err { IfErr result (λ e. e ≡ Error.OutOfMemory) }
 {
     let mut open = Vec::new(alloc);
     let mut builder = Builder::new(alloc);
-    meet(dom, dom.get_document(), &mut open, &mut builder)?;
+    meet(
+        alloc,
+        rules,
+        dom,
+        dom.get_document(),
+        &mut open,
+        &mut builder,
+    )?;
     'converting: loop {
         let Some(mut element) = open.pop() else {
             return Ok(RenderTree::from(builder));
@@ -100,7 +174,10 @@ pub fn dom_to_render_tree(alloc: Global, dom: &RcDom) -> Result<RenderTree, Erro
             element.ahead -= 1;
             let child = dom.child_list(element.handle)[element.ahead];
             open.push(element)?;
-            meet(dom, child, &mut open, &mut builder)?;
+            meet(alloc, rules, dom, child, &mut open, &mut builder)?;
         }
     }
 }
+
+#[cfg(test)]
+mod tests;

@@ -1,12 +1,12 @@
 //! The program `htree` as a function: a script of DOM calls becomes text.
 //!
-//! `run(alloc, words, &mut input, &mut output, &mut faults)` with the words `11`, `bare`, `overflow` and the input
-//! `<p` and `"Hello wide world` writes `Hello wide` and `world` to `output` and answers 0.
+//! `run(alloc, words, &mut input, &mut output, &mut faults)` with the words `11`, `plain`, `overflow` and the
+//! input `<p` and `"Hello wide world` writes `Hello wide` and `world` to `output` and answers 0.
 
 ghost use Rattle.std.specs.Prelude.{IfOk, IfSome, ◌≤◌};
 ghost use Rattle.html_render_dom.specs.Dom.{IsNode, IsElement, content_at, node_count};
 
-use crate::config::plain_no_decorate;
+use crate::config::{plain, plain_no_decorate};
 use crate::script::{Call, line_of, unescaped};
 use html_render_dom::Error;
 use html_render_dom::dom::{
@@ -63,24 +63,53 @@ impl<T: Drop> From<AllocFailed<T>> for Fault {
     }
 }
 
+/// How a text is decorated, as the program's words name it.
+#[derive(Clone, Copy)]
+enum Style {
+    /// `plain`: with decorations and footnotes.
+    Plain,
+    /// `bare`: without any.
+    Bare,
+}
+
+impl Style {
+    /// The style of a word.
+    fn read(word: &str) -> Result<Style, Fault> {
+        match word {
+            "plain" => Ok(Style::Plain),
+            "bare" => Ok(Style::Bare),
+            _ => Err(Fault::Arguments),
+        }
+    }
+}
+
 /// What the program's words ask for.
 #[derive(Clone, Copy)]
 struct Settings {
     width: usize,
+    style: Style,
     overflow: bool,
 }
 
 impl Settings {
-    /// The settings of `WIDTH bare [overflow]`.
+    /// The settings of `WIDTH [plain|bare] [overflow]`; without a style it is `plain`.
     fn read(words: &[String]) -> Result<Settings, Fault> {
-        let (width, style, overflow) = match words {
-            [width, style] => (width, style, false),
-            [width, style, last] if last.as_str() == "overflow" => (width, style, true),
+        let (words, overflow) = match words {
+            [front @ .., last] if last.as_str() == "overflow" => (front, true),
+            _ => (words, false),
+        };
+        let (width, style) = match words {
+            [width] => (width, Style::Plain),
+            [width, style] => (width, Style::read(style.as_str())?),
             _ => return Err(Fault::Arguments),
         };
-        match (width.as_str().parse::<usize>(), style.as_str()) {
-            (Ok(width), "bare") => Ok(Settings { width, overflow }),
-            _ => Err(Fault::Arguments),
+        match width.as_str().parse::<usize>() {
+            Ok(width) => Ok(Settings {
+                width,
+                style,
+                overflow,
+            }),
+            Err(_) => Err(Fault::Arguments),
         }
     }
 }
@@ -225,7 +254,10 @@ fn rendered<R: Read>(alloc: Global, words: &[String], input: &mut R) -> Result<S
     let settings = Settings::read(words)?;
     let script = read_all(alloc, input)?;
     let dom = built(alloc, script.as_str())?;
-    let mut config = plain_no_decorate(alloc);
+    let mut config = match settings.style {
+        Style::Plain => plain(alloc)?,
+        Style::Bare => plain_no_decorate(alloc),
+    };
     if settings.overflow {
         config = config.allow_width_overflow();
     }
@@ -235,11 +267,14 @@ fn rendered<R: Read>(alloc: Global, words: &[String], input: &mut R) -> Result<S
 
 /// Writes the text of the script in `input` to `output`, or one line on what is wrong to `faults`, and answers the
 /// program's exit status: 0 for a text; 1 with an [`Error`]'s text, where the document can't be rendered or memory
-/// is out; 2 with `htree: arguments` for words that are not `WIDTH bare [overflow]`, `htree: input` where `input`
-/// can't be read or isn't UTF-8, `htree: line N` (from 1) for a faulty line, `htree: output` where `output` can't be
-/// written. A failed write to `faults` changes no status.
+/// is out; 2 with `htree: arguments` for words that are not `WIDTH [plain|bare] [overflow]`, `htree: input` where
+/// `input` can't be read or isn't UTF-8, `htree: line N` (from 1) for a faulty line, `htree: output` where `output`
+/// can't be written. A failed write to `faults` changes no status.
 ///
-/// The words are those behind the program's name, and are looked at first; then the whole input is read.
+/// The words are those behind the program's name, and are looked at first; then the whole input is read. The width is
+/// a number of columns. `plain`, which is also the style of words that name none, is text as
+/// [`plain`](crate::config::plain) renders it, and `bare` as [`plain_no_decorate`]; `overflow` stands for
+/// [`Config::allow_width_overflow`](crate::config::Config::allow_width_overflow).
 pub fn run<R: Read, O: Write, F: Write>(
     alloc: Global,
     words: &[String],

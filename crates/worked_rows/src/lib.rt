@@ -10,4 +10,6 @@ mod documents;
 #[cfg(test)]
 mod scripts;
 #[cfg(test)]
+mod styles;
+#[cfg(test)]
 mod table_grids;

@@ -71,13 +71,106 @@ fn scripts_become_text(rt: HostRuntime) -> Result<(), Fail> {
 }
 
 #[test]
+fn emphasis_is_decorated(rt: HostRuntime) -> Result<(), Fail> {
+    for (arguments, script, output) in [
+        (
+            "6",
+            "\"Hello \n<em\n\"there\n>\n\" boo\n",
+            "Hello\n*there\n* boo\n",
+        ),
+        ("20", "<p\n<strong\n\"a\n>\n<code\n\"b\n", "**a**`b`\n"),
+        ("20", "<i\n\"a\n>\n<ins\n\"b\n>\n<b\n\"c\n", "ab**c**\n"),
+        (
+            "20 bare",
+            "<em\n\"a\n>\n<strong\n\"b\n>\n<code\n\"c\n",
+            "abc\n",
+        ),
+        ("20", "<p\n<em\n", "**\n"),
+        ("20", "<svg:em\n\"a\n", "*a*\n"),
+        ("1 overflow", "<p\n\"世\n", "世\n"),
+    ] {
+        let answer = run_script(rt.alloc(), arguments, script.as_bytes())?;
+        assert_eq!(rt; text(&answer.output), output, "{script:?}");
+        assert_eq!(rt; text(&answer.faults), "", "{script:?}");
+        assert_eq!(rt; answer.status, 0, "{script:?}");
+    }
+    Ok(())
+}
+
+/// A script of so many `em`, one in the other, round an `x`.
+fn nested_emphasis(alloc: Global, levels: usize) -> Result<String, AllocError> {
+    let mut script = String::from_str(alloc, "<p\n")?;
+    for _ in 0..levels {
+        script.push_str("<em\n")?;
+    }
+    script.push_str("\"x\n")?;
+    Ok(script)
+}
+
+#[test]
+fn deep_emphasis_is_rendered(rt: HostRuntime) -> Result<(), Fail> {
+    let alloc = rt.alloc();
+    let script = nested_emphasis(alloc, 100_000)?;
+    let bare = run_script(alloc, "5 bare", script.as_str().as_bytes())?;
+    assert_eq!(rt; text(&bare.output), "x\n");
+    let plain = run_script(alloc, "80 plain", script.as_str().as_bytes())?;
+    let shown = text(&plain.output).chars().filter(|c| *c != '\n').count();
+    assert_eq!(rt; shown, 200_001);
+    Ok(())
+}
+
+#[test]
+fn words_choose_a_style_and_overflow(rt: HostRuntime) -> Result<(), Fail> {
+    let script = b"<p\n\"a\xe4\xb8\x96\n";
+    let narrow = "Output width not wide enough.\n";
+    for (arguments, output, faults, status) in [
+        ("20", "a世\n", "", 0),
+        ("20 plain", "a世\n", "", 0),
+        ("20 bare", "a世\n", "", 0),
+        ("+20", "a世\n", "", 0),
+        ("1", "", narrow, 1),
+        ("1 plain", "", narrow, 1),
+        ("1 bare", "", narrow, 1),
+        ("1 overflow", "a\n世\n", "", 0),
+        ("1 plain overflow", "a\n世\n", "", 0),
+        ("1 bare overflow", "a\n世\n", "", 0),
+        ("0 overflow", "", narrow, 1),
+        ("20 overflow", "a世\n", "", 0),
+        ("20 plain overflow", "a世\n", "", 0),
+        ("20 overflow plain", "", "htree: arguments\n", 2),
+        ("20 overflow overflow", "", "htree: arguments\n", 2),
+        ("20 plain bare", "", "htree: arguments\n", 2),
+        ("20 plain plain overflow", "", "htree: arguments\n", 2),
+        ("20 rich", "", "htree: arguments\n", 2),
+        ("20 Plain", "", "htree: arguments\n", 2),
+        ("20 ", "", "htree: arguments\n", 2),
+        ("plain", "", "htree: arguments\n", 2),
+        ("overflow", "", "htree: arguments\n", 2),
+        ("plain 20", "", "htree: arguments\n", 2),
+        ("", "", "htree: arguments\n", 2),
+    ] {
+        let answer = run_script(rt.alloc(), arguments, script)?;
+        assert_eq!(rt; text(&answer.output), output, "{arguments:?}");
+        assert_eq!(rt; text(&answer.faults), faults, "{arguments:?}");
+        assert_eq!(rt; answer.status, status, "{arguments:?}");
+    }
+    let mut output = Vec::new(rt.alloc());
+    let mut faults = Vec::new(rt.alloc());
+    let mut input = script.as_slice();
+    let status = run(rt.alloc(), &[], &mut input, &mut output, &mut faults);
+    assert_eq!(rt; text(&output), "", "no words");
+    assert_eq!(rt; text(&faults), "htree: arguments\n", "no words");
+    assert_eq!(rt; status, 2, "no words");
+    Ok(())
+}
+
+#[test]
 fn faults_have_a_line_and_a_status(rt: HostRuntime) -> Result<(), Fail> {
     let narrow = "Output width not wide enough.\n";
     for (arguments, script, faults, status) in [
         ("1 bare", "<p\n\"世\n", narrow, 1),
         ("0 bare overflow", "<p\n\"a\n", narrow, 1),
-        ("10", "<p\n", "htree: arguments\n", 2),
-        ("10 plain", "<p\n", "htree: arguments\n", 2),
+        ("10", "<p\n@a\n", "htree: line 2\n", 2),
         ("ten bare", "<p\n", "htree: arguments\n", 2),
         ("-1 bare", "<p\n", "htree: arguments\n", 2),
         ("10 bare wide", "<p\n", "htree: arguments\n", 2),

@@ -1,30 +1,118 @@
 //! What a layout does as it enters and leaves a node.
 
-ghost use Rattle.std.specs.Prelude.{◌≡◌, Some, OnOk, IfOk, IfErr};
+ghost use Rattle.std.specs.Prelude.{◌≡◌, Some, OnOk, IfOk, IfErr, string_bytes};
 ghost use Rattle.html_render_dom.specs.Outcome.{Refuses};
 ghost use Rattle.html_render_layout.specs.BlockState.{state_operations};
-ghost use Rattle.html_render_layout.specs.Layout.{entered};
-ghost use Rattle.html_render_layout.specs.Leaving.{leaving, leave};
+ghost use Rattle.html_render_layout.specs.declared.layout.Leaving.TheVariants.{EndEmphasis};
+ghost use Rattle.html_render_layout.specs.declared.tree.NodeKind.TheVariants.{Emphasis as AnEmphasis};
+ghost use Rattle.html_render_layout.specs.Layout.{round, with_text, entered};
+ghost use Rattle.html_render_layout.specs.Leaving.{leaving, leave, tabled};
 
 use super::{Desk, Leaving};
 use crate::block::Block;
-use crate::tree::NodeKind;
+use crate::stacks::Stacks;
+use crate::tree::{Emphasis, NodeKind};
 use html_render_dom::Error;
+use html_render_dom::style::WhiteSpace;
 use html_render_lines::character::TextStyle;
+use html_render_parts::decorate::TextDecorator;
+use std::alloc::Global;
+
+// Adds a text under the tag of what comes.
+fn add_text<D: TextDecorator>(
+    text: &str,
+    desk: &mut Desk<D, Stacks<D::Annotation>, usize, Block<usize, ()>>,
+) -> Result<(), Error>
+    ensures ok { OnOk result (with_text state_operations text.now desk.old ≡ Some desk.new) }
+    ensures err { IfErr result (λ e. Refuses e (with_text state_operations text.now desk.old)) }
+{
+    let style = TextStyle {
+        mode: WhiteSpace::Normal,
+        tag: desk.tag,
+        continuation_tag: desk.tag,
+    };
+    desk.block.add_inline_text(text, style)
+}
+
+// What is written before an emphasis, and its annotation.
+fn start_of<D: TextDecorator>(
+    alloc: Global,
+    decorator: &D,
+    emphasis: Emphasis,
+) -> Result<(String, D::Annotation), Error>
+    ensures text { IfOk result (λ r. string_bytes r.0 ≡ ((round D.decoration emphasis).start decorator.now).text) }
+    ensures annotation { IfOk result (λ r. r.1 ≡ ((round D.decoration emphasis).start decorator.now).annotation) }
+    ensures err { IfErr result (λ e. e ≡ Error.OutOfMemory) }
+{
+    match emphasis {
+        Emphasis::Em => decorator.decorate_em_start(alloc),
+        Emphasis::Strong => decorator.decorate_strong_start(alloc),
+        Emphasis::Code => decorator.decorate_code_start(alloc),
+    }
+}
+
+// What is written behind an emphasis.
+fn end_of<D: TextDecorator>(
+    alloc: Global,
+    decorator: &D,
+    emphasis: Emphasis,
+) -> Result<String, Error>
+    ensures ok { IfOk result (λ text. string_bytes text ≡ (round D.decoration emphasis).end decorator.now) }
+    ensures err { IfErr result (λ e. e ≡ Error.OutOfMemory) }
+{
+    match emphasis {
+        Emphasis::Em => decorator.decorate_em_end(alloc),
+        Emphasis::Strong => decorator.decorate_strong_end(alloc),
+        Emphasis::Code => decorator.decorate_code_end(alloc),
+    }
+}
+
+// An emphasis begins.
+#[tactic(auto, using(html_render_dom::specs::Outcome::refusals))]
+fn enter_emphasis<D: TextDecorator>(
+    alloc: Global,
+    emphasis: Emphasis,
+    desk: &mut Desk<D, Stacks<D::Annotation>, usize, Block<usize, ()>>,
+) -> Result<(), Error>
+    ensures ok { OnOk result (entered D.decoration tabled state_operations (AnEmphasis emphasis) desk.old ≡ Some desk.new) }
+    ensures err { IfErr result (λ e. Refuses e (entered D.decoration tabled state_operations (AnEmphasis emphasis) desk.old)) }
+{
+    let (text, annotation) = start_of(alloc, &desk.decorator, emphasis)?;
+    desk.tag = desk.stacks.push(desk.tag, annotation)?;
+    add_text(text.as_str(), desk)
+}
+
+// An emphasis ends, and the tag becomes the one that was before it.
+#[tactic(auto, using(html_render_dom::specs::Outcome::refusals))]
+fn leave_emphasis<D: TextDecorator>(
+    alloc: Global,
+    emphasis: Emphasis,
+    tag: usize,
+    desk: &mut Desk<D, Stacks<D::Annotation>, usize, Block<usize, ()>>,
+) -> Result<(), Error>
+    ensures ok { OnOk result (leave D.decoration tabled state_operations (EndEmphasis emphasis tag) desk.old ≡ Some desk.new) }
+    ensures err { IfErr result (λ e. Refuses e (leave D.decoration tabled state_operations (EndEmphasis emphasis tag) desk.old)) }
+{
+    let text = end_of(alloc, &desk.decorator, emphasis)?;
+    add_text(text.as_str(), desk)?;
+    desk.tag = tag;
+    Ok(())
+}
 
 /// The desk becomes that of the node's children.
 #[tactic(auto, using(html_render_dom::specs::Outcome::refusals))]
-pub fn enter(
+pub fn enter<D: TextDecorator>(
+    alloc: Global,
     kind: &NodeKind,
-    desk: &mut Desk<Block<(), ()>, TextStyle<()>>,
-) -> Result<Leaving, Error>
-    ensures ok { OnOk result (entered state_operations kind.now desk.old ≡ Some desk.new) }
+    desk: &mut Desk<D, Stacks<D::Annotation>, usize, Block<usize, ()>>,
+) -> Result<Leaving<usize>, Error>
+    ensures ok { OnOk result (entered D.decoration tabled state_operations kind.now desk.old ≡ Some desk.new) }
     ensures kept { IfOk result (λ l. l ≡ leaving kind.now desk.old) }
-    ensures err { IfErr result (λ e. Refuses e (entered state_operations kind.now desk.old)) }
+    ensures err { IfErr result (λ e. Refuses e (entered D.decoration tabled state_operations kind.now desk.old)) }
 {
     match kind {
         NodeKind::Text(text) => {
-            desk.block.add_inline_text(text.as_str(), desk.style)?;
+            add_text(text.as_str(), desk)?;
             Ok(Leaving::Nothing)
         }
         NodeKind::Container => Ok(Leaving::Nothing),
@@ -40,14 +128,23 @@ pub fn enter(
             desk.block.new_line()?;
             Ok(Leaving::NewLine)
         }
+        NodeKind::Emphasis(emphasis) => {
+            let tag = desk.tag;
+            enter_emphasis(alloc, *emphasis, desk)?;
+            Ok(Leaving::EndEmphasis(*emphasis, tag))
+        }
     }
 }
 
 /// The desk becomes the one behind the node.
 #[tactic(auto, using(html_render_dom::specs::Outcome::refusals))]
-pub fn leave(leaving: Leaving, desk: &mut Desk<Block<(), ()>, TextStyle<()>>) -> Result<(), Error>
-    ensures ok { OnOk result (leave state_operations leaving desk.old ≡ Some desk.new) }
-    ensures err { IfErr result (λ e. Refuses e (leave state_operations leaving desk.old)) }
+pub fn leave<D: TextDecorator>(
+    alloc: Global,
+    leaving: Leaving<usize>,
+    desk: &mut Desk<D, Stacks<D::Annotation>, usize, Block<usize, ()>>,
+) -> Result<(), Error>
+    ensures ok { OnOk result (leave D.decoration tabled state_operations leaving desk.old ≡ Some desk.new) }
+    ensures err { IfErr result (λ e. Refuses e (leave D.decoration tabled state_operations leaving desk.old)) }
 {
     match leaving {
         Leaving::Nothing => Ok(()),
@@ -59,5 +156,6 @@ pub fn leave(leaving: Leaving, desk: &mut Desk<Block<(), ()>, TextStyle<()>>) ->
             desk.block.new_line()?;
             Ok(())
         }
+        Leaving::EndEmphasis(emphasis, tag) => leave_emphasis(alloc, emphasis, tag, desk),
     }
 }

@@ -1,10 +1,13 @@
+ghost use Rattle.std.specs.Prelude.{codes, refl};
+
 use super::*;
-use crate::tree::Builder;
+use crate::tree::{Builder, NodeKind};
 use html_render_dom::text::Text;
+use html_render_parts::decorate::PlainDecorator;
 use std::test::Fail;
 
 // what lines say, each with a bar behind it
-fn shown(alloc: Global, lines: &[Vec<Element<(), ()>>]) -> Result<String, Fail> {
+fn shown(alloc: Global, lines: &[Vec<Element<usize, ()>>]) -> Result<String, Fail> {
     let mut text = String::new(alloc);
     for line in lines {
         for element in line {
@@ -17,22 +20,23 @@ fn shown(alloc: Global, lines: &[Vec<Element<(), ()>>]) -> Result<String, Fail> 
     Ok(text)
 }
 
-fn text(alloc: Global, text: &str) -> Result<NodeKind, Error> {
-    Ok(NodeKind::Text(Text::new(String::from_str(alloc, text)?)))
+fn text(alloc: Global, text: &str) -> Result<RenderNode, Error> {
+    let text = Text::new(String::from_str(alloc, text)?);
+    Ok(RenderNode::from(NodeKind::Text(text)))
 }
 
 // a block of `ab cd`; a part of a text, a break, a text and a container of a text
 fn sample(alloc: Global) -> Result<RenderTree, Error> {
     let mut builder = Builder::new(alloc);
     builder.put(text(alloc, "g")?)?;
-    builder.enclose(NodeKind::Container, 0)?;
+    builder.enclose(RenderNode::from(NodeKind::Container), 0)?;
     builder.put(text(alloc, " f ")?)?;
-    builder.put(NodeKind::Break)?;
+    builder.put(RenderNode::from(NodeKind::Break))?;
     builder.put(text(alloc, "e")?)?;
-    builder.enclose(NodeKind::Div, 0)?;
+    builder.enclose(RenderNode::from(NodeKind::Div), 0)?;
     let after_block = builder.len();
     builder.put(text(alloc, "ab cd")?)?;
-    builder.enclose(NodeKind::Block, after_block)?;
+    builder.enclose(RenderNode::from(NodeKind::Block), after_block)?;
     Ok(RenderTree::from(builder))
 }
 
@@ -48,8 +52,15 @@ fn meter() -> Meter {
 fn shown_at(alloc: Global, width: usize, overflow: bool) -> Result<String, Fail> {
     let tree = sample(alloc)?;
     let mut meter = meter();
-    let lines = lay_out(alloc, &tree, width, overflow, &mut meter)?;
-    shown(alloc, lines.as_slice())
+    let laid_out = lay_out(
+        alloc,
+        &PlainDecorator::new(),
+        &tree,
+        width,
+        overflow,
+        &mut meter,
+    )?;
+    shown(alloc, &laid_out.lines)
 }
 
 #[test]
@@ -66,7 +77,7 @@ fn counts_its_walk(rt: HostRuntime) -> Result<(), Fail> {
     let alloc = rt.alloc();
     let tree = sample(alloc)?;
     let mut meter = meter();
-    let _lines = lay_out(alloc, &tree, 5, false, &mut meter)?;
+    let _laid_out = lay_out(alloc, &PlainDecorator::new(), &tree, 5, false, &mut meter)?;
     let counted = Meter {
         probes: 7,
         entered: 8,
@@ -85,14 +96,97 @@ fn refuses_what_is_too_narrow(rt: HostRuntime) -> Result<(), Fail> {
     let tree = RenderTree::from(builder);
     let mut meter = meter();
     assert_eq!(rt;
-        lay_out(alloc, &tree, 0, true, &mut meter).err(),
+        lay_out(alloc, &PlainDecorator::new(), &tree, 0, true, &mut meter).err(),
         Some(Error::TooNarrow)
     );
     assert_eq!(rt;
-        lay_out(alloc, &tree, 1, false, &mut meter).err(),
+        lay_out(alloc, &PlainDecorator::new(), &tree, 1, false, &mut meter).err(),
         Some(Error::TooNarrow)
     );
-    let lines = lay_out(alloc, &tree, 1, true, &mut meter)?;
-    assert_eq!(rt; shown(alloc, lines.as_slice())?.as_str(), "a|世|b|");
+    let laid_out = lay_out(alloc, &PlainDecorator::new(), &tree, 1, true, &mut meter)?;
+    assert_eq!(rt; shown(alloc, &laid_out.lines)?.as_str(), "a|世|b|");
+    Ok(())
+}
+
+// writes signs round each emphasis
+#[derive(Clone, Copy, Drop)]
+struct Signs {
+    depth: u8,
+}
+
+impl TextDecorator for Signs {
+    type Annotation = u8;
+
+    ghost decoration = { record {
+      em = record { start = λ s. record { text = codes "<"; annotation = s.depth }; end = λ s. codes ">" };
+      strong = record { start = λ s. record { text = codes "["; annotation = 7 }; end = λ s. codes "]" };
+      code = record { start = λ s. record { text = codes "("; annotation = 8 }; end = λ s. codes ")" };
+      subblock = λ s. s;
+    } };
+
+    ghost clone_is_same = { λ a b h. h };
+
+    fn decorate_em_start(&self, alloc: Global) -> Result<(String, u8), Error> {
+        Ok((String::from_str(alloc, "<")?, self.depth))
+    }
+
+    fn decorate_em_end(&self, alloc: Global) -> Result<String, Error> {
+        Ok(String::from_str(alloc, ">")?)
+    }
+
+    fn decorate_strong_start(&self, alloc: Global) -> Result<(String, u8), Error> {
+        Ok((String::from_str(alloc, "[")?, 7))
+    }
+
+    fn decorate_strong_end(&self, alloc: Global) -> Result<String, Error> {
+        Ok(String::from_str(alloc, "]")?)
+    }
+
+    fn decorate_code_start(&self, alloc: Global) -> Result<(String, u8), Error> {
+        Ok((String::from_str(alloc, "(")?, 8))
+    }
+
+    fn decorate_code_end(&self, alloc: Global) -> Result<String, Error> {
+        Ok(String::from_str(alloc, ")")?)
+    }
+
+    fn make_subblock_decorator(&self, _alloc: Global) -> Result<Signs, Error> {
+        Ok(*self)
+    }
+}
+
+// the tags of all characters, as digits
+fn tags(alloc: Global, lines: &[Vec<Element<usize, ()>>]) -> Result<String, Fail> {
+    let mut text = String::new(alloc);
+    for line in lines {
+        for element in line {
+            if let Element::Character(_, tag) = element {
+                write!(text, "{tag}")?;
+            }
+        }
+    }
+    Ok(text)
+}
+
+// `a`, and strong text of `b` and an emphasis of the code `c`
+fn emphases(alloc: Global) -> Result<RenderTree, Error> {
+    let mut builder = Builder::new(alloc);
+    builder.put(text(alloc, "c")?)?;
+    builder.enclose(RenderNode::from(NodeKind::Emphasis(Emphasis::Code)), 0)?;
+    builder.enclose(RenderNode::from(NodeKind::Emphasis(Emphasis::Em)), 0)?;
+    builder.put(text(alloc, "b")?)?;
+    builder.enclose(RenderNode::from(NodeKind::Emphasis(Emphasis::Strong)), 0)?;
+    builder.put(text(alloc, "a")?)?;
+    Ok(RenderTree::from(builder))
+}
+
+#[test]
+fn emphasis_is_annotated_and_written_round(rt: HostRuntime) -> Result<(), Fail> {
+    let alloc = rt.alloc();
+    let tree = emphases(alloc)?;
+    let mut meter = meter();
+    let laid_out = lay_out(alloc, &Signs { depth: 3 }, &tree, 20, false, &mut meter)?;
+    assert_eq!(rt; shown(alloc, &laid_out.lines)?.as_str(), "a[b<(c)>]|");
+    assert_eq!(rt; tags(alloc, &laid_out.lines)?.as_str(), "011233321");
     Ok(())
 }

@@ -1,8 +1,7 @@
-use Rattle.std.proofs.Common.{◌≡◌, ◌≢◌, ◌<◌, ◌≤◌, ◌+◌, ◌-◌, ◌*◌, ℕ, suc, [], ◌∷◌, ◌++◌, length, get_or, arith, refl, sym, ap, subst, ◌∙◌, vec_len}
-use Rattle.html_render_dom.specs.Dom.{IsNode, content_at, children_at}
-use Rattle.html_render_tree.specs.Conversion.{rule_of, render_tree_of}
-use Rattle.html_render_tree.specs.declared.convert.Open.{Open}
-use Rattle.html_render_tree.specs.Converting.{Progress, met}
+use Rattle.std.proofs.Common.{◌≡◌, ◌≢◌, ◌<◌, ◌-◌, ℕ, suc, [], ◌∷◌, ◌++◌, length, get_or, arith, sym, ap, subst, ◌∙◌, map}
+use Rattle.html_render_dom.specs.Dom.{content_at, children_at}
+use Rattle.html_render_dom.specs.Rules.{rule_of}
+use Rattle.html_render_tree.specs.Converting.{Progress, outline_of, met}
 use Rattle.html_render_tree.proofs.Conversions.{Converting, Meeting, Meeting-start, Meeting-met, Converting-top, Converting-child, Converting-close, Converting-done, work, work-close, work-child}
 use Rattle.html_render_tree.proofs.convert.dom_to_render_tree.Goals as goal
 use Rattle.html_render_tree.proofs.convert.dom_to_render_tree.Goals.{In-Some, Else-element-eq0}
@@ -10,33 +9,37 @@ use Rattle.html_render_tree.proofs.convert.dom_to_render_tree.Goals.{In-Some, El
 pub converting-init : goal.converting-init
 converting-init c =
     let dom = c.args.dom.now in
+    let rules = map rule_of c.args.rules.now in
     let f = c.get_document.ensures.forest in
     let p : Progress = record { open_elements = c.new-open.result.items; made_nodes = c.new-builder.result } in
-    let m : Meeting dom (render_tree_of dom) c.get_document.result p.open_elements p.made_nodes =
-    rw (c.get_document.ensures.document, c.new-open.ensures.items, c.new-builder.ensures) (Meeting-start dom f.has_document) in
-    subst (λ (q : Progress). Converting dom (render_tree_of dom) q.open_elements q.made_nodes) (sym c.in_ok-meet.ensures.ok) (Meeting-met dom f (render_tree_of dom) c.get_document.result p m)
+    let m : Meeting rules dom c.get_document.result p.open_elements p.made_nodes =
+    rw (c.get_document.ensures.document, c.new-open.ensures.items, c.new-builder.ensures) (Meeting-start rules dom f.has_document) in
+    subst (λ (q : Progress). Converting rules dom q.open_elements q.made_nodes) (sym c.in_ok-meet.ensures.ok) (Meeting-met rules dom f c.get_document.result p m)
 
 pub returns-in_default-clause-ok : goal.returns-in_default-clause-ok
 returns-in_default-clause-ok c =
     let dom = c.args.dom.now in
+    let rules = map rule_of c.args.rules.now in
     let empty : length c.converting.open.items ≡ 0 = omega (arith, c.in_default.ensures.cases) in
-    c.from.ensures ∙ Converting-done dom c.get_document.ensures.forest (render_tree_of dom) _ _ empty c.converting.invariant
+    c.from.ensures ∙ Converting-done rules dom c.get_document.ensures.forest _ _ empty c.converting.invariant
 
 -- the innermost element is on the stack
-popped : (c : In-Some) → Converting c.args.dom.now (render_tree_of c.args.dom.now) (c.pop.new.self.items ++ c.in-Some.element ∷ []) c.converting.builder
-popped c = subst (λ es. Converting c.args.dom.now (render_tree_of c.args.dom.now) es c.converting.builder) c.in-Some.ensures.items c.converting.invariant
+popped : (c : In-Some) → Converting (map rule_of c.args.rules.now) c.args.dom.now (c.pop.new.self.items ++ c.in-Some.element ∷ []) c.converting.builder
+popped c = subst (λ es. Converting (map rule_of c.args.rules.now) c.args.dom.now es c.converting.builder) c.in-Some.ensures.items c.converting.invariant
 
 pub close-requires : goal.close-requires
 close-requires c =
     let dom = c.args.dom.now in
-    let done = Converting-close dom c.get_document.ensures.forest (render_tree_of dom) _ _ _ c.if-element-eq0.true (popped (goal.at.close-requires c).In-Some) in
+    let rules = map rule_of c.args.rules.now in
+    let done = Converting-close rules dom c.get_document.ensures.forest _ _ _ c.if-element-eq0.true (popped (goal.at.close-requires c).In-Some) in
     done.0
 
 pub converting-preserved-in-Continue-branch-2 : goal.converting-preserved-in-Continue-branch-2
 converting-preserved-in-Continue-branch-2 c =
     let dom = c.args.dom.now in
-    let done = Converting-close dom c.get_document.ensures.forest (render_tree_of dom) _ _ _ c.if-element-eq0.true (popped (goal.at.converting-preserved-in-Continue-branch-2 c).In-Some) in
-    subst (λ t. Converting dom (render_tree_of dom) c.pop.new.self.items t) (sym (c.in_ok-close.ensures.ok done.0)) done.1
+    let rules = map rule_of c.args.rules.now in
+    let done = Converting-close rules dom c.get_document.ensures.forest _ _ _ c.if-element-eq0.true (popped (goal.at.converting-preserved-in-Continue-branch-2 c).In-Some) in
+    subst (λ t. Converting rules dom c.pop.new.self.items t) (sym (c.in_ok-close.ensures.ok done.0)) done.1
 
 pub converting-smaller-in-Continue-branch-2 : goal.converting-smaller-in-Continue-branch-2
 converting-smaller-in-Continue-branch-2 c =
@@ -45,11 +48,11 @@ converting-smaller-in-Continue-branch-2 c =
 -- the innermost element has a child ahead
 pub child_list-requires : goal.child_list-requires
 child_list-requires c =
-    (Converting-top c.args.dom.now c.get_document.ensures.forest (render_tree_of c.args.dom.now) _ _ _ (popped (goal.at.child_list-requires c).In-Some)).0
+    (Converting-top (map rule_of c.args.rules.now) c.args.dom.now c.get_document.ensures.forest _ _ _ (popped (goal.at.child_list-requires c).In-Some)).0
 
 within : (c : In-Some) (now : c.in-Some.element.ahead ≢ 0) → c.in-Some.element.ahead - 1 < length (children_at c.args.dom.now c.in-Some.element.handle)
 within c now =
-    let top = Converting-top c.args.dom.now c.get_document.ensures.forest (render_tree_of c.args.dom.now) _ _ _ (popped c) in
+    let top = Converting-top (map rule_of c.args.rules.now) c.args.dom.now c.get_document.ensures.forest _ _ _ (popped c) in
     omega (arith, top.1, now)
 
 pub bounds-child_list-element : goal.bounds-child_list-element
@@ -63,10 +66,10 @@ offset_bounds-child_list-element c =
 
 met-child : (c : In-Some) (h : ℕ) → c.in-Some.element.ahead ≢ 0 →
     h ≡ get_or (children_at c.args.dom.now c.in-Some.element.handle) (c.in-Some.element.ahead - 1) h →
-    Meeting c.args.dom.now (render_tree_of c.args.dom.now) h (c.pop.new.self.items ++ record c.in-Some.element { ahead = c.in-Some.element.ahead - 1 } ∷ []) c.converting.builder
+    Meeting (map rule_of c.args.rules.now) c.args.dom.now h (c.pop.new.self.items ++ record c.in-Some.element { ahead = c.in-Some.element.ahead - 1 } ∷ []) c.converting.builder
 met-child c h now at =
     let ahead : c.in-Some.element.ahead ≡ suc (c.in-Some.element.ahead - 1) = omega arith in
-    Converting-child c.args.dom.now c.get_document.ensures.forest (render_tree_of c.args.dom.now) _ c.in-Some.element (c.in-Some.element.ahead - 1) _ h ahead at (popped c)
+    Converting-child (map rule_of c.args.rules.now) c.args.dom.now c.get_document.ensures.forest _ c.in-Some.element (c.in-Some.element.ahead - 1) _ h ahead at (popped c)
 
 pub meet-requires-else-element-eq0 : goal.meet-requires-else-element-eq0
 meet-requires-else-element-eq0 c =
@@ -76,24 +79,26 @@ meet-requires-else-element-eq0 c =
 pub converting-preserved : goal.converting-preserved
 converting-preserved c =
     let dom = c.args.dom.now in
+    let rules = map rule_of c.args.rules.now in
     let h = c.index-child_list-element.result in
     let at = c.index-child_list-element.is ∙ ap (λ cs. get_or cs (c.in-Some.element.ahead - 1) h) c.child_list.ensures.list in
     let m = met-child (goal.at.converting-preserved c).In-Some h c.if-element-eq0.false at in
     let p : Progress = record { open_elements = c.push.new.self.items; made_nodes = c.converting.builder } in
-    let n : Meeting dom (render_tree_of dom) h p.open_elements p.made_nodes = subst (λ es. Meeting dom (render_tree_of dom) h es c.converting.builder) (sym c.in_ok-push.ensures.items) m in
-    subst (λ (q : Progress). Converting dom (render_tree_of dom) q.open_elements q.made_nodes) (sym c.in_ok-meet-2.ensures.ok) (Meeting-met dom c.get_document.ensures.forest (render_tree_of dom) h p n)
+    let n : Meeting rules dom h p.open_elements p.made_nodes = subst (λ es. Meeting rules dom h es c.converting.builder) (sym c.in_ok-push.ensures.items) m in
+    subst (λ (q : Progress). Converting rules dom q.open_elements q.made_nodes) (sym c.in_ok-meet-2.ensures.ok) (Meeting-met rules dom c.get_document.ensures.forest h p n)
 
 pub converting-smaller : goal.converting-smaller
 converting-smaller c =
     let dom = c.args.dom.now in
+    let rules = map rule_of c.args.rules.now in
     let o = c.in-Some.element in
     let h = c.index-child_list-element.result in
     let at = c.index-child_list-element.is ∙ ap (λ cs. get_or cs (o.ahead - 1) h) c.child_list.ensures.list in
     let m = met-child (goal.at.converting-smaller c).In-Some h c.if-element-eq0.false at in
     let ahead : o.ahead ≡ suc (o.ahead - 1) = omega (arith, c.if-element-eq0.false) in
-    let less = work-child dom c.get_document.ensures.forest c.pop.new.self.items o (o.ahead - 1) h (rule_of (content_at dom h)) c.converting.builder m.is_node ahead
+    let less = work-child dom c.get_document.ensures.forest c.pop.new.self.items o (o.ahead - 1) h (outline_of rules (content_at dom h)) c.converting.builder m.is_node ahead
     (within (goal.at.converting-smaller c).In-Some c.if-element-eq0.false) at in
-    let after : c.meet-else-element-eq0.new.open.items ≡ (met dom h (rule_of (content_at dom h)) (record { open_elements = c.pop.new.self.items ++ record o { ahead = o.ahead - 1 } ∷ []; made_nodes = c.converting.builder })).open_elements =
+    let after : c.meet-else-element-eq0.new.elements.items ≡ (met dom h (outline_of rules (content_at dom h)) (record { open_elements = c.pop.new.self.items ++ record o { ahead = o.ahead - 1 } ∷ []; made_nodes = c.converting.builder })).open_elements =
     ap (λ (q : Progress). q.open_elements) c.in_ok-meet-2.ensures.ok
-    ∙ ap (λ es. (met dom h (rule_of (content_at dom h)) (record { open_elements = es; made_nodes = c.converting.builder })).open_elements) c.in_ok-push.ensures.items in
+    ∙ ap (λ es. (met dom h (outline_of rules (content_at dom h)) (record { open_elements = es; made_nodes = c.converting.builder })).open_elements) c.in_ok-push.ensures.items in
     omega (arith, less, ap (work dom) after, ap (work dom) c.in-Some.ensures.items)

@@ -1,9 +1,10 @@
-use Rattle.html_render_tree.specs.Conversion.{render_tree_of}
+use Rattle.std.proofs.Common.{map}
+use Rattle.html_render_dom.specs.Rules.{rule_of}
 use Rattle.html_render_tree.proofs.Conversions.{Converting, work}
 use Rattle.html_render_tree.proofs.convert.dom_to_render_tree.Given as goal
 
 abbrev pub invariant-converting : goal.invariant-converting
-invariant-converting l = Converting l.dom (render_tree_of l.dom) l.open.items l.builder
+invariant-converting l = Converting (map rule_of l.rules) l.dom l.open.items l.builder
 
 abbrev pub decreases-converting : goal.decreases-converting
 decreases-converting l = work l.dom l.open.items

@@ -1,0 +1,35 @@
+-- The rules that decorate plain text: what stands before and after emphasis, terms, strong text and code.
+use Rattle.std.specs.Prelude.{ℕ, false, List, [], ◌∷◌, ◌++◌, codes, Some, None}
+use Rattle.html_render_dom.specs.declared.style.origins.StyleOrigin.TheVariants as origin
+use Rattle.html_render_dom.specs.declared.style.rules.PseudoElement.{PseudoElement}
+use Rattle.html_render_dom.specs.declared.style.rules.PseudoElement.TheVariants.{Before, After}
+use Rattle.html_render_dom.specs.declared.style.specificities.Specificity.{Specificity}
+use Rattle.html_render_dom.specs.Rules.{content, Rule}
+
+-- a normal rule of the agent that puts a text at a place beside the children of each element of this name
+abbrev pub decoration : (name text : List ℕ) → PseudoElement → Rule
+decoration name text place = record {
+  origin = origin.Agent;
+  element = Some name;
+  id = None;
+  classes = [];
+  pseudo = Some place;
+  declarations = record { important = false; setting = content text } ∷ [];
+}
+
+-- how specific such a rule is: it names an element and a pseudo-element
+abbrev pub decoration_specificity : Specificity
+decoration_specificity = record { inline = false; id = 0; class = 0; typ = 2 }
+
+-- a text before and after the children of each element of this name
+abbrev pub round : (name text : List ℕ) → List Rule
+round name text = decoration name text Before ∷ decoration name text After ∷ []
+
+-- THE DECORATIONS, in the order in which they are added
+abbrev pub decorations : List Rule
+decorations =
+    round (codes "em") (codes "*")
+    ++ round (codes "dt") (codes "*")
+    ++ round (codes "strong") (codes "**")
+    ++ round (codes "b") (codes "**")
+    ++ round (codes "code") (codes "`")

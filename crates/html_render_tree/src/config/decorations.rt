@@ -1,0 +1,56 @@
+//! The rules that decorate plain text.
+//!
+//! `add_all(alloc, &mut rules)?` adds ten rules, the first of which puts `*` before what stands in an `em`.
+
+ghost use Rattle.std.specs.Prelude.{◌≡◌, ◌∷◌, ◌++◌, [], IfOk, OnOk, map};
+ghost use Rattle.html_render_dom.specs.Rules.{rule_of};
+ghost use Rattle.html_render_dom.specs.Selectors.{specificity_of};
+ghost use Rattle.html_render_tree.specs.Decorations.{decoration, decoration_specificity, decorations, round};
+
+use html_render_dom::style::{Declaration, PseudoElement, Style, StyleOrigin, StyleRule};
+use std::alloc::{AllocError, Global};
+
+/// A rule that puts a text at a place beside the children of each element of a name.
+fn decoration(
+    alloc: Global,
+    name: &str,
+    text: &str,
+    place: PseudoElement,
+) -> Result<StyleRule, AllocError>
+    ensures ok { IfOk result (λ rule. rule_of rule ≡ decoration name.now text.now place) }
+    ensures specificity { IfOk result (λ rule. specificity_of (rule_of rule) ≡ decoration_specificity) }
+{
+    let mut declarations = Vec::new(alloc);
+    declarations.push(Declaration {
+        important: false,
+        style: Style::Content(String::from_str(alloc, text)?),
+    })?;
+    let name = String::from_str(alloc, name)?;
+    Ok(StyleRule::for_element(alloc, StyleOrigin::Agent, name, Some(place), declarations))
+}
+
+/// Adds the rules that put a text before and after the children of each element of a name.
+fn add_round(
+    alloc: Global,
+    rules: &mut Vec<StyleRule>,
+    name: &str,
+    text: &str,
+) -> Result<(), AllocError>
+    ensures { OnOk result (map rule_of rules.new.items ≡ map rule_of rules.old.items ++ round name.now text.now) }
+{
+    rules.push(decoration(alloc, name, text, PseudoElement::Before)?)?;
+    rules.push(decoration(alloc, name, text, PseudoElement::After)?)?;
+    Ok(())
+}
+
+/// Adds all decorations.
+pub(super) fn add_all(alloc: Global, rules: &mut Vec<StyleRule>) -> Result<(), AllocError>
+    ensures { OnOk result (map rule_of rules.new.items ≡ map rule_of rules.old.items ++ decorations) }
+{
+    add_round(alloc, rules, "em", "*")?;
+    add_round(alloc, rules, "dt", "*")?;
+    add_round(alloc, rules, "strong", "**")?;
+    add_round(alloc, rules, "b", "**")?;
+    add_round(alloc, rules, "code", "`")?;
+    Ok(())
+}
