@@ -37,6 +37,12 @@ Agree-along g h i (Some x) (Some y) e = λ j. same_Some _ _ (e j)
 Agree-along g h i None (Some y) e = let f = e i in cc
 Agree-along g h i (Some x) None e = let f = e i in cc
 
+pub mapped-Agree : {X Y : Type 0} (f : Y → X) (o : Option X) (p : Option Y) → Agree (λ x y. x ≡ f y) o p → o ≡ option_map f p
+mapped-Agree f None None h = refl
+mapped-Agree f (Some x) (Some y) h = ap Some h
+mapped-Agree f None (Some y) h = absurd h
+mapped-Agree f (Some x) None h = absurd h
+
 pub same-Agree : {X : Type 0} (o p : Option X) → Agree (λ x y. x ≡ y) o p → o ≡ p
 same-Agree None None h = refl
 same-Agree (Some x) (Some y) h = ap Some h

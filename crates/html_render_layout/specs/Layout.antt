@@ -1,5 +1,5 @@
 -- THE DEFINITION of the layout, node kind by node kind.
-use Rattle.std.specs.Prelude.{ℕ, ◌==◌, Bool, List, [], ◌∷◌, ◌++◌, Option, Some, None, if◌then◌else◌}
+use Rattle.std.specs.Prelude.{ℕ, ◌==◌, Bool, List, [], ◌∷◌, ◌++◌, Option, Some, None, option_map, if◌then◌else◌}
 use Rattle.std.specs.Str.{chars}
 use Rattle.html_render_dom.specs.Forest.{Forest}
 use Rattle.html_render_dom.specs.Outcome.{◌>>=◌}
@@ -7,6 +7,7 @@ use Rattle.html_render_dom.specs.declared.style.WhiteSpace.TheVariants.{Normal}
 use Rattle.html_render_parts.specs.Decoration.{Decoration, Round}
 use Rattle.html_render_lines.specs.declared.character.TextStyle.{TextStyle}
 use Rattle.html_render_lines.specs.Line.{Line}
+use Rattle.html_render_lines.specs.Tags.{lines_with}
 use Rattle.html_render_layout.specs.declared.tree.Emphasis.{Emphasis as TheEmphasis}
 use Rattle.html_render_layout.specs.declared.tree.Emphasis.TheVariants.{Em, Strong, Code}
 use Rattle.html_render_layout.specs.declared.tree.NodeKind.{NodeKind}
@@ -96,3 +97,10 @@ abbrev pub layout_lines : {S A : Type 0} → Decoration S A → Forest RenderNod
 layout_lines {S} {A} d t decorator width overflow =
     if width == 0 then None
     else shown_after d onto flow_operations (λ (s : Defined S A). s.block.lines) t (empty_desk d decorator width overflow)
+
+abbrev pub no_tag : {X : Type 0} → X → Unit {0}
+no_tag x = tt
+
+-- the same lines without annotations
+abbrev pub untagged_lines : {S A : Type 0} → Decoration S A → Forest RenderNode → S → (width : ℕ) → (overflow : Bool) → Option (List (Line (Unit {0}) (Unit {0})))
+untagged_lines {S} {A} d t decorator width overflow = option_map (lines_with (λ (stack : List A). no_tag stack)) (layout_lines d t decorator width overflow)

@@ -52,6 +52,10 @@ module _ {S A K T B : Type 0} (d : Decoration S A) (push : K → T → A → K �
 abbrev pub tabled : {A : Type 0} → List (List A) → ℕ → A → List (List A) × ℕ
 tabled stacks tag a = (stacks ++ (stack_at stacks tag ++ a ∷ []) ∷ [], length stacks)
 
+-- no annotations: the tags are nothing
+abbrev pub untagged : {K A : Type 0} → K → Unit {0} → A → K × Unit {0}
+untagged k tag a = (k, tag)
+
 -- the desk of a layout by numbers, on blocks that are fed character by character
 abbrev pub Worked : Type 0 → Type 0 → Type 0
 Worked S A = Desk S (List (List A)) ℕ (BlockState ℕ (Unit {0}))
@@ -69,3 +73,11 @@ laid_out l = tagged l.stacks (lines_in l.lines)
 -- the lines that the code makes from a desk
 abbrev pub work_lines : {S A : Type 0} → Decoration S A → Forest RenderNode → Worked S A → Option (List (Line (List A) (Unit {0})))
 work_lines {S} {A} d t s = shown_after d tabled state_operations (λ (r : Worked S A). tagged r.stacks r.block.lines) t s
+
+-- the desk of a layout without annotations
+abbrev pub Untagged : Type 0 → Type 0 → Type 0
+Untagged S K = Desk S K (Unit {0}) (BlockState (Unit {0}) (Unit {0}))
+
+-- the lines that the code makes from it
+abbrev pub untagged_work : {S A K : Type 0} → Decoration S A → Forest RenderNode → Untagged S K → Option (List (Line (Unit {0}) (Unit {0})))
+untagged_work {S} {A} {K} d t s = shown_after d untagged state_operations (λ (r : Untagged S K). r.block.lines) t s

@@ -1,5 +1,6 @@
 -- The operations on blocks that a layout is made of.
-use Rattle.std.specs.Prelude.{◌≡◌, ℕ, List, Option, option_map, IfSome, IsSomeAnd}
+use Rattle.std.specs.Prelude.{◌≡◌, ℕ, List, Option, Some, None, option_map, IfSome, IsSomeAnd}
+use Rattle.std.proofs.Common.{refl, ap, ◌∙◌}
 
 -- B are the blocks and S the styles of texts; none is "too narrow"
 pub record Operations (B S : Type 0) : Type 0 where
@@ -32,3 +33,18 @@ pub record Commutes {A B S U : Type 0} (f : A → B) (g : S → U) (o : Operatio
   pub new_line_hard : (a : A) → p.new_line_hard (f a) ≡ option_map f (o.new_line_hard a)
   pub start_block : (a : A) → p.start_block (f a) ≡ option_map f (o.start_block a)
   pub end_block : (a : A) → p.end_block (f a) ≡ f (o.end_block a)
+
+map_map : {X Y Z : Type 0} (f : X → Y) (g : Y → Z) (o : Option X) → option_map g (option_map f o) ≡ option_map (λ x. g (f x)) o
+map_map f g None = refl
+map_map f g (Some x) = refl
+
+-- one pair of maps after another
+pub Commutes-then : {A B C S U V : Type 0} (f : A → B) (g : S → U) (h : B → C) (k : U → V) (o : Operations A S) (p : Operations B U) (q : Operations C V) →
+    Commutes f g o p → Commutes h k p q → Commutes (λ a. h (f a)) (λ s. k (g s)) o q
+Commutes-then f g h k o p q c d = record {
+  add_inline_text = λ a s cs. d.add_inline_text (f a) (g s) cs ∙ ap (option_map h) (c.add_inline_text a s cs) ∙ map_map f h (o.add_inline_text a s cs);
+  new_line = λ a. d.new_line (f a) ∙ ap (option_map h) (c.new_line a) ∙ map_map f h (o.new_line a);
+  new_line_hard = λ a. d.new_line_hard (f a) ∙ ap (option_map h) (c.new_line_hard a) ∙ map_map f h (o.new_line_hard a);
+  start_block = λ a. d.start_block (f a) ∙ ap (option_map h) (c.start_block a) ∙ map_map f h (o.start_block a);
+  end_block = λ a. d.end_block (f a) ∙ ap h (c.end_block a);
+}

@@ -6,13 +6,15 @@ ghost use Rattle.std.specs.Prelude.{◌≡◌, ◌≢◌, ◌≤◌, ◌<◌, So
 ghost use Rattle.html_render_dom.specs.Forest.{count, depth};
 ghost use Rattle.html_render_dom.specs.Outcome.{Refuses};
 ghost use Rattle.html_render_lines.specs.Line.{AllWithinWidth};
+ghost use Rattle.html_render_lines.specs.Stream.{lines_in};
 ghost use Rattle.html_render_layout.specs.BlockState.{state_operations};
 ghost use Rattle.html_render_layout.specs.Pass.{run};
-ghost use Rattle.html_render_layout.specs.Layout.{shown_after, Defined, defined, layout_lines};
-ghost use Rattle.html_render_layout.specs.Leaving.{leaving, leave, leave-leaving, tabled, worked, work_lines, laid_out};
+ghost use Rattle.html_render_layout.specs.Layout.{meaning, shown_after, Defined, defined, layout_lines, untagged_lines};
+ghost use Rattle.html_render_layout.specs.Leaving.{leaving, leave, leave-leaving, work_lines, laid_out, untagged_work};
 
 use crate::block::Block;
 use crate::stacks::Stacks;
+use crate::tagging::{Tagging, Untagged};
 use crate::tree::{Emphasis, RenderNode, RenderTree};
 use crate::walk::{Pass, walk};
 use html_render_dom::Error;
@@ -29,7 +31,7 @@ mod steps;
 pub struct Desk<D, K, T, B> {
     /// The decorator of the block.
     pub decorator: D,
-    /// The stacks of annotations that tags stand for.
+    /// What the tags stand for.
     pub stacks: K,
     /// The tag of the texts that come.
     pub tag: T,
@@ -60,44 +62,67 @@ pub struct LaidOut<A> {
 }
 
 /// The pass that lays out a tree.
-struct Layout<D: TextDecorator> {
-    of: PhantomData<D>,
+struct Layout<D, G> {
+    of: PhantomData<(D, G)>,
 }
 
-impl<D: TextDecorator> Pass for Layout<D> {
+impl<D: TextDecorator, G: Tagging<D::Annotation>> Pass for Layout<D, G> {
     type Node = RenderNode;
 
-    type State = Desk<D, Stacks<D::Annotation>, usize, Block<usize, ()>>;
+    type State = Desk<D, G, G::Tag, Block<G::Tag, ()>>;
 
-    type Kept = Leaving<usize>;
+    type Kept = Leaving<G::Tag>;
 
-    ghost meaning = { worked D.decoration };
+    ghost meaning = { meaning D.decoration G.annotated state_operations };
 
     ghost kept_of = { λ n s. leaving n.kind s };
 
-    ghost leaves = { leave D.decoration tabled state_operations };
+    ghost leaves = { leave D.decoration G.annotated state_operations };
 
-    ghost leaves_kept = { λ n s r. leave-leaving D.decoration tabled state_operations n.kind s r };
+    ghost leaves_kept = { λ n s r. leave-leaving D.decoration G.annotated state_operations n.kind s r };
 
     fn enter(
         alloc: Global,
         node: &RenderNode,
-        state: &mut Desk<D, Stacks<D::Annotation>, usize, Block<usize, ()>>,
-    ) -> Result<Leaving<usize>, Error> {
+        state: &mut Desk<D, G, G::Tag, Block<G::Tag, ()>>,
+    ) -> Result<Leaving<G::Tag>, Error> {
         steps::enter(alloc, &node.kind, state)
     }
 
     fn leave(
         alloc: Global,
-        kept: Leaving<usize>,
-        state: &mut Desk<D, Stacks<D::Annotation>, usize, Block<usize, ()>>,
+        kept: Leaving<G::Tag>,
+        state: &mut Desk<D, G, G::Tag, Block<G::Tag, ()>>,
     ) -> Result<(), Error> {
         steps::leave(alloc, kept, state)
     }
 }
 
-// The lines of a tree on a desk.
+// The desk once a tree is laid out on it, and what is left in the open paragraph.
 #[tactic(auto, using(html_render_dom::specs::Outcome::refusals))]
+fn laid_out_on<D: TextDecorator, G: Tagging<D::Annotation>>(
+    alloc: Global,
+    tree: &RenderTree,
+    desk: Desk<D, G, G::Tag, Block<G::Tag, ()>>,
+    meter: &mut Meter,
+) -> Result<Desk<D, G, G::Tag, Block<G::Tag, ()>>, Error>
+    ensures ok { IfOk result (λ after. shown_after D.decoration G.annotated state_operations (λ r. r) tree.now desk ≡ Some after) }
+    ensures err { IfErr result (λ e. Refuses e (shown_after D.decoration G.annotated state_operations (λ r. r) tree.now desk)) }
+    ensures entered { OnOk result (meter.new.entered ≡ count tree.now) }
+    ensures left { OnOk result (meter.new.left ≡ count tree.now) }
+    ensures frames { OnOk result (meter.new.frames ≡ depth tree.now) }
+    ensures entered_at_most { OnErr result (meter.new.entered ≤ count tree.now) }
+    ensures left_at_most { OnErr result (meter.new.left ≤ meter.new.entered) }
+    ensures frames_at_most { OnErr result (meter.new.frames ≤ depth tree.now) }
+    ensures probes { meter.new.probes ≡ meter.old.probes }
+{
+    let mut desk = desk;
+    walk::<Layout<D, G>>(alloc, tree.nodes(), &mut desk, meter)?;
+    desk.block.flush()?;
+    Ok(desk)
+}
+
+// The lines of a tree on a desk, with the stacks of their tags.
 fn lines_on<D: TextDecorator>(
     alloc: Global,
     tree: &RenderTree,
@@ -114,9 +139,7 @@ fn lines_on<D: TextDecorator>(
     ensures frames_at_most { OnErr result (meter.new.frames ≤ depth tree.now) }
     ensures probes { meter.new.probes ≡ meter.old.probes }
 {
-    let mut desk = desk;
-    walk::<Layout<D>>(alloc, tree.nodes(), &mut desk, meter)?;
-    desk.block.flush()?;
+    let desk = laid_out_on(alloc, tree, desk, meter)?;
     Ok(LaidOut {
         lines: desk.block.into_lines(),
         stacks: desk.stacks,
@@ -169,6 +192,52 @@ pub fn lay_out<D: TextDecorator>(
         block: Block::new(alloc, width, overflow),
     };
     lines_on(alloc, tree, desk, meter)
+}
+
+// The lines of a tree on a desk without annotations.
+fn untagged_lines_on<D: TextDecorator>(
+    alloc: Global,
+    tree: &RenderTree,
+    desk: Desk<D, Untagged, (), Block<(), ()>>,
+) -> Result<Vec<Vec<Element<(), ()>>>, Error>
+    ensures ok { IfOk result (λ lines. untagged_work D.decoration tree.now desk ≡ Some (lines_in lines)) }
+    ensures err { IfErr result (λ e. Refuses e (untagged_work D.decoration tree.now desk)) }
+{
+    let mut meter = Meter::default();
+    let desk = laid_out_on(alloc, tree, desk, &mut meter)?;
+    Ok(desk.block.into_lines())
+}
+
+/// The lines of a tree, as [`lay_out`] answers them, without what their characters are annotated with. Nothing is kept
+/// of annotations meanwhile.
+///
+/// [`Error::TooNarrow`] comes at width 0, and, without `overflow`, where a character is wider than a line;
+/// [`Error::OutOfMemory`] where an allocation was refused.
+pub fn lay_out_untagged<D: TextDecorator>(
+    alloc: Global,
+    decorator: &D,
+    tree: &RenderTree,
+    width: usize,
+    overflow: bool,
+) -> Result<Vec<Vec<Element<(), ()>>>, Error>
+    ensures ok { IfOk result (λ lines. untagged_lines D.decoration tree.now decorator.now width overflow ≡ Some (lines_in lines)) }
+    ensures err { IfErr result (λ e. Refuses e (untagged_lines D.decoration tree.now decorator.now width overflow)) }
+
+    // as for the lines with annotations
+    ensures within { IfOk result (λ lines. overflow ≡ false → AllWithinWidth width (lines_in lines)) }
+    ensures answered { 0 < width → overflow ≡ true → result ≢ Err Error.TooNarrow }
+    ensures no_width { width ≡ 0 → result ≡ Err Error.TooNarrow }
+{
+    if width == 0 {
+        return Err(Error::TooNarrow);
+    }
+    let desk = Desk {
+        decorator: decorator.make_subblock_decorator(alloc)?,
+        stacks: Untagged,
+        tag: (),
+        block: Block::new(alloc, width, overflow),
+    };
+    untagged_lines_on(alloc, tree, desk)
 }
 
 #[cfg(test)]

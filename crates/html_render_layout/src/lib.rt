@@ -4,5 +4,6 @@
 pub mod block;
 pub mod layout;
 pub mod stacks;
+pub mod tagging;
 pub mod tree;
 pub mod walk;

@@ -1,10 +1,11 @@
 -- What a configuration makes of a render tree.
-use Rattle.std.specs.Prelude.{ℕ, Bool, false, List, [], Option, option_map}
+use Rattle.std.specs.Prelude.{◌≡◌, ℕ, Bool, false, List, [], Option, option_map}
 use Rattle.html_render_dom.specs.Forest.{Forest}
 use Rattle.html_render_dom.specs.Rules.{Rule}
+use Rattle.html_render_lines.specs.Line.{Line, AllWithinWidth}
 use Rattle.html_render_parts.specs.Decoration.{Decoration}
 use Rattle.html_render_layout.specs.declared.tree.RenderNode.{RenderNode}
-use Rattle.html_render_layout.specs.Layout.{layout_lines}
+use Rattle.html_render_layout.specs.Layout.{untagged_lines}
 use Rattle.html_render_tree.specs.Texts.{text_of}
 
 -- the settings of a configuration: its decorator, its rules in the order in which they were added, whether a character
@@ -21,4 +22,8 @@ initial_options decorator = record { decorator = decorator; rules = []; overflow
 
 -- THE TEXT of a render tree in a width; none where it is too narrow
 abbrev pub rendered : {S A : Type 0} → Decoration S A → Forest RenderNode → S → (width : ℕ) → (overflow : Bool) → Option (List ℕ)
-rendered d tree decorator width overflow = option_map text_of (layout_lines d tree decorator width overflow)
+rendered d tree decorator width overflow = option_map text_of (untagged_lines d tree decorator width overflow)
+
+-- it is the text of lines none of which is wider
+abbrev pub IsTextWithin : (width : ℕ) → List ℕ → Type 0
+IsTextWithin width text = (lines : List (Line (Unit {0}) (Unit {0}))) × (text_of lines ≡ text) × AllWithinWidth width lines

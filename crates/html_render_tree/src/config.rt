@@ -8,18 +8,16 @@ ghost use Rattle.html_render_dom.specs.Outcome.{Refuses};
 ghost use Rattle.html_render_dom.specs.Rules.{rule_of};
 ghost use Rattle.html_render_tree.specs.Conversion.{render_tree_of};
 ghost use Rattle.html_render_tree.specs.Decorations.{decorations};
-ghost use Rattle.html_render_tree.specs.Rendering.{rendered, initial_options};
-ghost use Rattle.html_render_tree.specs.Texts.{IsTextWithin};
+ghost use Rattle.html_render_tree.specs.Rendering.{rendered, initial_options, IsTextWithin};
 
 use crate::convert;
 use crate::texts::string_of;
 use html_render_dom::Error;
 use html_render_dom::dom::RcDom;
 use html_render_dom::style::StyleRule;
-use html_render_layout::layout::lay_out;
+use html_render_layout::layout::lay_out_untagged;
 use html_render_layout::tree::RenderTree;
 use html_render_parts::decorate::{PlainDecorator, TextDecorator};
-use html_render_parts::widths::Meter;
 use std::alloc::Global;
 use std::marker::Model;
 
@@ -159,16 +157,8 @@ impl<D: TextDecorator> Config<D> {
         if width == 0 {
             return Err(Error::TooNarrow);
         }
-        let mut meter = Meter::default();
-        let laid_out = lay_out(
-            alloc,
-            &self.decorator,
-            &tree,
-            width,
-            self.overflow,
-            &mut meter,
-        )?;
-        Ok(string_of(alloc, &laid_out)?)
+        let lines = lay_out_untagged(alloc, &self.decorator, &tree, width, self.overflow)?;
+        Ok(string_of(alloc, &lines)?)
     }
 }
 

@@ -1,10 +1,8 @@
 //! Lines as a string.
 
 ghost use Rattle.std.specs.Prelude.{◌≡◌, ◌++◌, IfOk, OnOk, string_bytes, map};
-ghost use Rattle.html_render_layout.specs.Leaving.{laid_out as lines_of};
 ghost use Rattle.html_render_tree.specs.Texts.{line_bytes, text_of};
 
-use html_render_layout::layout::LaidOut;
 use html_render_lines::line::Element;
 use std::alloc::{AllocError, Global};
 
@@ -20,8 +18,8 @@ fn push_line<T, M>(text: &mut String, line: &[Element<T, M>]) -> Result<(), Allo
     text.push('\n')
 }
 
-// The string of some lines.
-fn string_of_lines<T, M>(alloc: Global, lines: &[Vec<Element<T, M>>]) -> Result<String, AllocError>
+/// The string of some lines: each line's characters, and a newline.
+pub fn string_of<T, M>(alloc: Global, lines: &[Vec<Element<T, M>>]) -> Result<String, AllocError>
     ensures { IfOk result (λ text. string_bytes text ≡ text_of (map (λ l. l.items) lines.now)) }
 {
     let mut text = String::new(alloc);
@@ -29,11 +27,4 @@ fn string_of_lines<T, M>(alloc: Global, lines: &[Vec<Element<T, M>>]) -> Result<
         push_line(&mut text, line)?;
     }
     Ok(text)
-}
-
-/// The string of what was laid out: each line's characters, and a newline.
-pub fn string_of<A>(alloc: Global, laid_out: &LaidOut<A>) -> Result<String, AllocError>
-    ensures { IfOk result (λ text. string_bytes text ≡ text_of (lines_of laid_out.now)) }
-{
-    string_of_lines(alloc, &laid_out.lines)
 }

@@ -6,11 +6,11 @@ ghost use Rattle.html_render_layout.specs.BlockState.{state_operations};
 ghost use Rattle.html_render_layout.specs.declared.layout.Leaving.TheVariants.{EndEmphasis};
 ghost use Rattle.html_render_layout.specs.declared.tree.NodeKind.TheVariants.{Emphasis as AnEmphasis};
 ghost use Rattle.html_render_layout.specs.Layout.{round, with_text, entered};
-ghost use Rattle.html_render_layout.specs.Leaving.{leaving, leave, tabled};
+ghost use Rattle.html_render_layout.specs.Leaving.{leaving, leave};
 
 use super::{Desk, Leaving};
 use crate::block::Block;
-use crate::stacks::Stacks;
+use crate::tagging::Tagging;
 use crate::tree::{Emphasis, NodeKind};
 use html_render_dom::Error;
 use html_render_dom::style::WhiteSpace;
@@ -19,9 +19,9 @@ use html_render_parts::decorate::TextDecorator;
 use std::alloc::Global;
 
 // Adds a text under the tag of what comes.
-fn add_text<D: TextDecorator>(
+fn add_text<D: TextDecorator, G: Tagging<D::Annotation>>(
     text: &str,
-    desk: &mut Desk<D, Stacks<D::Annotation>, usize, Block<usize, ()>>,
+    desk: &mut Desk<D, G, G::Tag, Block<G::Tag, ()>>,
 ) -> Result<(), Error>
     ensures ok { OnOk result (with_text state_operations text.now desk.old ≡ Some desk.new) }
     ensures err { IfErr result (λ e. Refuses e (with_text state_operations text.now desk.old)) }
@@ -69,29 +69,29 @@ fn end_of<D: TextDecorator>(
 
 // An emphasis begins.
 #[tactic(auto, using(html_render_dom::specs::Outcome::refusals))]
-fn enter_emphasis<D: TextDecorator>(
+fn enter_emphasis<D: TextDecorator, G: Tagging<D::Annotation>>(
     alloc: Global,
     emphasis: Emphasis,
-    desk: &mut Desk<D, Stacks<D::Annotation>, usize, Block<usize, ()>>,
+    desk: &mut Desk<D, G, G::Tag, Block<G::Tag, ()>>,
 ) -> Result<(), Error>
-    ensures ok { OnOk result (entered D.decoration tabled state_operations (AnEmphasis emphasis) desk.old ≡ Some desk.new) }
-    ensures err { IfErr result (λ e. Refuses e (entered D.decoration tabled state_operations (AnEmphasis emphasis) desk.old)) }
+    ensures ok { OnOk result (entered D.decoration G.annotated state_operations (AnEmphasis emphasis) desk.old ≡ Some desk.new) }
+    ensures err { IfErr result (λ e. Refuses e (entered D.decoration G.annotated state_operations (AnEmphasis emphasis) desk.old)) }
 {
     let (text, annotation) = start_of(alloc, &desk.decorator, emphasis)?;
-    desk.tag = desk.stacks.push(desk.tag, annotation)?;
+    desk.tag = desk.stacks.annotate(desk.tag, annotation)?;
     add_text(text.as_str(), desk)
 }
 
 // An emphasis ends, and the tag becomes the one that was before it.
 #[tactic(auto, using(html_render_dom::specs::Outcome::refusals))]
-fn leave_emphasis<D: TextDecorator>(
+fn leave_emphasis<D: TextDecorator, G: Tagging<D::Annotation>>(
     alloc: Global,
     emphasis: Emphasis,
-    tag: usize,
-    desk: &mut Desk<D, Stacks<D::Annotation>, usize, Block<usize, ()>>,
+    tag: G::Tag,
+    desk: &mut Desk<D, G, G::Tag, Block<G::Tag, ()>>,
 ) -> Result<(), Error>
-    ensures ok { OnOk result (leave D.decoration tabled state_operations (EndEmphasis emphasis tag) desk.old ≡ Some desk.new) }
-    ensures err { IfErr result (λ e. Refuses e (leave D.decoration tabled state_operations (EndEmphasis emphasis tag) desk.old)) }
+    ensures ok { OnOk result (leave D.decoration G.annotated state_operations (EndEmphasis emphasis tag) desk.old ≡ Some desk.new) }
+    ensures err { IfErr result (λ e. Refuses e (leave D.decoration G.annotated state_operations (EndEmphasis emphasis tag) desk.old)) }
 {
     let text = end_of(alloc, &desk.decorator, emphasis)?;
     add_text(text.as_str(), desk)?;
@@ -101,14 +101,14 @@ fn leave_emphasis<D: TextDecorator>(
 
 /// The desk becomes that of the node's children.
 #[tactic(auto, using(html_render_dom::specs::Outcome::refusals))]
-pub fn enter<D: TextDecorator>(
+pub fn enter<D: TextDecorator, G: Tagging<D::Annotation>>(
     alloc: Global,
     kind: &NodeKind,
-    desk: &mut Desk<D, Stacks<D::Annotation>, usize, Block<usize, ()>>,
-) -> Result<Leaving<usize>, Error>
-    ensures ok { OnOk result (entered D.decoration tabled state_operations kind.now desk.old ≡ Some desk.new) }
+    desk: &mut Desk<D, G, G::Tag, Block<G::Tag, ()>>,
+) -> Result<Leaving<G::Tag>, Error>
+    ensures ok { OnOk result (entered D.decoration G.annotated state_operations kind.now desk.old ≡ Some desk.new) }
     ensures kept { IfOk result (λ l. l ≡ leaving kind.now desk.old) }
-    ensures err { IfErr result (λ e. Refuses e (entered D.decoration tabled state_operations kind.now desk.old)) }
+    ensures err { IfErr result (λ e. Refuses e (entered D.decoration G.annotated state_operations kind.now desk.old)) }
 {
     match kind {
         NodeKind::Text(text) => {
@@ -138,13 +138,13 @@ pub fn enter<D: TextDecorator>(
 
 /// The desk becomes the one behind the node.
 #[tactic(auto, using(html_render_dom::specs::Outcome::refusals))]
-pub fn leave<D: TextDecorator>(
+pub fn leave<D: TextDecorator, G: Tagging<D::Annotation>>(
     alloc: Global,
-    leaving: Leaving<usize>,
-    desk: &mut Desk<D, Stacks<D::Annotation>, usize, Block<usize, ()>>,
+    leaving: Leaving<G::Tag>,
+    desk: &mut Desk<D, G, G::Tag, Block<G::Tag, ()>>,
 ) -> Result<(), Error>
-    ensures ok { OnOk result (leave D.decoration tabled state_operations leaving desk.old ≡ Some desk.new) }
-    ensures err { IfErr result (λ e. Refuses e (leave D.decoration tabled state_operations leaving desk.old)) }
+    ensures ok { OnOk result (leave D.decoration G.annotated state_operations leaving desk.old ≡ Some desk.new) }
+    ensures err { IfErr result (λ e. Refuses e (leave D.decoration G.annotated state_operations leaving desk.old)) }
 {
     match leaving {
         Leaving::Nothing => Ok(()),

@@ -7,7 +7,7 @@ use html_render_parts::decorate::PlainDecorator;
 use std::test::Fail;
 
 // what lines say, each with a bar behind it
-fn shown(alloc: Global, lines: &[Vec<Element<usize, ()>>]) -> Result<String, Fail> {
+fn shown<T>(alloc: Global, lines: &[Vec<Element<T, ()>>]) -> Result<String, Fail> {
     let mut text = String::new(alloc);
     for line in lines {
         for element in line {
@@ -108,17 +108,31 @@ fn refuses_what_is_too_narrow(rt: HostRuntime) -> Result<(), Fail> {
     Ok(())
 }
 
+#[test]
+fn lines_without_annotations_are_the_same(rt: HostRuntime) -> Result<(), Fail> {
+    let alloc = rt.alloc();
+    let tree = sample(alloc)?;
+    let lines = lay_out_untagged(alloc, &Signs, &tree, 5, false)?;
+    assert_eq!(rt; shown(alloc, &lines)?.as_str(), "ab cd||e|f g|");
+    let tree = emphases(alloc)?;
+    let lines = lay_out_untagged(alloc, &Signs, &tree, 4, false)?;
+    assert_eq!(rt; shown(alloc, &lines)?.as_str(), "a[b<|(c)>|]|");
+    assert_eq!(rt;
+        lay_out_untagged(alloc, &Signs, &tree, 0, true).err(),
+        Some(Error::TooNarrow)
+    );
+    Ok(())
+}
+
 // writes signs round each emphasis
 #[derive(Clone, Copy, Drop)]
-struct Signs {
-    depth: u8,
-}
+struct Signs;
 
 impl TextDecorator for Signs {
     type Annotation = u8;
 
     ghost decoration = { record {
-      em = record { start = λ s. record { text = codes "<"; annotation = s.depth }; end = λ s. codes ">" };
+      em = record { start = λ s. record { text = codes "<"; annotation = 6 }; end = λ s. codes ">" };
       strong = record { start = λ s. record { text = codes "["; annotation = 7 }; end = λ s. codes "]" };
       code = record { start = λ s. record { text = codes "("; annotation = 8 }; end = λ s. codes ")" };
       subblock = λ s. s;
@@ -127,7 +141,7 @@ impl TextDecorator for Signs {
     ghost clone_is_same = { λ a b h. h };
 
     fn decorate_em_start(&self, alloc: Global) -> Result<(String, u8), Error> {
-        Ok((String::from_str(alloc, "<")?, self.depth))
+        Ok((String::from_str(alloc, "<")?, 6))
     }
 
     fn decorate_em_end(&self, alloc: Global) -> Result<String, Error> {
@@ -185,7 +199,7 @@ fn emphasis_is_annotated_and_written_round(rt: HostRuntime) -> Result<(), Fail> 
     let alloc = rt.alloc();
     let tree = emphases(alloc)?;
     let mut meter = meter();
-    let laid_out = lay_out(alloc, &Signs { depth: 3 }, &tree, 20, false, &mut meter)?;
+    let laid_out = lay_out(alloc, &Signs, &tree, 20, false, &mut meter)?;
     assert_eq!(rt; shown(alloc, &laid_out.lines)?.as_str(), "a[b<(c)>]|");
     assert_eq!(rt; tags(alloc, &laid_out.lines)?.as_str(), "011233321");
     Ok(())

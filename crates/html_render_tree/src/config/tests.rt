@@ -1,6 +1,8 @@
 use super::*;
 use crate::dom::{ElementFlags, NodeOrText, QualName};
 use crate::style::{Declaration, PseudoElement, Specificity, Style, StyleOrigin, computed_style};
+use html_render_layout::layout::lay_out;
+use html_render_parts::widths::Meter;
 use std::test::Fail;
 
 /// A document of `depth` elements, one in the other, round a text.
@@ -25,8 +27,8 @@ fn a_deep_document_takes_no_more_stack(rt: HostRuntime) -> Result<(), Fail> {
     let config = plain_no_decorate(alloc);
     let tree = config.dom_to_render_tree(alloc, &dom)?;
     let mut meter = Meter::default();
-    let lines = lay_out(alloc, &config.decorator, &tree, 5, false, &mut meter)?;
-    assert_eq!(rt; string_of(alloc, &lines)?.as_str(), "x\n");
+    let laid_out = lay_out(alloc, &config.decorator, &tree, 5, false, &mut meter)?;
+    assert_eq!(rt; string_of(alloc, &laid_out.lines)?.as_str(), "x\n");
     assert!(rt; meter.frames >= 100_000);
     assert_eq!(rt; config.render_to_string(alloc, tree, 5)?.as_str(), "x\n");
     Ok(())
