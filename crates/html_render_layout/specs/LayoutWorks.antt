@@ -14,7 +14,7 @@ use Rattle.html_render_layout.specs.Block.{flow_operations}
 use Rattle.html_render_layout.specs.BlockState.{empty_block}
 use Rattle.html_render_layout.specs.Stacks.{stack_at}
 use Rattle.html_render_layout.specs.Layout.{onto, shown_after, Defined, empty_desk, layout_lines, untagged_lines}
-use Rattle.html_render_layout.specs.Leaving.{Worked, tabled, work_lines, Untagged, untagged, untagged_work}
+use Rattle.html_render_layout.specs.Working.{Worked, tabled, work_lines, Untagged, untagged, untagged_work}
 use Rattle.html_render_layout.specs.Standing.{lines-stand}
 
 -- ---- a map of tags that changes none

@@ -13,6 +13,7 @@ pub mod BlockLaws
 pub mod Stacks
 pub mod Layout
 pub mod Leaving
+pub mod Working
 pub mod Standing
 pub mod LayoutKeeps
 pub mod LayoutLaws

@@ -10,7 +10,8 @@ ghost use Rattle.html_render_lines.specs.Stream.{lines_in};
 ghost use Rattle.html_render_layout.specs.BlockState.{state_operations};
 ghost use Rattle.html_render_layout.specs.Pass.{run};
 ghost use Rattle.html_render_layout.specs.Layout.{meaning, shown_after, Defined, defined, layout_lines, untagged_lines};
-ghost use Rattle.html_render_layout.specs.Leaving.{leaving, leave, leave-leaving, work_lines, laid_out, untagged_work};
+ghost use Rattle.html_render_layout.specs.Leaving.{leaving, leave, leave-leaving};
+ghost use Rattle.html_render_layout.specs.Working.{work_lines, laid_out, untagged_work};
 
 use crate::block::Block;
 use crate::stacks::Stacks;

@@ -4,7 +4,7 @@
 //! the number of its stack of annotations.
 
 ghost use Rattle.std.specs.Prelude.{◌≡◌, IfOk, IfErr};
-ghost use Rattle.html_render_layout.specs.Leaving.{tabled, untagged};
+ghost use Rattle.html_render_layout.specs.Working.{tabled, untagged};
 
 use crate::stacks::Stacks;
 use html_render_dom::Error;

@@ -1,7 +1,7 @@
 // Documents that are built by calls, and the text that each becomes.
 
 use html_render_tree::Error;
-use html_render_tree::config::plain_no_decorate;
+use html_render_tree::config::plain;
 use html_render_tree::dom::{ElementFlags, NodeOrText, QualName, RcDom};
 use std::alloc::Global;
 use std::test::Fail;
@@ -14,7 +14,7 @@ fn greeting(alloc: Global) -> Result<String, Error> {
     let text = String::from_str(alloc, "Hello wide world")?;
     dom.append(alloc, paragraph, NodeOrText::AppendText(text))?;
 
-    let config = plain_no_decorate(alloc);
+    let config = plain(alloc)?;
     let tree = config.dom_to_render_tree(alloc, &dom)?;
     config.render_to_string(alloc, tree, 11)
 }

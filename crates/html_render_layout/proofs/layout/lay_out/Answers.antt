@@ -5,7 +5,7 @@ use Rattle.html_render_layout.specs.Layout.{onto, layout_lines}
 use Rattle.html_render_layout.specs.LayoutKeeps.{layout-returns}
 use Rattle.html_render_layout.specs.LayoutWorks.{empty_worked, layout_lines-works}
 use Rattle.html_render_layout.specs.LayoutLaws.{within-answered, succeeds-answered}
-use Rattle.html_render_layout.specs.Leaving.{Worked, work_lines, laid_out}
+use Rattle.html_render_layout.specs.Working.{Worked, work_lines, laid_out}
 use Rattle.html_render_layout.proofs.layout.lay_out.Goals as goal
 use Rattle.html_render_layout.proofs.layout.lay_out.Given.{Over}
 

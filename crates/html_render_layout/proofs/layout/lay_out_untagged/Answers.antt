@@ -6,7 +6,7 @@ use Rattle.html_render_layout.specs.declared.tagging.Untagged.{Untagged as Nothi
 use Rattle.html_render_layout.specs.Layout.{layout_lines, untagged_lines}
 use Rattle.html_render_layout.specs.LayoutWorks.{empty_untagged, untagged_lines-works}
 use Rattle.html_render_layout.specs.LayoutLaws.{untagged_within-answered, succeeds-answered, refuses-untagged}
-use Rattle.html_render_layout.specs.Leaving.{Untagged, untagged_work}
+use Rattle.html_render_layout.specs.Working.{Untagged, untagged_work}
 use Rattle.html_render_layout.proofs.layout.lay_out_untagged.Goals as goal
 use Rattle.html_render_layout.proofs.layout.lay_out_untagged.Given.{Over}
 

@@ -1,0 +1,45 @@
+-- What the code's layout computes, on blocks that are fed character by character: with tags that are numbers, and
+-- without any.
+use Rattle.std.specs.Prelude.{ℕ, List, [], ◌∷◌, ◌++◌, length, Option}
+use Rattle.html_render_dom.specs.Forest.{Forest}
+use Rattle.html_render_parts.specs.Decoration.{Decoration}
+use Rattle.html_render_lines.specs.Line.{Line}
+use Rattle.html_render_lines.specs.Stream.{lines_in}
+use Rattle.html_render_lines.specs.Tags.{lines_with}
+use Rattle.html_render_layout.specs.declared.tree.RenderNode.{RenderNode}
+use Rattle.html_render_layout.specs.declared.layout.Desk.{Desk}
+use Rattle.html_render_layout.specs.declared.layout.LaidOut.{LaidOut}
+use Rattle.html_render_layout.specs.BlockState.{BlockState, state_operations}
+use Rattle.html_render_layout.specs.Stacks.{stack_at}
+use Rattle.html_render_layout.specs.Layout.{shown_after}
+
+-- a stack more in the table; the tags are places
+abbrev pub tabled : {A : Type 0} → List (List A) → ℕ → A → List (List A) × ℕ
+tabled stacks tag a = (stacks ++ (stack_at stacks tag ++ a ∷ []) ∷ [], length stacks)
+
+-- no annotations: the tags are nothing
+abbrev pub untagged : {K A : Type 0} → K → Unit {0} → A → K × Unit {0}
+untagged k tag a = (k, tag)
+
+-- the desk of a layout by numbers
+abbrev pub Worked : Type 0 → Type 0 → Type 0
+Worked S A = Desk S (List (List A)) ℕ (BlockState ℕ (Unit {0}))
+
+-- lines with the stacks of their tags
+abbrev pub tagged : {A : Type 0} → List (List A) → List (Line ℕ (Unit {0})) → List (Line (List A) (Unit {0}))
+tagged stacks lines = lines_with (stack_at stacks) lines
+
+abbrev pub laid_out : {A : Type 0} → LaidOut A → List (Line (List A) (Unit {0}))
+laid_out l = tagged l.stacks (lines_in l.lines)
+
+-- the lines that the code makes from a desk
+abbrev pub work_lines : {S A : Type 0} → Decoration S A → Forest RenderNode → Worked S A → Option (List (Line (List A) (Unit {0})))
+work_lines {S} {A} d t s = shown_after d tabled state_operations (λ (r : Worked S A). tagged r.stacks r.block.lines) t s
+
+-- the desk of a layout without annotations
+abbrev pub Untagged : Type 0 → Type 0 → Type 0
+Untagged S K = Desk S K (Unit {0}) (BlockState (Unit {0}) (Unit {0}))
+
+-- the lines that the code makes from it
+abbrev pub untagged_work : {S A K : Type 0} → Decoration S A → Forest RenderNode → Untagged S K → Option (List (Line (Unit {0}) (Unit {0})))
+untagged_work {S} {A} {K} d t s = shown_after d untagged state_operations (λ (r : Untagged S K). r.block.lines) t s
