@@ -1,5 +1,6 @@
 -- One declaration more changes the property that it is of, and nothing else.
-use Rattle.std.proofs.Common.{◌≡◌, ℕ, ◌+◌, ◌<◌, Bool, true, false, List, [], ◌∷◌, ◌++◌, length, get_or, take, map, filter, Option, Some, None, option_map, option_to_list, String, refl, sym, ap, ◌∙◌, append_assoc, cond, inl, inr, Global}
+use Rattle.std.proofs.Common.{◌≡◌, ℕ, ◌+◌, ◌<◌, Bool, true, false, List, [], ◌∷◌, ◌++◌, length, get_or, take, map, filter, Option, Some, None}
+use Rattle.std.proofs.Common.{option_map, option_to_list, String, refl, sym, ap, ◌∙◌, append_assoc, cond, inl, inr, Global}
 use Rattle.std.proofs.lemmas.List.{append-nil, take_more}
 use Rattle.std.proofs.lemmas.List.Elements.{filter_map-append}
 use Rattle.std.proofs.lemmas.Bool.{cases_Bool}
@@ -16,22 +17,25 @@ use Rattle.html_render_dom.specs.declared.style.rules.PseudoElement.TheVariants.
 use Rattle.html_render_dom.specs.declared.style.origins.StyleOrigin.{StyleOrigin}
 use Rattle.html_render_dom.specs.declared.style.specificities.Specificity.{Specificity}
 use Rattle.html_render_dom.specs.declared.style.rules.Style.{Style}
-use Rattle.html_render_dom.specs.declared.style.rules.Style.TheVariants.{Colour as ColourSet, BgColour, Display as DisplaySet, WhiteSpace as WhiteSpaceSet, Content}
+use Rattle.html_render_dom.specs.declared.style.rules.Style.TheVariants.{Colour as ColourSet, BgColour, Display as DisplaySet}
+use Rattle.html_render_dom.specs.declared.style.rules.Style.TheVariants.{WhiteSpace as WhiteSpaceSet, Content}
 use Rattle.html_render_dom.specs.declared.style.rules.Declaration.{Declaration}
 use Rattle.html_render_dom.specs.declared.style.rules.StyleRule.{StyleRule}
 use Rattle.html_render_dom.specs.Selectors.{Subject, selects, specificity_of}
-use Rattle.html_render_dom.specs.Rules.{Setting, declared_of, rule_of}
+use Rattle.html_render_dom.specs.Rules.{StyleValue, declared_of, rule_of}
 use Rattle.html_render_dom.specs.Rules as set
-use Rattle.html_render_dom.specs.ElementStyle.{Applied, applied, ElementStyle, updates, with_more, with_declarations, colour_in, bg_colour_in, display_in, white_space_in, content_in, content_before_in, content_after_in}
+use Rattle.html_render_dom.specs.ElementStyle.{Applied, applied, ElementStyle, updates, with_more, with_declarations, colour_in, bg_colour_in}
+use Rattle.html_render_dom.specs.ElementStyle.{display_in, white_space_in, content_in, content_before_in, content_after_in}
 use Rattle.html_render_dom.specs.TextUpdates.{text_update}
-use Rattle.html_render_dom.specs.Winners.{later, yields, winner-one, winner-push, winner-front}
+use Rattle.html_render_dom.specs.laws.Winners.{later, yields, winner-one, winner-push, winner-front}
 use Rattle.html_render_dom.proofs.Keeps.{winner-left}
 
 -- the clause of `maybe_update`
 abbrev Takes : {T : Type 0} → Option (Update T) → Update T → Option (Update T) → Type 0
 Takes {T} old u new = (us : List (Update T)) → old ≡ winner us → new ≡ winner (us ++ u ∷ [])
 
-pub taken : {T : Type 0} (old : Option (Update T)) (u : Update T) (new : Option (Update T)) → Takes old u new → new ≡ winner (option_to_list old ++ u ∷ [])
+pub taken : {T : Type 0} (old : Option (Update T)) (u : Update T) (new : Option (Update T)) → Takes old u new →
+    new ≡ winner (option_to_list old ++ u ∷ [])
 taken old u new h = h (option_to_list old) (sym (winner-one old))
 
 pub untouched : {T : Type 0} (kept : Option (Update T)) → kept ≡ winner (option_to_list kept ++ [])
@@ -41,31 +45,39 @@ next : {T : Type 0} (kept : Option (Update T)) (u : Update T) → winner (option
 next kept u = winner-push (option_to_list kept) u ∙ ap (λ o. later yields o u) (winner-one kept)
 
 -- a content is taken where it wins
-pub content-taken : (old new : Option (Update (String Global))) (u : Update (String Global)) → Takes old u new → option_map text_update new ≡ winner (option_to_list (option_map text_update old) ++ text_update u ∷ [])
+pub content-taken : (old new : Option (Update (String Global))) (u : Update (String Global)) → Takes old u new →
+    option_map text_update new ≡ winner (option_to_list (option_map text_update old) ++ text_update u ∷ [])
 content-taken old new u h =
     ap (option_map text_update) (taken old u new h ∙ next old u) ∙ shown old ∙ sym (next (option_map text_update old) (text_update u))
   where
-    shown : (kept : Option (Update (String Global))) → option_map text_update (later yields kept u) ≡ later yields (option_map text_update kept) (text_update u)
+    shown : (kept : Option (Update (String Global))) →
+        option_map text_update (later yields kept u) ≡ later yields (option_map text_update kept) (text_update u)
     shown None = refl
-    shown (Some w) = elim (yields w u) as (λ b. option_map text_update (cond b (Some u) (Some w)) ≡ cond b (Some (text_update u)) (Some (text_update w))) [ true ↦ refl | false ↦ refl ]
+    shown (Some w) = elim (yields w u) as
+        (λ b. option_map text_update (cond b (Some u) (Some w))
+        ≡ cond b (Some (text_update u)) (Some (text_update w))) [ true ↦ refl | false ↦ refl ]
 
 -- and left where it doesn't
-pub content-left : (kept : Option (Update (String Global))) (u : Update (List ℕ)) → yields_to kept (key_of u) ≡ false → option_map text_update kept ≡ winner (option_to_list (option_map text_update kept) ++ u ∷ [])
+pub content-left : (kept : Option (Update (String Global))) (u : Update (List ℕ)) → yields_to kept (key_of u) ≡ false →
+    option_map text_update kept ≡ winner (option_to_list (option_map text_update kept) ++ u ∷ [])
 content-left kept u y =
-    winner-left (option_map text_update kept) u (option_to_list (option_map text_update kept)) (shown kept ∙ y) (sym (winner-one (option_map text_update kept)))
+    winner-left (option_map text_update kept) u (option_to_list (option_map text_update kept)) (shown kept ∙ y)
+    (sym (winner-one (option_map text_update kept)))
   where
     shown : (o : Option (Update (String Global))) → yields_to (option_map text_update o) (key_of u) ≡ yields_to o (key_of u)
     shown None = refl
     shown (Some w) = refl
 
 -- declarations one after another
-with_more-append : {T : Type 0} (property : Option PseudoElement → Setting → Option T) (kept : Option (Update T)) (front behind : List Applied) → with_more property (with_more property kept front) behind ≡ with_more property kept (front ++ behind)
+with_more-append : {T : Type 0} (property : Option PseudoElement → StyleValue → Option T) (kept : Option (Update T))
+    (front behind : List Applied) → with_more property (with_more property kept front) behind ≡ with_more property kept (front ++ behind)
 with_more-append property kept front behind =
     winner-front (option_to_list kept ++ updates property front) (updates property behind)
     ∙ ap winner (append_assoc (option_to_list kept) (updates property front) (updates property behind))
     ∙ ap (λ us. winner (option_to_list kept ++ us)) (sym (filter_map-append _ front behind))
 
-pub with_declarations-append : (s : ElementStyle) (front behind : List Applied) → with_declarations (with_declarations s front) behind ≡ with_declarations s (front ++ behind)
+pub with_declarations-append : (s : ElementStyle) (front behind : List Applied) →
+    with_declarations (with_declarations s front) behind ≡ with_declarations s (front ++ behind)
 with_declarations-append s front behind = λ i. record {
   colour = with_more-append colour_in s.colour front behind i;
   bg_colour = with_more-append bg_colour_in s.bg_colour front behind i;
@@ -90,7 +102,12 @@ with_declarations-none s = λ i. record {
 }
 
 -- a style in which each property is what the declaration makes of it
-pub each_property : (s t : ElementStyle) (declarations : List Applied) → t.colour ≡ with_more colour_in s.colour declarations → t.bg_colour ≡ with_more bg_colour_in s.bg_colour declarations → t.display ≡ with_more display_in s.display declarations → t.white_space ≡ with_more white_space_in s.white_space declarations → t.content ≡ with_more content_in s.content declarations → t.content_before ≡ with_more content_before_in s.content_before declarations → t.content_after ≡ with_more content_after_in s.content_after declarations → t.internal_pre ≡ s.internal_pre → t ≡ with_declarations s declarations
+pub each_property : (s t : ElementStyle) (declarations : List Applied) → t.colour ≡ with_more colour_in s.colour declarations →
+    t.bg_colour ≡ with_more bg_colour_in s.bg_colour declarations → t.display ≡ with_more display_in s.display declarations →
+    t.white_space ≡ with_more white_space_in s.white_space declarations → t.content ≡ with_more content_in s.content declarations →
+    t.content_before ≡ with_more content_before_in s.content_before declarations →
+    t.content_after ≡ with_more content_after_in s.content_after declarations → t.internal_pre ≡ s.internal_pre →
+    t ≡ with_declarations s declarations
 each_property s t declarations a b c d e f g h = λ i. record {
   colour = a i;
   bg_colour = b i;
@@ -104,51 +121,96 @@ each_property s t declarations a b c d e f g h = λ i. record {
 
 -- a declaration of one property
 module _ (s : ElementStyle) (important : Bool) (origin : StyleOrigin) (specificity : Specificity) where
-  abbrev one : Option PseudoElement → Setting → List Applied
-  one pseudo setting =
-      record { origin = origin; specificity = specificity; pseudo = pseudo; declared = record { important = important; setting = setting } } ∷ []
+  abbrev one : Option PseudoElement → StyleValue → List Applied
+  one pseudo value =
+      record { origin = origin; specificity = specificity; pseudo = pseudo; declared = record { important = important; style = value } }
+      ∷ []
 
   abbrev update_to : {T : Type 0} → T → Update T
   update_to x = record { important = important; origin = origin; specificity = specificity; value = x }
 
-  pub colour_taken : (x : Colour) (new : Option (Update Colour)) → Takes s.colour (update_to x) new → record s { colour = new } ≡ with_declarations s (one None (set.colour x))
-  colour_taken x new h = each_property s (record s { colour = new }) (one None (set.colour x)) (taken s.colour (update_to x) new h) (untouched s.bg_colour) (untouched s.display) (untouched s.white_space) (untouched s.content) (untouched s.content_before) (untouched s.content_after) refl
+  pub colour_taken : (x : Colour) (new : Option (Update Colour)) → Takes s.colour (update_to x) new →
+      record s { colour = new } ≡ with_declarations s (one None (set.colour x))
+  colour_taken x new h = each_property s (record s { colour = new }) (one None (set.colour x)) (taken s.colour (update_to x) new h)
+      (untouched s.bg_colour) (untouched s.display) (untouched s.white_space) (untouched s.content) (untouched s.content_before)
+      (untouched s.content_after) refl
 
-  pub bg_colour_taken : (x : Colour) (new : Option (Update Colour)) → Takes s.bg_colour (update_to x) new → record s { bg_colour = new } ≡ with_declarations s (one None (set.bg_colour x))
-  bg_colour_taken x new h = each_property s (record s { bg_colour = new }) (one None (set.bg_colour x)) (untouched s.colour) (taken s.bg_colour (update_to x) new h) (untouched s.display) (untouched s.white_space) (untouched s.content) (untouched s.content_before) (untouched s.content_after) refl
+  pub bg_colour_taken : (x : Colour) (new : Option (Update Colour)) → Takes s.bg_colour (update_to x) new →
+      record s { bg_colour = new } ≡ with_declarations s (one None (set.bg_colour x))
+  bg_colour_taken x new h = each_property s (record s { bg_colour = new }) (one None (set.bg_colour x)) (untouched s.colour)
+      (taken s.bg_colour (update_to x) new h) (untouched s.display) (untouched s.white_space) (untouched s.content)
+      (untouched s.content_before) (untouched s.content_after) refl
 
-  pub display_taken : (x : Display) (new : Option (Update Display)) → Takes s.display (update_to x) new → record s { display = new } ≡ with_declarations s (one None (set.display x))
-  display_taken x new h = each_property s (record s { display = new }) (one None (set.display x)) (untouched s.colour) (untouched s.bg_colour) (taken s.display (update_to x) new h) (untouched s.white_space) (untouched s.content) (untouched s.content_before) (untouched s.content_after) refl
+  pub display_taken : (x : Display) (new : Option (Update Display)) → Takes s.display (update_to x) new →
+      record s { display = new } ≡ with_declarations s (one None (set.display x))
+  display_taken x new h = each_property s (record s { display = new }) (one None (set.display x)) (untouched s.colour)
+      (untouched s.bg_colour) (taken s.display (update_to x) new h) (untouched s.white_space) (untouched s.content)
+      (untouched s.content_before) (untouched s.content_after) refl
 
-  pub white_space_taken : (x : WhiteSpace) (new : Option (Update WhiteSpace)) → Takes s.white_space (update_to x) new → record s { white_space = new } ≡ with_declarations s (one None (set.white_space x))
-  white_space_taken x new h = each_property s (record s { white_space = new }) (one None (set.white_space x)) (untouched s.colour) (untouched s.bg_colour) (untouched s.display) (taken s.white_space (update_to x) new h) (untouched s.content) (untouched s.content_before) (untouched s.content_after) refl
+  pub white_space_taken : (x : WhiteSpace) (new : Option (Update WhiteSpace)) → Takes s.white_space (update_to x) new →
+      record s { white_space = new } ≡ with_declarations s (one None (set.white_space x))
+  white_space_taken x new h =
+      each_property s (record s { white_space = new }) (one None (set.white_space x)) (untouched s.colour) (untouched s.bg_colour)
+      (untouched s.display) (taken s.white_space (update_to x) new h) (untouched s.content) (untouched s.content_before)
+      (untouched s.content_after) refl
 
-  pub content_taken : (x : List ℕ) (new : Option (Update (List ℕ))) → new ≡ winner (option_to_list s.content ++ update_to x ∷ []) → record s { content = new } ≡ with_declarations s (one None (set.content x))
-  content_taken x new h = each_property s (record s { content = new }) (one None (set.content x)) (untouched s.colour) (untouched s.bg_colour) (untouched s.display) (untouched s.white_space) h (untouched s.content_before) (untouched s.content_after) refl
+  pub content_taken : (x : List ℕ) (new : Option (Update (List ℕ))) → new ≡ winner (option_to_list s.content ++ update_to x ∷ []) →
+      record s { content = new } ≡ with_declarations s (one None (set.content x))
+  content_taken x new h = each_property s (record s { content = new }) (one None (set.content x)) (untouched s.colour)
+      (untouched s.bg_colour) (untouched s.display) (untouched s.white_space) h (untouched s.content_before)
+      (untouched s.content_after) refl
 
-  pub content_before_taken : (x : List ℕ) (new : Option (Update (List ℕ))) → new ≡ winner (option_to_list s.content_before ++ update_to x ∷ []) → record s { content_before = new } ≡ with_declarations s (one (Some Before) (set.content x))
-  content_before_taken x new h = each_property s (record s { content_before = new }) (one (Some Before) (set.content x)) (untouched s.colour) (untouched s.bg_colour) (untouched s.display) (untouched s.white_space) (untouched s.content) h (untouched s.content_after) refl
+  pub content_before_taken : (x : List ℕ) (new : Option (Update (List ℕ))) →
+      new ≡ winner (option_to_list s.content_before ++ update_to x ∷ []) →
+      record s { content_before = new } ≡ with_declarations s (one (Some Before) (set.content x))
+  content_before_taken x new h =
+      each_property s (record s { content_before = new }) (one (Some Before) (set.content x)) (untouched s.colour) (untouched s.bg_colour)
+      (untouched s.display) (untouched s.white_space) (untouched s.content) h (untouched s.content_after) refl
 
-  pub content_after_taken : (x : List ℕ) (new : Option (Update (List ℕ))) → new ≡ winner (option_to_list s.content_after ++ update_to x ∷ []) → record s { content_after = new } ≡ with_declarations s (one (Some After) (set.content x))
-  content_after_taken x new h = each_property s (record s { content_after = new }) (one (Some After) (set.content x)) (untouched s.colour) (untouched s.bg_colour) (untouched s.display) (untouched s.white_space) (untouched s.content) (untouched s.content_before) h refl
+  pub content_after_taken : (x : List ℕ) (new : Option (Update (List ℕ))) →
+      new ≡ winner (option_to_list s.content_after ++ update_to x ∷ []) →
+      record s { content_after = new } ≡ with_declarations s (one (Some After) (set.content x))
+  content_after_taken x new h =
+      each_property s (record s { content_after = new }) (one (Some After) (set.content x)) (untouched s.colour) (untouched s.bg_colour)
+      (untouched s.display) (untouched s.white_space) (untouched s.content) (untouched s.content_before) h refl
 
   -- beside an element's children only content counts
-  pub other_beside : (place : PseudoElement) (style : Style) → ((text : String Global) → style ≡ Content text → ⊥) → s ≡ with_declarations s (one (Some place) (set.setting_of style))
-  other_beside Before (ColourSet x) h = each_property s s (one (Some Before) (set.setting_of (ColourSet x))) (untouched s.colour) (untouched s.bg_colour) (untouched s.display) (untouched s.white_space) (untouched s.content) (untouched s.content_before) (untouched s.content_after) refl
-  other_beside After (ColourSet x) h = each_property s s (one (Some After) (set.setting_of (ColourSet x))) (untouched s.colour) (untouched s.bg_colour) (untouched s.display) (untouched s.white_space) (untouched s.content) (untouched s.content_before) (untouched s.content_after) refl
-  other_beside Before (BgColour x) h = each_property s s (one (Some Before) (set.setting_of (BgColour x))) (untouched s.colour) (untouched s.bg_colour) (untouched s.display) (untouched s.white_space) (untouched s.content) (untouched s.content_before) (untouched s.content_after) refl
-  other_beside After (BgColour x) h = each_property s s (one (Some After) (set.setting_of (BgColour x))) (untouched s.colour) (untouched s.bg_colour) (untouched s.display) (untouched s.white_space) (untouched s.content) (untouched s.content_before) (untouched s.content_after) refl
-  other_beside Before (DisplaySet x) h = each_property s s (one (Some Before) (set.setting_of (DisplaySet x))) (untouched s.colour) (untouched s.bg_colour) (untouched s.display) (untouched s.white_space) (untouched s.content) (untouched s.content_before) (untouched s.content_after) refl
-  other_beside After (DisplaySet x) h = each_property s s (one (Some After) (set.setting_of (DisplaySet x))) (untouched s.colour) (untouched s.bg_colour) (untouched s.display) (untouched s.white_space) (untouched s.content) (untouched s.content_before) (untouched s.content_after) refl
-  other_beside Before (WhiteSpaceSet x) h = each_property s s (one (Some Before) (set.setting_of (WhiteSpaceSet x))) (untouched s.colour) (untouched s.bg_colour) (untouched s.display) (untouched s.white_space) (untouched s.content) (untouched s.content_before) (untouched s.content_after) refl
-  other_beside After (WhiteSpaceSet x) h = each_property s s (one (Some After) (set.setting_of (WhiteSpaceSet x))) (untouched s.colour) (untouched s.bg_colour) (untouched s.display) (untouched s.white_space) (untouched s.content) (untouched s.content_before) (untouched s.content_after) refl
+  pub other_beside : (place : PseudoElement) (style : Style) → ((text : String Global) → style ≡ Content text → ⊥) →
+      s ≡ with_declarations s (one (Some place) (set.style_value_of style))
+  other_beside Before (ColourSet x) h =
+      each_property s s (one (Some Before) (set.style_value_of (ColourSet x))) (untouched s.colour) (untouched s.bg_colour)
+      (untouched s.display) (untouched s.white_space) (untouched s.content) (untouched s.content_before) (untouched s.content_after) refl
+  other_beside After (ColourSet x) h =
+      each_property s s (one (Some After) (set.style_value_of (ColourSet x))) (untouched s.colour) (untouched s.bg_colour)
+      (untouched s.display) (untouched s.white_space) (untouched s.content) (untouched s.content_before) (untouched s.content_after) refl
+  other_beside Before (BgColour x) h =
+      each_property s s (one (Some Before) (set.style_value_of (BgColour x))) (untouched s.colour) (untouched s.bg_colour)
+      (untouched s.display) (untouched s.white_space) (untouched s.content) (untouched s.content_before) (untouched s.content_after) refl
+  other_beside After (BgColour x) h =
+      each_property s s (one (Some After) (set.style_value_of (BgColour x))) (untouched s.colour) (untouched s.bg_colour)
+      (untouched s.display) (untouched s.white_space) (untouched s.content) (untouched s.content_before) (untouched s.content_after) refl
+  other_beside Before (DisplaySet x) h =
+      each_property s s (one (Some Before) (set.style_value_of (DisplaySet x))) (untouched s.colour) (untouched s.bg_colour)
+      (untouched s.display) (untouched s.white_space) (untouched s.content) (untouched s.content_before) (untouched s.content_after) refl
+  other_beside After (DisplaySet x) h =
+      each_property s s (one (Some After) (set.style_value_of (DisplaySet x))) (untouched s.colour) (untouched s.bg_colour)
+      (untouched s.display) (untouched s.white_space) (untouched s.content) (untouched s.content_before) (untouched s.content_after) refl
+  other_beside Before (WhiteSpaceSet x) h =
+      each_property s s (one (Some Before) (set.style_value_of (WhiteSpaceSet x))) (untouched s.colour) (untouched s.bg_colour)
+      (untouched s.display) (untouched s.white_space) (untouched s.content) (untouched s.content_before) (untouched s.content_after) refl
+  other_beside After (WhiteSpaceSet x) h =
+      each_property s s (one (Some After) (set.style_value_of (WhiteSpaceSet x))) (untouched s.colour) (untouched s.bg_colour)
+      (untouched s.display) (untouched s.white_space) (untouched s.content) (untouched s.content_before) (untouched s.content_after) refl
   other_beside place (Content text) h = absurd (h text refl)
 
 -- the declarations of one thing more
-pub with_declarations-more : {X : Type 0} (f : X → List Applied) (s : ElementStyle) (xs : List X) (i : ℕ) (x : X) → i < length xs → x ≡ get_or xs i x → with_declarations (with_declarations s (flat_map f (take i xs))) (f x) ≡ with_declarations s (flat_map f (take (i + 1) xs))
+pub with_declarations-more : {X : Type 0} (f : X → List Applied) (s : ElementStyle) (xs : List X) (i : ℕ) (x : X) → i < length xs →
+    x ≡ get_or xs i x → with_declarations (with_declarations s (flat_map f (take i xs))) (f x)
+    ≡ with_declarations s (flat_map f (take (i + 1) xs))
 with_declarations-more f s xs i x lt e =
     with_declarations-append s (flat_map f (take i xs)) (f x)
-    ∙ ap (with_declarations s) (ap (λ zs. flat_map f (take i xs) ++ zs) (sym (append-nil (f x))) ∙ sym (flat_map-append f (take i xs) (x ∷ [])) ∙ ap (flat_map f) (sym one_more))
+    ∙ ap (with_declarations s) (ap (λ zs. flat_map f (take i xs) ++ zs) (sym (append-nil (f x)))
+    ∙ sym (flat_map-append f (take i xs) (x ∷ [])) ∙ ap (flat_map f) (sym one_more))
   where
     one_more : take (i + 1) xs ≡ take i xs ++ x ∷ []
     one_more = take_more xs i x lt ∙ ap (λ z. take i xs ++ z ∷ []) (sym e)
@@ -158,18 +220,28 @@ abbrev pub said_by : StyleOrigin → Specificity → Option PseudoElement → De
 said_by origin specificity pseudo d =
     record { origin = origin; specificity = specificity; pseudo = pseudo; declared = declared_of d } ∷ []
 
-pub said_by-all : (rule : StyleRule) → flat_map (said_by rule.origin (specificity_of (rule_of rule)) rule.pseudo) rule.declarations.items ≡ applied (rule_of rule)
+pub said_by-all : (rule : StyleRule) →
+    flat_map (said_by rule.origin (specificity_of (rule_of rule)) rule.pseudo) rule.declarations.items ≡ applied (rule_of rule)
 said_by-all rule = each rule.declarations.items
   where
-    each : (ds : List Declaration) → flat_map (said_by rule.origin (specificity_of (rule_of rule)) rule.pseudo) ds ≡ map (λ d. record { origin = rule.origin; specificity = specificity_of (rule_of rule); pseudo = rule.pseudo; declared = d }) (map declared_of ds)
+    each : (ds : List Declaration) →
+        flat_map (said_by rule.origin (specificity_of (rule_of rule)) rule.pseudo) ds
+        ≡ map (λ d. record { origin = rule.origin; specificity = specificity_of (rule_of rule); pseudo = rule.pseudo; declared = d })
+        (map declared_of ds)
     each [] = refl
-    each (d ∷ ds) = ap (λ more. record { origin = rule.origin; specificity = specificity_of (rule_of rule); pseudo = rule.pseudo; declared = declared_of d } ∷ more) (each ds)
+    each (d ∷ ds) = ap (λ more. record {
+      origin = rule.origin;
+      specificity = specificity_of (rule_of rule);
+      pseudo = rule.pseudo;
+      declared = declared_of d;
+    } ∷ more) (each ds)
 
 -- the declarations of a rule, if it selects the element
 abbrev pub said_to : Subject → StyleRule → List Applied
 said_to subject rule = cond (selects (rule_of rule) subject) (applied (rule_of rule)) []
 
-pub said_to-all : (subject : Subject) (rules : List StyleRule) → flat_map (said_to subject) rules ≡ flat_map applied (filter (λ rule. selects rule subject) (map rule_of rules))
+pub said_to-all : (subject : Subject) (rules : List StyleRule) →
+    flat_map (said_to subject) rules ≡ flat_map applied (filter (λ rule. selects rule subject) (map rule_of rules))
 said_to-all subject [] = refl
 said_to-all subject (r ∷ rules) =
     elim (cases_Bool (selects (rule_of r) subject)) [
@@ -177,10 +249,12 @@ said_to-all subject (r ∷ rules) =
       | inr e ↦ rw e (said_to-all subject rules)
     ]
 
-pub said_to-selected : (subject : Subject) (rule : StyleRule) → selects (rule_of rule) subject ≡ true → applied (rule_of rule) ≡ said_to subject rule
+pub said_to-selected : (subject : Subject) (rule : StyleRule) → selects (rule_of rule) subject ≡ true →
+    applied (rule_of rule) ≡ said_to subject rule
 said_to-selected subject rule e = rw e refl
 
-pub said_to-other : (subject : Subject) (rule : StyleRule) (s : ElementStyle) → selects (rule_of rule) subject ≡ false → s ≡ with_declarations s (said_to subject rule)
+pub said_to-other : (subject : Subject) (rule : StyleRule) (s : ElementStyle) → selects (rule_of rule) subject ≡ false →
+    s ≡ with_declarations s (said_to subject rule)
 said_to-other subject rule s e = rw e (sym (with_declarations-none s))
 
 pub ruleset contents = (content-taken, content-left)

@@ -1,14 +1,15 @@
 -- What is left of a dump, step by step.
-use Rattle.std.proofs.Common.{◌≡◌, ℕ, ◌<◌, ◌≤◌, ◌+◌, ◌-◌, ◌*◌, List, [], ◌∷◌, ◌++◌, length, drop, slice_index_or, Result, Ok, Err, OnOk, Option, Bool, Contains, refl, sym, ap, ◌∙◌, subst, arith, append_assoc, codes}
-use Rattle.std.proofs.lemmas.List.{append-nil, at_drop_more, at_drop_all}
+use Rattle.std.proofs.Common.{◌≡◌, ℕ, ◌<◌, ◌≤◌, ◌+◌, ◌-◌, ◌*◌, List, [], ◌∷◌, ◌++◌, length, drop, slice_index_or, Result, Ok, Err, OnOk, Option}
+use Rattle.std.proofs.Common.{Bool, Contains, refl, sym, ap, ◌∙◌, subst, arith, append_assoc}
+use Rattle.std.proofs.lemmas.List.{append-nil, at_drop_more}
 use Rattle.std.proofs.lemmas.List.Elements.{Contains-get_or}
 use Rattle.std.proofs.lemmas.List.Sums.{sum_by-append}
 use Rattle.html_render_dom.specs.declared.dom.dump.Frame.{Frame}
 use Rattle.html_render_dom.specs.Content.{Content, Name, Property, document, doctype, text, comment, element, instruction}
 use Rattle.html_render_dom.specs.Forest.{Forest, none, node, count, depth}
 use Rattle.html_render_dom.specs.Dom.{Dom, node_count, IsNode, content_at, children_at, trees_of, tree_of, IsForest}
-use Rattle.html_render_dom.specs.Trees.{trees_of-cons}
-use Rattle.html_render_dom.specs.Dump.{dump, line, start_line, end_line, text_line}
+use Rattle.html_render_dom.specs.laws.Trees.{trees_of-cons}
+use Rattle.html_render_dom.specs.Dump.{dump, start_line, end_line}
 use Rattle.html_render_dom.specs.Frames.{left_of, end_of, rest_of, rest, FrameFits, steps_of, steps}
 
 pub on_ok : {T E P Q : Type 0} (r : Result T E) → OnOk r P → (P → Q) → OnOk r Q
@@ -35,82 +36,100 @@ steps-push dom fs f = let e = sum_by-append (steps_of dom) fs (f ∷ []) in omeg
 abbrev pub after_child : Frame → Frame
 after_child f = record { node = f.node; passed = f.passed + 1; indent = f.indent }
 
-pub tree-node : (dom : Dom) → IsForest dom → (h : ℕ) → IsNode dom h → tree_of dom h ≡ node (content_at dom h) (trees_of dom (children_at dom h)) none
+pub tree-node : (dom : Dom) → IsForest dom → (h : ℕ) → IsNode dom h →
+    tree_of dom h ≡ node (content_at dom h) (trees_of dom (children_at dom h)) none
 tree-node dom f h at = trees_of-cons dom f h [] at
 
-pub left-child : (dom : Dom) → IsForest dom → (f : Frame) (x : ℕ) → f.passed < length (children_at dom f.node) → x ≡ slice_index_or (children_at dom f.node) f.passed x → IsNode dom x → left_of dom f ≡ node (content_at dom x) (trees_of dom (children_at dom x)) (left_of dom (after_child f))
+pub left-child : (dom : Dom) → IsForest dom → (f : Frame) (x : ℕ) → f.passed < length (children_at dom f.node) →
+    x ≡ slice_index_or (children_at dom f.node) f.passed x → IsNode dom x →
+    left_of dom f ≡ node (content_at dom x) (trees_of dom (children_at dom x)) (left_of dom (after_child f))
 left-child dom g f x lt e at =
     let xs = children_at dom f.node in
-    at_drop_more (trees_of dom) xs f.passed x lt ∙ ap (λ y. trees_of dom (y ∷ drop (f.passed + 1) xs)) (sym e) ∙ trees_of-cons dom g x (drop (f.passed + 1) xs) at
+    at_drop_more (trees_of dom) xs f.passed x lt ∙ ap (λ y. trees_of dom (y ∷ drop (f.passed + 1) xs)) (sym e)
+    ∙ trees_of-cons dom g x (drop (f.passed + 1) xs) at
 
-pub rest-child : (dom : Dom) → IsForest dom → (f : Frame) (x : ℕ) → f.passed < length (children_at dom f.node) → x ≡ slice_index_or (children_at dom f.node) f.passed x → IsNode dom x → rest_of dom f ≡ dump f.indent (tree_of dom x) ++ rest_of dom (after_child f)
+pub rest-child : (dom : Dom) → IsForest dom → (f : Frame) (x : ℕ) → f.passed < length (children_at dom f.node) →
+    x ≡ slice_index_or (children_at dom f.node) f.passed x → IsNode dom x →
+    rest_of dom f ≡ dump f.indent (tree_of dom x) ++ rest_of dom (after_child f)
 rest-child dom g f x lt e at =
     let kids = trees_of dom (children_at dom x) in
     let c = content_at dom x in
     let later = left_of dom (after_child f) in
     let ending = end_of f.indent (content_at dom f.node) in
-    ap (λ t. dump f.indent t ++ ending) (left-child dom g f x lt e at) ∙ ap (λ d. d ++ ending) (dump-beside f.indent c kids later) ∙ append_assoc (dump f.indent (node c kids none)) (dump f.indent later) ending ∙ ap (λ t. dump f.indent t ++ (dump f.indent later ++ ending)) (sym (tree-node dom g x at))
-
-pub rest-last : (dom : Dom) (f : Frame) → length (children_at dom f.node) ≤ f.passed → rest_of dom f ≡ end_of f.indent (content_at dom f.node)
-rest-last dom f le = ap (λ t. dump f.indent t ++ end_of f.indent (content_at dom f.node)) (at_drop_all (trees_of dom) (children_at dom f.node) f.passed le)
+    ap (λ t. dump f.indent t ++ ending) (left-child dom g f x lt e at) ∙ ap (λ d. d ++ ending) (dump-beside f.indent c kids later)
+    ∙ append_assoc (dump f.indent (node c kids none)) (dump f.indent later) ending
+    ∙ ap (λ t. dump f.indent t ++ (dump f.indent later ++ ending)) (sym (tree-node dom g x at))
 
 -- the start of a node is written: what is left of it stands in one more open node, or nothing is
-pub opened : (dom : Dom) (out out' a d : List ℕ) (fs fs' : List Frame) (f : Frame) → out' ≡ out ++ a → fs' ≡ fs ++ f ∷ [] → d ≡ a ++ rest_of dom f → out' ++ rest dom fs' ≡ out ++ (d ++ rest dom fs)
+pub opened : (dom : Dom) (out out' a d : List ℕ) (fs fs' : List Frame) (f : Frame) → out' ≡ out ++ a → fs' ≡ fs ++ f ∷ [] →
+    d ≡ a ++ rest_of dom f → out' ++ rest dom fs' ≡ out ++ (d ++ rest dom fs)
 opened dom out out' a d fs fs' f e g h =
     let pushed = ap (rest dom) g ∙ rest-push dom fs f in
-    ap (λ o. o ++ rest dom fs') e ∙ ap (λ r. (out ++ a) ++ r) pushed ∙ append_assoc out a (rest_of dom f ++ rest dom fs) ∙ ap (λ r. out ++ r) (sym (append_assoc a (rest_of dom f) (rest dom fs)) ∙ ap (λ x. x ++ rest dom fs) (sym h))
+    ap (λ o. o ++ rest dom fs') e ∙ ap (λ r. (out ++ a) ++ r) pushed ∙ append_assoc out a (rest_of dom f ++ rest dom fs)
+    ∙ ap (λ r. out ++ r) (sym (append_assoc a (rest_of dom f) (rest dom fs)) ∙ ap (λ x. x ++ rest dom fs) (sym h))
 
 -- an open node, none of whose children is written
 abbrev pub fresh_frame : (h indent : ℕ) → Frame
 fresh_frame h indent = record { node = h; passed = 0; indent = indent }
 
-by_content : (dom : Dom) → IsForest dom → (h indent : ℕ) (c : Content) → IsNode dom h → content_at dom h ≡ c → dump indent (tree_of dom h) ≡ dump indent (node c (trees_of dom (children_at dom h)) none)
-by_content dom f h indent c at e = ap (dump indent) (tree-node dom f h at) ∙ ap (λ x. dump indent (node x (trees_of dom (children_at dom h)) none)) e
+by_content : (dom : Dom) → IsForest dom → (h indent : ℕ) (c : Content) → IsNode dom h → content_at dom h ≡ c →
+    dump indent (tree_of dom h) ≡ dump indent (node c (trees_of dom (children_at dom h)) none)
+by_content dom f h indent c at e = ap (dump indent) (tree-node dom f h at)
+    ∙ ap (λ x. dump indent (node x (trees_of dom (children_at dom h)) none)) e
 
-pub dump-document : (dom : Dom) → IsForest dom → (h indent : ℕ) → IsNode dom h → content_at dom h ≡ document → dump indent (tree_of dom h) ≡ rest_of dom (fresh_frame h indent)
-dump-document dom f h indent at e = by_content dom f h indent document at e ∙ ap (λ c. dump indent (trees_of dom (children_at dom h)) ++ end_of indent c) (sym e)
+pub dump-document : (dom : Dom) → IsForest dom → (h indent : ℕ) → IsNode dom h → content_at dom h ≡ document →
+    dump indent (tree_of dom h) ≡ rest_of dom (fresh_frame h indent)
+dump-document dom f h indent at e = by_content dom f h indent document at e
+    ∙ ap (λ c. dump indent (trees_of dom (children_at dom h)) ++ end_of indent c) (sym e)
 
-pub dump-element : (dom : Dom) → IsForest dom → (h indent : ℕ) (name : Name) (properties : List Property) (template_contents : Option ℕ) (point : Bool) → IsNode dom h → content_at dom h ≡ element name properties template_contents point → dump indent (tree_of dom h) ≡ start_line indent name.local ++ rest_of dom (fresh_frame h (indent + 1))
+pub dump-element : (dom : Dom) → IsForest dom →
+    (h indent : ℕ) (name : Name) (properties : List Property) (template_contents : Option ℕ) (point : Bool) → IsNode dom h →
+    content_at dom h ≡ element name properties template_contents point →
+    dump indent (tree_of dom h) ≡ start_line indent name.local ++ rest_of dom (fresh_frame h (indent + 1))
 dump-element dom f h indent name properties template_contents point at e =
     let c = element name properties template_contents point in
     let kids = dump (indent + 1) (trees_of dom (children_at dom h)) in
     let less : indent + 1 - 1 ≡ indent = omega arith in
-    by_content dom f h indent c at e ∙ append-nil (start_line indent name.local ++ (kids ++ end_line indent name.local)) ∙ ap (λ i. start_line indent name.local ++ (kids ++ end_line i name.local)) (sym less) ∙ ap (λ x. start_line indent name.local ++ (kids ++ end_of (indent + 1) x)) (sym e)
-
-pub dump-doctype : (dom : Dom) → IsForest dom → (h indent : ℕ) (a b d : List ℕ) → IsNode dom h → content_at dom h ≡ doctype a b d → dump indent (tree_of dom h) ≡ line indent (codes "<doctype>")
-dump-doctype dom f h indent a b d at e = by_content dom f h indent (doctype a b d) at e ∙ append-nil (line indent (codes "<doctype>"))
-
-pub dump-text : (dom : Dom) → IsForest dom → (h indent : ℕ) (contents : List ℕ) → IsNode dom h → content_at dom h ≡ text contents → dump indent (tree_of dom h) ≡ text_line indent contents
-dump-text dom f h indent contents at e = by_content dom f h indent (text contents) at e ∙ append-nil (text_line indent contents)
+    by_content dom f h indent c at e ∙ append-nil (start_line indent name.local ++ (kids ++ end_line indent name.local))
+    ∙ ap (λ i. start_line indent name.local ++ (kids ++ end_line i name.local)) (sym less)
+    ∙ ap (λ x. start_line indent name.local ++ (kids ++ end_of (indent + 1) x)) (sym e)
 
 -- what a child of an open node is
-pub child-facts : (dom : Dom) → IsForest dom → (f : Frame) (xs : List ℕ) (x : ℕ) → xs ≡ children_at dom f.node → f.passed < length xs → x ≡ slice_index_or xs f.passed x → (f.passed < length (children_at dom f.node)) × (x ≡ slice_index_or (children_at dom f.node) f.passed x) × IsNode dom x
+pub child-facts : (dom : Dom) → IsForest dom → (f : Frame) (xs : List ℕ) (x : ℕ) → xs ≡ children_at dom f.node → f.passed < length xs →
+    x ≡ slice_index_or xs f.passed x →
+    (f.passed < length (children_at dom f.node)) × (x ≡ slice_index_or (children_at dom f.node) f.passed x) × IsNode dom x
 child-facts dom g f xs x e lt at =
     let lt' : f.passed < length (children_at dom f.node) = omega (arith, lt, ap length e) in
-    let at' : x ≡ slice_index_or (children_at dom f.node) f.passed x = subst (λ ys. x ≡ slice_index_or ys f.passed x) e at in
-    (lt', at', g.child_is_node f.node x (subst (Contains (children_at dom f.node)) (sym at') (Contains-get_or (children_at dom f.node) f.passed x lt')))
+    let at' : x ≡ slice_index_or (children_at dom f.node) f.passed x = subst (λ ys. x ≡ slice_index_or ys f.passed x) e at in (
+      lt',
+      at',
+      g.child_is_node f.node x
+          (subst (Contains (children_at dom f.node)) (sym at') (Contains-get_or (children_at dom f.node) f.passed x lt')),
+    )
 
-pub fits-after : (dom : Dom) → IsForest dom → (f : Frame) (x : ℕ) → (f.passed < length (children_at dom f.node)) × (x ≡ slice_index_or (children_at dom f.node) f.passed x) × IsNode dom x → FrameFits dom f → FrameFits dom (after_child f)
+pub fits-after : (dom : Dom) → IsForest dom → (f : Frame) (x : ℕ) →
+    (f.passed < length (children_at dom f.node)) × (x ≡ slice_index_or (children_at dom f.node) f.passed x) × IsNode dom x →
+    FrameFits dom f → FrameFits dom (after_child f)
 fits-after dom g f x p h = let e = ap depth (left-child dom g f x p.0 p.1 p.2) in (h.0, omega (arith, e, h.1))
 
 -- a child's start is written, and what is left of its parent stands in the frame below
-pub stepped : (dom : Dom) → IsForest dom → (f : Frame) (x : ℕ) → (f.passed < length (children_at dom f.node)) × (x ≡ slice_index_or (children_at dom f.node) f.passed x) × IsNode dom x → (out : List ℕ) (fs fs' : List Frame) → fs' ≡ fs ++ after_child f ∷ [] → out ++ (dump f.indent (tree_of dom x) ++ rest dom fs') ≡ out ++ (rest_of dom f ++ rest dom fs)
+pub stepped : (dom : Dom) → IsForest dom → (f : Frame) (x : ℕ) →
+    (f.passed < length (children_at dom f.node)) × (x ≡ slice_index_or (children_at dom f.node) f.passed x) × IsNode dom x →
+    (out : List ℕ) (fs fs' : List Frame) → fs' ≡ fs ++ after_child f ∷ [] →
+    out ++ (dump f.indent (tree_of dom x) ++ rest dom fs') ≡ out ++ (rest_of dom f ++ rest dom fs)
 stepped dom g f x p out fs fs' e =
     let d = dump f.indent (tree_of dom x) in
     let pushed = ap (rest dom) e ∙ rest-push dom fs (after_child f) in
-    ap (λ r. out ++ (d ++ r)) pushed ∙ ap (λ r. out ++ r) (sym (append_assoc d (rest_of dom (after_child f)) (rest dom fs)) ∙ ap (λ r. r ++ rest dom fs) (sym (rest-child dom g f x p.0 p.1 p.2)))
+    ap (λ r. out ++ (d ++ r)) pushed
+    ∙ ap (λ r. out ++ r) (sym (append_assoc d (rest_of dom (after_child f)) (rest dom fs))
+    ∙ ap (λ r. r ++ rest dom fs) (sym (rest-child dom g f x p.0 p.1 p.2)))
 
-pub steps-after : (dom : Dom) → IsForest dom → (f : Frame) (x : ℕ) → (f.passed < length (children_at dom f.node)) × (x ≡ slice_index_or (children_at dom f.node) f.passed x) × IsNode dom x → (fs fs' : List Frame) → fs' ≡ fs ++ after_child f ∷ [] → 2 * count (tree_of dom x) + steps dom fs' ≤ steps_of dom f + steps dom fs
-steps-after dom g f x p fs fs' e =
-    let a = ap count (left-child dom g f x p.0 p.1 p.2) in
-    let b = ap count (tree-node dom g x p.2) in
-    let s = ap (steps dom) e ∙ steps-push dom fs (after_child f) in
-    omega (arith, a, b, s)
-
-pub fits-fresh : (dom : Dom) → IsForest dom → (h indent i : ℕ) → IsNode dom h → i ≤ indent + 1 → indent + depth (tree_of dom h) ≤ node_count dom → FrameFits dom (fresh_frame h i)
+pub fits-fresh : (dom : Dom) → IsForest dom → (h indent i : ℕ) → IsNode dom h → i ≤ indent + 1 →
+    indent + depth (tree_of dom h) ≤ node_count dom → FrameFits dom (fresh_frame h i)
 fits-fresh dom g h indent i at le fits = let e = ap depth (tree-node dom g h at) in (at, omega (arith, e, fits, le))
 
-pub steps-fresh : (dom : Dom) → IsForest dom → (h i : ℕ) → IsNode dom h → (fs fs' : List Frame) → fs' ≡ fs ++ fresh_frame h i ∷ [] → steps dom fs' < 2 * count (tree_of dom h) + steps dom fs
+pub steps-fresh : (dom : Dom) → IsForest dom → (h i : ℕ) → IsNode dom h → (fs fs' : List Frame) → fs' ≡ fs ++ fresh_frame h i ∷ [] →
+    steps dom fs' < 2 * count (tree_of dom h) + steps dom fs
 steps-fresh dom g h i at fs fs' e =
     let a = ap count (tree-node dom g h at) in
     let s = ap (steps dom) e ∙ steps-push dom fs (fresh_frame h i) in

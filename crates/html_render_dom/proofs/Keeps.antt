@@ -3,15 +3,17 @@ use Rattle.std.proofs.Common.{◌≡◌, true, false, List, [], ◌∷◌, ◌++
 use Rattle.html_render_dom.specs.declared.style.updates.Update.{Update}
 use Rattle.html_render_dom.specs.Cascade.{key_of, winner}
 use Rattle.html_render_dom.specs.Keeping.{yields_to}
-use Rattle.html_render_dom.specs.Winners.{later, yields, winner-push}
+use Rattle.html_render_dom.specs.laws.Winners.{later, yields, winner-push}
 
 -- an update that takes the place of the one that is kept
-pub winner-taken : {T : Type 0} (kept : Option (Update T)) (u : Update T) (us : List (Update T)) → yields_to kept (key_of u) ≡ true → kept ≡ winner us → Some u ≡ winner (us ++ u ∷ [])
+pub winner-taken : {T : Type 0} (kept : Option (Update T)) (u : Update T) (us : List (Update T)) → yields_to kept (key_of u) ≡ true →
+    kept ≡ winner us → Some u ≡ winner (us ++ u ∷ [])
 winner-taken None u us y e = sym (winner-push us u ∙ ap (λ o. later yields o u) (sym e))
 winner-taken (Some w) u us y e = sym (winner-push us u ∙ ap (λ o. later yields o u) (sym e) ∙ rw y refl)
 
 -- an update that doesn't
-pub winner-left : {T : Type 0} (kept : Option (Update T)) (u : Update T) (us : List (Update T)) → yields_to kept (key_of u) ≡ false → kept ≡ winner us → kept ≡ winner (us ++ u ∷ [])
+pub winner-left : {T : Type 0} (kept : Option (Update T)) (u : Update T) (us : List (Update T)) → yields_to kept (key_of u) ≡ false →
+    kept ≡ winner us → kept ≡ winner (us ++ u ∷ [])
 winner-left None u us y e = cc
 winner-left (Some w) u us y e = sym (winner-push us u ∙ ap (λ o. later yields o u) (sym e) ∙ rw y refl)
 

@@ -1,5 +1,7 @@
 -- Lists of children, after the calls that change them.
-use Rattle.std.proofs.Common.{◌≡◌, ◌≢◌, ◌==◌, ℕ, zero, suc, ◌+◌, ◌-◌, ◌<◌, ◌≤◌, false, not, cond, nat_eq, ltb, if◌then◌else◌, List, [], ◌∷◌, ◌++◌, length, slice_get, slice_index_or, Option, Some, None, Contains, Result, Ok, Err, IsOk, ◌⊎◌, inl, inr, refl, sym, ap, ◌∙◌, subst, arith}
+use Rattle.std.proofs.Common.{◌≡◌, ◌≢◌, ◌==◌, ℕ, zero, suc, ◌+◌, ◌-◌, ◌<◌, ◌≤◌, false, not, cond, nat_eq, ltb, if◌then◌else◌, List, [], ◌∷◌, ◌++◌}
+use Rattle.std.proofs.Common.{length, slice_get, slice_index_or, Option, Some, None, Contains, Result, Ok, Err, IsOk, ◌⊎◌, inl, inr, refl, sym, ap}
+use Rattle.std.proofs.Common.{◌∙◌, subst, arith}
 use Rattle.std.specs.Result.{is_ok}
 use Rattle.std.specs.List.{insert, position_or_len, IsDistinct, AllByRecursion}
 use Rattle.std.proofs.lemmas.Bool.{false≢true, cases_Bool, ltb-true, ltb-false}
@@ -7,8 +9,8 @@ use Rattle.std.proofs.lemmas.Bool.Decides.{eqb_tells}
 use Rattle.std.proofs.lemmas.List.Edits.{insert-append_right}
 use Rattle.std.proofs.lemmas.List.Elements.{Contains-get_or, All-filter, All-from_recursion, recursion_from_All, Contains-append_cases}
 use Rattle.std.proofs.lemmas.Map.Keys.{IsDistinct-head, IsDistinct-tail, IsDistinct-cons}
-use Rattle.html_render_dom.specs.Forests.{IsDistinct-nil}
-use Rattle.html_render_dom.specs.Members.{Contains-nil, Contains-head, Contains-tail, Contains-cons_cases}
+use Rattle.html_render_dom.specs.laws.Forests.{IsDistinct-nil}
+use Rattle.html_render_dom.specs.laws.Members.{Contains-nil, Contains-head, Contains-tail, Contains-cons_cases}
 use Rattle.html_render_dom.specs.Moves.{without, before, previous}
 
 -- what a call that can't be refused leaves
@@ -42,7 +44,8 @@ insert-before s c (x ∷ xs) lt =
       | inl e ↦ rw e.0 refl
       | inr d ↦ (let lt' : 1 + place_of s xs < length (x ∷ xs) = rw d.0 at lt in
           let less : 1 + place_of s xs - 1 ≡ place_of s xs = omega arith in
-          let moved : insert ((x ∷ []) ++ xs) (1 + place_of s xs) c ≡ (x ∷ []) ++ insert xs (1 + place_of s xs - 1) c = insert-append_right (x ∷ []) xs 1 (1 + place_of s xs) c refl (omega arith) in
+          let moved : insert ((x ∷ []) ++ xs) (1 + place_of s xs) c ≡ (x ∷ []) ++ insert xs (1 + place_of s xs - 1) c =
+          insert-append_right (x ∷ []) xs 1 (1 + place_of s xs) c refl (omega arith) in
           rw d.0 (moved ∙ ap (λ i. x ∷ insert xs i c) less ∙ ap (λ ys. x ∷ ys) (insert-before s c xs (omega arith))))
     ]
 
@@ -51,7 +54,8 @@ before-absent s c [] le = refl
 before-absent s c (x ∷ xs) le =
     elim (eqb_tells x s) [
       | inl e ↦ absurd (let le' : length (x ∷ xs) ≤ 0 = rw e.0 at le in omega arith)
-      | inr d ↦ (let le' : length (x ∷ xs) ≤ 1 + place_of s xs = rw d.0 at le in rw d.0 (ap (λ ys. x ∷ ys) (before-absent s c xs (omega arith))))
+      | inr d ↦ (let le' : length (x ∷ xs) ≤ 1 + place_of s xs = rw d.0 at le in
+          rw d.0 (ap (λ ys. x ∷ ys) (before-absent s c xs (omega arith))))
     ]
 
 pub previous-absent : (s : ℕ) (last : Option ℕ) (xs : List ℕ) → length xs ≤ place_of s xs → previous s last xs ≡ None
@@ -71,7 +75,8 @@ previous-first s last (x ∷ xs) lt e =
       | inr d ↦ absurd (let e' : 1 + place_of s xs ≡ 0 = rw d.0 at e in omega arith)
     ]
 
-pub previous-later : (s : ℕ) (last : Option ℕ) (xs : List ℕ) (k : ℕ) → place_of s xs < length xs → place_of s xs ≡ suc k → previous s last xs ≡ slice_get xs k
+pub previous-later : (s : ℕ) (last : Option ℕ) (xs : List ℕ) (k : ℕ) → place_of s xs < length xs → place_of s xs ≡ suc k →
+    previous s last xs ≡ slice_get xs k
 previous-later s last [] k lt e = absurd (omega arith)
 previous-later s last (x ∷ xs) zero lt e =
     elim (eqb_tells x s) [
@@ -124,7 +129,10 @@ IsDistinct-without h (x ∷ xs) d =
     let kept = IsDistinct-without h xs (IsDistinct-tail nat_eq x xs d) in
     elim (eqb_tells x h) [
       | inl e ↦ rw e.0 kept
-      | inr n ↦ rw n.0 (IsDistinct-cons nat_eq x (without h xs) (recursion_from_All (λ y. nat_eq x y ≡ false) (without h xs) (All-filter (λ y. not (y == h)) (λ y. nat_eq x y ≡ false) xs (All-from_recursion (λ y. nat_eq x y ≡ false) xs (IsDistinct-head nat_eq x xs d)))) kept)
+      | inr n ↦ rw n.0 (IsDistinct-cons nat_eq x (without h xs)
+          (recursion_from_All (λ y. nat_eq x y ≡ false) (without h xs)
+          (All-filter (λ y. not (y == h)) (λ y. nat_eq x y ≡ false) xs
+          (All-from_recursion (λ y. nat_eq x y ≡ false) xs (IsDistinct-head nat_eq x xs d)))) kept)
     ]
 
 pub Contains-from_before : (s c : ℕ) (xs : List ℕ) (x : ℕ) → Contains (before s c xs) x → Contains xs x ⊎ (c ≡ x)
@@ -173,7 +181,8 @@ apart_from x xs other = recursion_from_All (λ y. nat_eq x y ≡ false) xs (λ k
 
 pub first_apart : (x : ℕ) (xs : List ℕ) → IsDistinct nat_eq (x ∷ xs) → (y : ℕ) → Contains xs y → y ≢ x
 first_apart x xs d y m e =
-    let differs : nat_eq x (slice_index_or xs m.0 y) ≡ false = All-from_recursion (λ y. nat_eq x y ≡ false) xs (IsDistinct-head nat_eq x xs d) m.0 y m.1 in
+    let differs : nat_eq x (slice_index_or xs m.0 y) ≡ false =
+    All-from_recursion (λ y. nat_eq x y ≡ false) xs (IsDistinct-head nat_eq x xs d) m.0 y m.1 in
     elim (eqb_tells x (slice_index_or xs m.0 y)) [
       | inl s ↦ absurd (false≢true (sym differs ∙ s.0))
       | inr n ↦ absurd (n.1 (sym e ∙ sym m.2))
@@ -184,13 +193,15 @@ IsDistinct-before s c [] d absent = IsDistinct-nil
 IsDistinct-before s c (x ∷ xs) d absent =
     elim (eqb_tells x s) [
       | inl e ↦ rw e.0 (IsDistinct-cons nat_eq c (x ∷ xs) (apart_from c (x ∷ xs) (λ y m q. absent (subst (Contains (x ∷ xs)) q m))) d)
-      | inr n ↦ rw n.0 (IsDistinct-cons nat_eq x (before s c xs) (apart_from x (before s c xs) (λ y m q. elim (Contains-from_before s c xs y m) [
-        | inl o ↦ first_apart x xs d y o q
-        | inr p ↦ absent (rw (p ∙ q) (Contains-head x xs))
-      ])) (IsDistinct-before s c xs (IsDistinct-tail nat_eq x xs d) (λ m. absent (Contains-tail x xs c m))))
+      | inr n ↦ rw n.0 (IsDistinct-cons nat_eq x (before s c xs)
+          (apart_from x (before s c xs) (λ y m q. elim (Contains-from_before s c xs y m) [
+            | inl o ↦ first_apart x xs d y o q
+            | inr p ↦ absent (rw (p ∙ q) (Contains-head x xs))
+          ])) (IsDistinct-before s c xs (IsDistinct-tail nat_eq x xs d) (λ m. absent (Contains-tail x xs c m))))
     ]
 
-pub IsDistinct-append : (xs ys : List ℕ) → IsDistinct nat_eq xs → IsDistinct nat_eq ys → ((x : ℕ) → Contains xs x → Contains ys x → ⊥) → IsDistinct nat_eq (xs ++ ys)
+pub IsDistinct-append : (xs ys : List ℕ) → IsDistinct nat_eq xs → IsDistinct nat_eq ys → ((x : ℕ) → Contains xs x → Contains ys x → ⊥) →
+    IsDistinct nat_eq (xs ++ ys)
 IsDistinct-append [] ys d e apart = e
 IsDistinct-append (x ∷ xs) ys d e apart =
     IsDistinct-cons nat_eq x (xs ++ ys) (apart_from x (xs ++ ys) (λ y m q. elim (Contains-append_cases xs ys y m) [

@@ -1,5 +1,6 @@
 -- The parts of a text between its white space, one after another; and the first attribute of a name.
-use Rattle.std.proofs.Common.{◌≡◌, ℕ, suc, ◌+◌, ◌-◌, ◌<◌, ◌≤◌, inl, inr, Bool, true, false, ◌||◌, ◌==◌, List, [], ◌∷◌, length, map, take, drop, Some, None, option_map, refl, ap, ◌∙◌, arith, filter, find, position, nat_lt}
+use Rattle.std.proofs.Common.{◌≡◌, ℕ, suc, ◌+◌, ◌-◌, ◌<◌, ◌≤◌, inl, inr, Bool, true, false, ◌||◌, ◌==◌, List, [], ◌∷◌, length, map, take, drop, Some}
+use Rattle.std.proofs.Common.{None, option_map, refl, ap, ◌∙◌, arith, filter, find, position, nat_lt}
 use Rattle.std.proofs.lemmas.Bool.{cases_Bool}
 use Rattle.std.proofs.lemmas.List.Folds.{list_all-map}
 use Rattle.std.proofs.lemmas.Grind.{common_steps}
@@ -10,7 +11,8 @@ use Rattle.html_render_dom.specs.Selectors.{is_filled, words}
 use Rattle.std.specs.List.{list_any, slice_split, onto_first, position_or_len}
 
 -- up to the first element that passes, and what stands behind it
-pub slice_split-first : {X : Type 0} (p : X → Bool) (xs : List X) → position_or_len p xs < length xs → slice_split p xs ≡ take (position_or_len p xs) xs ∷ slice_split p (drop (position_or_len p xs + 1) xs)
+pub slice_split-first : {X : Type 0} (p : X → Bool) (xs : List X) → position_or_len p xs < length xs →
+    slice_split p xs ≡ take (position_or_len p xs) xs ∷ slice_split p (drop (position_or_len p xs + 1) xs)
 slice_split-first p [] h = absurd (omega arith)
 slice_split-first p (x ∷ xs) h =
     elim (cases_Bool (p x)) [
@@ -22,7 +24,8 @@ slice_split-first p (x ∷ xs) h =
           )
     ]
   where
-    onto_front : {Y : Type 0} (q : Y → Bool) (y : Y) (ys : List Y) (k : ℕ) → onto_first y (take k ys ∷ slice_split q (drop (k + 1) ys)) ≡ take (1 + k) (y ∷ ys) ∷ slice_split q (drop (1 + k + 1) (y ∷ ys))
+    onto_front : {Y : Type 0} (q : Y → Bool) (y : Y) (ys : List Y) (k : ℕ) →
+        onto_first y (take k ys ∷ slice_split q (drop (k + 1) ys)) ≡ take (1 + k) (y ∷ ys) ∷ slice_split q (drop (1 + k + 1) (y ∷ ys))
     onto_front q y ys k =
         let f : 1 + k + 1 ≡ suc (k + 1) = omega arith in
         let e : 1 + k ≡ suc k = omega arith in
@@ -41,10 +44,12 @@ slice_split-none p (x ∷ xs) h =
     ]
 
 -- what `position` answers tells the first part
-pub slice_split-Some : {X : Type 0} (p : X → Bool) (xs : List X) (k : ℕ) → position p xs ≡ Some k → slice_split p xs ≡ take k xs ∷ slice_split p (drop (k + 1) xs)
+pub slice_split-Some : {X : Type 0} (p : X → Bool) (xs : List X) (k : ℕ) → position p xs ≡ Some k →
+    slice_split p xs ≡ take k xs ∷ slice_split p (drop (k + 1) xs)
 slice_split-Some p xs k e =
     elim (cases_Bool (nat_lt (position_or_len p xs) (length xs))) [
-      | inl t ↦ (let same : Some (position_or_len p xs) ≡ Some k = rw t at e in let at : position_or_len p xs ≡ k = cc in rw (← at) (slice_split-first p xs (ltb-true _ _ t)))
+      | inl t ↦ (let same : Some (position_or_len p xs) ≡ Some k = rw t at e in let at : position_or_len p xs ≡ k = cc in
+          rw (← at) (slice_split-first p xs (ltb-true _ _ t)))
       | inr t ↦ (let same : None ≡ Some k = rw t at e in cc)
     ]
 
@@ -56,16 +61,20 @@ slice_split-None p xs e =
     ]
 
 -- what is found in the first part, and what is left to look at
-pub found_first : (part rest : List ℕ) (k : ℕ) → position is_ascii_whitespace rest ≡ Some k → bytes_eq part (take k rest) ≡ true → list_any (bytes_eq part) (slice_split is_ascii_whitespace rest) ≡ true
+pub found_first : (part rest : List ℕ) (k : ℕ) → position is_ascii_whitespace rest ≡ Some k → bytes_eq part (take k rest) ≡ true →
+    list_any (bytes_eq part) (slice_split is_ascii_whitespace rest) ≡ true
 found_first part rest k e t = rw (slice_split-Some is_ascii_whitespace rest k e, t) refl
 
-pub found_later : (part rest : List ℕ) (k : ℕ) → position is_ascii_whitespace rest ≡ Some k → bytes_eq part (take k rest) ≡ false → list_any (bytes_eq part) (slice_split is_ascii_whitespace rest) ≡ list_any (bytes_eq part) (slice_split is_ascii_whitespace (take (length rest - (k + 1)) (drop (k + 1) rest)))
+pub found_later : (part rest : List ℕ) (k : ℕ) → position is_ascii_whitespace rest ≡ Some k → bytes_eq part (take k rest) ≡ false →
+    list_any (bytes_eq part) (slice_split is_ascii_whitespace rest)
+    ≡ list_any (bytes_eq part) (slice_split is_ascii_whitespace (take (length rest - (k + 1)) (drop (k + 1) rest)))
 found_later part rest k e t = rw (slice_split-Some is_ascii_whitespace rest k e, t, to_the_end (k + 1) rest) refl
   where
     to_the_end : (n : ℕ) (xs : List ℕ) → take (length xs - n) (drop n xs) ≡ drop n xs
     to_the_end n xs = grind (arith, common_steps)
 
-pub found_last : (part rest : List ℕ) → position is_ascii_whitespace rest ≡ None → list_any (bytes_eq part) (slice_split is_ascii_whitespace rest) ≡ bytes_eq part rest
+pub found_last : (part rest : List ℕ) → position is_ascii_whitespace rest ≡ None →
+    list_any (bytes_eq part) (slice_split is_ascii_whitespace rest) ≡ bytes_eq part rest
 found_last part rest e = rw (slice_split-None is_ascii_whitespace rest e) (or_false (bytes_eq part rest))
   where
     or_false : (b : Bool) → (b || false) ≡ b
@@ -84,7 +93,8 @@ no_word ([] ∷ parts) = no_word parts
 no_word ((c ∷ cs) ∷ parts) = no_word parts
 
 -- of the parts only a word can be another text
-only_words : (c : ℕ) (cs : List ℕ) (parts : List (List ℕ)) → list_any (bytes_eq (c ∷ cs)) (filter is_filled parts) ≡ list_any (bytes_eq (c ∷ cs)) parts
+only_words : (c : ℕ) (cs : List ℕ) (parts : List (List ℕ)) →
+    list_any (bytes_eq (c ∷ cs)) (filter is_filled parts) ≡ list_any (bytes_eq (c ∷ cs)) parts
 only_words c cs [] = refl
 only_words c cs ([] ∷ parts) = only_words c cs parts
 only_words c cs ((d ∷ ds) ∷ parts) = ap (λ b. bytes_eq (c ∷ cs) (d ∷ ds) || b) (only_words c cs parts)
@@ -93,7 +103,8 @@ pub words-empty : (class text : List ℕ) → (length class == 0) ≡ true → l
 words-empty [] text e = no_word (slice_split is_ascii_whitespace text)
 words-empty (c ∷ cs) text e = absurd (omega (arith, eqb-true (length (c ∷ cs)) 0 e))
 
-pub words-filled : (class text : List ℕ) → (length class == 0) ≡ false → list_any (bytes_eq class) (words text) ≡ list_any (bytes_eq class) (slice_split is_ascii_whitespace text)
+pub words-filled : (class text : List ℕ) → (length class == 0) ≡ false →
+    list_any (bytes_eq class) (words text) ≡ list_any (bytes_eq class) (slice_split is_ascii_whitespace text)
 words-filled [] text e = cc
 words-filled (c ∷ cs) text e = only_words c cs (slice_split is_ascii_whitespace text)
 

@@ -5,6 +5,7 @@ use Rattle.std.specs.List.{IsDistinct}
 use Rattle.html_render_dom.specs.declared.dom.settings.QuirksMode.{QuirksMode}
 use Rattle.html_render_dom.specs.declared.dom.settings.QuirksMode.TheVariants.{NoQuirks}
 use Rattle.html_render_dom.specs.Content.{Content, document, doctype, text, comment, element, instruction}
+use Rattle.html_render_dom.specs.Elements.{contents_in}
 use Rattle.html_render_dom.specs.Forest.{Forest, none, node}
 
 pub record Node : Type 0 where
@@ -63,15 +64,15 @@ pub data IsInclusiveAncestor (dom : Dom) (a : ℕ) : ℕ → Type 0 where
   above : {h : ℕ} (p : ℕ) → parent_at dom h ≡ Some p → IsInclusiveAncestor dom a p → IsInclusiveAncestor dom a h
 
 -- the nodes hs are the tops of these trees: each has its tree's content, and its children are the tops of the trees below
-abbrev pub Stands : Dom → List ℕ → Forest Content → Type 0
-Stands dom [] none = Unit {0}
-Stands dom [] (node c kids beside) = ⊥
-Stands dom (h ∷ hs) none = ⊥
-Stands dom (h ∷ hs) (node c kids beside) =
-    IsNode dom h × (content_at dom h ≡ c) × Stands dom (children_at dom h) kids × Stands dom hs beside
+abbrev pub HaveTrees : Dom → List ℕ → Forest Content → Type 0
+HaveTrees dom [] none = Unit {0}
+HaveTrees dom [] (node c kids beside) = ⊥
+HaveTrees dom (h ∷ hs) none = ⊥
+HaveTrees dom (h ∷ hs) (node c kids beside) =
+    IsNode dom h × (content_at dom h ≡ c) × HaveTrees dom (children_at dom h) kids × HaveTrees dom hs beside
 
--- node 0 is the document; children and parents agree, and a child stands in its parent's list once; each node stands
--- for a finite tree
+-- node 0 is the document; children and parents agree, and a child stands in its parent's list once; a template's
+-- contents are a node; each node stands for a finite tree
 pub record IsForest (dom : Dom) : Type 0 where
   pub has_document : IsNode dom 0
   pub document_content : content_at dom 0 ≡ document
@@ -79,7 +80,8 @@ pub record IsForest (dom : Dom) : Type 0 where
   pub child_names_parent : (p c : ℕ) → Contains (children_at dom p) c → parent_at dom c ≡ Some p
   pub parent_lists_child : (p c : ℕ) → parent_at dom c ≡ Some p → Contains (children_at dom p) c
   pub once : (p : ℕ) → IsDistinct nat_eq (children_at dom p)
-  pub finite : (h : ℕ) → IsNode dom h → (t : Forest Content) × Stands dom (h ∷ []) t
+  pub template_contents_is_node : (h c : ℕ) → contents_in (content_at dom h) ≡ Some c → IsNode dom c
+  pub finite : (h : ℕ) → IsNode dom h → (t : Forest Content) × HaveTrees dom (h ∷ []) t
 
 -- the trees of some nodes, where f gives the trees below each
 abbrev pub beside_each : Dom → (ℕ → Forest Content) → List ℕ → Forest Content

@@ -1,5 +1,6 @@
 -- What each call that changes a document makes of its nodes.
-use Rattle.std.specs.Prelude.{◌≡◌, ℕ, ◌+◌, ◌-◌, Bool, true, false, if◌then◌else◌, List, [], ◌∷◌, ◌++◌, length, slice_get, slice_set, Option, Some, None, string_bytes}
+use Rattle.std.specs.Prelude.{◌≡◌, ℕ, ◌+◌, ◌-◌, Bool, true, false, if◌then◌else◌, List, [], ◌∷◌, ◌++◌, length, slice_get, slice_set, Option, Some}
+use Rattle.std.specs.Prelude.{None, string_bytes}
 use Rattle.html_render_dom.specs.declared.dom.contents.NodeOrText.{NodeOrText}
 use Rattle.html_render_dom.specs.declared.dom.contents.NodeOrText.TheVariants.{AppendNode, AppendText}
 use Rattle.html_render_dom.specs.declared.dom.settings.ElementFlags.{ElementFlags}

@@ -12,7 +12,7 @@ use Rattle.html_render_dom.specs.declared.style.updates.Update.{Update}
 use Rattle.html_render_dom.specs.declared.style.computed.ComputedStyle.{ComputedStyle}
 use Rattle.html_render_dom.specs.Cascade.{winner}
 use Rattle.html_render_dom.specs.Content.{Property}
-use Rattle.html_render_dom.specs.Rules.{Setting, colour, bg_colour, display, white_space, content, Declared, Rule}
+use Rattle.html_render_dom.specs.Rules.{StyleValue, colour, bg_colour, display, white_space, content, Declared, Rule}
 use Rattle.html_render_dom.specs.Selectors.{Subject, first_value, selects, specificity_of}
 use Rattle.html_render_dom.specs.TextUpdates.{text_update}
 
@@ -29,43 +29,43 @@ applied rule =
     map (λ d. record { origin = rule.origin; specificity = specificity_of rule; pseudo = rule.pseudo; declared = d }) rule.declarations
 
 -- what is declared of each property: with a pseudo-element only content counts
-abbrev pub colour_in : Option PseudoElement → Setting → Option Colour
+abbrev pub colour_in : Option PseudoElement → StyleValue → Option Colour
 colour_in None (colour c) = Some c
 colour_in _ _ = None
 
-abbrev pub bg_colour_in : Option PseudoElement → Setting → Option Colour
+abbrev pub bg_colour_in : Option PseudoElement → StyleValue → Option Colour
 bg_colour_in None (bg_colour c) = Some c
 bg_colour_in _ _ = None
 
-abbrev pub display_in : Option PseudoElement → Setting → Option Display
+abbrev pub display_in : Option PseudoElement → StyleValue → Option Display
 display_in None (display d) = Some d
 display_in _ _ = None
 
-abbrev pub white_space_in : Option PseudoElement → Setting → Option WhiteSpace
+abbrev pub white_space_in : Option PseudoElement → StyleValue → Option WhiteSpace
 white_space_in None (white_space w) = Some w
 white_space_in _ _ = None
 
-abbrev pub content_in : Option PseudoElement → Setting → Option (List ℕ)
+abbrev pub content_in : Option PseudoElement → StyleValue → Option (List ℕ)
 content_in None (content text) = Some text
 content_in _ _ = None
 
-abbrev pub content_before_in : Option PseudoElement → Setting → Option (List ℕ)
+abbrev pub content_before_in : Option PseudoElement → StyleValue → Option (List ℕ)
 content_before_in (Some Before) (content text) = Some text
 content_before_in _ _ = None
 
-abbrev pub content_after_in : Option PseudoElement → Setting → Option (List ℕ)
+abbrev pub content_after_in : Option PseudoElement → StyleValue → Option (List ℕ)
 content_after_in (Some After) (content text) = Some text
 content_after_in _ _ = None
 
 -- the update of a property that a declaration makes, if it is one of that property
-abbrev pub update_by : {T : Type 0} → (Option PseudoElement → Setting → Option T) → Applied → Option (Update T)
+abbrev pub update_by : {T : Type 0} → (Option PseudoElement → StyleValue → Option T) → Applied → Option (Update T)
 update_by property a =
     option_map
     (λ x. record { important = a.declared.important; origin = a.origin; specificity = a.specificity; value = x })
-    (property a.pseudo a.declared.setting)
+    (property a.pseudo a.declared.style)
 
 -- the updates of a property, in order
-abbrev pub updates : {T : Type 0} → (Option PseudoElement → Setting → Option T) → List Applied → List (Update T)
+abbrev pub updates : {T : Type 0} → (Option PseudoElement → StyleValue → Option T) → List Applied → List (Update T)
 updates property declarations = filter_map (update_by property) declarations
 
 -- for each property the update that wins, if there is one
@@ -82,7 +82,11 @@ pub record ElementStyle : Type 0 where
 -- the declarations of the rules that select an element, in the order in which the rules were added
 abbrev pub declarations_for : List Rule → (name : List ℕ) → List Property → List Applied
 declarations_for rules name properties =
-    let subject : Subject = record { name = name; id = first_value (codes "id") properties; classes = first_value (codes "class") properties } in
+    let subject : Subject = record {
+      name = name;
+      id = first_value (codes "id") properties;
+      classes = first_value (codes "class") properties;
+    } in
     flat_map applied (filter (λ rule. selects rule subject) rules)
 
 -- the style that declarations give
@@ -116,7 +120,7 @@ style_of s = record {
 }
 
 -- the style that is kept, and declarations behind it
-abbrev pub with_more : {T : Type 0} → (Option PseudoElement → Setting → Option T) → Option (Update T) → List Applied → Option (Update T)
+abbrev pub with_more : {T : Type 0} → (Option PseudoElement → StyleValue → Option T) → Option (Update T) → List Applied → Option (Update T)
 with_more property kept declarations = winner (option_to_list kept ++ updates property declarations)
 
 abbrev pub with_declarations : ElementStyle → List Applied → ElementStyle

@@ -1,27 +1,29 @@
-pub mod Cascade
-pub mod Colours
+-- a document: what a node holds, the nodes and their trees, and the vectors that hold them
 pub mod Content
-pub mod Dom
-pub mod Dump
-pub mod Edits
-pub mod ElementStyle
+pub mod Names
 pub mod Elements
 pub mod Forest
-pub mod Forests
-pub mod Frames
-pub mod Keeping
-pub mod Members
-pub mod Moves
-pub mod Names
+pub mod Dom
 pub mod Nodes
-pub mod Orders
-pub mod Outcome
+-- what the calls on a document answer, and what they make of it
 pub mod Paths
-pub mod Room
+pub mod Dump
+pub mod Edits
+pub mod Moves
+-- how text is styled
+pub mod Colours
+pub mod WhiteSpace
+pub mod Specificities
+pub mod Cascade
 pub mod Rules
 pub mod Selectors
-pub mod Specificities
 pub mod TextUpdates
-pub mod Trees
-pub mod WhiteSpace
-pub mod Winners
+pub mod ElementStyle
+-- what errors say
+pub mod Outcome
+-- what the functions inside the crate promise each other
+pub mod Room
+pub mod Frames
+pub mod Keeping
+-- what holds of all of them
+pub mod laws

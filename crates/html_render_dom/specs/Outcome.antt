@@ -1,5 +1,5 @@
--- What an error says, where a definition answers a value or none.
-use Rattle.std.specs.Prelude.{◌≡◌, ℕ, List, Option, Some, None, codes, option_and_then, refl}
+-- What an error says and its number, and what it says of a definition that answers a value or none.
+use Rattle.std.specs.Prelude.{◌≡◌, ℕ, List, Option, None, codes, option_and_then}
 use Rattle.html_render_dom.specs.declared.errors.Error.{Error}
 use Rattle.html_render_dom.specs.declared.errors.Error.TheVariants.{TooNarrow, Fail, OutOfMemory}
 
@@ -8,6 +8,12 @@ abbrev pub message_of : Error → List ℕ
 message_of TooNarrow = codes "Output width not wide enough."
 message_of Fail = codes "Unknown failure"
 message_of OutOfMemory = codes "Out of memory"
+
+-- the number of an error
+abbrev pub number_of : Error → ℕ
+number_of TooNarrow = 1
+number_of Fail = 2
+number_of OutOfMemory = 3
 
 -- a definition that answers none is too narrow; want of memory says nothing of it; and it never fails otherwise
 abbrev pub Refuses : {X : Type 0} → Error → Option X → Type 0
@@ -18,24 +24,3 @@ Refuses OutOfMemory wanted = Unit {0}
 infixl 10 ◌>>=◌
 abbrev pub ◌>>=◌ : {A B : Type 0} → Option A → (A → Option B) → Option B
 o >>= f = option_and_then f o
-
--- what has no answer has none with more after it
-pub Refuses-then : {X Y : Type 0} (e : Error) (o : Option X) (f : X → Option Y) → Refuses e o → Refuses e (option_and_then f o)
-Refuses-then TooNarrow None f h = refl
-Refuses-then TooNarrow (Some x) f h = cc
-Refuses-then Fail o f h = absurd h
-Refuses-then OutOfMemory o f h = tt
-
--- the same once the definition has an answer so far
-pub Refuses-same : {X : Type 0} (e : Error) (o p : Option X) → o ≡ p → Refuses e p → Refuses e o
-Refuses-same TooNarrow o p q h = cc
-Refuses-same Fail o p q h = absurd h
-Refuses-same OutOfMemory o p q h = tt
-
--- running out of memory says nothing
-pub Refuses-memory : {X : Type 0} (e : Error) (o : Option X) → e ≡ OutOfMemory → Refuses e o
-Refuses-memory TooNarrow o h = cc
-Refuses-memory Fail o h = cc
-Refuses-memory OutOfMemory o h = tt
-
-pub ruleset refusals = (Refuses-then, Refuses-same, Refuses-memory)

@@ -11,17 +11,17 @@ use Rattle.html_render_dom.specs.declared.style.rules.Declaration.{Declaration}
 use Rattle.html_render_dom.specs.declared.style.rules.StyleRule.{StyleRule}
 
 -- a property and the value that it is given
-pub data Setting : Type 0 where
-  colour : TheColour → Setting
-  bg_colour : TheColour → Setting
-  display : TheDisplay → Setting
-  white_space : TheWhiteSpace → Setting
-  content : (text : List ℕ) → Setting
+pub data StyleValue : Type 0 where
+  colour : TheColour → StyleValue
+  bg_colour : TheColour → StyleValue
+  display : TheDisplay → StyleValue
+  white_space : TheWhiteSpace → StyleValue
+  content : (text : List ℕ) → StyleValue
 
 -- a declaration
 pub record Declared : Type 0 where
   pub important : Bool
-  pub setting : Setting
+  pub style : StyleValue
 
 -- a rule: whose it is, which elements it selects, and what it declares
 pub record Rule : Type 0 where
@@ -32,15 +32,15 @@ pub record Rule : Type 0 where
   pub pseudo : Option PseudoElement
   pub declarations : List Declared
 
-abbrev pub setting_of : Style → Setting
-setting_of (Colour c) = colour c
-setting_of (BgColour c) = bg_colour c
-setting_of (Display d) = display d
-setting_of (WhiteSpace w) = white_space w
-setting_of (Content text) = content (string_bytes text)
+abbrev pub style_value_of : Style → StyleValue
+style_value_of (Colour c) = colour c
+style_value_of (BgColour c) = bg_colour c
+style_value_of (Display d) = display d
+style_value_of (WhiteSpace w) = white_space w
+style_value_of (Content text) = content (string_bytes text)
 
 abbrev pub declared_of : Declaration → Declared
-declared_of d = record { important = d.important; setting = setting_of d.style }
+declared_of d = record { important = d.important; style = style_value_of d.style }
 
 abbrev pub rule_of : StyleRule → Rule
 rule_of r = record {

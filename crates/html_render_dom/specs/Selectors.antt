@@ -21,10 +21,10 @@ abbrev pub words : List ℕ → List (List ℕ)
 words text = filter is_filled (slice_split is_ascii_whitespace text)
 
 -- a part of a rule that is stated equals what the element has; one that isn't stated asks for nothing
-abbrev pub meets : (stated : Option (List ℕ)) → (has : Option (List ℕ)) → Bool
-meets None has = true
-meets (Some part) None = false
-meets (Some part) (Some value) = bytes_eq part value
+abbrev pub matches_part : (stated : Option (List ℕ)) → (has : Option (List ℕ)) → Bool
+matches_part None has = true
+matches_part (Some part) None = false
+matches_part (Some part) (Some value) = bytes_eq part value
 
 -- whether a class is a word of the element's classes; an empty one never is
 abbrev pub has_class : (classes : Option (List ℕ)) → (class : List ℕ) → Bool
@@ -40,7 +40,7 @@ pub record Subject : Type 0 where
 -- whether the rule selects the element
 abbrev pub selects : Rule → Subject → Bool
 selects rule subject =
-    meets rule.element (Some subject.name) && meets rule.id subject.id && list_all (has_class subject.classes) rule.classes
+    matches_part rule.element (Some subject.name) && matches_part rule.id subject.id && list_all (has_class subject.classes) rule.classes
 
 -- 1 for each id, each class, and each element name and pseudo-element
 abbrev pub specificity_of : Rule → Specificity

@@ -8,6 +8,7 @@ mod documents;
 mod dump;
 mod edits;
 mod handles;
+mod laws;
 mod lists;
 mod moves;
 mod names;

@@ -1,6 +1,6 @@
 ghost use Rattle.std.specs.Prelude.{◌≡◌, Some, codes};
 ghost use Rattle.html_render_dom.specs.declared.errors.Error.TheVariants.{OutOfMemory};
-ghost use Rattle.html_render_dom.specs.Outcome.{message_of};
+ghost use Rattle.html_render_dom.specs.Outcome.{message_of, number_of};
 
 use std::alloc::{AllocError, AllocFailed};
 use std::fmt;
@@ -14,6 +14,15 @@ pub enum Error {
     Fail = 2,
     /// An allocation was refused.
     OutOfMemory = 3,
+}
+
+impl Error {
+    /// The number of the error.
+    fn number(self) -> u8
+        ensures { result ≡ number_of self }
+    {
+        self as u8
+    }
 }
 
 impl fmt::Display for Error {

@@ -1,17 +1,20 @@
 -- What the walk keeps true.
-use Rattle.std.proofs.Common.{◌≡◌, ◌≢◌, ℕ, ◌+◌, ◌<◌, ◌≤◌, List, [], ◌∷◌, ◌++◌, length, drop, max, Option, Some, None, refl, sym, ap, ◌∙◌, subst, arith, append_assoc, append-nil, length-append, length-drop, get_or, drop-cons, suc, add-one}
+use Rattle.std.proofs.Common.{◌≡◌, ◌≢◌, ℕ, ◌+◌, ◌<◌, ◌≤◌, List, [], ◌∷◌, ◌++◌, length, drop, max, Option, Some, None, refl, sym, ap, ◌∙◌, subst}
+use Rattle.std.proofs.Common.{arith, append_assoc, append-nil, length-append, length-drop, get_or, drop-cons, suc, add-one}
 use Rattle.std.proofs.lemmas.List.{same_from_push}
 use Rattle.std.specs.Option.{option_and_then}
 use Rattle.html_render_dom.specs.declared.errors.Error.{Error}
 use Rattle.html_render_dom.specs.Forest.{Forest, none, node, depth}
-use Rattle.html_render_dom.specs.Outcome.{Refuses, Refuses-then, Refuses-same}
+use Rattle.html_render_dom.specs.Outcome.{Refuses}
+use Rattle.html_render_dom.specs.laws.Outcome.{Refuses-then, Refuses-same}
 use Rattle.html_render_layout.specs.declared.tree.Entry.{Entry}
 use Rattle.html_render_layout.specs.declared.walk.Frame.{Frame}
 use Rattle.html_render_layout.specs.Pass.{Meaning, run}
 use Rattle.html_render_layout.specs.Preorder.{flatten}
 
 -- one step after another groups either way
-and_then_assoc : {A B C : Type 0} (o : Option A) (f : A → Option B) (h : B → Option C) → option_and_then h (option_and_then f o) ≡ option_and_then (λ x. option_and_then h (f x)) o
+and_then_assoc : {A B C : Type 0} (o : Option A) (f : A → Option B) (h : B → Option C) →
+    option_and_then h (option_and_then f o) ≡ option_and_then (λ x. option_and_then h (f x)) o
 and_then_assoc None f h = refl
 and_then_assoc (Some x) f h = refl
 
@@ -72,7 +75,8 @@ module _ {K S T : Type 0} (d : How K S T) where
 
 -- where the walk stands: at a place among the nodes, with these open and so many open at most, in this state;
 -- wanted is what comes out, and deep the most levels
-pub record Walking {K S T : Type 0} (d : How K S T) (nodes : List (Entry K)) (wanted : Option S) (deep : ℕ) (frames : List (Frame T)) (most next : ℕ) (s : S) : Type 0 where
+pub record Walking {K S T : Type 0} (d : How K S T) (nodes : List (Entry K)) (wanted : Option S) (deep : ℕ) (frames : List (Frame T))
+    (most next : ℕ) (s : S) : Type 0 where
   pub rest : Forest K
   pub path : Path K T
   pub stack : frames ≡ frames_of path
@@ -87,7 +91,8 @@ abbrev pub NotOver : {T : Type 0} → List (Frame T) → ℕ → Type 0
 NotOver {T} frames next = (below : List (Frame T)) (f : Frame T) → frames ≡ below ++ f ∷ [] → f.end ≢ next
 
 -- what holds where a node is about to be entered
-pub record Opened {K S T : Type 0} (d : How K S T) (nodes : List (Entry K)) (wanted : Option S) (deep : ℕ) (frames : List (Frame T)) (most next : ℕ) (s : S) (e : Entry K) : Type 0 where
+pub record Opened {K S T : Type 0} (d : How K S T) (nodes : List (Entry K)) (wanted : Option S) (deep : ℕ) (frames : List (Frame T))
+    (most next : ℕ) (s : S) (e : Entry K) : Type 0 where
   pub children : Forest K
   pub beside : Forest K
   pub path : Path K T
@@ -95,11 +100,15 @@ pub record Opened {K S T : Type 0} (d : How K S T) (nodes : List (Entry K)) (wan
   pub ahead : drop (next + 1) nodes ≡ flatten children ++ (flatten beside ++ tails path)
   pub size : e.size ≡ length (flatten children) + 1
   pub ends : Ends (length nodes) (next + e.size + length (flatten beside)) path
-  pub result : option_and_then (λ q. option_and_then (after d ((record { end = next + e.size; kept = d.kept e.kind s }, beside) ∷ path)) (run d.meaning children q)) (d.meaning.entered e.kind s) ≡ wanted
-  pub deepest : max (max most (length path + 1)) (max (length path + 1 + depth children) (max (length path + depth beside) (levels path))) ≡ deep
+  pub result : option_and_then
+      (λ q. option_and_then (after d ((record { end = next + e.size; kept = d.kept e.node s }, beside) ∷ path)) (run d.meaning children q))
+      (d.meaning.entered e.node s) ≡ wanted
+  pub deepest : max (max most (length path + 1)) (max (length path + 1 + depth children) (max (length path + depth beside) (levels path)))
+      ≡ deep
 
 -- what holds where a node is about to be left
-pub record Closed {K S T : Type 0} (d : How K S T) (nodes : List (Entry K)) (wanted : Option S) (deep : ℕ) (frames : List (Frame T)) (most next : ℕ) (s : S) (l : T) : Type 0 where
+pub record Closed {K S T : Type 0} (d : How K S T) (nodes : List (Entry K)) (wanted : Option S) (deep : ℕ) (frames : List (Frame T))
+    (most next : ℕ) (s : S) (l : T) : Type 0 where
   pub rest : Forest K
   pub path : Path K T
   pub stack : frames ≡ frames_of path
@@ -132,7 +141,8 @@ module _ {K S T : Type 0} (d : How K S T) where
     leave_at : (fs : List (Frame T)) (f : Frame T) (most next : ℕ) (s : S) (rest : Forest K) (path : Path K T) →
         frames_of path ≡ fs ++ f ∷ [] → f.end ≡ next → drop next nodes ≡ flatten rest ++ tails path →
         Ends (length nodes) (next + length (flatten rest)) path → option_and_then (after d path) (run d.meaning rest s) ≡ wanted →
-        length path ≤ most → max most (max (length path + depth rest) (levels path)) ≡ deep → Closed d nodes wanted deep fs most next s f.kept
+        length path ≤ most → max most (max (length path + depth rest) (levels path)) ≡ deep →
+        Closed d nodes wanted deep fs most next s f.kept
     leave_at fs f most next s rest [] e over ahead ends result counted deepest =
         absurd (omega (arith, ap length e, length-append fs (f ∷ [])))
     leave_at fs f most next s (node k children beside) (x ∷ path) e over ahead ends result counted deepest =
@@ -147,13 +157,15 @@ module _ {K S T : Type 0} (d : How K S T) where
           stack = sym same.0;
           ahead = ahead;
           ends = subst (λ m. Ends (length nodes) (m + length (flatten x.1)) path) here ends.1;
-          result = ap (λ (g : Frame T). option_and_then (λ t. option_and_then (after d path) (run d.meaning x.1 t)) (d.leaves g.kept s)) (sym same.1) ∙ result;
+          result = ap (λ (g : Frame T). option_and_then (λ t. option_and_then (after d path) (run d.meaning x.1 t)) (d.leaves g.kept s))
+              (sym same.1) ∙ result;
           counted = omega arith;
           deepest = omega arith;
         }
 
     pub Walking-close : (frames fs : List (Frame T)) (f : Frame T) (most next : ℕ) (s : S) →
-        Walking d nodes wanted deep frames most next s → frames ≡ fs ++ f ∷ [] → f.end ≡ next → Closed d nodes wanted deep fs most next s f.kept
+        Walking d nodes wanted deep frames most next s → frames ≡ fs ++ f ∷ [] → f.end ≡ next →
+        Closed d nodes wanted deep fs most next s f.kept
     Walking-close frames fs f most next s w e over =
         leave_at fs f most next s w.rest w.path (sym w.stack ∙ e) over w.ahead w.ends w.result w.counted w.deepest
 
@@ -188,30 +200,40 @@ module _ {K S T : Type 0} (d : How K S T) where
     done_at frames most next s (node k children beside) path stack not_over all ahead ends result deepest =
         absurd (omega (arith, ap length ahead, length-drop next nodes, length-append (flatten children ++ flatten beside) (tails path)))
 
-    pub Walking-done : (frames : List (Frame T)) (most next : ℕ) (s : S) → Walking d nodes wanted deep frames most next s → NotOver frames next → next ≡ length nodes → Done wanted deep frames most s
-    Walking-done frames most next s w not_over all = done_at frames most next s w.rest w.path w.stack not_over all w.ahead w.ends w.result w.deepest
+    pub Walking-done : (frames : List (Frame T)) (most next : ℕ) (s : S) → Walking d nodes wanted deep frames most next s →
+        NotOver frames next → next ≡ length nodes → Done wanted deep frames most s
+    Walking-done frames most next s w not_over all =
+        done_at frames most next s w.rest w.path w.stack not_over all w.ahead w.ends w.result w.deepest
 
     regroup : (path : Path K T) (k : K) (children beside : Forest K) (s : S) →
-        option_and_then (λ q. option_and_then (λ r. option_and_then (λ t. option_and_then (after d path) (run d.meaning beside t)) (d.leaves (d.kept k s) r)) (run d.meaning children q)) (d.meaning.entered k s)
+        option_and_then (λ q. option_and_then
+        (λ r. option_and_then (λ t. option_and_then (after d path) (run d.meaning beside t)) (d.leaves (d.kept k s) r))
+        (run d.meaning children q)) (d.meaning.entered k s)
         ≡ option_and_then (after d path) (run d.meaning (node k children beside) s)
     regroup path k children beside s =
         and_then_same (d.meaning.entered k s) (λ q. and_then_same (run d.meaning children q) (λ r.
         ap (option_and_then (λ t. option_and_then (after d path) (run d.meaning beside t))) (d.same k s r)
         ∙ sym (and_then_assoc (d.meaning.left k s r) (run d.meaning beside) (after d path))))
-        ∙ and_then_same (d.meaning.entered k s) (λ q. sym (and_then_assoc (run d.meaning children q) (λ r. option_and_then (run d.meaning beside) (d.meaning.left k s r)) (after d path)))
-        ∙ sym (and_then_assoc (d.meaning.entered k s) (λ q. option_and_then (λ r. option_and_then (run d.meaning beside) (d.meaning.left k s r)) (run d.meaning children q)) (after d path))
+        ∙ and_then_same (d.meaning.entered k s)
+        (λ q. sym (and_then_assoc (run d.meaning children q) (λ r. option_and_then (run d.meaning beside) (d.meaning.left k s r))
+        (after d path)))
+        ∙ sym (and_then_assoc (d.meaning.entered k s)
+        (λ q. option_and_then (λ r. option_and_then (run d.meaning beside) (d.meaning.left k s r)) (run d.meaning children q))
+        (after d path))
 
     open_at : (frames : List (Frame T)) (most next : ℕ) (s : S) (e : Entry K) (rest : Forest K) (path : Path K T) →
-        frames ≡ frames_of path → NotOver frames next → next < length nodes → e ≡ get_or nodes next e → drop next nodes ≡ flatten rest ++ tails path →
+        frames ≡ frames_of path → NotOver frames next → next < length nodes → e ≡ get_or nodes next e →
+        drop next nodes ≡ flatten rest ++ tails path →
         Ends (length nodes) (next + length (flatten rest)) path → option_and_then (after d path) (run d.meaning rest s) ≡ wanted →
         max most (max (length path + depth rest) (levels path)) ≡ deep → Opened d nodes wanted deep frames most next s e
     open_at frames most next s e none [] stack not_over in_nodes is ahead ends result deepest = absurd (omega arith)
     open_at frames most next s e none (x ∷ path) stack not_over in_nodes is ahead ends result deepest =
         absurd (not_over (frames_of path) x.0 stack (omega (arith, ends.0)))
     open_at frames most next s e (node k children beside) path stack not_over in_nodes is ahead ends result deepest =
-        let first : Entry K = record { kind = k; size = length (flatten children) + 1 } in
+        let first : Entry K = record { node = k; size = length (flatten children) + 1 } in
         let cut = drop-cons nodes next e in_nodes in
-        let heads : get_or nodes next e ∷ drop (suc next) nodes ≡ first ∷ ((flatten children ++ flatten beside) ++ tails path) = sym cut ∙ ahead in
+        let heads : get_or nodes next e ∷ drop (suc next) nodes ≡ first ∷ ((flatten children ++ flatten beside) ++ tails path) = sym cut
+        ∙ ahead in
         let same : e ≡ first = is ∙ cc heads in
         subst (λ (x : Entry K). Opened d nodes wanted deep frames most next s x) (sym same) record {
           children = children;
@@ -230,11 +252,13 @@ module _ {K S T : Type 0} (d : How K S T) where
     Walking-open frames most next s e w not_over in_nodes is =
         open_at frames most next s e w.rest w.path w.stack not_over in_nodes is w.ahead w.ends w.result w.deepest
 
-    pub Walking-enter : (frames : List (Frame T)) (most next : ℕ) (s q : S) (e : Entry K) → Opened d nodes wanted deep frames most next s e →
-        d.meaning.entered e.kind s ≡ Some q →
-        Walking d nodes wanted deep (frames ++ record { end = next + e.size; kept = d.kept e.kind s } ∷ []) (max most (length frames + 1)) (next + 1) q
+    pub Walking-enter : (frames : List (Frame T)) (most next : ℕ) (s q : S) (e : Entry K) →
+        Opened d nodes wanted deep frames most next s e →
+        d.meaning.entered e.node s ≡ Some q →
+        Walking d nodes wanted deep (frames ++ record { end = next + e.size; kept = d.kept e.node s } ∷ []) (max most (length frames + 1))
+        (next + 1) q
     Walking-enter frames most next s q e w step =
-        let f : Frame T = record { end = next + e.size; kept = d.kept e.kind s } in
+        let f : Frame T = record { end = next + e.size; kept = d.kept e.node s } in
         let long : length frames ≡ length w.path = ap length w.stack ∙ length-frames_of w.path in
         record {
           rest = w.children;
@@ -242,7 +266,8 @@ module _ {K S T : Type 0} (d : How K S T) where
           stack = ap (λ fs. fs ++ f ∷ []) w.stack;
           ahead = w.ahead;
           ends = (omega (arith, w.size), w.ends);
-          result = ap (option_and_then (λ q. option_and_then (after d ((f, w.beside) ∷ w.path)) (run d.meaning w.children q))) (sym step) ∙ w.result;
+          result = ap (option_and_then (λ q. option_and_then (after d ((f, w.beside) ∷ w.path)) (run d.meaning w.children q))) (sym step)
+              ∙ w.result;
           counted = omega arith;
           deepest = omega (arith, w.deepest);
         }
@@ -253,10 +278,11 @@ module _ {K S T : Type 0} (d : How K S T) where
     Opened-end frames most next s e w = omega (arith, Ends-le (length nodes) _ w.path w.ends)
 
     -- where the node can't be entered, nothing comes out
-    pub Opened-refuses : (frames : List (Frame T)) (most next : ℕ) (s : S) (e : Entry K) (why : Error) → Opened d nodes wanted deep frames most next s e →
-        Refuses why (d.meaning.entered e.kind s) → Refuses why wanted
+    pub Opened-refuses : (frames : List (Frame T)) (most next : ℕ) (s : S) (e : Entry K) (why : Error) →
+        Opened d nodes wanted deep frames most next s e →
+        Refuses why (d.meaning.entered e.node s) → Refuses why wanted
     Opened-refuses frames most next s e why w h =
-        Refuses-same why wanted _ (sym w.result) (Refuses-then why (d.meaning.entered e.kind s) _ h)
+        Refuses-same why wanted _ (sym w.result) (Refuses-then why (d.meaning.entered e.node s) _ h)
 
     -- no more were open at once than the forest is deep
     pub Walking-le : (frames : List (Frame T)) (most next : ℕ) (s : S) → Walking d nodes wanted deep frames most next s → most ≤ deep

@@ -16,13 +16,14 @@ use Rattle.html_render_layout.specs.declared.tree.RenderNode.{RenderNode}
 use Rattle.html_render_layout.specs.declared.layout.Desk.{Desk}
 use Rattle.html_render_layout.specs.Pass.{Meaning, run}
 use Rattle.html_render_layout.specs.Operations.{Operations}
-use Rattle.html_render_layout.specs.Block.{Flow, empty_flow, flow_operations}
+use Rattle.html_render_layout.specs.Block as definition
+use Rattle.html_render_layout.specs.Block.{DefinedBlock}
 
 -- what stands round an emphasis
-abbrev pub round : {S A : Type 0} → Decoration S A → TheEmphasis → Round S A
-round d Em = d.em
-round d Strong = d.strong
-round d Code = d.code
+abbrev pub emphasis_decoration : {S A : Type 0} → Decoration S A → TheEmphasis → Round S A
+emphasis_decoration d Em = d.em
+emphasis_decoration d Strong = d.strong
+emphasis_decoration d Code = d.code
 
 -- the style of texts under a tag
 abbrev pub text_style : {T : Type 0} → T → TextStyle T
@@ -35,8 +36,8 @@ on_block f s = do
   Some (record s { block = b })
 
 -- the desk with a text more, under its tag
-abbrev pub with_text : {S K T B : Type 0} → Operations B (TextStyle T) → List ℕ → Desk S K T B → Option (Desk S K T B)
-with_text o t s = on_block (λ b. o.add_inline_text b (text_style s.tag) (chars t)) s
+abbrev pub add_text : {S K T B : Type 0} → Operations B (TextStyle T) → List ℕ → Desk S K T B → Option (Desk S K T B)
+add_text o t s = on_block (λ b. o.add_inline_text b (text_style s.tag) (chars t)) s
 
 -- the desk under another tag
 abbrev pub under : {S K T B : Type 0} → K × T → Desk S K T B → Desk S K T B
@@ -47,13 +48,14 @@ under x s = record s { stacks = x.0; tag = x.1 }
 module _ {S A K T B : Type 0} (d : Decoration S A) (push : K → T → A → K × T) (o : Operations B (TextStyle T)) where
   -- the desk for the children of a node; none where it is too narrow
   abbrev pub entered : NodeKind → Desk S K T B → Option (Desk S K T B)
-  entered (Text t) s = with_text o t s
+  entered (Text t) s = add_text o t s
   entered Container s = Some s
   entered Break s = on_block o.new_line_hard s
   entered Block s = on_block o.start_block s
   entered Div s = on_block o.new_line s
   entered (Emphasis e) s =
-      with_text o ((round d e).start s.decorator).text (under (push s.stacks s.tag ((round d e).start s.decorator).annotation) s)
+      add_text o ((emphasis_decoration d e).start s.decorator).text
+      (under (push s.stacks s.tag ((emphasis_decoration d e).start s.decorator).annotation) s)
 
   -- the desk after a node, from the desk s before it and the desk r after its children
   abbrev pub left : NodeKind → Desk S K T B → Desk S K T B → Option (Desk S K T B)
@@ -63,7 +65,7 @@ module _ {S A K T B : Type 0} (d : Decoration S A) (push : K → T → A → K �
   left Block s r = Some (record r { block = o.end_block r.block })
   left Div s r = on_block o.new_line r
   left (Emphasis e) s r = do
-    q ← with_text o ((round d e).end r.decorator) r
+    q ← add_text o ((emphasis_decoration d e).end r.decorator) r
     Some (record q { tag = s.tag })
 
   abbrev pub meaning : Meaning RenderNode (Desk S K T B)
@@ -82,25 +84,33 @@ onto k stack a = (k, stack ++ a ∷ [])
 
 -- the desk of a layout by stacks, on lists of all that was fed
 abbrev pub Defined : Type 0 → Type 0 → Type 0
-Defined S A = Desk S (Unit {0}) (List A) (Flow (List A) (Unit {0}))
+Defined S A = Desk S (Unit {0}) (List A) (DefinedBlock (List A) (Unit {0}))
 
 abbrev pub defined : {S A : Type 0} → Decoration S A → Meaning RenderNode (Defined S A)
-defined d = meaning d onto flow_operations
+defined d = meaning d onto definition.operations
 
 -- an empty block in the decorator's sub-block, without annotations
 abbrev pub empty_desk : {S A : Type 0} → Decoration S A → S → (width : ℕ) → (overflow : Bool) → Defined S A
 empty_desk d decorator width overflow =
-    record { decorator = d.subblock decorator; stacks = tt; tag = []; block = empty_flow (record { width = width; overflow = overflow }) }
+    record {
+      decorator = d.subblock decorator;
+      stacks = tt;
+      tag = [];
+      block = definition.empty_block (record { width = width; overflow = overflow });
+    }
 
 -- THE LINES of a render tree, each character with its stack of annotations; none where it is too narrow
-abbrev pub layout_lines : {S A : Type 0} → Decoration S A → Forest RenderNode → S → (width : ℕ) → (overflow : Bool) → Option (List (Line (List A) (Unit {0})))
+abbrev pub layout_lines : {S A : Type 0} → Decoration S A → Forest RenderNode → S → (width : ℕ) → (overflow : Bool) →
+    Option (List (Line (List A) (Unit {0})))
 layout_lines {S} {A} d t decorator width overflow =
     if width == 0 then None
-    else shown_after d onto flow_operations (λ (s : Defined S A). s.block.lines) t (empty_desk d decorator width overflow)
+    else shown_after d onto definition.operations (λ (s : Defined S A). s.block.lines) t (empty_desk d decorator width overflow)
 
 abbrev pub no_tag : {X : Type 0} → X → Unit {0}
 no_tag x = tt
 
 -- the same lines without annotations
-abbrev pub untagged_lines : {S A : Type 0} → Decoration S A → Forest RenderNode → S → (width : ℕ) → (overflow : Bool) → Option (List (Line (Unit {0}) (Unit {0})))
-untagged_lines {S} {A} d t decorator width overflow = option_map (lines_with (λ (stack : List A). no_tag stack)) (layout_lines d t decorator width overflow)
+abbrev pub untagged_lines : {S A : Type 0} → Decoration S A → Forest RenderNode → S → (width : ℕ) → (overflow : Bool) →
+    Option (List (Line (Unit {0}) (Unit {0})))
+untagged_lines {S} {A} d t decorator width overflow =
+    option_map (lines_with (λ (stack : List A). no_tag stack)) (layout_lines d t decorator width overflow)

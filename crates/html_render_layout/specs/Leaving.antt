@@ -1,5 +1,5 @@
 -- What the walk keeps of an open node.
-use Rattle.std.specs.Prelude.{◌≡◌, refl, Option, Some}
+use Rattle.std.specs.Prelude.{Option, Some}
 use Rattle.html_render_dom.specs.Outcome.{◌>>=◌}
 use Rattle.html_render_parts.specs.Decoration.{Decoration}
 use Rattle.html_render_lines.specs.declared.character.TextStyle.{TextStyle}
@@ -9,7 +9,7 @@ use Rattle.html_render_layout.specs.declared.layout.Desk.{Desk}
 use Rattle.html_render_layout.specs.declared.layout.Leaving.{Leaving}
 use Rattle.html_render_layout.specs.declared.layout.Leaving.TheVariants.{Nothing, EndBlock, NewLine, EndEmphasis}
 use Rattle.html_render_layout.specs.Operations.{Operations}
-use Rattle.html_render_layout.specs.Layout.{on_block, with_text, round, left}
+use Rattle.html_render_layout.specs.Layout.{on_block, add_text, emphasis_decoration}
 
 -- what is kept of a node
 abbrev pub leaving : {S K T B : Type 0} → NodeKind → Desk S K T B → Leaving T
@@ -27,14 +27,5 @@ module _ {S A K T B : Type 0} (d : Decoration S A) (push : K → T → A → K �
   leave EndBlock r = Some (record r { block = o.end_block r.block })
   leave NewLine r = on_block o.new_line r
   leave (EndEmphasis e tag) r = do
-    q ← with_text o ((round d e).end r.decorator) r
+    q ← add_text o ((emphasis_decoration d e).end r.decorator) r
     Some (record q { tag = tag })
-
-  -- leaving what was kept is leaving the node
-  pub leave-leaving : (k : NodeKind) (s r : Desk S K T B) → leave (leaving k s) r ≡ left d push o k s r
-  leave-leaving (Text t) s r = refl
-  leave-leaving Container s r = refl
-  leave-leaving Break s r = refl
-  leave-leaving Block s r = refl
-  leave-leaving Div s r = refl
-  leave-leaving (Emphasis e) s r = refl

@@ -9,7 +9,8 @@ use Rattle.html_render_lines.specs.Tags.{lines_with}
 use Rattle.html_render_layout.specs.declared.tree.RenderNode.{RenderNode}
 use Rattle.html_render_layout.specs.declared.layout.Desk.{Desk}
 use Rattle.html_render_layout.specs.declared.layout.LaidOut.{LaidOut}
-use Rattle.html_render_layout.specs.BlockState.{BlockState, state_operations}
+use Rattle.html_render_layout.specs.BlockMachine as machine
+use Rattle.html_render_layout.specs.BlockMachine.{MachineBlock}
 use Rattle.html_render_layout.specs.Stacks.{stack_at}
 use Rattle.html_render_layout.specs.Layout.{shown_after}
 
@@ -23,7 +24,7 @@ untagged k tag a = (k, tag)
 
 -- the desk of a layout by numbers
 abbrev pub Worked : Type 0 → Type 0 → Type 0
-Worked S A = Desk S (List (List A)) ℕ (BlockState ℕ (Unit {0}))
+Worked S A = Desk S (List (List A)) ℕ (MachineBlock ℕ (Unit {0}))
 
 -- lines with the stacks of their tags
 abbrev pub tagged : {A : Type 0} → List (List A) → List (Line ℕ (Unit {0})) → List (Line (List A) (Unit {0}))
@@ -34,12 +35,12 @@ laid_out l = tagged l.stacks (lines_in l.lines)
 
 -- the lines that the code makes from a desk
 abbrev pub work_lines : {S A : Type 0} → Decoration S A → Forest RenderNode → Worked S A → Option (List (Line (List A) (Unit {0})))
-work_lines {S} {A} d t s = shown_after d tabled state_operations (λ (r : Worked S A). tagged r.stacks r.block.lines) t s
+work_lines {S} {A} d t s = shown_after d tabled machine.operations (λ (r : Worked S A). tagged r.stacks r.block.lines) t s
 
 -- the desk of a layout without annotations
 abbrev pub Untagged : Type 0 → Type 0 → Type 0
-Untagged S K = Desk S K (Unit {0}) (BlockState (Unit {0}) (Unit {0}))
+Untagged S K = Desk S K (Unit {0}) (MachineBlock (Unit {0}) (Unit {0}))
 
 -- the lines that the code makes from it
 abbrev pub untagged_work : {S A K : Type 0} → Decoration S A → Forest RenderNode → Untagged S K → Option (List (Line (Unit {0}) (Unit {0})))
-untagged_work {S} {A} {K} d t s = shown_after d untagged state_operations (λ (r : Untagged S K). r.block.lines) t s
+untagged_work {S} {A} {K} d t s = shown_after d untagged machine.operations (λ (r : Untagged S K). r.block.lines) t s

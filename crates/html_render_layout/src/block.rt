@@ -11,6 +11,7 @@ ghost use Rattle.html_render_lines.specs.Character.{is_collapsible};
 ghost use Rattle.html_render_lines.specs.Line.{marks_line};
 ghost use Rattle.html_render_lines.specs.Stream.{lines_in};
 ghost use Rattle.html_render_layout.specs.Block.{is_blank};
+ghost use Rattle.html_render_layout.specs.BlockMachine as machine;
 
 use html_render_dom::Error;
 use html_render_dom::style::WhiteSpace;
@@ -23,24 +24,35 @@ use std::marker::Model;
 /// A block: its finished lines, and the paragraph that is open, unless a character was too wide for it.
 #[derive(Drop)]
 pub struct Block<T, M> {
+    /// Where its memory comes from.
     alloc: Global,
+    /// The columns of a line.
     width: usize,
+    /// Whether a character that is wider than a line stands alone on one.
     overflow: bool,
+    /// The finished lines.
     lines: Vec<Vec<Element<T, M>>>,
+    /// The open paragraph, unless a character was too wide for it.
     paragraph: Option<Paragraph<T, M>>,
+    /// Whether a block ended here.
     at_block_end: bool,
 }
 
 impl<T, M> Model for Block<T, M> {
     ghost use Rattle.std.specs.Prelude.{map};
-    ghost use Rattle.html_render_layout.specs.BlockState.{BlockState};
+    ghost use Rattle.html_render_layout.specs.BlockMachine.{MachineBlock};
 
-    ghost Value = { BlockState T M };
+    ghost Value = { MachineBlock T M };
 
-    ghost view = { λ b. record { setting = record { width = b.width; overflow = b.overflow }; lines = map (λ v. v.items) b.lines.items; paragraph = b.paragraph; at_block_end = b.at_block_end } };
+    ghost view = { λ b. record {
+      setting = record { width = b.width; overflow = b.overflow };
+      lines = map (λ v. v.items) b.lines.items;
+      paragraph = b.paragraph;
+      at_block_end = b.at_block_end;
+    } };
 }
 
-// Whether a text is empty.
+/// Whether a text is empty.
 fn has_no_character(text: &str) -> bool
     ensures { result ≡ (length (chars text.now) == 0) }
 {
@@ -57,7 +69,7 @@ fn is_blank(mode: WhiteSpace, text: &str) -> bool
     }
 }
 
-// Whether a text is collapsible white space alone.
+/// Whether a text is collapsible white space alone.
 fn is_collapsible_alone(text: &str) -> bool
     ensures { result ≡ list_all is_collapsible (chars text.now) }
 {
@@ -70,12 +82,10 @@ fn is_collapsible_alone(text: &str) -> bool
 }
 
 impl<T: Copy, M: Copy> Block<T, M> {
-    ghost use Rattle.html_render_layout.specs.BlockState.{empty_block, state_flushed, state_separated_by, state_with_empty_line, state_started, state_ended, state_hard_broken, state_fed_more, state_with_text, waiting_in, without_waiting};
-
     /// An empty block of so many columns. Where a character is wider than a line, it stands alone on one with
     /// `overflow`; without, the block is too narrow.
     pub fn new(alloc: Global, width: usize, overflow: bool) -> Block<T, M>
-        ensures { result ≡ empty_block (record { width = width; overflow = overflow }) }
+        ensures { result ≡ machine.empty_block (record { width = width; overflow = overflow }) }
     {
         let paragraph = Some(Paragraph::new(alloc, width, overflow));
         Block {
@@ -102,9 +112,9 @@ impl<T: Copy, M: Copy> Block<T, M> {
         self.lines
     }
 
-    // Takes a text. Where a character is too wide, the next flush says so.
+    /// Takes a text. Where a character is too wide, the next flush says so.
     fn feed(&mut self, text: &str, style: TextStyle<T>) -> Result<(), Error>
-        ensures ok { OnOk result (self.new ≡ state_fed_more self.old style (chars text.now)) }
+        ensures ok { OnOk result (self.new ≡ machine.feed self.old style (chars text.now)) }
         ensures err { IfErr result (λ e. e ≡ Error.OutOfMemory) }
     {
         let Some(mut paragraph) = self.paragraph.take() else {
@@ -120,12 +130,15 @@ impl<T: Copy, M: Copy> Block<T, M> {
         }
     }
 
-    /// Adds the lines of the open paragraph, and opens another for the marks that wait. [`Error::TooNarrow`] comes
-    /// where a character of it is wider than a line, with overflow off.
-    #[tactic(auto, using(html_render_dom::specs::Outcome::refusals))]
+    /// Adds the lines of the open paragraph, and opens another for the marks that wait.
+    ///
+    /// # Errors
+    ///
+    /// `TooNarrow`, where a character of the paragraph is wider than a line, with overflow off. `OutOfMemory`.
+    #[tactic(auto, using(html_render_dom::specs::laws::Outcome::refusals))]
     pub fn flush(&mut self) -> Result<(), Error>
-        ensures ok { OnOk result (state_flushed self.old ≡ Some self.new) }
-        ensures err { IfErr result (λ e. Refuses e (state_flushed self.old)) }
+        ensures ok { OnOk result (machine.flush self.old ≡ Some self.new) }
+        ensures err { IfErr result (λ e. Refuses e (machine.flush self.old)) }
     {
         let Some(mut paragraph) = self.paragraph.take() else {
             return Err(Error::TooNarrow);
@@ -135,10 +148,10 @@ impl<T: Copy, M: Copy> Block<T, M> {
         Ok(())
     }
 
-    // Takes out the marks that wait.
+    /// Takes out the marks that wait.
     fn take_waiting(&mut self) -> Vec<M>
-        ensures marks { result.items ≡ waiting_in self.old.paragraph }
-        ensures after { self.new ≡ record self.old { paragraph = without_waiting self.old.paragraph } }
+        ensures marks { result.items ≡ machine.waiting self.old.paragraph }
+        ensures after { self.new ≡ record self.old { paragraph = machine.take_waiting self.old.paragraph } }
     {
         match self.paragraph.take() {
             Some(mut paragraph) => {
@@ -150,6 +163,7 @@ impl<T: Copy, M: Copy> Block<T, M> {
         }
     }
 
+    /// Adds a finished line.
     fn push_line(&mut self, line: Vec<Element<T, M>>) -> Result<(), AllocError>
         ensures { OnOk result (self.new ≡ record self.old { lines = self.old.lines ++ line.items ∷ [] }) }
     {
@@ -157,17 +171,18 @@ impl<T: Copy, M: Copy> Block<T, M> {
         Ok(())
     }
 
-    // Adds a line that is empty but for the marks that wait.
+    /// Adds a line that is empty but for the marks that wait.
     fn add_empty_line(&mut self) -> Result<(), AllocError>
-        ensures { OnOk result (self.new ≡ state_with_empty_line self.old) }
+        ensures { OnOk result (self.new ≡ machine.add_empty_line self.old) }
     {
         let marks = self.take_waiting();
         let line = marks_line(self.alloc, marks.as_slice())?;
         self.push_line(line)
     }
 
+    /// Adds an empty line behind the lines, if there are any.
     fn separate(&mut self) -> Result<(), AllocError>
-        ensures { OnOk result (self.new ≡ state_separated_by self.old self.old.lines) }
+        ensures { OnOk result (self.new ≡ machine.separate self.old) }
     {
         if self.lines.is_empty() {
             return Ok(());
@@ -175,6 +190,7 @@ impl<T: Copy, M: Copy> Block<T, M> {
         self.add_empty_line()
     }
 
+    /// Says whether a block ended here.
     fn set_at_block_end(&mut self, at_block_end: bool)
         ensures { self.new ≡ record self.old { at_block_end = at_block_end } }
     {
@@ -182,11 +198,15 @@ impl<T: Copy, M: Copy> Block<T, M> {
     }
 
     /// Starts a block: adds the lines of the open paragraph, and an empty line behind the lines, if there are any,
-    /// with the marks that wait. [`Error::TooNarrow`] comes as in [`flush`](Block::flush).
-    #[tactic(auto, using(html_render_dom::specs::Outcome::refusals))]
+    /// with the marks that wait.
+    ///
+    /// # Errors
+    ///
+    /// `TooNarrow`, as in [`flush`](Block::flush). `OutOfMemory`.
+    #[tactic(auto, using(html_render_dom::specs::laws::Outcome::refusals))]
     pub fn start_block(&mut self) -> Result<(), Error>
-        ensures ok { OnOk result (state_started self.old ≡ Some self.new) }
-        ensures err { IfErr result (λ e. Refuses e (state_started self.old)) }
+        ensures ok { OnOk result (machine.start_block self.old ≡ Some self.new) }
+        ensures err { IfErr result (λ e. Refuses e (machine.start_block self.old)) }
     {
         self.flush()?;
         self.separate()?;
@@ -196,25 +216,32 @@ impl<T: Copy, M: Copy> Block<T, M> {
 
     /// Ends a block: what is added next starts another.
     pub fn end_block(&mut self)
-        ensures { self.new ≡ state_ended self.old }
+        ensures { self.new ≡ machine.end_block self.old }
     {
         self.at_block_end = true;
     }
 
     /// Begins a new line, as [`flush`](Block::flush) does.
+    ///
+    /// # Errors
+    ///
+    /// `TooNarrow`, as in [`flush`](Block::flush). `OutOfMemory`.
     pub fn new_line(&mut self) -> Result<(), Error>
-        ensures ok { OnOk result (state_flushed self.old ≡ Some self.new) }
-        ensures err { IfErr result (λ e. Refuses e (state_flushed self.old)) }
+        ensures ok { OnOk result (machine.new_line self.old ≡ Some self.new) }
+        ensures err { IfErr result (λ e. Refuses e (machine.new_line self.old)) }
     {
         self.flush()
     }
 
     /// Begins a new line, and adds an empty one with the marks that wait if the open paragraph had no line.
-    /// [`Error::TooNarrow`] comes as in [`flush`](Block::flush).
-    #[tactic(auto, using(html_render_dom::specs::Outcome::refusals))]
+    ///
+    /// # Errors
+    ///
+    /// `TooNarrow`, as in [`flush`](Block::flush). `OutOfMemory`.
+    #[tactic(auto, using(html_render_dom::specs::laws::Outcome::refusals))]
     pub fn new_line_hard(&mut self) -> Result<(), Error>
-        ensures ok { OnOk result (state_hard_broken self.old ≡ Some self.new) }
-        ensures err { IfErr result (λ e. Refuses e (state_hard_broken self.old)) }
+        ensures ok { OnOk result (machine.new_line_hard self.old ≡ Some self.new) }
+        ensures err { IfErr result (λ e. Refuses e (machine.new_line_hard self.old)) }
     {
         let before = self.lines.len();
         self.flush()?;
@@ -226,12 +253,15 @@ impl<T: Copy, M: Copy> Block<T, M> {
     }
 
     /// Adds a text to the open paragraph. At a block's end a text of collapsible white space alone does nothing under
-    /// [`WhiteSpace::Normal`], and another text starts a block first: only then [`Error::TooNarrow`] comes, as in
-    /// [`flush`](Block::flush).
-    #[tactic(auto, using(html_render_dom::specs::Outcome::refusals))]
+    /// [`WhiteSpace::Normal`], and another text starts a block first.
+    ///
+    /// # Errors
+    ///
+    /// `TooNarrow`, as in [`flush`](Block::flush), where the text starts a block. `OutOfMemory`.
+    #[tactic(auto, using(html_render_dom::specs::laws::Outcome::refusals))]
     pub fn add_inline_text(&mut self, text: &str, style: TextStyle<T>) -> Result<(), Error>
-        ensures ok { OnOk result (state_with_text self.old style (chars text.now) ≡ Some self.new) }
-        ensures err { IfErr result (λ e. Refuses e (state_with_text self.old style (chars text.now))) }
+        ensures ok { OnOk result (machine.add_inline_text self.old style (chars text.now) ≡ Some self.new) }
+        ensures err { IfErr result (λ e. Refuses e (machine.add_inline_text self.old style (chars text.now))) }
     {
         if has_no_character(text) {
             return Ok(());

@@ -3,14 +3,15 @@
 //! `lay_out(alloc, &decorator, &tree, 10, false, &mut meter)?` answers the lines of the tree, wrapped to 10 columns.
 
 ghost use Rattle.std.specs.Prelude.{◌≡◌, ◌≢◌, ◌≤◌, ◌<◌, Some, ℕ, true, false, Err, OnOk, OnErr, IfOk, IfErr, IfSome};
-ghost use Rattle.html_render_dom.specs.Forest.{count, depth};
 ghost use Rattle.html_render_dom.specs.Outcome.{Refuses};
 ghost use Rattle.html_render_lines.specs.Line.{AllWithinWidth};
 ghost use Rattle.html_render_lines.specs.Stream.{lines_in};
-ghost use Rattle.html_render_layout.specs.BlockState.{state_operations};
+ghost use Rattle.html_render_layout.specs.BlockMachine as machine;
+ghost use Rattle.html_render_layout.specs.Counts.{CountsNodes};
 ghost use Rattle.html_render_layout.specs.Pass.{run};
 ghost use Rattle.html_render_layout.specs.Layout.{meaning, shown_after, Defined, defined, layout_lines, untagged_lines};
-ghost use Rattle.html_render_layout.specs.Leaving.{leaving, leave, leave-leaving};
+ghost use Rattle.html_render_layout.specs.Leaving.{leaving, leave};
+ghost use Rattle.html_render_layout.specs.laws.Leaving.{leave-leaving};
 ghost use Rattle.html_render_layout.specs.Working.{work_lines, laid_out, untagged_work};
 
 use crate::block::Block;
@@ -64,6 +65,7 @@ pub struct LaidOut<A> {
 
 /// The pass that lays out a tree.
 struct Layout<D, G> {
+    /// The decorator and the tagging that the layout is of.
     of: PhantomData<(D, G)>,
 }
 
@@ -74,14 +76,15 @@ impl<D: TextDecorator, G: Tagging<D::Annotation>> Pass for Layout<D, G> {
 
     type Kept = Leaving<G::Tag>;
 
-    ghost meaning = { meaning D.decoration G.annotated state_operations };
+    ghost meaning = { meaning D.decoration G.annotated machine.operations };
 
     ghost kept_of = { λ n s. leaving n.kind s };
 
-    ghost leaves = { leave D.decoration G.annotated state_operations };
+    ghost leaves = { leave D.decoration G.annotated machine.operations };
 
-    ghost leaves_kept = { λ n s r. leave-leaving D.decoration G.annotated state_operations n.kind s r };
+    ghost leaves_kept = { λ n s r. leave-leaving D.decoration G.annotated machine.operations n.kind s r };
 
+    /// Enters a node, as its kind says.
     fn enter(
         alloc: Global,
         node: &RenderNode,
@@ -90,6 +93,7 @@ impl<D: TextDecorator, G: Tagging<D::Annotation>> Pass for Layout<D, G> {
         steps::enter(alloc, &node.kind, state)
     }
 
+    /// Does what was kept of a node.
     fn leave(
         alloc: Global,
         kept: Leaving<G::Tag>,
@@ -99,23 +103,17 @@ impl<D: TextDecorator, G: Tagging<D::Annotation>> Pass for Layout<D, G> {
     }
 }
 
-// The desk once a tree is laid out on it, and what is left in the open paragraph.
-#[tactic(auto, using(html_render_dom::specs::Outcome::refusals))]
+/// The desk once a tree is laid out on it, and what is left in the open paragraph.
+#[tactic(auto, using(html_render_dom::specs::laws::Outcome::refusals))]
 fn laid_out_on<D: TextDecorator, G: Tagging<D::Annotation>>(
     alloc: Global,
     tree: &RenderTree,
     desk: Desk<D, G, G::Tag, Block<G::Tag, ()>>,
     meter: &mut Meter,
 ) -> Result<Desk<D, G, G::Tag, Block<G::Tag, ()>>, Error>
-    ensures ok { IfOk result (λ after. shown_after D.decoration G.annotated state_operations (λ r. r) tree.now desk ≡ Some after) }
-    ensures err { IfErr result (λ e. Refuses e (shown_after D.decoration G.annotated state_operations (λ r. r) tree.now desk)) }
-    ensures entered { OnOk result (meter.new.entered ≡ count tree.now) }
-    ensures left { OnOk result (meter.new.left ≡ count tree.now) }
-    ensures frames { OnOk result (meter.new.frames ≡ depth tree.now) }
-    ensures entered_at_most { OnErr result (meter.new.entered ≤ count tree.now) }
-    ensures left_at_most { OnErr result (meter.new.left ≤ meter.new.entered) }
-    ensures frames_at_most { OnErr result (meter.new.frames ≤ depth tree.now) }
-    ensures probes { meter.new.probes ≡ meter.old.probes }
+    ensures ok { IfOk result (λ after. shown_after D.decoration G.annotated machine.operations (λ r. r) tree.now desk ≡ Some after) }
+    ensures err { IfErr result (λ e. Refuses e (shown_after D.decoration G.annotated machine.operations (λ r. r) tree.now desk)) }
+    ensures counts { CountsNodes result tree.now meter.old meter.new }
 {
     let mut desk = desk;
     walk::<Layout<D, G>>(alloc, tree.nodes(), &mut desk, meter)?;
@@ -123,7 +121,7 @@ fn laid_out_on<D: TextDecorator, G: Tagging<D::Annotation>>(
     Ok(desk)
 }
 
-// The lines of a tree on a desk, with the stacks of their tags.
+/// The lines of a tree on a desk, with the stacks of their tags.
 fn lines_on<D: TextDecorator>(
     alloc: Global,
     tree: &RenderTree,
@@ -132,13 +130,7 @@ fn lines_on<D: TextDecorator>(
 ) -> Result<LaidOut<D::Annotation>, Error>
     ensures ok { IfOk result (λ lines. work_lines D.decoration tree.now desk ≡ Some (laid_out lines)) }
     ensures err { IfErr result (λ e. Refuses e (work_lines D.decoration tree.now desk)) }
-    ensures entered { OnOk result (meter.new.entered ≡ count tree.now) }
-    ensures left { OnOk result (meter.new.left ≡ count tree.now) }
-    ensures frames { OnOk result (meter.new.frames ≡ depth tree.now) }
-    ensures entered_at_most { OnErr result (meter.new.entered ≤ count tree.now) }
-    ensures left_at_most { OnErr result (meter.new.left ≤ meter.new.entered) }
-    ensures frames_at_most { OnErr result (meter.new.frames ≤ depth tree.now) }
-    ensures probes { meter.new.probes ≡ meter.old.probes }
+    ensures counts { CountsNodes result tree.now meter.old meter.new }
 {
     let desk = laid_out_on(alloc, tree, desk, meter)?;
     Ok(LaidOut {
@@ -148,10 +140,12 @@ fn lines_on<D: TextDecorator>(
 }
 
 /// The lines of a tree, wrapped to `width` columns, with what a sub-block of the decorator's writes. Where a character
-/// is wider than a line, it stands alone on one with `overflow`. The meter's `entered`, `left` and `frames` count from 0.
+/// is wider than a line, it stands alone on one with `overflow`. The meter's `entered`, `left` and `frames` count from 0,
+/// also where the call refuses; `probes` stays.
 ///
-/// [`Error::TooNarrow`] comes at width 0, and, without `overflow`, where a character is wider than a line;
-/// [`Error::OutOfMemory`] where an allocation was refused.
+/// # Errors
+///
+/// `TooNarrow`, at width 0, and, without `overflow`, where a character is wider than a line. `OutOfMemory`.
 pub fn lay_out<D: TextDecorator>(
     alloc: Global,
     decorator: &D,
@@ -169,16 +163,11 @@ pub fn lay_out<D: TextDecorator>(
     ensures no_width { width ≡ 0 → result ≡ Err Error.TooNarrow }
 
     // a tree that is laid out leaves the annotations and the decorator of any desk as they were
-    ensures stacks { (s : Defined D D.Annotation) → IfSome (run (defined D.decoration) tree.now s) (λ r. (r.tag ≡ s.tag) × (r.decorator ≡ s.decorator)) }
+    ensures stacks { (s : Defined D D.Annotation) →
+        IfSome (run (defined D.decoration) tree.now s) (λ r. (r.tag ≡ s.tag) × (r.decorator ≡ s.decorator)) }
 
     // what was counted, where there are lines, and where there are none
-    ensures entered { OnOk result (meter.new.entered ≡ count tree.now) }
-    ensures left { OnOk result (meter.new.left ≡ count tree.now) }
-    ensures frames { OnOk result (meter.new.frames ≡ depth tree.now) }
-    ensures entered_at_most { OnErr result (meter.new.entered ≤ count tree.now) }
-    ensures left_at_most { OnErr result (meter.new.left ≤ meter.new.entered) }
-    ensures frames_at_most { OnErr result (meter.new.frames ≤ depth tree.now) }
-    ensures probes { meter.new.probes ≡ meter.old.probes }
+    ensures counts { CountsNodes result tree.now meter.old meter.new }
 {
     meter.entered = 0;
     meter.left = 0;
@@ -195,7 +184,7 @@ pub fn lay_out<D: TextDecorator>(
     lines_on(alloc, tree, desk, meter)
 }
 
-// The lines of a tree on a desk without annotations.
+/// The lines of a tree on a desk without annotations.
 fn untagged_lines_on<D: TextDecorator>(
     alloc: Global,
     tree: &RenderTree,
@@ -212,8 +201,9 @@ fn untagged_lines_on<D: TextDecorator>(
 /// The lines of a tree, as [`lay_out`] answers them, without what their characters are annotated with. Nothing is kept
 /// of annotations meanwhile.
 ///
-/// [`Error::TooNarrow`] comes at width 0, and, without `overflow`, where a character is wider than a line;
-/// [`Error::OutOfMemory`] where an allocation was refused.
+/// # Errors
+///
+/// `TooNarrow`, at width 0, and, without `overflow`, where a character is wider than a line. `OutOfMemory`.
 pub fn lay_out_untagged<D: TextDecorator>(
     alloc: Global,
     decorator: &D,

@@ -23,6 +23,7 @@ pub struct Pushed<A> {
 /// with the one that it was pushed on, so it takes no more memory where it is high.
 #[derive(Drop)]
 pub struct Stacks<A> {
+    /// The stacks but the empty one, in the order in which they were pushed.
     pushed: Vec<Pushed<A>>,
 }
 

@@ -36,6 +36,7 @@ impl<A: Drop> Tagging<A> for Untagged {
 
     ghost annotated = { untagged };
 
+    /// Keeps nothing.
     fn annotate(&mut self, _below: (), _annotation: A) -> Result<(), Error> {
         Ok(())
     }
@@ -46,6 +47,7 @@ impl<A: Drop> Tagging<A> for Stacks<A> {
 
     ghost annotated = { tabled };
 
+    /// The tag of the stack that is pushed.
     fn annotate(&mut self, below: usize, annotation: A) -> Result<usize, Error> {
         self.push(below, annotation)
     }

@@ -4,7 +4,8 @@
 //! one tree, the node `c` over `a` and `b`, and `finish` gives the [`Flat`] of it, whose nodes are `c`, `a`, `b`.
 
 ghost use Rattle.std.specs.Prelude.{◌≡◌, ◌↔◌, IsTrue, OnOk, OnErr, IfErr, ℕ};
-ghost use Rattle.html_render_dom.specs.Forest.{none, node, count};
+ghost use Rattle.html_render_dom.specs.Forest as forest;
+ghost use Rattle.html_render_dom.specs.Forest.{none, count};
 ghost use Rattle.html_render_layout.specs.Preorder.{flatten};
 ghost use Rattle.html_render_layout.specs.Splits.{SplitAt};
 
@@ -16,38 +17,40 @@ use std::marker::Model;
 
 /// A node in pre-order.
 #[derive(Drop)]
-pub struct Entry<K> {
-    /// What the node is.
-    pub kind: K,
+pub struct Entry<N> {
+    /// The node.
+    pub node: N,
     /// How many nodes its tree has, itself included.
     pub size: usize,
 }
 
 /// Trees beside each other. Dropping them goes along one vector, however deep they are.
 #[derive(Drop)]
-pub struct Flat<K> {
-    entries: Vec<Entry<K>>,
+pub struct Flat<N> {
+    /// The entries in pre-order.
+    entries: Vec<Entry<N>>,
 }
 
-impl<K> Model for Flat<K> {
+impl<N> Model for Flat<N> {
     ghost use Rattle.std.specs.Prelude.{◌≡◌, List};
     ghost use Rattle.std.specs.Coded.{codes, code_by, coded_list};
     ghost use Rattle.html_render_dom.specs.Forest.{Forest};
     ghost use Rattle.html_render_layout.specs.declared.tree.Entry.{Entry};
-    ghost use Rattle.html_render_layout.specs.Preorder.{forest_of, flatten, forest_of-flatten};
+    ghost use Rattle.html_render_layout.specs.Preorder.{forest_of, flatten};
+    ghost use Rattle.html_render_layout.specs.laws.Preorder.{forest_of-flatten};
 
-    ghost Value = { Forest K };
+    ghost Value = { Forest N };
 
-    ghost coded = { code_by (List (Entry K)) (coded_list (Prim.hlevel (codes, K.code))) flatten forest_of forest_of-flatten };
+    ghost coded = { code_by (List (Entry N)) (coded_list (Prim.hlevel (codes, N.code))) flatten forest_of forest_of-flatten };
 
     ghost view = { λ f. forest_of f.entries.items };
 
     ghost invariant = { λ f. flatten (forest_of f.entries.items) ≡ f.entries.items };
 }
 
-impl<K> Flat<K> {
-    /// The nodes in pre-order.
-    pub fn nodes(&self) -> &[Entry<K>]
+impl<N> Flat<N> {
+    /// The nodes in pre-order, each with the size of its tree.
+    pub fn entries(&self) -> &[Entry<N>]
         ensures { result.now ≡ flatten self.now }
     {
         self.entries.as_slice()
@@ -56,30 +59,31 @@ impl<K> Flat<K> {
 
 /// Trees beside each other that grow at the front, from the last node to the first.
 #[derive(Drop)]
-pub struct Builder<K> {
-    // the last node of the trees comes first
-    entries: Vec<Entry<K>>,
+pub struct Builder<N> {
+    /// The entries in reverse: the last node of the trees comes first.
+    entries: Vec<Entry<N>>,
 }
 
-impl<K> Model for Builder<K> {
+impl<N> Model for Builder<N> {
     ghost use Rattle.std.specs.Prelude.{◌≡◌, List, reverse};
     ghost use Rattle.std.specs.Coded.{codes, code_by, coded_list};
     ghost use Rattle.html_render_dom.specs.Forest.{Forest};
     ghost use Rattle.html_render_layout.specs.declared.tree.Entry.{Entry};
-    ghost use Rattle.html_render_layout.specs.Preorder.{forest_of, flatten, forest_of-flatten};
+    ghost use Rattle.html_render_layout.specs.Preorder.{forest_of, flatten};
+    ghost use Rattle.html_render_layout.specs.laws.Preorder.{forest_of-flatten};
 
-    ghost Value = { Forest K };
+    ghost Value = { Forest N };
 
-    ghost coded = { code_by (List (Entry K)) (coded_list (Prim.hlevel (codes, K.code))) flatten forest_of forest_of-flatten };
+    ghost coded = { code_by (List (Entry N)) (coded_list (Prim.hlevel (codes, N.code))) flatten forest_of forest_of-flatten };
 
     ghost view = { λ b. forest_of (reverse b.entries.items) };
 
     ghost invariant = { λ b. flatten (forest_of (reverse b.entries.items)) ≡ reverse b.entries.items };
 }
 
-impl<K: Drop> Builder<K> {
+impl<N: Drop> Builder<N> {
     /// No tree.
-    pub fn new(alloc: Global) -> Builder<K>
+    pub fn new(alloc: Global) -> Builder<N>
         ensures { result ≡ none }
     {
         Builder {
@@ -103,27 +107,31 @@ impl<K: Drop> Builder<K> {
 
     /// Puts a node without children in front of the trees.
     ///
-    /// Its only error is `OutOfMemory`, which leaves the trees as they were.
-    pub fn put(&mut self, kind: K) -> Result<(), Error>
-        ensures ok { OnOk result (self.new ≡ node kind none self.old) }
+    /// # Errors
+    ///
+    /// `OutOfMemory`. The trees are then as they were.
+    pub fn put(&mut self, node: N) -> Result<(), Error>
+        ensures ok { OnOk result (self.new ≡ forest.node node none self.old) }
         ensures unchanged { OnErr result (self.new ≡ self.old) }
         ensures err { IfErr result (λ e. e ≡ Error.OutOfMemory) }
     {
-        self.entries.push(Entry { kind, size: 1 })?;
+        self.entries.push(Entry { node, size: 1 })?;
         Ok(())
     }
 
     /// Puts a node over all trees that came since there were `mark` nodes.
     ///
-    /// Its only error is `OutOfMemory`, which leaves the trees as they were.
-    pub fn enclose(&mut self, kind: K, mark: usize) -> Result<(), Error>
+    /// # Errors
+    ///
+    /// `OutOfMemory`. The trees are then as they were.
+    pub fn enclose(&mut self, node: N, mark: usize) -> Result<(), Error>
         requires { SplitAt self.old mark }
-        ensures ok { OnOk result ((s : SplitAt self.old mark) → self.new ≡ node kind s.children s.beside) }
+        ensures ok { OnOk result ((s : SplitAt self.old mark) → self.new ≡ forest.node node s.children s.beside) }
         ensures unchanged { OnErr result (self.new ≡ self.old) }
         ensures err { IfErr result (λ e. e ≡ Error.OutOfMemory) }
     {
         let size = self.entries.len() - mark + 1;
-        self.entries.push(Entry { kind, size })?;
+        self.entries.push(Entry { node, size })?;
         Ok(())
     }
 
@@ -136,7 +144,7 @@ impl<K: Drop> Builder<K> {
     }
 
     /// The trees, with their nodes from the first to the last. It takes no memory.
-    pub fn finish(self) -> Flat<K>
+    pub fn finish(self) -> Flat<N>
         ensures { result ≡ self }
     {
         let mut entries = self.entries;
@@ -211,6 +219,7 @@ impl From<NodeKind> for RenderNode {
 /// A document that is ready to be laid out.
 #[derive(Drop)]
 pub struct RenderTree {
+    /// The nodes.
     nodes: Flat<RenderNode>,
 }
 
@@ -220,7 +229,8 @@ impl Model for RenderTree {
     ghost use Rattle.html_render_dom.specs.Forest.{Forest};
     ghost use Rattle.html_render_layout.specs.declared.tree.Entry.{Entry};
     ghost use Rattle.html_render_layout.specs.declared.tree.RenderNode.{RenderNode};
-    ghost use Rattle.html_render_layout.specs.Preorder.{forest_of, flatten, forest_of-flatten};
+    ghost use Rattle.html_render_layout.specs.Preorder.{forest_of, flatten};
+    ghost use Rattle.html_render_layout.specs.laws.Preorder.{forest_of-flatten};
 
     ghost Value = { Forest RenderNode };
 
@@ -232,6 +242,7 @@ impl Model for RenderTree {
 impl From<Builder<RenderNode>> for RenderTree {
     ghost from_gives = { λ b t. t ≡ b };
 
+    /// The document of the trees.
     fn from(builder: Builder<RenderNode>) -> RenderTree {
         RenderTree {
             nodes: builder.finish(),

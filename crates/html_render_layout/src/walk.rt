@@ -5,7 +5,7 @@
 
 ghost use Rattle.std.specs.Prelude.{◌≡◌, ◌≢◌, ◌≤◌, List, [], ◌∷◌, ◌++◌, Option, Some, OnOk, OnErr, IfOk, IfErr, IfSome, IfNone};
 ghost use Rattle.html_render_dom.specs.Outcome.{Refuses};
-ghost use Rattle.html_render_dom.specs.Forest.{count, depth};
+ghost use Rattle.html_render_layout.specs.Counts.{CountsNodes};
 ghost use Rattle.html_render_layout.specs.Pass.{Meaning, run};
 ghost use Rattle.html_render_layout.specs.declared.walk.Frame.{Frame};
 
@@ -33,12 +33,20 @@ pub trait Pass {
     ghost leaves: { Self.Kept → Self.State → Option Self.State };
 
     /// Enters a node: the state becomes its children's.
+    ///
+    /// # Errors
+    ///
+    /// `TooNarrow`, where the pass can't be done. `OutOfMemory`.
     fn enter(alloc: Global, node: &Self::Node, state: &mut Self::State) -> Result<Self::Kept, Error>
         ensures ok { OnOk result (meaning.entered node.now state.old ≡ Some state.new) }
         ensures keeps { IfOk result (λ k. k ≡ kept_of node.now state.old) }
         ensures err { IfErr result (λ e. Refuses e (meaning.entered node.now state.old)) };
 
     /// Leaves a node: the state becomes that behind it.
+    ///
+    /// # Errors
+    ///
+    /// `TooNarrow`, where the pass can't be done. `OutOfMemory`.
     fn leave(alloc: Global, kept: Self::Kept, state: &mut Self::State) -> Result<(), Error>
         ensures ok { OnOk result (leaves kept state.old ≡ Some state.new) }
         ensures err { IfErr result (λ e. Refuses e (leaves kept state.old)) };
@@ -50,12 +58,13 @@ pub trait Pass {
 /// An open node.
 #[derive(Drop)]
 struct Frame<T> {
-    // the place behind its last node
+    /// The place behind its last node.
     end: usize,
+    /// What the pass keeps of it.
     kept: T,
 }
 
-// takes the innermost open node, if it is over at this place
+/// Takes the innermost open node, if it is over at this place.
 fn pop_over<T: Drop>(frames: &mut Vec<Frame<T>>, at: usize) -> Option<T>
     ensures over { IfSome result (λ l. frames.old.items ≡ frames.new.items ++ record { end = at; kept = l } ∷ []) }
     ensures same { IfNone result (frames.new.items ≡ frames.old.items) }
@@ -71,8 +80,11 @@ fn pop_over<T: Drop>(frames: &mut Vec<Frame<T>>, at: usize) -> Option<T>
 
 /// Runs a pass over a forest, with a stack of the open nodes, one step for each node entered and left.
 ///
-/// The meter's `entered`, `left` and `frames` count from 0, also where the pass refuses; `probes` stays. An error
-/// is the pass's own, or `OutOfMemory`.
+/// The meter's `entered`, `left` and `frames` count from 0, also where the pass refuses; `probes` stays.
+///
+/// # Errors
+///
+/// Those of the pass. `OutOfMemory`.
 pub fn walk<P: Pass>(
     alloc: Global,
     forest: &Flat<P::Node>,
@@ -83,18 +95,12 @@ pub fn walk<P: Pass>(
     ensures err { IfErr result (λ e. Refuses e (run P.meaning forest.now state.old)) }
 
     // what was counted, where the walk came to its end, and where it didn't
-    ensures entered { OnOk result (meter.new.entered ≡ count forest.now) }
-    ensures left { OnOk result (meter.new.left ≡ count forest.now) }
-    ensures frames { OnOk result (meter.new.frames ≡ depth forest.now) }
-    ensures entered_at_most { OnErr result (meter.new.entered ≤ count forest.now) }
-    ensures left_at_most { OnErr result (meter.new.left ≤ meter.new.entered) }
-    ensures frames_at_most { OnErr result (meter.new.frames ≤ depth forest.now) }
-    ensures probes { meter.new.probes ≡ meter.old.probes }
+    ensures counts { CountsNodes result forest.now meter.old meter.new }
 {
     meter.entered = 0;
     meter.left = 0;
     meter.frames = 0;
-    let nodes = forest.nodes();
+    let entries = forest.entries();
     let mut frames: Vec<Frame<P::Kept>> = Vec::new(alloc);
     let mut next = 0;
     'walk: loop {
@@ -104,12 +110,12 @@ pub fn walk<P: Pass>(
                 meter.left += 1;
             }
             None => {
-                if next == nodes.len() {
+                if next == entries.len() {
                     return Ok(());
                 }
-                let node = &nodes[next];
-                let kept = P::enter(alloc, &node.kind, state)?;
-                let end = next + node.size;
+                let entry = &entries[next];
+                let kept = P::enter(alloc, &entry.node, state)?;
+                let end = next + entry.size;
                 frames.push(Frame { end, kept })?;
                 meter.entered += 1;
                 meter.frames = meter.frames.max(frames.len());

@@ -1,5 +1,6 @@
 -- Letters that come together: printable ASCII characters, each one column wide.
-use Rattle.std.proofs.Common.{◌≡◌, ℕ, ◌+◌, ◌<◌, ◌≤◌, Bool, true, false, cond, leb, List, [], ◌∷◌, ◌++◌, take, drop, length, Option, None, Some, refl, sym, ap, ◌∙◌, arith, option_map, option_and_then, append_assoc, All, ◌-◌, get_or}
+use Rattle.std.proofs.Common.{◌≡◌, ℕ, ◌+◌, ◌<◌, ◌≤◌, Bool, true, false, cond, leb, List, [], ◌∷◌, ◌++◌, take, drop, length, Option, None, Some, refl}
+use Rattle.std.proofs.Common.{sym, ap, ◌∙◌, arith, option_map, option_and_then, append_assoc, All, ◌-◌, get_or}
 use Rattle.std.proofs.lemmas.List.Sums.{sum_by-append}
 use Rattle.std.proofs.lemmas.List.{take-append-drop, map-append, length-take, get_or-take}
 use Rattle.std.proofs.lemmas.List.Elements.{All-nil, All-cons}
@@ -21,7 +22,8 @@ use Rattle.html_render_lines.specs.Character.{kind, width_of, is_plain}
 use Rattle.html_render_lines.specs.Line.{word_columns, item_width}
 use Rattle.html_render_lines.specs.Paragraph.{is_same}
 use Rattle.html_render_lines.specs.Room.{room_behind}
-use Rattle.html_render_lines.specs.Whole.{after-append}
+use Rattle.html_render_lines.specs.laws.Cases.{if_true, if_false}
+use Rattle.html_render_lines.specs.laws.Whole.{after-append}
 use Rattle.html_render_lines.specs.Stream.{State, end_word, begin_word, joins, after, step, character_step, letter_step, letters_step, character_of, styled}
 
 pub plain-low : (c : ℕ) → is_plain c ≡ true → 33 ≤ c
@@ -47,14 +49,6 @@ plain_kind Normal c w e = normal_kind c (plain-low c e) (plain-high c e)
 plain_kind Pre c w e = cc
 plain_kind PreWrap c w e = pre_wrap_kind c (plain-low c e) (plain-high c e)
 
-if_true : {X : Type 0} (b : Bool) (x y : X) → b ≡ true → cond b x y ≡ x
-if_true true x y e = refl
-if_true false x y e = cc
-
-if_false : {X : Type 0} (b : Bool) (x y : X) → b ≡ false → cond b x y ≡ y
-if_false true x y e = cc
-if_false false x y e = refl
-
 append_nil : {A : Type 0} (a : List A) → a ≡ a ++ []
 append_nil [] = refl
 append_nil (x ∷ xs) = ap (λ r. x ∷ r) (append_nil xs)
@@ -65,7 +59,8 @@ same-refl false = refl
 
 -- ---- columns
 
-pub word_columns-styled : {T : Type 0} (M : Type 0) (style : TextStyle T) (cs : List ℕ) → list_all is_plain cs ≡ true → word_columns {M = M} (styled style cs) ≡ length cs
+pub word_columns-styled : {T : Type 0} (M : Type 0) (style : TextStyle T) (cs : List ℕ) → list_all is_plain cs ≡ true →
+    word_columns {M = M} (styled style cs) ≡ length cs
 word_columns-styled M style [] e = refl
 word_columns-styled {T} M style (c ∷ cs) e =
     let parts = and_parts (is_plain c) (list_all is_plain cs) e in
@@ -73,40 +68,64 @@ word_columns-styled {T} M style (c ∷ cs) e =
     let one = plain_width c (plain-low c parts.0) (plain-high c parts.0) in
     omega (arith, front, one, word_columns-styled M style cs parts.1)
 
-pub room-letters : {T M : Type 0} (word new : List (Item T M)) (style : TextStyle T) (cs : List ℕ) (w : ℕ) (left : Option ℕ) → list_all is_plain cs ≡ true → new ≡ word ++ styled style cs → left ≡ room_behind w (word_columns word + length cs) → left ≡ room_behind w (word_columns new)
+pub room-letters : {T M : Type 0} (word new : List (Item T M)) (style : TextStyle T) (cs : List ℕ) (w : ℕ) (left : Option ℕ) →
+    list_all is_plain cs ≡ true → new ≡ word ++ styled style cs → left ≡ room_behind w (word_columns word + length cs) →
+    left ≡ room_behind w (word_columns new)
 room-letters {T} {M} word new style cs w left plain e f =
-    let more : word_columns new ≡ word_columns word + length cs = omega (arith, ap word_columns e, sum_by-append (λ (x : Item T M). item_width x) word (styled style cs), word_columns-styled M style cs plain) in
+    let more : word_columns new ≡ word_columns word + length cs =
+    omega (
+      arith,
+      ap word_columns e,
+      sum_by-append (λ (x : Item T M). item_width x) word (styled style cs),
+      word_columns-styled M style cs plain,
+    ) in
     f ∙ ap (room_behind w) (sym more)
 
 -- ---- steps
 
-plain_step : {T M : Type 0} (st : State T M) (style : TextStyle T) (c : ℕ) → wraps style.mode ≡ true → is_plain c ≡ true → step st (item.Character (character_of style c)) ≡ letter_step st (character_of style c)
+plain_step : {T M : Type 0} (st : State T M) (style : TextStyle T) (c : ℕ) → wraps style.mode ≡ true → is_plain c ≡ true →
+    step st (item.Character (character_of style c)) ≡ letter_step st (character_of style c)
 plain_step st style c w e = ap (λ k. character_step k st (character_of style c)) (plain_kind style.mode c w e)
 
-letters_join : {T M : Type 0} (st : State T M) (style : TextStyle T) (cs : List ℕ) → wraps style.mode ≡ true → list_all is_plain cs ≡ true → joins st.open_word (preserves style.mode) ≡ true → after st (styled style cs) ≡ Some (record st { word = st.word ++ styled style cs })
+letters_join : {T M : Type 0} (st : State T M) (style : TextStyle T) (cs : List ℕ) → wraps style.mode ≡ true →
+    list_all is_plain cs ≡ true → joins st.open_word (preserves style.mode) ≡ true →
+    after st (styled style cs) ≡ Some (record st { word = st.word ++ styled style cs })
 letters_join st style [] w e j = ap (λ x. Some (record st { word = x })) (append_nil st.word)
 letters_join {T} {M} st style (c ∷ cs) w e j =
     let parts = and_parts (is_plain c) (list_all is_plain cs) e in
     let next : State T M = record st { word = st.word ++ item.Character (character_of style c) ∷ [] } in
-    ap (option_and_then (λ (t : State T M). after t (styled style cs))) (plain_step st style c w parts.0 ∙ if_true (joins st.open_word (preserves style.mode)) (Some next) _ j)
+    ap (option_and_then (λ (t : State T M). after t (styled style cs))) (plain_step st style c w parts.0
+    ∙ if_true (joins st.open_word (preserves style.mode)) (Some next) _ j)
     ∙ letters_join next style cs w parts.1 j
     ∙ ap (λ x. Some (record st { word = x })) (append_assoc st.word (item.Character (character_of style c) ∷ []) (styled style cs))
 
-letters_begin : {T M : Type 0} (st : State T M) (style : TextStyle T) (c : ℕ) (cs : List ℕ) → wraps style.mode ≡ true → list_all is_plain (c ∷ cs) ≡ true → joins st.open_word (preserves style.mode) ≡ false → after st (styled style (c ∷ cs)) ≡ option_map (λ (t : State T M). record t { word = styled style (c ∷ cs); open_word = Some (preserves style.mode) }) (end_word st)
+letters_begin : {T M : Type 0} (st : State T M) (style : TextStyle T) (c : ℕ) (cs : List ℕ) → wraps style.mode ≡ true →
+    list_all is_plain (c ∷ cs) ≡ true → joins st.open_word (preserves style.mode) ≡ false →
+    after st (styled style (c ∷ cs))
+    ≡ option_map (λ (t : State T M). record t { word = styled style (c ∷ cs); open_word = Some (preserves style.mode) }) (end_word st)
 letters_begin {T} {M} st style c cs w e j =
     let parts = and_parts (is_plain c) (list_all is_plain cs) e in
-    ap (option_and_then (λ (t : State T M). after t (styled style cs))) (plain_step st style c w parts.0 ∙ if_false (joins st.open_word (preserves style.mode)) _ (option_map (λ (t : State T M). begin_word t (character_of style c)) (end_word st)) j)
+    ap (option_and_then (λ (t : State T M). after t (styled style cs))) (plain_step st style c w parts.0
+    ∙ if_false (joins st.open_word (preserves style.mode)) _
+    (option_map (λ (t : State T M). begin_word t (character_of style c)) (end_word st)) j)
     ∙ by (end_word st) parts.1
   where
-    by : (o : Option (State T M)) → list_all is_plain cs ≡ true → option_and_then (λ (t : State T M). after t (styled style cs)) (option_map (λ (t : State T M). begin_word t (character_of style c)) o) ≡ option_map (λ (t : State T M). record t { word = styled style (c ∷ cs); open_word = Some (preserves style.mode) }) o
+    by : (o : Option (State T M)) → list_all is_plain cs ≡ true →
+        option_and_then (λ (t : State T M). after t (styled style cs))
+        (option_map (λ (t : State T M). begin_word t (character_of style c)) o)
+        ≡ option_map (λ (t : State T M). record t { word = styled style (c ∷ cs); open_word = Some (preserves style.mode) }) o
     by None p = refl
     by (Some t) p = letters_join (begin_word t (character_of style c)) style cs w p (same-refl (preserves style.mode))
 
-pub after-letters : {T M : Type 0} (st : State T M) (style : TextStyle T) (cs : List ℕ) → wraps style.mode ≡ true → list_all is_plain cs ≡ true → 0 < length cs → after st (styled style cs) ≡ letters_step st style cs
+pub after-letters : {T M : Type 0} (st : State T M) (style : TextStyle T) (cs : List ℕ) → wraps style.mode ≡ true →
+    list_all is_plain cs ≡ true → 0 < length cs → after st (styled style cs) ≡ letters_step st style cs
 after-letters st style [] w e h = absurd (omega arith)
 after-letters {T} {M} st style (c ∷ cs) w e h = by (joins st.open_word (preserves style.mode)) refl
   where
-    by : (b : Bool) → joins st.open_word (preserves style.mode) ≡ b → after st (styled style (c ∷ cs)) ≡ cond b (Some (record st { word = st.word ++ styled style (c ∷ cs) })) (option_map (λ (t : State T M). record t { word = styled style (c ∷ cs); open_word = Some (preserves style.mode) }) (end_word st))
+    by : (b : Bool) → joins st.open_word (preserves style.mode) ≡ b →
+        after st (styled style (c ∷ cs))
+        ≡ cond b (Some (record st { word = st.word ++ styled style (c ∷ cs) }))
+        (option_map (λ (t : State T M). record t { word = styled style (c ∷ cs); open_word = Some (preserves style.mode) }) (end_word st))
     by true j = letters_join st style (c ∷ cs) w e j
     by false j = letters_begin st style c cs w e j
 
@@ -125,10 +144,14 @@ plain_bytes bs e = IsAscii-from_all bs (by bs e)
 chars-letters : (bs : List ℕ) (n : ℕ) → list_all is_plain (take n bs) ≡ true → chars bs ≡ take n bs ++ chars (drop n bs)
 chars-letters bs n e =
     let ascii = plain_bytes (take n bs) e in
-    ap chars (sym (take-append-drop n bs)) ∙ chars-append (take n bs) (drop n bs) (IsUtf8-from_ascii (take n bs) ascii) ∙ ap (λ x. x ++ chars (drop n bs)) (chars-IsAscii (take n bs) ascii)
+    ap chars (sym (take-append-drop n bs)) ∙ chars-append (take n bs) (drop n bs) (IsUtf8-from_ascii (take n bs) ascii)
+    ∙ ap (λ x. x ++ chars (drop n bs)) (chars-IsAscii (take n bs) ascii)
 
 -- letters in front, and then the rest
-pub after-front : {T M : Type 0} (st : State T M) (style : TextStyle T) (bs : List ℕ) (n : ℕ) → wraps style.mode ≡ true → list_all is_plain (take n bs) ≡ true → 0 < n → n ≤ length bs → after st (styled style (chars bs)) ≡ option_and_then (λ t. after t (styled style (chars (drop n bs)))) (letters_step st style (take n bs))
+pub after-front : {T M : Type 0} (st : State T M) (style : TextStyle T) (bs : List ℕ) (n : ℕ) → wraps style.mode ≡ true →
+    list_all is_plain (take n bs) ≡ true → 0 < n → n ≤ length bs →
+    after st (styled style (chars bs))
+    ≡ option_and_then (λ t. after t (styled style (chars (drop n bs)))) (letters_step st style (take n bs))
 after-front {T} {M} st style bs n w e low high =
     let some : 0 < length (take n bs) = simp length-take (omega arith) in
     ap (λ cs. after st (styled style cs)) (chars-letters bs n e)

@@ -3,3 +3,4 @@ pub mod Words
 pub mod Copies
 pub mod Letters
 pub mod WholeWords
+pub mod Items

@@ -1,13 +1,18 @@
+-- what a character is to the wrapping
 pub mod Character
+-- a line, and its columns
 pub mod Line
+-- THE DEFINITION of a paragraph
 pub mod Paragraph
-pub mod Stream
-pub mod Room
-pub mod Word
-pub mod Whole
-pub mod Cases
-pub mod Within
-pub mod Overflow
+-- the characters that can be seen
 pub mod Visible
+-- lines with other tags
 pub mod Tags
-pub mod Kept
+-- a paragraph that is fed character by character
+pub mod Stream
+-- a word put on a line as a whole
+pub mod Word
+-- the room that is left behind a line
+pub mod Room
+-- what follows from the definitions
+pub mod laws

@@ -11,7 +11,7 @@ use Rattle.html_render_lines.specs.declared.character.Item.TheVariants as item
 use Rattle.html_render_lines.specs.declared.line.Element.{Element}
 use Rattle.html_render_lines.specs.Character.{kind}
 use Rattle.html_render_lines.specs.Line.{Line}
-use Rattle.html_render_lines.specs.Paragraph.{Page, Setting, blank_page, wait, put_word, put_single, settled_for, first_of, is_same, all_lines}
+use Rattle.html_render_lines.specs.Paragraph.{Page, Setting, blank_page, with_waiting_mark, put_word, put_single, page_for_single, first_of, is_same, all_lines}
 
 -- the page, the space that is due, and the word that is open, with whether white space is preserved in it
 pub record State (T M : Type 0) : Type 0 where
@@ -30,15 +30,16 @@ on_page {T} {M} st o = option_map (λ (p : Page T M). record st { page = p }) o
 -- the state with a word placed
 abbrev pub placed_word : {T M : Type 0} → State T M → Option (State T M)
 placed_word {T} {M} st =
-    option_map (λ (p : Page T M). record { setting = st.setting; page = p; pending = None; word = []; open_word = None }) (put_word st.setting st.page st.pending st.word)
+    option_map (λ (p : Page T M). record { setting = st.setting; page = p; pending = None; word = []; open_word = None })
+    (put_word st.setting st.page st.pending st.word)
 
-abbrev pub end_by : {T M : Type 0} → Option Bool → State T M → Option (State T M)
-end_by None st = Some st
-end_by (Some k) st = placed_word st
+abbrev pub end_word_by : {T M : Type 0} → Option Bool → State T M → Option (State T M)
+end_word_by None st = Some st
+end_word_by (Some k) st = placed_word st
 
 -- the state with its open word placed, if there is one
 abbrev pub end_word : {T M : Type 0} → State T M → Option (State T M)
-end_word st = end_by st.open_word st
+end_word st = end_word_by st.open_word st
 
 -- a letter joins the open word
 abbrev pub joins : Option Bool → Bool → Bool
@@ -54,7 +55,9 @@ letter_step {T} {M} st c =
     else option_map (λ (t : State T M). begin_word t c) (end_word st)
 
 abbrev pub single_step : {T M : Type 0} → State T M → Kind → Character T → Option (State T M)
-single_step {T} {M} st k c = option_map (λ (p : Page T M). record st { page = p; pending = None }) (put_single st.setting (settled_for st.setting st.page st.pending k) k c)
+single_step {T} {M} st k c =
+    option_map (λ (p : Page T M). record st { page = p; pending = None })
+    (put_single st.setting (page_for_single st.setting st.page st.pending k) k c)
 
 abbrev pub then_single : {T M : Type 0} → State T M → Kind → Character T → Option (State T M)
 then_single {T} {M} st k c = option_and_then (λ (t : State T M). single_step t k c) (end_word st)
@@ -73,14 +76,14 @@ character_step Tab st c = then_single st Tab c
 character_step SoftSpace st c = then_single st SoftSpace c
 character_step SoftTab st c = then_single st SoftTab c
 
-abbrev pub mark_by : {T M : Type 0} → Option Bool → State T M → M → State T M
-mark_by None st m = record st { page = wait st.page m }
-mark_by (Some k) st m = record st { word = st.word ++ item.Mark m ∷ [] }
+abbrev pub mark_step_by : {T M : Type 0} → Option Bool → State T M → M → State T M
+mark_step_by None st m = record st { page = with_waiting_mark st.page m }
+mark_step_by (Some k) st m = record st { word = st.word ++ item.Mark m ∷ [] }
 
 -- the state after one character or mark; none where it is too narrow
 abbrev pub step : {T M : Type 0} → State T M → Item T M → Option (State T M)
 step st (item.Character c) = character_step (kind c.mode c.code) st c
-step st (item.Mark m) = Some (mark_by st.open_word st m)
+step st (item.Mark m) = Some (mark_step_by st.open_word st m)
 
 abbrev pub after : {T M : Type 0} → State T M → List (Item T M) → Option (State T M)
 after st [] = Some st

@@ -9,22 +9,22 @@ use Rattle.html_render_lines.specs.Line.{Line}
 use Rattle.html_render_lines.specs.Paragraph.{Page, tag_on}
 
 -- the line with the word's characters, each behind the marks that wait for it
-abbrev pub line_with : {T M : Type 0} → Bool → Line T M → List M → List (Item T M) → Line T M
-line_with continues line marks [] = line
-line_with {T} {M} continues line marks (item.Character c ∷ xs) =
-    line_with continues (line ++ (map (λ (m : M). element.Mark m) marks ++ element.Character c.code (tag_on continues c) ∷ [])) [] xs
-line_with continues line marks (item.Mark m ∷ xs) = line_with continues line (marks ++ m ∷ []) xs
+abbrev pub line_with_word : {T M : Type 0} → Bool → Line T M → List M → List (Item T M) → Line T M
+line_with_word continues line marks [] = line
+line_with_word {T} {M} continues line marks (item.Character c ∷ xs) =
+    line_with_word continues (line ++ (map (λ (m : M). element.Mark m) marks ++ element.Character c.code (tag_on continues c) ∷ [])) [] xs
+line_with_word continues line marks (item.Mark m ∷ xs) = line_with_word continues line (marks ++ m ∷ []) xs
 
 -- the marks that no character of the word follows
-abbrev pub marks_with : {T M : Type 0} → List M → List (Item T M) → List M
-marks_with marks [] = marks
-marks_with marks (item.Character c ∷ xs) = marks_with [] xs
-marks_with marks (item.Mark m ∷ xs) = marks_with (marks ++ m ∷ []) xs
+abbrev pub marks_behind_word : {T M : Type 0} → List M → List (Item T M) → List M
+marks_behind_word marks [] = marks
+marks_behind_word marks (item.Character c ∷ xs) = marks_behind_word [] xs
+marks_behind_word marks (item.Mark m ∷ xs) = marks_behind_word (marks ++ m ∷ []) xs
 
 abbrev pub with_word : {T M : Type 0} → Page T M → List (Item T M) → Page T M
 with_word page word = record page {
-  line = line_with page.continues page.line page.waiting word;
-  waiting = marks_with page.waiting word;
+  line = line_with_word page.continues page.line page.waiting word;
+  waiting = marks_behind_word page.waiting word;
 }
 
 -- a word whose last part is a character, so that no mark is left over

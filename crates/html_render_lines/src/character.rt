@@ -126,6 +126,7 @@ fn rare_class(mode: WhiteSpace, c: char) -> Class
     }
 }
 
+/// What a character is to the wrapping, where it is known whether it has a width.
 #[tactic(auto, unfolding(crate::specs::Character::kind))]
 fn kind_of(mode: WhiteSpace, c: char, has_no_width: bool) -> Kind
     requires { has_no_width ≡ has_no_width_of c }

@@ -4,5 +4,6 @@
 #![tactic(auto)]
 
 pub mod character;
+mod laws;
 pub mod line;
 pub mod paragraph;

@@ -6,7 +6,7 @@ ghost use Rattle.std.specs.Prelude.{◌≡◌, ◌+◌, ◌%◌, ◌∷◌, [], 
 ghost use Rattle.html_render_lines.specs.Line.{columns, element_width};
 ghost use Rattle.html_render_lines.specs.Paragraph.{tag_on};
 ghost use Rattle.html_render_lines.specs.Room.{room_behind};
-ghost use Rattle.html_render_lines.specs.Word.{line_with, marks_with, element_of, EndsInCharacter};
+ghost use Rattle.html_render_lines.specs.Word.{line_with_word, marks_behind_word, element_of, EndsInCharacter};
 ghost use Rattle.std.specs.Bool.{OnTrue};
 
 use crate::character::{Character, Item, width_of};
@@ -93,7 +93,7 @@ pub(crate) fn push_behind<T: Copy, M: Copy>(
     Ok(())
 }
 
-// Puts the marks that wait.
+/// Puts the marks that wait.
 #[inline]
 fn push_waiting<T: Copy, M: Copy>(
     line: &mut Vec<Element<T, M>>,
@@ -109,6 +109,7 @@ fn push_waiting<T: Copy, M: Copy>(
     Ok(())
 }
 
+/// Puts marks behind a line.
 fn push_marks<T: Copy, M: Copy>(
     line: &mut Vec<Element<T, M>>,
     marks: &[M],
@@ -128,8 +129,8 @@ pub(crate) fn push_word<T: Copy, M: Copy>(
     continues: bool,
     word: &[Item<T, M>],
 ) -> Result<(), AllocError>
-    ensures line { OnOk result (line.new.items ≡ line_with continues line.old.items waiting.old.items word.now) }
-    ensures waiting { OnOk result (waiting.new.items ≡ marks_with waiting.old.items word.now) }
+    ensures line { OnOk result (line.new.items ≡ line_with_word continues line.old.items waiting.old.items word.now) }
+    ensures waiting { OnOk result (waiting.new.items ≡ marks_behind_word waiting.old.items word.now) }
 {
     if ends_in_character(word) {
         push_whole_word(line, waiting, continues, word)
@@ -138,6 +139,7 @@ pub(crate) fn push_word<T: Copy, M: Copy>(
     }
 }
 
+/// Whether the last part of a word is a character.
 fn ends_in_character<T, M>(word: &[Item<T, M>]) -> bool
     ensures { OnTrue result (EndsInCharacter word.now) }
 {
@@ -150,7 +152,7 @@ fn ends_in_character<T, M>(word: &[Item<T, M>]) -> bool
     }
 }
 
-// Puts a word whose last part is a character.
+/// Puts a word whose last part is a character.
 #[tactic(auto, using(crate::proofs::WholeWords::whole))]
 fn push_whole_word<T: Copy, M: Copy>(
     line: &mut Vec<Element<T, M>>,
@@ -159,13 +161,14 @@ fn push_whole_word<T: Copy, M: Copy>(
     word: &[Item<T, M>],
 ) -> Result<(), AllocError>
     requires { EndsInCharacter word.now }
-    ensures line { OnOk result (line.new.items ≡ line_with continues line.old.items waiting.old.items word.now) }
-    ensures waiting { OnOk result (waiting.new.items ≡ marks_with waiting.old.items word.now) }
+    ensures line { OnOk result (line.new.items ≡ line_with_word continues line.old.items waiting.old.items word.now) }
+    ensures waiting { OnOk result (waiting.new.items ≡ marks_behind_word waiting.old.items word.now) }
 {
     push_waiting(line, waiting)?;
     extend_line(line, continues, word)
 }
 
+/// Puts what stands for each part of a word behind a line.
 fn extend_line<T: Copy, M: Copy>(
     line: &mut Vec<Element<T, M>>,
     continues: bool,
@@ -176,6 +179,7 @@ fn extend_line<T: Copy, M: Copy>(
     line.extend(word.iter().map(|item| element_of(continues, item)))
 }
 
+/// What stands on a line for a part of a word.
 #[inline]
 fn element_of<T: Copy, M: Copy>(continues: bool, item: &Item<T, M>) -> Element<T, M>
     ensures { result ≡ element_of continues item.now }
@@ -189,15 +193,15 @@ fn element_of<T: Copy, M: Copy>(continues: bool, item: &Item<T, M>) -> Element<T
     }
 }
 
-// Puts the parts of a word one by one.
+/// Puts the parts of a word one by one.
 fn push_items<T: Copy, M: Copy>(
     line: &mut Vec<Element<T, M>>,
     waiting: &mut Vec<M>,
     continues: bool,
     word: &[Item<T, M>],
 ) -> Result<(), AllocError>
-    ensures line { OnOk result (line.new.items ≡ line_with continues line.old.items waiting.old.items word.now) }
-    ensures waiting { OnOk result (waiting.new.items ≡ marks_with waiting.old.items word.now) }
+    ensures line { OnOk result (line.new.items ≡ line_with_word continues line.old.items waiting.old.items word.now) }
+    ensures waiting { OnOk result (waiting.new.items ≡ marks_behind_word waiting.old.items word.now) }
 {
     for item in word {
         match item {

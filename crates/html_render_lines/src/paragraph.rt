@@ -3,15 +3,19 @@
 //! `paragraph.add_text("Hello wide world", style)?` feeds a text; `paragraph.flush(&mut lines)?` then adds the lines
 //! `Hello wide` and `world` at a width of 11.
 
-ghost use Rattle.std.specs.Prelude.{List, IfOk, length, take, drop, ◌<◌, true, false, ◌≡◌, ◌+◌, ◌-◌, ◌≤◌, ◌%◌, [], ◌∷◌, ◌++◌, Some, None, OnOk, IfErr, if◌then◌else◌, map, option_map, replicate, nat_le};
+ghost use Rattle.std.specs.Prelude.{List, IfOk, length, take, drop, ◌<◌, true, false, ◌≡◌, ◌+◌, ◌-◌, ◌≤◌, ◌%◌, [], ◌∷◌, ◌++◌, Some, None, OnOk};
+ghost use Rattle.std.specs.Prelude.{IfErr, if◌then◌else◌, map, option_map, replicate, nat_le};
 ghost use Rattle.std.specs.List.{list_all};
 ghost use Rattle.std.specs.Str.{chars, IsUtf8};
 ghost use Rattle.html_render_dom.specs.Outcome.{Refuses};
 ghost use Rattle.html_render_lines.specs.Character.{width_of, kind, is_plain};
 ghost use Rattle.html_render_lines.specs.Line.{columns, word_columns};
 ghost use Rattle.html_render_lines.specs.Room.{room_behind};
-ghost use Rattle.html_render_lines.specs.Paragraph.{fits, with_character, with_space, continued, broken, put_character, put_characters, put_items, put_fitting, put_all_fitting, spaced, settled_for, gap_width, wait, put_single, tab_spaces, all_lines, Setting};
-ghost use Rattle.html_render_lines.specs.Stream.{start, on_page, placed_word, end_word, step, letter_step, letters_step, then_single, character_step, after, character_of, styled, finished, flushed_to, lines_in};
+ghost use Rattle.html_render_lines.specs.Paragraph.{fits, with_character, with_space, continued, with_line_break, put_character, put_characters};
+ghost use Rattle.html_render_lines.specs.Paragraph.{put_items, put_fitting, put_all_fitting, with_due_space, page_for_single, gap_width};
+ghost use Rattle.html_render_lines.specs.Paragraph.{with_waiting_mark, put_single, tab_spaces, all_lines, Setting};
+ghost use Rattle.html_render_lines.specs.Stream.{start, on_page, placed_word, end_word, step, letter_step, letters_step, then_single, character_step};
+ghost use Rattle.html_render_lines.specs.Stream.{after, character_of, styled, finished, flushed_to, lines_in};
 ghost use Rattle.html_render_lines.specs.Word.{with_word};
 
 use crate::character::{Character, Class, Item, Kind, TextStyle, class_of, width_of};
@@ -30,7 +34,7 @@ pub struct Paragraph<T, M> {
     overflow: bool,
     lines: Vec<Vec<Element<T, M>>>,
     line: Vec<Element<T, M>>,
-    // what is left of the width behind the line, and behind the word alone
+    // What is left of the width behind the line, and behind the word alone.
     room: Option<usize>,
     word_room: Option<usize>,
     continues: bool,
@@ -47,7 +51,13 @@ impl<T, M> Model for Paragraph<T, M> {
 
     ghost Value = { State T M };
 
-    ghost view = { λ p. record { setting = record { width = p.width; overflow = p.overflow }; page = record { lines = map (λ v. v.items) p.lines.items; line = p.line.items; continues = p.continues; waiting = p.waiting.items }; pending = p.pending; word = p.word.items; open_word = p.open_word } };
+    ghost view = { λ p. record {
+      setting = record { width = p.width; overflow = p.overflow };
+      page = record { lines = map (λ v. v.items) p.lines.items; line = p.line.items; continues = p.continues; waiting = p.waiting.items };
+      pending = p.pending;
+      word = p.word.items;
+      open_word = p.open_word;
+    } };
 
     ghost invariant = { λ p. Rooms p.width p.line.items p.room p.word.items p.word_room };
 }
@@ -74,6 +84,7 @@ impl<T: Copy, M: Copy> Paragraph<T, M> {
         }
     }
 
+    /// Whether so many more columns fit on the line.
     fn fits(&self, more: usize) -> bool
         ensures { result ≡ fits self.now.setting self.now.page more }
     {
@@ -83,6 +94,7 @@ impl<T: Copy, M: Copy> Paragraph<T, M> {
         }
     }
 
+    /// Takes the marks that wait out.
     fn take_marks(&mut self) -> Vec<M>
         ensures marks { result.items ≡ self.old.page.waiting }
         ensures after { self.new ≡ record self.old { page = record self.old.page { waiting = [] } } }
@@ -90,7 +102,7 @@ impl<T: Copy, M: Copy> Paragraph<T, M> {
         mem::replace(&mut self.waiting, Vec::new(self.alloc))
     }
 
-    // Takes the open line out.
+    /// Takes the open line out.
     fn take_line(&mut self) -> Vec<Element<T, M>>
         ensures line { result.items ≡ self.old.page.line }
         ensures after { self.new ≡ record self.old { page = record self.old.page { line = [] } } }
@@ -99,7 +111,7 @@ impl<T: Copy, M: Copy> Paragraph<T, M> {
         mem::replace(&mut self.line, Vec::new(self.alloc))
     }
 
-    // Puts the marks that wait and a character, of this width, on the line.
+    /// Puts the marks that wait and a character, of this width, on the line.
     fn push_character(&mut self, character: Character<T>, width: usize) -> Result<(), AllocError>
         requires { width ≡ width_of character.code }
         ensures { OnOk result (self.new ≡ record self.old { page = with_character self.old.page character }) }
@@ -108,9 +120,15 @@ impl<T: Copy, M: Copy> Paragraph<T, M> {
         self.push_tagged(character.code, tag, width)
     }
 
+    /// Puts the marks that wait and a character with this tag, of this width, on the line.
     fn push_tagged(&mut self, code: char, tag: T, width: usize) -> Result<(), AllocError>
         requires { width ≡ width_of code }
-        ensures { OnOk result (self.new ≡ record self.old { page = record self.old.page { line = self.old.page.line ++ (map (λ m. Element.Mark m) self.old.page.waiting ++ Element.Character code tag ∷ []); waiting = [] } }) }
+        ensures { OnOk result (self.new ≡ record self.old {
+          page = record self.old.page {
+            line = self.old.page.line ++ (map (λ m. Element.Mark m) self.old.page.waiting ++ Element.Character code tag ∷ []);
+            waiting = [];
+          };
+        }) }
     {
         let room = left_behind(self.room, width);
         let pushed = push_behind(
@@ -129,7 +147,7 @@ impl<T: Copy, M: Copy> Paragraph<T, M> {
         pushed
     }
 
-    // Puts a separating space.
+    /// Puts a separating space.
     fn push_space(&mut self, character: Character<T>) -> Result<(), AllocError>
         ensures { OnOk result (self.new ≡ record self.old { page = with_space self.old.page character }) }
     {
@@ -140,9 +158,9 @@ impl<T: Copy, M: Copy> Paragraph<T, M> {
         Ok(())
     }
 
-    // Puts a space that is due.
+    /// Puts a space that is due.
     fn place_space(&mut self) -> Result<(), AllocError>
-        ensures { OnOk result (self.new ≡ record self.old { page = spaced self.old.page self.old.pending; pending = None }) }
+        ensures { OnOk result (self.new ≡ record self.old { page = with_due_space self.old.page self.old.pending; pending = None }) }
     {
         if let Some(character) = self.pending.take() {
             if !self.line.is_empty() {
@@ -152,6 +170,7 @@ impl<T: Copy, M: Copy> Paragraph<T, M> {
         Ok(())
     }
 
+    /// The columns of the space that is due: none at the start of a line.
     fn gap_width(&self) -> usize
         ensures { result ≡ gap_width self.now.page self.now.pending }
     {
@@ -162,9 +181,9 @@ impl<T: Copy, M: Copy> Paragraph<T, M> {
         }
     }
 
-    // Puts a space that is due before a character that is placed by itself.
+    /// Puts a space that is due before a character that is placed by itself.
     fn settle_for(&mut self, kind: Kind) -> Result<(), AllocError>
-        ensures { OnOk result (self.new ≡ record self.old { page = settled_for self.old.setting self.old.page self.old.pending kind; pending = None }) }
+        ensures { OnOk result (self.new ≡ record self.old { page = page_for_single self.old.setting self.old.page self.old.pending kind; pending = None }) }
     {
         if kind != Kind::Newline && self.fits(self.gap_width()) {
             self.place_space()
@@ -174,7 +193,7 @@ impl<T: Copy, M: Copy> Paragraph<T, M> {
         }
     }
 
-    // Ends the line, if it has a character, and begins one that continues it.
+    /// Ends the line, if it has a character, and begins one that continues it.
     fn continue_line(&mut self) -> Result<(), AllocError>
         ensures { OnOk result (self.new ≡ record self.old { page = continued self.old.page }) }
     {
@@ -185,13 +204,13 @@ impl<T: Copy, M: Copy> Paragraph<T, M> {
         self.continue_with(next)
     }
 
-    // How long the next line will be, from this one.
+    /// How long the next line will be, from this one.
     fn likely_length(&self) -> usize {
         let length = self.line.len();
         length.max(self.width.min(length.saturating_add(16)))
     }
 
-    // Ends the line, if it has a character, and begins an empty one that continues it.
+    /// Ends the line, if it has a character, and begins an empty one that continues it.
     fn continue_with(&mut self, next: Vec<Element<T, M>>) -> Result<(), AllocError>
         requires { next.items ≡ [] }
         ensures { OnOk result (self.new ≡ record self.old { page = continued self.old.page }) }
@@ -205,7 +224,7 @@ impl<T: Copy, M: Copy> Paragraph<T, M> {
         Ok(())
     }
 
-    // Makes room on a line that has none for a text of so many bytes.
+    /// Makes room on a line that has none for a text of so many bytes.
     fn reserve_line(&mut self, bytes: usize) -> Result<(), AllocError>
         ensures { OnOk result (self.new ≡ self.old) }
     {
@@ -215,9 +234,9 @@ impl<T: Copy, M: Copy> Paragraph<T, M> {
         Ok(())
     }
 
-    // Ends the line.
+    /// Ends the line.
     fn break_line(&mut self) -> Result<(), AllocError>
-        ensures { OnOk result (self.new ≡ record self.old { page = broken self.old.page }) }
+        ensures { OnOk result (self.new ≡ record self.old { page = with_line_break self.old.page }) }
     {
         let line = self.take_line();
         self.lines.push(line)?;
@@ -225,7 +244,7 @@ impl<T: Copy, M: Copy> Paragraph<T, M> {
         Ok(())
     }
 
-    // Puts a character on the line, or else on the next one.
+    /// Puts a character on the line, or else on the next one.
     fn put_character(&mut self, character: Character<T>, width: usize) -> Result<(), Error>
         requires { width ≡ width_of character.code }
         ensures ok { OnOk result (on_page self.old (put_character self.old.setting self.old.page character) ≡ Some self.new) }
@@ -243,7 +262,7 @@ impl<T: Copy, M: Copy> Paragraph<T, M> {
         }
     }
 
-    // Puts a character on the line, if it fits.
+    /// Puts a character on the line, if it fits.
     fn put_fitting(&mut self, character: Character<T>, width: usize) -> Result<(), AllocError>
         requires { width ≡ width_of character.code }
         ensures { OnOk result (self.new ≡ record self.old { page = put_fitting self.old.setting self.old.page character }) }
@@ -254,8 +273,9 @@ impl<T: Copy, M: Copy> Paragraph<T, M> {
         Ok(())
     }
 
+    /// Lets a mark wait for the next character.
     fn wait(&mut self, mark: M) -> Result<(), AllocError>
-        ensures { OnOk result (self.new ≡ record self.old { page = wait self.old.page mark }) }
+        ensures { OnOk result (self.new ≡ record self.old { page = with_waiting_mark self.old.page mark }) }
     {
         self.waiting.push(mark)?;
         Ok(())
@@ -263,7 +283,7 @@ impl<T: Copy, M: Copy> Paragraph<T, M> {
 }
 
 impl<T: Copy, M: Copy> Paragraph<T, M> {
-    // What is left behind the line, the space that is due and the open word.
+    /// Whether the space that is due and the open word fit on the line.
     fn has_room(&self) -> bool
         ensures { result ≡ fits self.now.setting self.now.page (gap_width self.now.page self.now.pending + word_columns self.now.word) }
     {
@@ -274,7 +294,7 @@ impl<T: Copy, M: Copy> Paragraph<T, M> {
         }
     }
 
-    // Takes the open word out.
+    /// Takes the open word out.
     fn take_word(&mut self) -> Vec<Item<T, M>>
         ensures word { result.items ≡ self.old.word }
         ensures after { self.new ≡ record self.old { word = []; open_word = None } }
@@ -284,7 +304,7 @@ impl<T: Copy, M: Copy> Paragraph<T, M> {
         mem::replace(&mut self.word, Vec::new(self.alloc))
     }
 
-    // Keeps the memory of a word that was placed for the next one.
+    /// Keeps the memory of a word that was placed for the next one.
     fn reuse_word(&mut self, word: Vec<Item<T, M>>)
         ensures { self.new ≡ record self.old { word = []; open_word = None } }
     {
@@ -294,7 +314,7 @@ impl<T: Copy, M: Copy> Paragraph<T, M> {
         self.open_word = None;
     }
 
-    // The room behind the line and the open word.
+    /// The room behind the line and the open word.
     fn room_after_word(&self) -> Option<usize>
         ensures { result ≡ room_behind self.now.setting.width (columns self.now.page.line + word_columns self.now.word) }
     {
@@ -304,7 +324,7 @@ impl<T: Copy, M: Copy> Paragraph<T, M> {
         }
     }
 
-    // Puts the open word on the line, as a whole.
+    /// Puts the open word on the line, as a whole.
     fn push_word(&mut self) -> Result<(), AllocError>
         ensures { OnOk result (self.new ≡ record self.old { page = with_word self.old.page self.old.word; word = []; open_word = None }) }
     {
@@ -329,9 +349,10 @@ impl<T: Copy, M: Copy> Paragraph<T, M> {
         pushed
     }
 
-    // Puts the open word's characters and marks one after the other.
+    /// Puts the open word's characters and marks one after the other.
     fn put_word_by_characters(&mut self) -> Result<(), Error>
-        ensures ok { OnOk result (on_page (record self.old { word = []; open_word = None }) (put_items self.old.setting self.old.page self.old.word) ≡ Some self.new) }
+        ensures ok { OnOk result (
+            on_page (record self.old { word = []; open_word = None }) (put_items self.old.setting self.old.page self.old.word) ≡ Some self.new) }
         ensures err { IfErr result (λ e. Refuses e (put_items self.old.setting self.old.page self.old.word)) }
     {
         let word = self.take_word();
@@ -340,8 +361,8 @@ impl<T: Copy, M: Copy> Paragraph<T, M> {
         Ok(())
     }
 
-    // Puts characters and marks one after the other.
-    #[tactic(auto, using(html_render_dom::specs::Outcome::refusals))]
+    /// Puts characters and marks one after the other.
+    #[tactic(auto, using(html_render_dom::specs::laws::Outcome::refusals))]
     fn put_items(&mut self, items: &[Item<T, M>]) -> Result<(), Error>
         ensures ok { OnOk result (on_page self.old (put_items self.old.setting self.old.page items.now) ≡ Some self.new) }
         ensures err { IfErr result (λ e. Refuses e (put_items self.old.setting self.old.page items.now)) }
@@ -358,14 +379,14 @@ impl<T: Copy, M: Copy> Paragraph<T, M> {
         Ok(())
     }
 
-    // Whether the open word fits on a line of its own.
+    /// Whether the open word fits on a line of its own.
     fn fits_alone(&self) -> bool
         ensures { result ≡ nat_le (word_columns self.now.word) self.now.setting.width }
     {
         self.word_room.is_some()
     }
 
-    // Ends the line for a word that doesn't fit, in place of the space that is due.
+    /// Ends the line for a word that doesn't fit, in place of the space that is due.
     fn begin_next_line(&mut self) -> Result<(), AllocError>
         ensures { OnOk result (self.new ≡ record self.old { page = continued self.old.page; pending = None }) }
     {
@@ -373,8 +394,8 @@ impl<T: Copy, M: Copy> Paragraph<T, M> {
         self.continue_line()
     }
 
-    // Places the open word: as a whole where it fits, here or on a line of its own, else character by character.
-    #[tactic(auto, using(html_render_dom::specs::Outcome::refusals, crate::proofs::Words::whole_words))]
+    /// Places the open word: as a whole where it fits, here or on a line of its own, else character by character.
+    #[tactic(auto, using(html_render_dom::specs::laws::Outcome::refusals, crate::proofs::Words::whole_words))]
     fn place_word(&mut self) -> Result<(), Error>
         ensures ok { OnOk result (placed_word self.old ≡ Some self.new) }
         ensures err { IfErr result (λ e. Refuses e (placed_word self.old)) }
@@ -392,7 +413,7 @@ impl<T: Copy, M: Copy> Paragraph<T, M> {
         self.put_word_by_characters()
     }
 
-    // Places the open word, if there is one.
+    /// Places the open word, if there is one.
     fn end_word(&mut self) -> Result<(), Error>
         ensures ok { OnOk result (end_word self.old ≡ Some self.new) }
         ensures err { IfErr result (λ e. Refuses e (end_word self.old)) }
@@ -405,7 +426,7 @@ impl<T: Copy, M: Copy> Paragraph<T, M> {
 }
 
 impl<T: Copy, M: Copy> Paragraph<T, M> {
-    // How many spaces a tab gives here: those to the next multiple of 8 columns.
+    /// How many spaces a tab gives here: those to the next multiple of 8 columns.
     fn tab_count(&self) -> usize
         ensures { result ≡ 8 - columns self.now.page.line % 8 }
     {
@@ -415,8 +436,8 @@ impl<T: Copy, M: Copy> Paragraph<T, M> {
         }
     }
 
-    // Puts so many spaces, each on the line or else on the next one.
-    #[tactic(auto, using(html_render_dom::specs::Outcome::refusals, crate::proofs::Copies::copies_left))]
+    /// Puts so many spaces, each on the line or else on the next one.
+    #[tactic(auto, using(html_render_dom::specs::laws::Outcome::refusals, crate::proofs::Copies::copies_left))]
     fn put_copies(&mut self, character: Character<T>, count: usize) -> Result<(), Error>
         ensures ok { OnOk result (on_page self.old (put_characters self.old.setting self.old.page (replicate count character)) ≡ Some self.new) }
         ensures err { IfErr result (λ e. Refuses e (put_characters self.old.setting self.old.page (replicate count character))) }
@@ -428,7 +449,7 @@ impl<T: Copy, M: Copy> Paragraph<T, M> {
         Ok(())
     }
 
-    // Puts as many of so many spaces as fit on the line.
+    /// Puts as many of so many spaces as fit on the line.
     #[tactic(auto, using(crate::proofs::Copies::copies_left))]
     fn put_fitting_copies(
         &mut self,
@@ -444,6 +465,7 @@ impl<T: Copy, M: Copy> Paragraph<T, M> {
         Ok(())
     }
 
+    /// Puts a tab: spaces to the next multiple of 8 columns, on the next line what doesn't fit.
     fn put_tab(&mut self, character: Character<T>) -> Result<(), Error>
         ensures ok { OnOk result (on_page self.old (put_characters self.old.setting self.old.page (tab_spaces self.old.page character)) ≡ Some self.new) }
         ensures err { IfErr result (λ e. Refuses e (put_characters self.old.setting self.old.page (tab_spaces self.old.page character))) }
@@ -455,6 +477,7 @@ impl<T: Copy, M: Copy> Paragraph<T, M> {
         self.put_copies(space, self.tab_count())
     }
 
+    /// Puts a tab: of the spaces to the next multiple of 8 columns those that fit.
     fn put_soft_tab(&mut self, character: Character<T>) -> Result<(), AllocError>
         ensures { OnOk result (self.new ≡ record self.old { page = put_all_fitting self.old.setting self.old.page (tab_spaces self.old.page character) }) }
     {
@@ -465,7 +488,7 @@ impl<T: Copy, M: Copy> Paragraph<T, M> {
         self.put_fitting_copies(space, self.tab_count())
     }
 
-    // Puts a character that is placed by itself.
+    /// Puts a character that is placed by itself.
     fn put_single(&mut self, class: Class, character: Character<T>) -> Result<(), Error>
         requires { class.width ≡ width_of character.code }
         ensures ok { OnOk result (on_page self.old (put_single self.old.setting self.old.page class.kind character) ≡ Some self.new) }
@@ -490,7 +513,8 @@ impl<T: Copy, M: Copy> Paragraph<T, M> {
         }
     }
 
-    #[tactic(auto, using(html_render_dom::specs::Outcome::refusals))]
+    /// Takes a character that is placed by itself: the open word ends before it.
+    #[tactic(auto, using(html_render_dom::specs::laws::Outcome::refusals))]
     fn add_single(&mut self, class: Class, character: Character<T>) -> Result<(), Error>
         requires { class.width ≡ width_of character.code }
         ensures ok { OnOk result (then_single self.old class.kind character ≡ Some self.new) }
@@ -501,6 +525,7 @@ impl<T: Copy, M: Copy> Paragraph<T, M> {
         self.put_single(class, character)
     }
 
+    /// Begins an empty word, which has white space preserved or not.
     fn begin_word(&mut self, preserved: bool)
         ensures { self.new ≡ record self.old { word = []; open_word = Some preserved } }
     {
@@ -509,6 +534,7 @@ impl<T: Copy, M: Copy> Paragraph<T, M> {
         self.open_word = Some(preserved);
     }
 
+    /// Puts a letter, of this width, behind the open word.
     #[inline]
     fn push_letter(&mut self, character: Character<T>, width: usize) -> Result<(), AllocError>
         requires { width ≡ width_of character.code }
@@ -520,7 +546,8 @@ impl<T: Copy, M: Copy> Paragraph<T, M> {
         Ok(())
     }
 
-    #[tactic(auto, using(html_render_dom::specs::Outcome::refusals))]
+    /// Takes a letter, of this width: it joins the open word, or begins one.
+    #[tactic(auto, using(html_render_dom::specs::laws::Outcome::refusals))]
     fn add_letter(&mut self, character: Character<T>, width: usize) -> Result<(), Error>
         requires { width ≡ width_of character.code }
         ensures ok { OnOk result (letter_step self.old character ≡ Some self.new) }
@@ -535,8 +562,9 @@ impl<T: Copy, M: Copy> Paragraph<T, M> {
         Ok(())
     }
 
+    /// Takes collapsible white space: the open word ends, and a space is due.
     #[inline(never)]
-    #[tactic(auto, using(html_render_dom::specs::Outcome::refusals))]
+    #[tactic(auto, using(html_render_dom::specs::laws::Outcome::refusals))]
     fn add_space(&mut self, character: Character<T>) -> Result<(), Error>
         ensures ok { OnOk result (character_step Kind.Space self.old character ≡ Some self.new) }
         ensures err { IfErr result (λ e. Refuses e (character_step Kind.Space self.old character)) }
@@ -548,6 +576,7 @@ impl<T: Copy, M: Copy> Paragraph<T, M> {
         Ok(())
     }
 
+    /// Takes a character of this class.
     #[inline(always)]
     fn add_classed(&mut self, class: Class, character: Character<T>) -> Result<(), Error>
         requires { class.width ≡ width_of character.code }
@@ -566,7 +595,7 @@ impl<T: Copy, M: Copy> Paragraph<T, M> {
         }
     }
 
-    // Takes one character.
+    /// Takes one character.
     #[inline(always)]
     fn add_character(&mut self, character: Character<T>) -> Result<(), Error>
         ensures ok { OnOk result (step self.old (Item.Character character) ≡ Some self.new) }
@@ -575,7 +604,11 @@ impl<T: Copy, M: Copy> Paragraph<T, M> {
         self.add_classed(class_of(character.mode, character.code), character)
     }
 
-    /// Takes a mark. Its only error is [`Error::OutOfMemory`].
+    /// Takes a mark.
+    ///
+    /// # Errors
+    ///
+    /// `OutOfMemory`. What the paragraph then holds isn't told.
     pub fn add_mark(&mut self, mark: M) -> Result<(), Error>
         ensures ok { OnOk result (step self.old (Item.Mark mark) ≡ Some self.new) }
         ensures err { IfErr result (λ e. e ≡ Error.OutOfMemory) }
@@ -591,6 +624,7 @@ impl<T: Copy, M: Copy> Paragraph<T, M> {
 }
 
 impl<T: Copy, M: Copy> Paragraph<T, M> {
+    /// Takes a character in this style.
     #[inline(always)]
     fn add_styled(&mut self, c: char, style: TextStyle<T>) -> Result<(), Error>
         ensures ok { OnOk result (step self.old (Item.Character (character_of style c)) ≡ Some self.new) }
@@ -604,8 +638,12 @@ impl<T: Copy, M: Copy> Paragraph<T, M> {
         })
     }
 
-    /// Takes the characters of a text. [`Error::TooNarrow`] comes where one of a word that ended is wider than a line,
-    /// with overflow off.
+    /// Takes the characters of a text.
+    ///
+    /// # Errors
+    ///
+    /// `OutOfMemory`, and with overflow off `TooNarrow` where a character of a word that ended is wider than a line. What
+    /// the paragraph then holds isn't told.
     pub fn add_text(&mut self, text: &str, style: TextStyle<T>) -> Result<(), Error>
         ensures ok { OnOk result (after self.old (styled style (chars text.now)) ≡ Some self.new) }
         ensures err { IfErr result (λ e. Refuses e (after self.old (styled style (chars text.now)))) }
@@ -614,7 +652,7 @@ impl<T: Copy, M: Copy> Paragraph<T, M> {
         self.feed(text, style)
     }
 
-    // Puts letters one column wide behind the open word.
+    /// Puts letters one column wide behind the open word.
     fn push_letters(&mut self, letters: &[u8], style: TextStyle<T>) -> Result<(), AllocError>
         requires { list_all is_plain letters.now ≡ true }
         ensures { OnOk result (self.new ≡ record self.old { word = self.old.word ++ styled style letters.now }) }
@@ -632,8 +670,8 @@ impl<T: Copy, M: Copy> Paragraph<T, M> {
         pushed
     }
 
-    // Takes letters that come together.
-    #[tactic(auto, using(html_render_dom::specs::Outcome::refusals))]
+    /// Takes letters that come together.
+    #[tactic(auto, using(html_render_dom::specs::laws::Outcome::refusals))]
     fn add_letters(&mut self, letters: &[u8], style: TextStyle<T>) -> Result<(), Error>
         requires { list_all is_plain letters.now ≡ true }
         ensures ok { OnOk result (letters_step self.old style letters.now ≡ Some self.new) }
@@ -648,7 +686,7 @@ impl<T: Copy, M: Copy> Paragraph<T, M> {
         Ok(())
     }
 
-    // Takes the letters at the front of a text, or else its first character, and gives the rest back.
+    /// Takes the letters at the front of a text, or else its first character, and gives the rest back.
     fn feed_front<'a>(&mut self, text: &'a str, style: TextStyle<T>) -> Result<&'a str, Error>
         requires { 0 < length text.now }
         ensures ok { IfOk result (λ rest. after self.old (styled style (chars text.now)) ≡ after self.new (styled style (chars rest.now))) }
@@ -668,6 +706,7 @@ impl<T: Copy, M: Copy> Paragraph<T, M> {
         Ok(rest)
     }
 
+    /// Takes the characters of a text.
     fn feed(&mut self, text: &str, style: TextStyle<T>) -> Result<(), Error>
         ensures ok { OnOk result (after self.old (styled style (chars text.now)) ≡ Some self.new) }
         ensures err { IfErr result (λ e. Refuses e (after self.old (styled style (chars text.now)))) }
@@ -679,7 +718,7 @@ impl<T: Copy, M: Copy> Paragraph<T, M> {
         Ok(())
     }
 
-    // Moves the finished lines out, and begins anew with the marks that wait.
+    /// Moves the finished lines behind the given ones.
     fn move_lines(&mut self, lines: &mut Vec<Vec<Element<T, M>>>) -> Result<(), AllocError>
         ensures lines { OnOk result (lines_in lines.new ≡ lines_in lines.old ++ self.old.page.lines) }
         ensures after { OnOk result (self.new ≡ record self.old { page = record self.old.page { lines = [] } }) }
@@ -688,6 +727,7 @@ impl<T: Copy, M: Copy> Paragraph<T, M> {
         Ok(())
     }
 
+    /// Begins anew, on an empty line, with the marks that wait.
     fn restart(&mut self)
         requires lines { self.old.page.lines ≡ [] }
         requires line { self.old.page.line ≡ [] }
@@ -701,7 +741,11 @@ impl<T: Copy, M: Copy> Paragraph<T, M> {
     }
 
     /// Adds the lines of all that was fed, and begins anew with the marks that no character followed.
-    /// [`Error::TooNarrow`] comes where a character is wider than a line, with overflow off.
+    ///
+    /// # Errors
+    ///
+    /// `OutOfMemory`, and with overflow off `TooNarrow` where a character is wider than a line. What the paragraph and the
+    /// lines then hold isn't told.
     pub fn flush(&mut self, lines: &mut Vec<Vec<Element<T, M>>>) -> Result<(), Error>
         ensures ok { OnOk result (option_map (flushed_to self.old.setting (lines_in lines.old)) (finished self.old) ≡ Some (lines_in lines.new, self.new)) }
         ensures err { IfErr result (λ e. Refuses e (finished self.old)) }
@@ -722,7 +766,7 @@ impl<T: Copy, M: Copy> Paragraph<T, M> {
     }
 }
 
-// Puts letters behind a word.
+/// Puts letters behind a word.
 fn extend_word<T: Copy, M: Copy>(
     word: &mut Vec<Item<T, M>>,
     letters: &[u8],
@@ -742,7 +786,7 @@ fn extend_word<T: Copy, M: Copy>(
     )
 }
 
-// How many letters of one byte and one column stand in front.
+/// How many letters of one byte and one column stand in front.
 fn letters_in_front(text: &[u8]) -> usize
     ensures within { result ≤ length text.now }
     ensures plain { list_all is_plain (take result text.now) ≡ true }
@@ -754,7 +798,7 @@ fn letters_in_front(text: &[u8]) -> usize
     count
 }
 
-// A text's first character, and the rest.
+/// A text's first character, and the rest.
 fn split_first_character(text: &str) -> (char, &str)
     requires { 0 < length text.now }
     ensures characters { chars text.now ≡ result.0 ∷ chars result.1.now }

@@ -28,10 +28,17 @@ capped_sum-greatest [] ss l h = refl
 capped_sum-greatest (m ∷ ms) [] l h = refl
 capped_sum-greatest (m ∷ ms) (s ∷ ss) l h =
     let here : s - m ≤ l = omega arith in
-    omega (arith, here, capped_sum-cons l (s - m) (ranges ms ss), sum_by-cons (λ x. x) (s - m) (ranges ms ss), capped_sum-greatest ms ss l (omega arith))
+    omega (
+      arith,
+      here,
+      capped_sum-cons l (s - m) (ranges ms ss),
+      sum_by-cons (λ x. x) (s - m) (ranges ms ss),
+      capped_sum-greatest ms ss l (omega arith),
+    )
 
 -- what is above the wanted sum is less than a unit a column, and only there at a level above 0
-pub excess-some : (level : ℕ) (xs : List ℕ) (w : ℕ) → IsLevel level xs w → 0 < capped_sum level xs - w → (0 < level) × (capped_sum (level - 1) xs < w)
+pub excess-some : (level : ℕ) (xs : List ℕ) (w : ℕ) → IsLevel level xs w → 0 < capped_sum level xs - w →
+    (0 < level) × (capped_sum (level - 1) xs < w)
 excess-some zero xs w h some = absurd (let e = capped_sum-zero xs in omega arith)
 excess-some (suc l) xs w h some = (omega arith, let t = h.least (suc l - 1) (omega arith) in t)
 
@@ -43,7 +50,8 @@ excess-below (suc l) xs w h =
     rw e (let u = capped_sum-step l xs in omega (arith, t, u))
 
 -- widths that are below the full ones of a level have at most that sum
-pub sum-below : (ms rs ws : List ℕ) (l : ℕ) → length ws ≡ length ms → length rs ≡ length ms → ((k : ℕ) → k < length ms → get_or ws k 0 ≤ get_or ms k 0 + min (get_or rs k 0) l) → sum ws ≤ sum ms + capped_sum l rs
+pub sum-below : (ms rs ws : List ℕ) (l : ℕ) → length ws ≡ length ms → length rs ≡ length ms →
+    ((k : ℕ) → k < length ms → get_or ws k 0 ≤ get_or ms k 0 + min (get_or rs k 0) l) → sum ws ≤ sum ms + capped_sum l rs
 sum-below [] rs [] l e f h = omega arith
 sum-below [] rs (w ∷ ws) l e f h = cc
 sum-below (m ∷ ms) [] ws l e f h = cc
@@ -62,7 +70,8 @@ pub record IsProbed (d e p top : ℕ) : Type 0 where
   pub no_more : top + 2 ≤ (e + 2) * 2 ^ (p + 1)
   pub last : 2 ^ (p + 1) ≤ 2 * top + 1
 
-pub probed : (d e p top : ℕ) → 0 < d → 2 * e ≤ d → d ≤ 2 * e + 2 → d * 2 ^ p ≤ top → top + 2 ≤ (d + 2) * 2 ^ p → top < 2 ^ 64 → p ≤ 64 → IsProbed d e p top
+pub probed : (d e p top : ℕ) → 0 < d → 2 * e ≤ d → d ≤ 2 * e + 2 → d * 2 ^ p ≤ top → top + 2 ≤ (d + 2) * 2 ^ p → top < 2 ^ 64 → p ≤ 64 →
+    IsProbed d e p top
 probed d e p top pos below above halved no_more fits few =
     let twice : 2 ^ (p + 1) ≡ 2 ^ p * 2 = rw add-one (pow-suc 2 p) in
     let one : 2 ^ p ≤ d * 2 ^ p = let t : 1 * 2 ^ p ≤ d * 2 ^ p = mul-le-mul_right (2 ^ p) pos in omega (arith, t) in

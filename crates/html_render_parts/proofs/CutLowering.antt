@@ -1,5 +1,6 @@
 -- The columns at the level, and what lowering the first of them does to the widths.
-use Rattle.std.proofs.Common.{◌≡◌, ◌≢◌, ℕ, ◌+◌, ◌-◌, ◌<◌, ◌≤◌, List, [], ◌∷◌, ◌++◌, length, refl, sym, ap, ◌∙◌, arith, get_or, set, inl, inr, suc, zero, length-append}
+use Rattle.std.proofs.Common.{◌≡◌, ◌≢◌, ℕ, ◌+◌, ◌-◌, ◌<◌, ◌≤◌, List, [], ◌∷◌, ◌++◌, length, refl, sym, ap, ◌∙◌, arith, get_or, set, inl, inr, suc}
+use Rattle.std.proofs.Common.{zero, length-append}
 use Rattle.std.proofs.Math.Seq.{get_or-append_seam}
 use Rattle.std.proofs.Math.ListN.{get_or-append}
 use Rattle.std.specs.List as lists
@@ -14,7 +15,8 @@ use Rattle.html_render_parts.specs.CutSteps.{LoweredBefore, AreAtLevel, AreInOrd
 
 -- ---- which columns are at the level
 
-pub one-more : (ms ss : List ℕ) (level n : ℕ) (ps : List ℕ) → AreAtLevel ms ss level n ps → IsAtLevel ms ss level n → AreAtLevel ms ss level (n + 1) (ps ++ n ∷ [])
+pub one-more : (ms ss : List ℕ) (level n : ℕ) (ps : List ℕ) → AreAtLevel ms ss level n ps → IsAtLevel ms ss level n →
+    AreAtLevel ms ss level (n + 1) (ps ++ n ∷ [])
 one-more ms ss level n ps h at =
     let len : length (ps ++ n ∷ []) ≡ length ps + 1 = omega (arith, length-append ps (n ∷ [])) in
     let here : get_or (ps ++ n ∷ []) (length ps) 0 ≡ n = get_or-append_seam ps n [] 0 in
@@ -35,16 +37,19 @@ one-more ms ss level n ps h at =
       distinct = λ p q in_p in_q ne. elim (cases_lt p (length ps)) [
         | inl less_p ↦ elim (cases_lt q (length ps)) [
           | inl less_q ↦ rw (old p less_p, old q less_q) (h.distinct p q less_p less_q ne)
-          | inr le_q ↦ let e : q ≡ length ps = omega arith in let o = old p less_p in let t = h.inside p less_p in rw (e, here) (λ same. absurd (omega arith))
+          | inr le_q ↦ let e : q ≡ length ps = omega arith in let o = old p less_p in let t = h.inside p less_p in
+              rw (e, here) (λ same. absurd (omega arith))
         ]
         | inr le_p ↦ elim (cases_lt q (length ps)) [
-          | inl less_q ↦ let e : p ≡ length ps = omega arith in let o = old q less_q in let t = h.inside q less_q in rw (e, here) (λ same. absurd (omega arith))
+          | inl less_q ↦ let e : p ≡ length ps = omega arith in let o = old q less_q in let t = h.inside q less_q in
+              rw (e, here) (λ same. absurd (omega arith))
           | inr le_q ↦ absurd (ne (omega arith))
         ]
       ];
     }
 
-pub one-not : (ms ss : List ℕ) (level n : ℕ) (ps : List ℕ) → AreAtLevel ms ss level n ps → get_or ss n 0 - get_or ms n 0 < level → AreAtLevel ms ss level (n + 1) ps
+pub one-not : (ms ss : List ℕ) (level n : ℕ) (ps : List ℕ) → AreAtLevel ms ss level n ps → get_or ss n 0 - get_or ms n 0 < level →
+    AreAtLevel ms ss level (n + 1) ps
 one-not ms ss level n ps h below = record {
   inside = λ p less. let t = h.inside p less in omega arith;
   at_level = h.at_level;
@@ -72,13 +77,15 @@ moved ps i j p in_i in_j in_p =
 length-swap : (ps : List ℕ) (i j : ℕ) → i < length ps → j < length ps → length (lists.swap ps i j) ≡ length ps
 length-swap ps i j in_i in_j = length_permutation ps (lists.swap ps i j) (IsPermutation-swap ps (lists.swap ps i j) i j in_i in_j refl)
 
-swapped : (ms ss : List ℕ) (level n : ℕ) (ps : List ℕ) (i j : ℕ) → i < length ps → j < length ps → AreAtLevel ms ss level n ps → AreAtLevel ms ss level n (lists.swap ps i j)
+swapped : (ms ss : List ℕ) (level n : ℕ) (ps : List ℕ) (i j : ℕ) → i < length ps → j < length ps → AreAtLevel ms ss level n ps →
+    AreAtLevel ms ss level n (lists.swap ps i j)
 swapped ms ss level n ps i j in_i in_j h =
     let len = length-swap ps i j in_i in_j in
     record {
       inside = λ p less. let m = moved ps i j p in_i in_j (omega arith) in rw (m.2) (h.inside m.0 m.1);
       at_level = λ p less. let m = moved ps i j p in_i in_j (omega arith) in rw (m.2) (h.at_level m.0 m.1);
-      complete = λ k less at. let t = h.complete k less at in let m = moved ps i j t.0 in_i in_j t.1 in (m.0, (let l = m.1 in omega arith), m.3 ∙ t.2);
+      complete = λ k less at. let t = h.complete k less at in let m = moved ps i j t.0 in_i in_j t.1 in
+          (m.0, (let l = m.1 in omega arith), m.3 ∙ t.2);
       distinct = λ p q in_p in_q ne same.
           let a = moved ps i j p in_i in_j (omega arith) in
           let b = moved ps i j q in_i in_j (omega arith) in
@@ -88,12 +95,14 @@ swapped ms ss level n ps i j in_i in_j h =
           ];
     }
 
-pub reordered : (ms ss : List ℕ) (level n : ℕ) (ps qs : List ℕ) → AreAtLevel ms ss level n ps → IsPermutation ps qs → AreAtLevel ms ss level n qs
+pub reordered : (ms ss : List ℕ) (level n : ℕ) (ps qs : List ℕ) → AreAtLevel ms ss level n ps → IsPermutation ps qs →
+    AreAtLevel ms ss level n qs
 reordered ms ss level n ps qs h moves =
     IsPermutation-keeps ps (λ l. AreAtLevel ms ss level n l) h (λ l i j in_i in_j k. swapped ms ss level n l i j in_i in_j k) qs moves
 
 -- what holds of neighbours holds of any two
-pub ordered-far : (f g : ℕ → ℕ) (n : ℕ) → ((k : ℕ) → k + 1 < n → LoweredBefore (f k) (g k) (f (k + 1)) (g (k + 1))) → (p q : ℕ) → p < q → q < n → LoweredBefore (f p) (g p) (f q) (g q)
+pub ordered-far : (f g : ℕ → ℕ) (n : ℕ) → ((k : ℕ) → k + 1 < n → LoweredBefore (f k) (g k) (f (k + 1)) (g (k + 1))) → (p q : ℕ) → p < q →
+    q < n → LoweredBefore (f p) (g p) (f q) (g q)
 ordered-far f g n next p zero less in_q = absurd (omega arith)
 ordered-far f g n next p (suc q) less in_q =
     let e : suc q ≡ q + 1 = omega arith in
@@ -126,11 +135,14 @@ none-lowered ms ss ps level old = record {
 }
 
 -- a column at the level has its minimum and the level
-pub full-at-level : (ms ss old : List ℕ) (level k : ℕ) → ((j : ℕ) → j < length ms → get_or old j 0 ≡ full_width ms ss level j) → k < length ms → IsAtLevel ms ss level k → get_or old k 0 ≡ get_or ms k 0 + level
+pub full-at-level : (ms ss old : List ℕ) (level k : ℕ) → ((j : ℕ) → j < length ms → get_or old j 0 ≡ full_width ms ss level j) →
+    k < length ms → IsAtLevel ms ss level k → get_or old k 0 ≡ get_or ms k 0 + level
 full-at-level ms ss old level k full inside at = let f = full k inside in omega arith
 
-pub next-lowered : (ms ss ps : List ℕ) (level d : ℕ) (old ws : List ℕ) → AreInOrder ms ss level ps → length old ≡ length ms → ((j : ℕ) → j < length ms → get_or old j 0 ≡ full_width ms ss level j)
-    → 0 < level → d < length ps → AreLoweredSoFar ms ss ps level d old ws → AreLoweredSoFar ms ss ps level (d + 1) old (set ws (get_or ps d 0) (get_or ws (get_or ps d 0) 0 - 1))
+pub next-lowered : (ms ss ps : List ℕ) (level d : ℕ) (old ws : List ℕ) → AreInOrder ms ss level ps → length old ≡ length ms →
+    ((j : ℕ) → j < length ms → get_or old j 0 ≡ full_width ms ss level j)
+    → 0 < level → d < length ps → AreLoweredSoFar ms ss ps level d old ws →
+    AreLoweredSoFar ms ss ps level (d + 1) old (set ws (get_or ps d 0) (get_or ws (get_or ps d 0) 0 - 1))
 next-lowered ms ss ps level d old ws order len_old full pos in_d h =
     let i : ℕ = get_or ps d 0 in
     let inside : get_or ps d 0 < length ms = order.are_at_level.inside d in_d in
@@ -138,16 +150,20 @@ next-lowered ms ss ps level d old ws order len_old full pos in_d h =
     let len_ws = h.are_lowered.lengths in
     let in_ws : get_or ps d 0 < length ws = omega arith in
     let was : get_or ws (get_or ps d 0) 0 ≡ get_or old (get_or ps d 0) 0 = h.left d (omega arith) in_d in
-    let high : get_or old (get_or ps d 0) 0 ≡ get_or ms (get_or ps d 0) 0 + level = full-at-level ms ss old level (get_or ps d 0) full inside at in
+    let high : get_or old (get_or ps d 0) 0 ≡ get_or ms (get_or ps d 0) 0 + level =
+    full-at-level ms ss old level (get_or ps d 0) full inside at in
     lowered-at ms ss ps level d (get_or ps d 0) old ws order len_old full pos in_d refl inside at in_ws was high h
   where
-    lowered-at : (ms ss ps : List ℕ) (level d i : ℕ) (old ws : List ℕ) → AreInOrder ms ss level ps → length old ≡ length ms → ((j : ℕ) → j < length ms → get_or old j 0 ≡ full_width ms ss level j)
-        → 0 < level → d < length ps → get_or ps d 0 ≡ i → i < length ms → IsAtLevel ms ss level i → i < length ws → get_or ws i 0 ≡ get_or old i 0 → get_or old i 0 ≡ get_or ms i 0 + level
+    lowered-at : (ms ss ps : List ℕ) (level d i : ℕ) (old ws : List ℕ) → AreInOrder ms ss level ps → length old ≡ length ms →
+        ((j : ℕ) → j < length ms → get_or old j 0 ≡ full_width ms ss level j)
+        → 0 < level → d < length ps → get_or ps d 0 ≡ i → i < length ms → IsAtLevel ms ss level i → i < length ws →
+        get_or ws i 0 ≡ get_or old i 0 → get_or old i 0 ≡ get_or ms i 0 + level
         → AreLoweredSoFar ms ss ps level d old ws → AreLoweredSoFar ms ss ps level (d + 1) old (set ws i (get_or ws i 0 - 1))
     lowered-at ms ss ps level d i old ws order len_old full pos in_d is_i inside at in_ws was high h =
         let len = h.are_lowered.lengths in
         let same : get_or (set ws i (get_or ws i 0 - 1)) i 0 ≡ get_or ws i 0 - 1 = get_or-set_same ws i (get_or ws i 0 - 1) 0 in_ws in
-        let other : (k : ℕ) → k ≢ i → get_or (set ws i (get_or ws i 0 - 1)) k 0 ≡ get_or ws k 0 = λ k ne. get_or-set_other ws i k (get_or ws i 0 - 1) 0 ne in
+        let other : (k : ℕ) → k ≢ i → get_or (set ws i (get_or ws i 0 - 1)) k 0 ≡ get_or ws k 0 =
+        λ k ne. get_or-set_other ws i k (get_or ws i 0 - 1) 0 ne in
         record {
           are_lowered = record {
             lengths = length-set ws i (get_or ws i 0 - 1) ∙ len;
@@ -161,7 +177,8 @@ next-lowered ms ss ps level d old ws order len_old full pos in_d h =
               | inr ne_b ↦ let up_b : get_or ws b 0 ≡ get_or old b 0 = sym (other b ne_b) ∙ up in elim (cases_eq a i) [
                 | inl e ↦
                     let high_b = full-at-level ms ss old level b full (omega arith) at_b in
-                    let found : (q : ℕ) → q < length ps → get_or ps q 0 ≡ b → LoweredBefore (get_or old i 0) i (get_or old b 0) b = λ q in_q is_b. elim (cases_lt q d) [
+                    let found : (q : ℕ) → q < length ps → get_or ps q 0 ≡ b → LoweredBefore (get_or old i 0) i (get_or old b 0) b =
+                    λ q in_q is_b. elim (cases_lt q d) [
                       | inl less ↦ absurd (let was_done = rw is_b at (h.done q less in_q) in omega arith)
                       | inr le ↦ elim (cases_eq q d) [
                         | inl f ↦ absurd (ne_b (sym is_b ∙ ap (λ x. get_or ps x 0) f ∙ is_i))
@@ -178,7 +195,8 @@ next-lowered ms ss ps level d old ws order len_old full pos in_d h =
           };
           done = λ p less in_p. elim (cases_eq p d) [
             | inl e ↦ rw (e, is_i, same) (omega arith)
-            | inr ne ↦ rw (other (get_or ps p 0) (λ f. order.are_at_level.distinct p d in_p in_d ne (f ∙ sym is_i))) (h.done p (omega arith) in_p)
+            | inr ne ↦ rw (other (get_or ps p 0) (λ f. order.are_at_level.distinct p d in_p in_d ne (f ∙ sym is_i)))
+                (h.done p (omega arith) in_p)
           ];
           left = λ p le in_p.
               let ne : p ≢ d = omega arith in

@@ -1,5 +1,6 @@
 -- The edges, sorted and without repeats, and the numbers that they get.
-use Rattle.std.proofs.Common.{◌≡◌, ℕ, ◌+◌, ◌<◌, ◌≤◌, true, false, cond, List, [], ◌∷◌, length, get_or, All, Contains, nat_lt, refl, sym, subst, arith, inl, inr, ◌⊎◌, suc, zero}
+use Rattle.std.proofs.Common.{◌≡◌, ℕ, ◌+◌, ◌<◌, ◌≤◌, true, false, cond, List, [], ◌∷◌, length, get_or, All, Contains, nat_lt, refl, sym, subst}
+use Rattle.std.proofs.Common.{arith, inl, inr, ◌⊎◌, suc, zero}
 use Rattle.std.specs.List.{AllPairs, AllWithin}
 use Rattle.std.specs.List.Sorted.{IsNonDecreasingBy, IsStrictlyIncreasing}
 use Rattle.std.proofs.lemmas.Bool.{cases_lt}
@@ -41,9 +42,11 @@ Contains-cons x n xs h = by h.0 h.1 h.2
 Rise-with : (n : ℕ) (ms : List ℕ) → Rise ms → Rise (rising_with n ms)
 Rise-with n [] h = AllPairs-cons (λ x y. x < y) n [] (All-nil (λ y. n < y)) h
 Rise-with n (m ∷ ms) h = elim (ltb-tells n m) [
-  | inl t ↦ rw t.0 (AllPairs-cons (λ x y. x < y) n (m ∷ ms) (All-cons (λ y. n < y) m ms t.1 (All-weaker (λ y. m < y) (λ y. n < y) (λ y less. omega arith) ms (Rise-head m ms h))) h)
+  | inl t ↦ rw t.0 (AllPairs-cons (λ x y. x < y) n (m ∷ ms)
+      (All-cons (λ y. n < y) m ms t.1 (All-weaker (λ y. m < y) (λ y. n < y) (λ y less. omega arith) ms (Rise-head m ms h))) h)
   | inr t ↦ elim (ltb-tells m n) [
-    | inl u ↦ rw (t.0, u.0) (AllPairs-cons (λ x y. x < y) m (rising_with n ms) (All-rising_with (λ y. m < y) n ms u.1 (Rise-head m ms h)) (Rise-with n ms (Rise-tail m ms h)))
+    | inl u ↦ rw (t.0, u.0) (AllPairs-cons (λ x y. x < y) m (rising_with n ms) (All-rising_with (λ y. m < y) n ms u.1 (Rise-head m ms h))
+        (Rise-with n ms (Rise-tail m ms h)))
     | inr u ↦ rw (t.0, u.0) h
   ]
 ]
@@ -104,7 +107,8 @@ Contains-from_rising k (n ∷ ns) h = elim (Contains-from_with n k (rising ns) h
 
 -- ---- two lists that rise and have the same elements are one
 
-same-rise : (xs ys : List ℕ) → Rise xs → Rise ys → ((n : ℕ) → Contains xs n → Contains ys n) → ((n : ℕ) → Contains ys n → Contains xs n) → xs ≡ ys
+same-rise : (xs ys : List ℕ) → Rise xs → Rise ys → ((n : ℕ) → Contains xs n → Contains ys n) → ((n : ℕ) → Contains ys n → Contains xs n) →
+    xs ≡ ys
 same-rise [] [] p q f g = refl
 same-rise [] (y ∷ ys) p q f g = absurd (Contains-nil y (g y (Contains-here y ys)))
 same-rise (x ∷ xs) [] p q f g = absurd (Contains-nil x (f x (Contains-here x xs)))
@@ -131,9 +135,11 @@ same-rise (x ∷ xs) (y ∷ ys) p q f g =
     cc
 
 -- what rises and has the numbers of a list is that list in rising order
-pub rising-only : (xs ns : List ℕ) → IsStrictlyIncreasing xs → ((n : ℕ) → Contains xs n → Contains ns n) → ((n : ℕ) → Contains ns n → Contains xs n) → xs ≡ rising ns
+pub rising-only : (xs ns : List ℕ) → IsStrictlyIncreasing xs → ((n : ℕ) → Contains xs n → Contains ns n) →
+    ((n : ℕ) → Contains ns n → Contains xs n) → xs ≡ rising ns
 rising-only xs ns h f g =
-    same-rise xs (rising ns) (AllPairs-from_increasing xs h) (Rise-rising ns) (λ n a. Contains-rising n ns (f n a)) (λ n a. g n (Contains-from_rising n ns a))
+    same-rise xs (rising ns) (AllPairs-from_increasing xs h) (Rise-rising ns) (λ n a. Contains-rising n ns (f n a))
+    (λ n a. g n (Contains-from_rising n ns a))
 
 -- ---- ranks
 
@@ -170,27 +176,31 @@ rank-none (x ∷ xs) t h =
     let ih = rank-none xs t (All-tail (λ y. t < y) x xs h) in
     elim (ltb-tells x t) [ inl u ↦ absurd (omega arith) | inr u ↦ rw (rank-cons x xs t, u.0) (omega arith) ]
 
-least-from : (xs : List ℕ) (k : ℕ) (number : ℕ → ℕ) → Rise xs → IsNumbering xs number → ((x : ℕ) → Contains xs x → k ≤ number x) → (e : ℕ) → Contains xs e → rank xs e + k ≤ number e
+least-from : (xs : List ℕ) (k : ℕ) (number : ℕ → ℕ) → Rise xs → IsNumbering xs number → ((x : ℕ) → Contains xs x → k ≤ number x) →
+    (e : ℕ) → Contains xs e → rank xs e + k ≤ number e
 least-from [] k number p is low e h = absurd (Contains-nil e h)
 least-from (x ∷ xs) k number p is low e h = elim (Contains-cons x e xs h) [
   | inl f ↦
       let none : rank xs x ≡ 0 = rank-none xs x (Rise-head x xs p) in
       let here : k ≤ number x = low x (Contains-here x xs) in
-      subst (λ y. rank (x ∷ xs) y + k ≤ number y) f (rw (rank-cons x xs x) (elim (ltb-tells x x) [ inl u ↦ absurd (omega arith) | inr u ↦ rw (u.0, none) (omega arith) ]))
+      subst (λ y. rank (x ∷ xs) y + k ≤ number y) f
+      (rw (rank-cons x xs x) (elim (ltb-tells x x) [ inl u ↦ absurd (omega arith) | inr u ↦ rw (u.0, none) (omega arith) ]))
   | inr g ↦
       let less : x < e = All-contains (λ m. x < m) xs e (Rise-head x xs p) g in
       let ih : rank xs e + (k + 1) ≤ number e = least-from xs (k + 1) number (Rise-tail x xs p)
       (λ a b in_a in_b l. is a b (Contains-there x a xs in_a) (Contains-there x b xs in_b) l)
       (λ y in_y.
       let here : k ≤ number x = low x (Contains-here x xs) in
-      let up : number x < number y = is x y (Contains-here x xs) (Contains-there x y xs in_y) (All-contains (λ m. x < m) xs y (Rise-head x xs p) in_y) in
+      let up : number x < number y =
+      is x y (Contains-here x xs) (Contains-there x y xs in_y) (All-contains (λ m. x < m) xs y (Rise-head x xs p) in_y) in
       omega arith)
       e g in
       rw (rank-cons x xs e) (elim (ltb-tells x e) [ inl u ↦ rw u.0 (omega arith) | inr u ↦ absurd (omega arith) ])
 ]
 
 pub rank-least : (xs : List ℕ) → IsStrictlyIncreasing xs → IsLeastNumbering xs (rank xs)
-rank-least xs h = λ number is e in_e. let t = least-from xs 0 number (AllPairs-from_increasing xs h) is (λ x in_x. omega arith) e in_e in omega arith
+rank-least xs h = λ number is e in_e. let t = least-from xs 0 number (AllPairs-from_increasing xs h) is (λ x in_x. omega arith) e in_e in
+    omega arith
 
 -- an edge is below fewer edges than there are
 pub rank-below : (xs : List ℕ) (e : ℕ) → Contains xs e → rank xs e < length xs
@@ -202,10 +212,12 @@ rank-below (x ∷ xs) e h = rw (rank-cons x xs e) (elim (Contains-cons x e xs h)
   where
     rank-most : (ys : List ℕ) (t : ℕ) → rank ys t ≤ length ys
     rank-most [] t = omega arith
-    rank-most (y ∷ ys) t = rw (rank-cons y ys t) (let ih = rank-most ys t in elim (ltb-tells y t) [ inl u ↦ rw u.0 (omega arith) | inr u ↦ rw u.0 (omega arith) ])
+    rank-most (y ∷ ys) t = rw (rank-cons y ys t) (let ih = rank-most ys t in
+        elim (ltb-tells y t) [ inl u ↦ rw u.0 (omega arith) | inr u ↦ rw u.0 (omega arith) ])
 
 -- where those below t stand in front, t's rank is how many they are
-pub rank-split : (xs : List ℕ) (t i : ℕ) → i ≤ length xs → AllWithin (λ y. nat_lt y t ≡ true) xs 0 i → AllWithin (λ y. nat_lt y t ≡ false) xs i (length xs) → rank xs t ≡ i
+pub rank-split : (xs : List ℕ) (t i : ℕ) → i ≤ length xs → AllWithin (λ y. nat_lt y t ≡ true) xs 0 i →
+    AllWithin (λ y. nat_lt y t ≡ false) xs i (length xs) → rank xs t ≡ i
 rank-split [] t i le f g = omega arith
 rank-split (x ∷ xs) t zero le f g =
     let here : nat_lt x t ≡ false = g 0 0 (omega arith) (omega arith) in
@@ -213,7 +225,8 @@ rank-split (x ∷ xs) t zero le f g =
     rw (rank-cons x xs t, here) (omega arith)
 rank-split (x ∷ xs) t (suc i) le f g =
     let here : nat_lt x t ≡ true = f 0 0 (omega arith) (omega arith) in
-    let ih = rank-split xs t i (omega arith) (λ k d a b. f (suc k) d (omega arith) (omega arith)) (λ k d a b. g (suc k) d (omega arith) (omega arith)) in
+    let ih = rank-split xs t i (omega arith) (λ k d a b. f (suc k) d (omega arith) (omega arith))
+    (λ k d a b. g (suc k) d (omega arith) (omega arith)) in
     rw (rank-cons x xs t, here) (omega arith)
 
 pub IsNonDecreasing-rising : (xs : List ℕ) → IsStrictlyIncreasing xs → IsNonDecreasingBy (λ x. x) xs

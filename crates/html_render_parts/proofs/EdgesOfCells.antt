@@ -48,10 +48,13 @@ from-rows es e (r ∷ rows) h = elim (Any-cons (Any (EndsAt e)) (map (numbered e
   | inr g ↦ Contains-append_right (map (λ p. p.end) r) (ends rows) e (from-rows es e rows g)
 ]
 
-pub edge-is : (es : List ℕ) (rows : List (List Place)) (e : ℕ) → Contains (edges_of rows) e → (e ≡ 0) ⊎ Any (Any (EndsAt e)) (map (map (numbered es)) rows)
-edge-is es rows e h = elim (Contains-cons 0 e (ends rows) (Contains-from_rising e (0 ∷ ends rows) h)) [ inl f ↦ inl (sym f) | inr g ↦ inr (in-rows es e rows g) ]
+pub edge-is : (es : List ℕ) (rows : List (List Place)) (e : ℕ) → Contains (edges_of rows) e →
+    (e ≡ 0) ⊎ Any (Any (EndsAt e)) (map (map (numbered es)) rows)
+edge-is es rows e h = elim
+    (Contains-cons 0 e (ends rows) (Contains-from_rising e (0 ∷ ends rows) h)) [ inl f ↦ inl (sym f) | inr g ↦ inr (in-rows es e rows g) ]
 
-pub is-edge : (es : List ℕ) (rows : List (List Place)) (e : ℕ) → (e ≡ 0) ⊎ Any (Any (EndsAt e)) (map (map (numbered es)) rows) → Contains (edges_of rows) e
+pub is-edge : (es : List ℕ) (rows : List (List Place)) (e : ℕ) → (e ≡ 0) ⊎ Any (Any (EndsAt e)) (map (map (numbered es)) rows) →
+    Contains (edges_of rows) e
 is-edge es rows e h = Contains-rising e (0 ∷ ends rows) (elim h [
   | inl f ↦ subst (λ x. Contains (0 ∷ ends rows) x) (sym f) (Contains-here 0 (ends rows))
   | inr g ↦ Contains-there 0 e (ends rows) (from-rows es e rows g)

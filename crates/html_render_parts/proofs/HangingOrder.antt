@@ -26,7 +26,8 @@ with-alone a [] = refl
 with-alone a (o ∷ os) = ap (λ r. cond (nat_le a.column o.column) (a ∷ o ∷ os) (o ∷ r)) (with-alone a os)
 
 -- where a comes before s
-with-before : (a s : Standing) (ss : List Standing) → (nat_le a.column s.column ≡ true) → a.column ≤ s.column → (os : List Standing) → by_column_with a (merged (s ∷ ss) os) ≡ merged (a ∷ s ∷ ss) os
+with-before : (a s : Standing) (ss : List Standing) → (nat_le a.column s.column ≡ true) → a.column ≤ s.column → (os : List Standing) →
+    by_column_with a (merged (s ∷ ss) os) ≡ merged (a ∷ s ∷ ss) os
 with-before a s ss e le [] = rw e refl
 with-before a s ss e le (o ∷ os) = elim (leb_tells s.column o.column) [
   | inl t ↦ elim (leb_tells a.column o.column) [
@@ -40,7 +41,8 @@ with-before a s ss e le (o ∷ os) = elim (leb_tells s.column o.column) [
 ]
 
 -- where s comes before a
-with-behind : (a s : Standing) (ss : List Standing) → (nat_le a.column s.column ≡ false) → s.column < a.column → ((os : List Standing) → by_column_with a (merged ss os) ≡ merged (by_column_with a ss) os)
+with-behind : (a s : Standing) (ss : List Standing) → (nat_le a.column s.column ≡ false) → s.column < a.column →
+    ((os : List Standing) → by_column_with a (merged ss os) ≡ merged (by_column_with a ss) os)
     → (os : List Standing) → by_column_with a (merged (s ∷ ss) os) ≡ merged (s ∷ by_column_with a ss) os
 with-behind a s ss e less ih [] = rw e (ap (λ r. s ∷ r) (ih []))
 with-behind a s ss e less ih (o ∷ os) = elim (leb_tells s.column o.column) [
@@ -96,7 +98,8 @@ IsByColumn-by_column (x ∷ xs) = IsByColumn-with x (by_column xs) (IsByColumn-b
 
 -- ---- what is left out before the two lists are put together is left out after
 
-merged-later : (n : ℕ) (ss : List Standing) (o : Standing) (os : List Standing) → AllFrom n ss → o.column < n → merged ss (o ∷ os) ≡ o ∷ merged ss os
+merged-later : (n : ℕ) (ss : List Standing) (o : Standing) (os : List Standing) → AllFrom n ss → o.column < n →
+    merged ss (o ∷ os) ≡ o ∷ merged ss os
 merged-later n [] o os h less = refl
 merged-later n (s ∷ ss) o os h less = elim (leb_tells s.column o.column) [
   | inl t ↦ absurd (let k = h.0 in omega arith)
@@ -104,7 +107,8 @@ merged-later n (s ∷ ss) o os h less = elim (leb_tells s.column o.column) [
 ]
 
 -- a cell that is left out needs no place
-left-out : (p : Standing → Bool) (s : Standing) (ss : List Standing) → p s ≡ false → AllFrom s.column ss → (os : List Standing) → filter p (merged ss os) ≡ filter p (merged (s ∷ ss) os)
+left-out : (p : Standing → Bool) (s : Standing) (ss : List Standing) → p s ≡ false → AllFrom s.column ss → (os : List Standing) →
+    filter p (merged ss os) ≡ filter p (merged (s ∷ ss) os)
 left-out p s ss e h [] = rw e refl
 left-out p s ss e h (o ∷ os) = elim (leb_tells s.column o.column) [
   | inl t ↦ rw (t.0, e) refl
@@ -112,14 +116,17 @@ left-out p s ss e h (o ∷ os) = elim (leb_tells s.column o.column) [
 ]
 
 -- a cell that stays does so in both
-kept : (p : Standing → Bool) (s : Standing) (ss ts : List Standing) → ((os : List Standing) → filter p (merged ts os) ≡ filter p (merged ss os)) → (os : List Standing) → filter p (merged (s ∷ ts) os) ≡ filter p (merged (s ∷ ss) os)
+kept : (p : Standing → Bool) (s : Standing) (ss ts : List Standing) →
+    ((os : List Standing) → filter p (merged ts os) ≡ filter p (merged ss os)) → (os : List Standing) →
+    filter p (merged (s ∷ ts) os) ≡ filter p (merged (s ∷ ss) os)
 kept p s ss ts ih [] = ap (λ r. cond (p s) (s ∷ r) r) (ih [])
 kept p s ss ts ih (o ∷ os) = elim (leb_tells s.column o.column) [
   | inl t ↦ rw t.0 (ap (λ r. cond (p s) (s ∷ r) r) (ih (o ∷ os)))
   | inr t ↦ rw t.0 (ap (λ r. cond (p o) (o ∷ r) r) (kept p s ss ts ih os))
 ]
 
-filter-merged : (p q : Standing → Bool) → ((c : Standing) → q c ≡ false → p c ≡ false) → (ss : List Standing) → IsByColumn ss → (os : List Standing) → filter p (merged (filter q ss) os) ≡ filter p (merged ss os)
+filter-merged : (p q : Standing → Bool) → ((c : Standing) → q c ≡ false → p c ≡ false) → (ss : List Standing) → IsByColumn ss →
+    (os : List Standing) → filter p (merged (filter q ss) os) ≡ filter p (merged ss os)
 filter-merged p q weaker [] h os = refl
 filter-merged p q weaker (s ∷ ss) h os = elim (cases_Bool (q s)) [
   | inl e ↦ rw e (kept p s ss (filter q ss) (filter-merged p q weaker ss h.1) os)
@@ -147,7 +154,8 @@ due_end-from cursor (h ∷ hs) = elim (leb_tells h.column cursor) [
   | inr t ↦ rw t.0 (omega arith)
 ]
 
-merged-due : (cursor : ℕ) (hs : List Standing) (o : Standing) (os : List Standing) → o.column ≡ due_end cursor hs → merged hs (o ∷ os) ≡ due_taken cursor hs ++ o ∷ merged (not_due cursor hs) os
+merged-due : (cursor : ℕ) (hs : List Standing) (o : Standing) (os : List Standing) → o.column ≡ due_end cursor hs →
+    merged hs (o ∷ os) ≡ due_taken cursor hs ++ o ∷ merged (not_due cursor hs) os
 merged-due cursor [] o os e = refl
 merged-due cursor (h ∷ hs) o os e = elim (leb_tells h.column cursor) [
   | inl t ↦
@@ -185,8 +193,11 @@ by_column_with-front a (c ∷ cs) h = elim (leb_tells a.column c.column) [
 own-from : (row cursor : ℕ) (hs : List Standing) (ss : List Span) → AllFrom cursor (own_from row cursor hs ss)
 own-from row cursor hs [] = tt
 own-from row cursor hs (s ∷ ss) =
-    let k = due_end-from cursor hs in
-    (k, AllFrom-less cursor (due_end cursor hs + s.colspan) _ (omega arith) (own-from row (due_end cursor hs + s.colspan) (not_due cursor hs) ss))
+    let k = due_end-from cursor hs in (
+      k,
+      AllFrom-less cursor (due_end cursor hs + s.colspan) _ (omega arith)
+          (own-from row (due_end cursor hs + s.colspan) (not_due cursor hs) ss),
+    )
 
 by_column-own : (row cursor : ℕ) (hs : List Standing) (ss : List Span) → by_column (own_from row cursor hs ss) ≡ own_from row cursor hs ss
 by_column-own row cursor hs [] = refl
@@ -195,7 +206,8 @@ by_column-own row cursor hs (s ∷ ss) =
     let o : Standing = record { row = row; column = column; span = s } in
     let os = own_from row (column + s.colspan) (not_due cursor hs) ss in
     ap (by_column_with o) (by_column-own row (column + s.colspan) (not_due cursor hs) ss)
-    ∙ by_column_with-front o os (AllFrom-less column (column + s.colspan) os (omega arith) (own-from row (column + s.colspan) (not_due cursor hs) ss))
+    ∙ by_column_with-front o os
+    (AllFrom-less column (column + s.colspan) os (omega arith) (own-from row (column + s.colspan) (not_due cursor hs) ss))
 
 -- ---- from row to row
 
@@ -209,7 +221,8 @@ stops row c e = elim (leb_tells (suc (row + 1)) (end_of c)) [
 ]
 
 -- what a row leaves to the next one is what hangs into that one of all cells so far
-pub hanging-next : (row : ℕ) (above : List Standing) (ss : List Span) → filter (hangs_into (row + 1)) (in_row row 0 (hanging row above) ss) ≡ hanging (row + 1) (above ++ own_from row 0 (hanging row above) ss)
+pub hanging-next : (row : ℕ) (above : List Standing) (ss : List Span) →
+    filter (hangs_into (row + 1)) (in_row row 0 (hanging row above) ss) ≡ hanging (row + 1) (above ++ own_from row 0 (hanging row above) ss)
 hanging-next row above ss =
     let hs = hanging row above in
     let own = own_from row 0 hs ss in

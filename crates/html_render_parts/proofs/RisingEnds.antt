@@ -1,5 +1,6 @@
 -- The rows below the last one, one after another: the cells that end first, and then those that end later.
-use Rattle.std.proofs.Common.{◌≡◌, ℕ, ◌<◌, ◌≤◌, cond, List, [], ◌∷◌, ◌++◌, Option, Some, None, length, get_or, filter, map, All, Contains, nat_lt, nat_le, refl, sym, ap, ◌∙◌, arith, inl, inr, ◌⊎◌, suc, zero}
+use Rattle.std.proofs.Common.{◌≡◌, ℕ, ◌<◌, ◌≤◌, cond, List, [], ◌∷◌, ◌++◌, Option, Some, None, length, get_or, filter, map, All, Contains, nat_lt}
+use Rattle.std.proofs.Common.{nat_le, refl, sym, ap, ◌∙◌, arith, inl, inr, ◌⊎◌, suc, zero}
 use Rattle.std.specs.Option.{option_and_then}
 use Rattle.std.proofs.lemmas.Bool.Decides.{leb_tells}
 use Rattle.std.proofs.lemmas.List.Elements.{All-nil, All-cons, All-head, All-tail, All-contains}
@@ -70,7 +71,8 @@ All-rising-map P (c ∷ cs) h =
     All-rising_with P (end_of c) (rising (map end_of cs)) (All-head Q c cs h) (All-rising-map P cs (All-tail Q c cs h))
 
 -- of ends that are at least n: n stands first, or none is n
-least-first : (n : ℕ) (cs : List Standing) → All (λ c. n ≤ end_of c) cs → (rising (map end_of cs) ≡ n ∷ rising (map end_of (later n cs))) ⊎ All (λ c. n < end_of c) cs
+least-first : (n : ℕ) (cs : List Standing) → All (λ c. n ≤ end_of c) cs →
+    (rising (map end_of cs) ≡ n ∷ rising (map end_of (later n cs))) ⊎ All (λ c. n < end_of c) cs
 least-first n [] h = inr (All-nil (λ (c : Standing). n < end_of c))
 least-first n (c ∷ cs) h =
     let P : Standing → Type 0 = λ d. n ≤ end_of d in
@@ -97,7 +99,8 @@ least-first n (c ∷ cs) h =
           ])
     ]
 
-least-is : (first : Standing) (cs : List Standing) → Contains cs first → All (λ c. end_of first ≤ end_of c) cs → rising (map end_of cs) ≡ end_of first ∷ rising (map end_of (later (end_of first) cs))
+least-is : (first : Standing) (cs : List Standing) → Contains cs first → All (λ c. end_of first ≤ end_of c) cs →
+    rising (map end_of cs) ≡ end_of first ∷ rising (map end_of (later (end_of first) cs))
 least-is first cs has h = elim (least-first (end_of first) cs h) [
   | inl e ↦ e
   | inr a ↦ absurd (let less : end_of first < end_of first = All-contains (λ c. end_of first < end_of c) cs first a has in omega arith)
@@ -109,20 +112,26 @@ same-then : {X Y : Type 0} (o : Option X) (f g : X → Option Y) → ((x : X) �
 same-then None f g h = refl
 same-then (Some x) f g h = h x
 
-with_bottoms-later : (n : ℕ) (ms : List ℕ) → All (λ m. n < m) ms → (hung : List Standing) (done : List (List Place)) → with_bottoms ms (later n hung) done ≡ with_bottoms ms hung done
+with_bottoms-later : (n : ℕ) (ms : List ℕ) → All (λ m. n < m) ms → (hung : List Standing) (done : List (List Place)) →
+    with_bottoms ms (later n hung) done ≡ with_bottoms ms hung done
 with_bottoms-later n [] h hung done = refl
 with_bottoms-later n (m ∷ ms) h hung done =
     let P : ℕ → Type 0 = λ k. n < k in
     let here : n < m = All-head P m ms h in
-    rw (reaching-later m n here hung) (same-then (with_rest (reaching m hung) empty_row) _ _ (λ l. with_bottoms-later n ms (All-tail P m ms h) hung (done ++ l.places ∷ [])))
+    rw (reaching-later m n here hung)
+    (same-then (with_rest (reaching m hung) empty_row) _ _
+    (λ l. with_bottoms-later n ms (All-tail P m ms h) hung (done ++ l.places ∷ [])))
 
-pub bottoms_with-step : (hung : List Standing) (done : List (List Place)) (first : Standing) → Contains hung first → All (λ c. end_of first ≤ end_of c) hung
-    → bottoms_with hung done ≡ option_and_then (λ l. bottoms_with (later (end_of first) hung) (done ++ l.places ∷ [])) (with_rest hung empty_row)
+pub bottoms_with-step : (hung : List Standing) (done : List (List Place)) (first : Standing) → Contains hung first →
+    All (λ c. end_of first ≤ end_of c) hung
+    → bottoms_with hung done ≡ option_and_then (λ l. bottoms_with (later (end_of first) hung) (done ++ l.places ∷ []))
+    (with_rest hung empty_row)
 bottoms_with-step hung done first has h =
     let n = end_of first in
     let ms = rising (map end_of (later n hung)) in
     let above : All (λ m. n < m) ms = All-rising-map (λ m. n < m) (later n hung) (later-above n hung) in
-    rw (least-is first hung has h, reaching-all n hung h) (same-then (with_rest hung empty_row) _ _ (λ l. sym (with_bottoms-later n ms above hung (done ++ l.places ∷ []))))
+    rw (least-is first hung has h, reaching-all n hung h)
+    (same-then (with_rest hung empty_row) _ _ (λ l. sym (with_bottoms-later n ms above hung (done ++ l.places ∷ []))))
   where
     later-above : (n : ℕ) (cs : List Standing) → All (λ c. n < end_of c) (later n cs)
     later-above n [] = All-nil (λ (c : Standing). n < end_of c)
@@ -137,7 +146,11 @@ later-shorter hung first has = shorter hung has.0 has.1 has.2
   where
     short : (cs : List Standing) → length (later (end_of first) cs) ≤ length cs
     short [] = omega arith
-    short (c ∷ cs) = elim (ltb-tells (end_of first) (end_of c)) [ inl t ↦ rw t.0 (let k = short cs in omega arith) | inr t ↦ rw t.0 (let k = short cs in omega arith) ]
+    short (c ∷ cs) = elim (ltb-tells (end_of first) (end_of c)) [
+      | inl t ↦ rw t.0 (let k = short cs in omega arith)
+      | inr t ↦ rw t.0
+          (let k = short cs in omega arith)
+    ]
 
     shorter : (cs : List Standing) (k : ℕ) → k < length cs → get_or cs k first ≡ first → length (later (end_of first) cs) < length cs
     shorter [] k inside at = absurd (omega arith)
@@ -150,7 +163,10 @@ later-shorter hung first has = shorter hung has.0 has.1 has.2
         elim (ltb-tells (end_of first) (end_of c)) [ inl t ↦ rw t.0 (omega arith) | inr t ↦ rw t.0 (omega arith) ]
 
 -- a row's places go behind those that stand, and the cells that end later stay
-pub bottoms-next : (hung hung' : List Standing) (done : List (List Place)) (first : Standing) (built : RowSoFar) → Contains hung first → All (λ c. end_of first ≤ end_of c) hung
-    → with_rest hung empty_row ≡ Some built → hung' ≡ later (end_of first) hung → bottoms_with hung' (done ++ built.places ∷ []) ≡ bottoms_with hung done
+pub bottoms-next : (hung hung' : List Standing) (done : List (List Place)) (first : Standing) (built : RowSoFar) → Contains hung first →
+    All (λ c. end_of first ≤ end_of c) hung
+    → with_rest hung empty_row ≡ Some built → hung' ≡ later (end_of first) hung →
+    bottoms_with hung' (done ++ built.places ∷ []) ≡ bottoms_with hung done
 bottoms-next hung hung' done first built has h e f =
-    rw f (sym (bottoms_with-step hung done first has h ∙ ap (option_and_then (λ l. bottoms_with (later (end_of first) hung) (done ++ l.places ∷ []))) e))
+    rw f (sym (bottoms_with-step hung done first has h
+    ∙ ap (option_and_then (λ l. bottoms_with (later (end_of first) hung) (done ++ l.places ∷ []))) e))

@@ -1,14 +1,17 @@
 -- The places of a row stand side by side from 0 on, so that each one's start is an edge.
-use Rattle.std.proofs.Common.{◌≡◌, ℕ, ◌+◌, ◌<◌, ◌≤◌, List, [], ◌∷◌, ◌++◌, length, get_or, max, map, All, Contains, nat_le, refl, sym, ap, subst, arith, inl, inr, suc, sum_by, zero}
+use Rattle.std.proofs.Common.{◌≡◌, ℕ, ◌+◌, ◌<◌, ◌≤◌, List, [], ◌∷◌, ◌++◌, length, get_or, max, map, All, Contains, nat_le, refl, sym, ap, subst}
+use Rattle.std.proofs.Common.{arith, inl, inr, suc, sum_by, zero}
 use Rattle.std.proofs.lemmas.Bool.Decides.{leb_tells}
 use Rattle.std.proofs.lemmas.List.Sums.{sum_by-cons}
-use Rattle.std.proofs.lemmas.List.Elements.{All-nil, All-cons, All-head, All-tail, All-append, All-weaker, All-filter, All-map, Contains-append_left, Contains-append_right}
+use Rattle.std.proofs.lemmas.List.Elements.{All-nil, All-cons, All-head, All-tail, All-append, All-weaker, All-filter, All-map, Contains-append_left}
+use Rattle.std.proofs.lemmas.List.Elements.{Contains-append_right}
 use Rattle.html_render_parts.specs.declared.table.Span.{Span}
 use Rattle.html_render_parts.specs.declared.table.CellKind.TheVariants.{Cell, Placeholder}
 use Rattle.html_render_parts.specs.declared.table.PlacedCell.{PlacedCell}
 use Rattle.html_render_parts.specs.declared.table.placement.Place.{Place}
 use Rattle.html_render_parts.specs.declared.table.placement.Standing.{Standing}
-use Rattle.html_render_parts.specs.Placement.{by_column_with, by_column, end_of, hangs_into, hanging, place, due_places, due_end, not_due, gap_to, rest_from, row_from, own_from, reaching, rising, rows_from, placed_rows}
+use Rattle.html_render_parts.specs.Placement.{by_column_with, by_column, end_of, hangs_into, hanging, place, due_places, due_end, not_due, gap_to}
+use Rattle.html_render_parts.specs.Placement.{rest_from, row_from, own_from, reaching, rising, rows_from, placed_rows}
 use Rattle.html_render_parts.specs.Grid.{AreSideBySide, AreValid, ends, edges_of, rank, numbered}
 use Rattle.html_render_parts.proofs.EdgeRanks.{Contains-here, Contains-rising, Contains-there, rank-below, rank-less, rank-mono}
 use Rattle.html_render_parts.proofs.NumberTests.{ltb-tells}
@@ -53,14 +56,20 @@ Wide-own_from row cursor hs [] v = All-nil Wide
 Wide-own_from row cursor hs (s ∷ ss) v =
     let column = due_end cursor hs in
     let valid = All-head Valid s ss v in
-    All-cons Wide (record { row = row; column = column; span = s }) (own_from row (column + s.colspan) (not_due cursor hs) ss) valid.0 (Wide-own_from row (column + s.colspan) (not_due cursor hs) ss (All-tail Valid s ss v))
+    All-cons Wide (record { row = row; column = column; span = s }) (own_from row (column + s.colspan) (not_due cursor hs) ss) valid.0
+    (Wide-own_from row (column + s.colspan) (not_due cursor hs) ss (All-tail Valid s ss v))
 
 -- ---- one row
 
 Between-due : (cursor : ℕ) (hs : List Standing) → All Wide hs → Between cursor (due_end cursor hs) (due_places cursor hs)
 Between-due cursor [] w = refl
 Between-due cursor (h ∷ hs) w = elim (leb_tells h.column cursor) [
-  | inl t ↦ rw t.0 (refl, let wide : 1 ≤ h.span.colspan = All-head Wide h hs w in omega arith, Between-due (cursor + h.span.colspan) hs (All-tail Wide h hs w))
+  | inl t ↦ rw t.0 (
+    refl,
+    let wide : 1 ≤ h.span.colspan = All-head Wide h hs w in
+        omega arith,
+    Between-due (cursor + h.span.colspan) hs (All-tail Wide h hs w),
+  )
   | inr t ↦ rw t.0 refl
 ]
 
@@ -80,7 +89,8 @@ Ends-rest cursor (h ∷ hs) w =
     let column = max cursor h.column in
     let rest = Ends-rest (column + h.span.colspan) hs (All-tail Wide h hs w) in (
       rest.0,
-      Between-append cursor column rest.0 (gap_to cursor h.column) (place Placeholder column h.span.colspan ∷ rest_from (column + h.span.colspan) hs) (Between-gap cursor h.column)
+      Between-append cursor column rest.0 (gap_to cursor h.column)
+          (place Placeholder column h.span.colspan ∷ rest_from (column + h.span.colspan) hs) (Between-gap cursor h.column)
           (refl, let wide : 1 ≤ h.span.colspan = All-head Wide h hs w in omega arith, rest.1),
     )
 
@@ -91,7 +101,8 @@ Ends-row cursor hs (s ∷ ss) w v =
     let valid = All-head Valid s ss v in
     let rest = Ends-row (column + s.colspan) (not_due cursor hs) ss (Wide-not_due cursor hs w) (All-tail Valid s ss v) in (
       rest.0,
-      Between-append cursor column rest.0 (due_places cursor hs) (place Cell column s.colspan ∷ row_from (column + s.colspan) (not_due cursor hs) ss) (Between-due cursor hs w)
+      Between-append cursor column rest.0 (due_places cursor hs)
+          (place Cell column s.colspan ∷ row_from (column + s.colspan) (not_due cursor hs) ss) (Between-due cursor hs w)
           (refl, let wide = valid.0 in omega arith, rest.1),
     )
 
@@ -100,19 +111,22 @@ Ends-row cursor hs (s ∷ ss) w v =
 Ends-bottoms : (hung : List Standing) → All Wide hung → (ns : List ℕ) → All (Ends 0) (map (λ n. rest_from 0 (reaching n hung)) ns)
 Ends-bottoms hung w [] = All-nil (Ends 0)
 Ends-bottoms hung w (n ∷ ns) =
-    All-cons (Ends 0) (rest_from 0 (reaching n hung)) (map (λ m. rest_from 0 (reaching m hung)) ns) (Ends-rest 0 (reaching n hung) (All-filter (λ c. nat_le n (end_of c)) Wide hung w)) (Ends-bottoms hung w ns)
+    All-cons (Ends 0) (rest_from 0 (reaching n hung)) (map (λ m. rest_from 0 (reaching m hung)) ns)
+    (Ends-rest 0 (reaching n hung) (All-filter (λ c. nat_le n (end_of c)) Wide hung w)) (Ends-bottoms hung w ns)
 
 Wide-hanging : (row : ℕ) (above : List Standing) → All Wide above → All Wide (hanging row above)
 Wide-hanging row above w = All-filter (hangs_into row) Wide (by_column above) (Wide-by_column above w)
 
-Ends-rows : (row : ℕ) (above : List Standing) (rows : List (List Span)) → All Wide above → AreValid rows → All (Ends 0) (rows_from row above rows)
+Ends-rows : (row : ℕ) (above : List Standing) (rows : List (List Span)) → All Wide above → AreValid rows →
+    All (Ends 0) (rows_from row above rows)
 Ends-rows row above [] w v = Ends-bottoms (hanging row above) (Wide-hanging row above w) (rising (map end_of (hanging row above)))
 Ends-rows row above (ss ∷ rows) w v =
     let hung = hanging row above in
     let all = above ++ own_from row 0 hung ss in
     let here : All Valid ss = All-head (All Valid) ss rows v in
     All-cons (Ends 0) (row_from 0 hung ss) (rows_from (row + 1) all rows) (Ends-row 0 hung ss (Wide-hanging row above w) here)
-    (Ends-rows (row + 1) all rows (All-append Wide above (own_from row 0 hung ss) w (Wide-own_from row 0 hung ss here)) (All-tail (All Valid) ss rows v))
+    (Ends-rows (row + 1) all rows (All-append Wide above (own_from row 0 hung ss) w (Wide-own_from row 0 hung ss here))
+    (All-tail (All Valid) ss rows v))
 
 -- ---- each start is an edge, below its end
 
@@ -125,7 +139,8 @@ starts c d [] h = All-nil (StartsIn (c ∷ []))
 starts c d (p ∷ ps) h =
     let es = c ∷ p.end ∷ map (λ q. q.end) ps in
     All-cons (StartsIn es) p ps (subst (λ x. Contains es x) (sym h.0) (Contains-here c (p.end ∷ map (λ q. q.end) ps)), h.1)
-    (All-weaker (StartsIn (p.end ∷ map (λ q. q.end) ps)) (StartsIn es) (λ q k. (Contains-there c q.start (p.end ∷ map (λ r. r.end) ps) k.0, k.1)) ps (starts p.end d ps h.2))
+    (All-weaker (StartsIn (p.end ∷ map (λ q. q.end) ps)) (StartsIn es)
+    (λ q k. (Contains-there c q.start (p.end ∷ map (λ r. r.end) ps) k.0, k.1)) ps (starts p.end d ps h.2))
 
 last-end : (c d : ℕ) (ps : List Place) → Between c d ps → Contains (c ∷ map (λ p. p.end) ps) d
 last-end c d [] h = subst (λ x. Contains (c ∷ []) x) h (Contains-here c [])
@@ -138,7 +153,8 @@ pub record OnEdges (edges : List ℕ) (ps : List Place) : Type 0 where
   pub last : Contains edges behind
   pub starts_in : All (StartsIn edges) ps
 
-on-edges : (rows : List (List Place)) (edges : List ℕ) → ((n : ℕ) → Contains (0 ∷ ends rows) n → Contains edges n) → All (Ends 0) rows → All (OnEdges edges) rows
+on-edges : (rows : List (List Place)) (edges : List ℕ) → ((n : ℕ) → Contains (0 ∷ ends rows) n → Contains edges n) → All (Ends 0) rows →
+    All (OnEdges edges) rows
 on-edges [] edges f h = All-nil (OnEdges edges)
 on-edges (r ∷ rows) edges f h =
     let here = All-head (Ends 0) r rows h in
@@ -148,7 +164,8 @@ on-edges (r ∷ rows) edges f h =
       behind = here.0;
       between = here.1;
       last = f here.0 (Contains-append_left own (ends rows) here.0 (last-end 0 here.0 r here.1));
-      starts_in = All-weaker (StartsIn own) (StartsIn edges) (λ p k. (f p.start (Contains-append_left own (ends rows) p.start k.0), k.1)) r (starts 0 here.0 r here.1);
+      starts_in = All-weaker (StartsIn own) (StartsIn edges) (λ p k. (f p.start (Contains-append_left own (ends rows) p.start k.0), k.1)) r
+          (starts 0 here.0 r here.1);
     })
     (on-edges rows edges (λ n k. f n (more n k)) (All-tail (Ends 0) r rows h))
   where
@@ -157,7 +174,8 @@ on-edges (r ∷ rows) edges f h =
       where
         by : (i : ℕ) → i < length (0 ∷ ends rows) → get_or (0 ∷ ends rows) i n ≡ n → Contains (0 ∷ ends (r ∷ rows)) n
         by zero inside e = (0, omega arith, e)
-        by (suc i) inside e = Contains-there 0 n (map (λ p. p.end) r ++ ends rows) (Contains-append_right (map (λ p. p.end) r) (ends rows) n (i, omega arith, e))
+        by (suc i) inside e = Contains-there 0 n (map (λ p. p.end) r ++ ends rows)
+            (Contains-append_right (map (λ p. p.end) r) (ends rows) n (i, omega arith, e))
 
 rows-on_edges : (rows : List (List Span)) → AreValid rows → All (OnEdges (edges_of (placed_rows rows))) (placed_rows rows)
 rows-on_edges rows v =
@@ -168,30 +186,40 @@ rows-on_edges rows v =
 pub are-ordered : (rows : List (List Span)) → AreValid rows → All (All (λ p. p.start ≤ p.end)) (placed_rows rows)
 are-ordered rows v =
     let es = edges_of (placed_rows rows) in
-    All-weaker (OnEdges es) (All (λ p. p.start ≤ p.end)) (λ ps h. All-weaker (StartsIn es) (λ p. p.start ≤ p.end) (λ p k. let less = k.1 in omega arith) ps h.starts_in) (placed_rows rows) (rows-on_edges rows v)
+    All-weaker (OnEdges es) (All (λ p. p.start ≤ p.end))
+    (λ ps h. All-weaker (StartsIn es) (λ p. p.start ≤ p.end) (λ p k. let less = k.1 in omega arith) ps h.starts_in) (placed_rows rows)
+    (rows-on_edges rows v)
 
 -- what holds of each row of places, once it has columns, holds of each row of the grid
-rows-numbered : (Q : List PlacedCell → Type 0) (rows : List (List Span)) → AreValid rows → ((ps : List Place) → OnEdges (edges_of (placed_rows rows)) ps → Q (map (numbered (edges_of (placed_rows rows))) ps)) → All Q (map (map (numbered (edges_of (placed_rows rows)))) (placed_rows rows))
+rows-numbered : (Q : List PlacedCell → Type 0) (rows : List (List Span)) → AreValid rows →
+    ((ps : List Place) → OnEdges (edges_of (placed_rows rows)) ps → Q (map (numbered (edges_of (placed_rows rows))) ps)) →
+    All Q (map (map (numbered (edges_of (placed_rows rows)))) (placed_rows rows))
 rows-numbered Q rows v f =
     let es = edges_of (placed_rows rows) in
-    All-map Q (map (numbered es)) (placed_rows rows) (All-weaker (OnEdges es) (λ ps. Q (map (numbered es) ps)) f (placed_rows rows) (rows-on_edges rows v))
+    All-map Q (map (numbered es)) (placed_rows rows)
+    (All-weaker (OnEdges es) (λ ps. Q (map (numbered es) ps)) f (placed_rows rows) (rows-on_edges rows v))
 
 -- each cell has a column
-pub have-columns : (rows : List (List Span)) → AreValid rows → All (All (λ (c : PlacedCell). 1 ≤ c.columns)) (map (map (numbered (edges_of (placed_rows rows)))) (placed_rows rows))
+pub have-columns : (rows : List (List Span)) → AreValid rows →
+    All (All (λ (c : PlacedCell). 1 ≤ c.columns)) (map (map (numbered (edges_of (placed_rows rows)))) (placed_rows rows))
 have-columns rows v =
     let es = edges_of (placed_rows rows) in
     rows-numbered (All (λ (c : PlacedCell). 1 ≤ c.columns)) rows v (λ ps h. All-map (λ (c : PlacedCell). 1 ≤ c.columns) (numbered es) ps
-    (All-weaker (StartsIn es) (λ p. 1 ≤ (numbered es p).columns) (λ p k. let less = rank-less es p.start p.end k.0 k.1 in omega arith) ps h.starts_in))
+    (All-weaker (StartsIn es) (λ p. 1 ≤ (numbered es p).columns) (λ p k. let less = rank-less es p.start p.end k.0 k.1 in
+    omega arith) ps h.starts_in))
 
 side-by-side : (es : List ℕ) (c d : ℕ) (ps : List Place) → Between c d ps → AreSideBySide c (map (numbered es) ps)
 side-by-side es c d [] h = tt
 side-by-side es c d (p ∷ ps) h = (h.0, h.1, side-by-side es p.end d ps h.2)
 
 -- a row's cells stand side by side
-pub stand-side_by_side : (rows : List (List Span)) → AreValid rows → All (AreSideBySide 0) (map (map (numbered (edges_of (placed_rows rows)))) (placed_rows rows))
-stand-side_by_side rows v = rows-numbered (AreSideBySide 0) rows v (λ ps h. side-by-side (edges_of (placed_rows rows)) 0 h.behind ps h.between)
+pub stand-side_by_side : (rows : List (List Span)) → AreValid rows →
+    All (AreSideBySide 0) (map (map (numbered (edges_of (placed_rows rows)))) (placed_rows rows))
+stand-side_by_side rows v =
+    rows-numbered (AreSideBySide 0) rows v (λ ps h. side-by-side (edges_of (placed_rows rows)) 0 h.behind ps h.between)
 
-total-columns : (es : List ℕ) (c d : ℕ) (ps : List Place) → Between c d ps → sum_by (λ (q : PlacedCell). q.columns) (map (numbered es) ps) + rank es c ≡ rank es d
+total-columns : (es : List ℕ) (c d : ℕ) (ps : List Place) → Between c d ps →
+    sum_by (λ (q : PlacedCell). q.columns) (map (numbered es) ps) + rank es c ≡ rank es d
 total-columns es c d [] h = let e : rank es c ≡ rank es d = ap (rank es) h in omega arith
 total-columns es c d (p ∷ ps) h =
     let less = h.1 in
@@ -201,7 +229,9 @@ total-columns es c d (p ∷ ps) h =
     rw (sum_by-cons (λ (q : PlacedCell). q.columns) (numbered es p) (map (numbered es) ps)) (omega arith)
 
 -- a row has at most the table's columns
-pub fit-columns : (rows : List (List Span)) → AreValid rows → All (λ cells. sum_by (λ (q : PlacedCell). q.columns) cells < length (edges_of (placed_rows rows))) (map (map (numbered (edges_of (placed_rows rows)))) (placed_rows rows))
+pub fit-columns : (rows : List (List Span)) → AreValid rows →
+    All (λ cells. sum_by (λ (q : PlacedCell). q.columns) cells < length (edges_of (placed_rows rows)))
+    (map (map (numbered (edges_of (placed_rows rows)))) (placed_rows rows))
 fit-columns rows v =
     let es = edges_of (placed_rows rows) in
     rows-numbered (λ cells. sum_by (λ (q : PlacedCell). q.columns) cells < length es) rows v

@@ -1,6 +1,11 @@
 -- What the steps of a column cut hand to one another.
-use Rattle.std.specs.Prelude.{◌≡◌, ◌≢◌, ℕ, ◌+◌, ◌<◌, ◌⊎◌, List, length, sum, slice_index}
+use Rattle.std.specs.Prelude.{◌≡◌, ◌≢◌, ℕ, ◌+◌, ◌<◌, ◌≤◌, ◌⊎◌, List, length, sum, slice_index}
 use Rattle.html_render_parts.specs.Cuts.{full_width, IsAtLevel, IsLowered}
+
+-- as many minimums as shares, and each minimum is at most its share
+pub record AreColumns (minimums shares : List ℕ) : Type 0 where
+  pub lengths : length minimums ≡ length shares
+  pub each : (k : ℕ) → k < length minimums → slice_index minimums k ≤ slice_index shares k
 
 -- one column is lowered before another: by greater width, then as the left one
 abbrev pub LoweredBefore : (width place width' place' : ℕ) → Type 0
@@ -17,14 +22,18 @@ pub record AreAtLevel (minimums shares : List ℕ) (level bound : ℕ) (places :
 pub record AreInOrder (minimums shares : List ℕ) (level : ℕ) (places : List ℕ) : Type 0 where
   pub are_at_level : AreAtLevel minimums shares level (length minimums) places
   pub ordered : (p q : ℕ) → p < q → q < length places →
-      LoweredBefore (slice_index minimums (slice_index places p) + level) (slice_index places p) (slice_index minimums (slice_index places q) + level) (slice_index places q)
+      LoweredBefore (slice_index minimums (slice_index places p) + level) (slice_index places p)
+      (slice_index minimums (slice_index places q) + level) (slice_index places q)
 
 -- the first so many columns at the level are 1 narrower than before, and the others are as they were
 pub record AreLowered (minimums shares : List ℕ) (level count : ℕ) (old new : List ℕ) : Type 0 where
   pub lengths : length new ≡ length old
-  pub each : (k : ℕ) → k < length old → (slice_index new k ≡ slice_index old k) ⊎ ((0 < level) × IsAtLevel minimums shares level k × (slice_index new k + 1 ≡ slice_index old k))
+  pub each : (k : ℕ) → k < length old →
+      (slice_index new k ≡ slice_index old k) ⊎
+      ((0 < level) × IsAtLevel minimums shares level k × (slice_index new k + 1 ≡ slice_index old k))
   pub total : sum new + count ≡ sum old
-  pub first : (i j : ℕ) → i < length old → j < length old → slice_index new i + 1 ≡ slice_index old i → IsAtLevel minimums shares level j → slice_index new j ≡ slice_index old j →
+  pub first : (i j : ℕ) → i < length old → j < length old → slice_index new i + 1 ≡ slice_index old i → IsAtLevel minimums shares level j →
+      slice_index new j ≡ slice_index old j →
       LoweredBefore (slice_index old i) i (slice_index old j) j
 
 -- a column has its full width

@@ -1,6 +1,7 @@
 -- How the columns of a table are cut to its width. Each column has a minimum, the least width that it can have, and a share,
 -- the width that it would like. Between neighbouring columns stands a separator, 1 wide.
-use Rattle.std.specs.Prelude.{◌≡◌, ◌≢◌, ℕ, ◌+◌, ◌-◌, ◌/◌, ◌<◌, ◌≤◌, ◌⊎◌, List, [], ◌∷◌, zero, suc, length, min, max, sum, sum_by, slice_index, slice_range, slice_set, nat_lt, ◌==◌, ◌||◌, ◌&&◌, if◌then◌else◌}
+use Rattle.std.specs.Prelude.{◌≡◌, ◌≢◌, ℕ, ◌+◌, ◌-◌, ◌/◌, ◌<◌, ◌≤◌, ◌⊎◌, List, [], ◌∷◌, zero, suc, length, min, max, sum, sum_by, slice_index}
+use Rattle.std.specs.Prelude.{slice_range, slice_set, nat_lt, ◌==◌, ◌||◌, ◌&&◌, if◌then◌else◌}
 
 -- the shares can be cut to the width
 pub record CutFits (minimums shares : List ℕ) (width : ℕ) : Type 0 where
@@ -45,11 +46,13 @@ abbrev pub GivesBefore : (slack width place slack' width' place' : ℕ) → Type
 GivesBefore slack width place slack' width' place' =
     (slack' < slack) ⊎ ((slack' ≡ slack) × ((width' < width) ⊎ ((width' ≡ width) × (place < place'))))
 
--- a cut whose last unit was taken from the right column, whichever it was: with that unit back, its column gives before each other
+-- a cut whose last unit was taken from the right column, whichever it was: with that unit back, its column gives
+-- before each other
 pub record IsFairestCut (minimums shares : List ℕ) (width : ℕ) (widths : List ℕ) : Type 0 where
   pub is_cut : IsCut minimums shares width widths
   pub last_unit : (i j : ℕ) → i < length minimums → j < length minimums → i ≢ j → slice_index widths i < slice_index shares i →
-      GivesBefore ((slice_index widths i + 1) - slice_index minimums i) (slice_index widths i + 1) i (slack minimums widths j) (slice_index widths j) j
+      GivesBefore ((slice_index widths i + 1) - slice_index minimums i) (slice_index widths i + 1) i (slack minimums widths j)
+      (slice_index widths j) j
 
 -- ---- the level form
 
@@ -90,11 +93,13 @@ pub record IsLevelForm (minimums shares : List ℕ) (width : ℕ) (widths : List
   pub is_level : IsLevel level (ranges minimums shares) (wanted minimums shares width)
   pub rest : lowered + wanted minimums shares width ≡ capped_sum level (ranges minimums shares)
   pub lengths : length widths ≡ length minimums
-  pub each : (k : ℕ) → k < length minimums → (slice_index widths k ≡ full_width minimums shares level k) ⊎ IsLowered minimums shares widths level k
+  pub each : (k : ℕ) → k < length minimums →
+      (slice_index widths k ≡ full_width minimums shares level k) ⊎ IsLowered minimums shares widths level k
   pub count : sum widths + lowered ≡ sum minimums + capped_sum level (ranges minimums shares)
   pub first : (i j : ℕ) → i < length minimums → j < length minimums → IsLowered minimums shares widths level i
       → IsAtLevel minimums shares level j → slice_index widths j ≡ full_width minimums shares level j
-      → (full_width minimums shares level j < full_width minimums shares level i) ⊎ ((full_width minimums shares level j ≡ full_width minimums shares level i) × (i < j))
+      → (full_width minimums shares level j < full_width minimums shares level i) ⊎
+      ((full_width minimums shares level j ≡ full_width minimums shares level i) × (i < j))
 
 -- ---- the loop of single units
 

@@ -46,7 +46,8 @@ place kind start columns = record { kind = kind; start = start; end = start + co
 -- moves past it
 abbrev pub due_places : ℕ → List Standing → List Place
 due_places cursor [] = []
-due_places cursor (h ∷ hs) = if nat_le h.column cursor then place Placeholder cursor h.span.colspan ∷ due_places (cursor + h.span.colspan) hs else []
+due_places cursor (h ∷ hs) =
+    if nat_le h.column cursor then place Placeholder cursor h.span.colspan ∷ due_places (cursor + h.span.colspan) hs else []
 
 -- the cursor behind the hanging cells that are due
 abbrev pub due_end : ℕ → List Standing → ℕ

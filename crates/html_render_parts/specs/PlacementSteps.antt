@@ -21,7 +21,8 @@ empty_row = record { places = []; standing = []; cursor = 0 }
 -- one place more, up to an end
 abbrev pub put_to : CellKind → ℕ → RowSoFar → Option RowSoFar
 put_to kind end built =
-    if nat_lt end (2 ^ 128) then Some (record built { places = built.places ++ (record { kind = kind; start = built.cursor; end = end }) ∷ []; cursor = end }) else None
+    if nat_lt end (2 ^ 128) then Some
+    (record built { places = built.places ++ (record { kind = kind; start = built.cursor; end = end }) ∷ []; cursor = end }) else None
 
 -- one place more, of so many columns
 abbrev pub put : CellKind → ℕ → RowSoFar → Option RowSoFar

@@ -1,5 +1,5 @@
 -- What an error says of a grid.
-use Rattle.std.specs.Prelude.{◌≡◌, Option, Some, None, option_and_then, refl}
+use Rattle.std.specs.Prelude.{◌≡◌, Option, None}
 use Rattle.html_render_dom.specs.declared.errors.Error.{Error}
 use Rattle.html_render_dom.specs.declared.errors.Error.TheVariants.{TooNarrow, Fail, OutOfMemory}
 
@@ -8,24 +8,3 @@ abbrev pub Fails : {X : Type 0} → Error → Option X → Type 0
 Fails TooNarrow wanted = ⊥
 Fails Fail wanted = wanted ≡ None
 Fails OutOfMemory wanted = Unit {0}
-
--- what has no answer has none with more after it
-pub Fails-then : {X Y : Type 0} (e : Error) (o : Option X) (f : X → Option Y) → Fails e o → Fails e (option_and_then f o)
-Fails-then TooNarrow o f h = absurd h
-Fails-then Fail None f h = refl
-Fails-then Fail (Some x) f h = cc
-Fails-then OutOfMemory o f h = tt
-
--- the same once the definition has an answer so far
-pub Fails-same : {X : Type 0} (e : Error) (o p : Option X) → o ≡ p → Fails e p → Fails e o
-Fails-same TooNarrow o p q h = absurd h
-Fails-same Fail o p q h = cc
-Fails-same OutOfMemory o p q h = tt
-
--- running out of memory says nothing
-pub Fails-memory : {X : Type 0} (e : Error) (o : Option X) → e ≡ OutOfMemory → Fails e o
-Fails-memory TooNarrow o h = cc
-Fails-memory Fail o h = cc
-Fails-memory OutOfMemory o h = tt
-
-pub ruleset refusals = (Fails-then, Fails-same, Fails-memory)

@@ -3,7 +3,7 @@
 //! `PlainDecorator::new()` is the decorator of plain text. Its annotations say nothing, and a sub-block has the
 //! same decorator: `PlainDecorator::new().make_subblock_decorator(alloc)?` is `PlainDecorator::new()`.
 
-ghost use Rattle.std.specs.Prelude.{◌≡◌, [], IfOk, IfErr, refl, string_bytes};
+ghost use Rattle.std.specs.Prelude.{◌≡◌, IfOk, IfErr, refl, string_bytes};
 ghost use Rattle.html_render_parts.specs.Decoration.{Decoration, nothing_round};
 
 use html_render_dom::Error;
@@ -11,8 +11,7 @@ use std::alloc::Global;
 
 /// What is written round the parts of a document.
 ///
-/// Each answer is a function of the decorator and of the arguments, and the only error is
-/// [`Error::OutOfMemory`].
+/// Each answer is a function of the decorator and of the arguments.
 pub trait TextDecorator: Drop {
     /// What a character can be annotated with.
     type Annotation: Eq + Clone + Default + Drop;
@@ -21,39 +20,67 @@ pub trait TextDecorator: Drop {
     ghost decoration: { Decoration Self Self.Annotation };
 
     /// The text before emphasised text, and what the characters in it are annotated with.
+    ///
+    /// # Errors
+    ///
+    /// `OutOfMemory`.
     fn decorate_em_start(&self, alloc: Global) -> Result<(String, Self::Annotation), Error>
         ensures text { IfOk result (λ r. string_bytes r.0 ≡ (decoration.em.start self.now).text) }
         ensures annotation { IfOk result (λ r. r.1 ≡ (decoration.em.start self.now).annotation) }
         ensures err { IfErr result (λ e. e ≡ Error.OutOfMemory) };
 
     /// The text behind emphasised text.
+    ///
+    /// # Errors
+    ///
+    /// `OutOfMemory`.
     fn decorate_em_end(&self, alloc: Global) -> Result<String, Error>
         ensures ok { IfOk result (λ text. string_bytes text ≡ decoration.em.end self.now) }
         ensures err { IfErr result (λ e. e ≡ Error.OutOfMemory) };
 
     /// The text before strong text, and what the characters in it are annotated with.
+    ///
+    /// # Errors
+    ///
+    /// `OutOfMemory`.
     fn decorate_strong_start(&self, alloc: Global) -> Result<(String, Self::Annotation), Error>
         ensures text { IfOk result (λ r. string_bytes r.0 ≡ (decoration.strong.start self.now).text) }
         ensures annotation { IfOk result (λ r. r.1 ≡ (decoration.strong.start self.now).annotation) }
         ensures err { IfErr result (λ e. e ≡ Error.OutOfMemory) };
 
     /// The text behind strong text.
+    ///
+    /// # Errors
+    ///
+    /// `OutOfMemory`.
     fn decorate_strong_end(&self, alloc: Global) -> Result<String, Error>
         ensures ok { IfOk result (λ text. string_bytes text ≡ decoration.strong.end self.now) }
         ensures err { IfErr result (λ e. e ≡ Error.OutOfMemory) };
 
     /// The text before code, and what the characters in it are annotated with.
+    ///
+    /// # Errors
+    ///
+    /// `OutOfMemory`.
     fn decorate_code_start(&self, alloc: Global) -> Result<(String, Self::Annotation), Error>
         ensures text { IfOk result (λ r. string_bytes r.0 ≡ (decoration.code.start self.now).text) }
         ensures annotation { IfOk result (λ r. r.1 ≡ (decoration.code.start self.now).annotation) }
         ensures err { IfErr result (λ e. e ≡ Error.OutOfMemory) };
 
     /// The text behind code.
+    ///
+    /// # Errors
+    ///
+    /// `OutOfMemory`.
     fn decorate_code_end(&self, alloc: Global) -> Result<String, Error>
         ensures ok { IfOk result (λ text. string_bytes text ≡ decoration.code.end self.now) }
         ensures err { IfErr result (λ e. e ≡ Error.OutOfMemory) };
 
     /// The decorator of a block inside the decorator's own.
+    ///
+    /// # Errors
+    ///
+    /// `OutOfMemory`.
     fn make_subblock_decorator(&self, alloc: Global) -> Result<Self, Error>
         ensures ok { IfOk result (λ inner. inner ≡ decoration.subblock self.now) }
         ensures err { IfErr result (λ e. e ≡ Error.OutOfMemory) };
@@ -114,6 +141,7 @@ mod tests {
     use super::*;
     use std::test::Fail;
 
+    /// The decorator of a sub-block in a sub-block.
     fn innermost<D: TextDecorator>(alloc: Global, decorator: &D) -> Result<D, Error> {
         decorator
             .make_subblock_decorator(alloc)?

@@ -86,8 +86,9 @@ pub fn spans_are_valid(rows: &[Vec<Span>]) -> bool
 /// Rows are placed from above. A cell whose rowspan reaches past its own row is a placeholder in the rows that it
 /// hangs into, below the last row too. The columns are the fewest that keep the order of all edges.
 ///
-/// [`Error::Fail`] exactly where a cell, placeholder or gap would end past `u128::MAX`; [`Error::OutOfMemory`] where
-/// an allocation is refused.
+/// # Errors
+///
+/// `Fail` exactly where a cell, placeholder or gap would end past `u128::MAX`, and `OutOfMemory`.
 pub fn table_grid(alloc: Global, rows: &[Vec<Span>]) -> Result<TableGrid, Error>
     requires { AreValid (lists rows.now) }
     ensures ok { IfOk result (λ g. grid_of (lists rows.now) ≡ Some (shown g)) }

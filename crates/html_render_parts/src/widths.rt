@@ -8,6 +8,7 @@
 mod check;
 mod cut;
 mod fit;
+mod laws;
 mod levels;
 mod lowering;
 

@@ -1,5 +1,6 @@
 -- What a conversion keeps true: the nodes made so far, with what is still ahead, are those of the definition.
-use Rattle.std.proofs.Common.{◌≡◌, ℕ, suc, ◌+◌, ◌*◌, ◌<◌, ◌≤◌, Bool, true, false, if◌then◌else◌, List, [], ◌∷◌, ◌++◌, length, take, get_or, Option, Some, None, is_some, option_map, refl, sym, ap, subst, ◌∙◌, arith, length-append}
+use Rattle.std.proofs.Common.{◌≡◌, ℕ, suc, ◌+◌, ◌*◌, ◌<◌, ◌≤◌, Bool, true, false, if◌then◌else◌, List, [], ◌∷◌, ◌++◌, length, take, get_or, Option}
+use Rattle.std.proofs.Common.{Some, None, is_some, option_map, refl, sym, ap, subst, ◌∙◌, arith, length-append}
 use Rattle.std.proofs.lemmas.List.{same_from_push}
 use Rattle.std.proofs.lemmas.List.Elements.{Contains-get_or}
 use Rattle.std.proofs.Math.Seq.{take-suc, take-length}
@@ -9,20 +10,20 @@ use Rattle.html_render_dom.specs.Dom.{Dom, IsForest, IsNode, node_count, content
 use Rattle.html_render_dom.specs.ElementStyle.{ElementStyle, element_style}
 use Rattle.html_render_dom.specs.Forest.{Forest, none, node, count, followed_by}
 use Rattle.html_render_dom.specs.Rules.{Rule as StyleRule}
-use Rattle.html_render_dom.specs.Trees.{below-children}
+use Rattle.html_render_dom.specs.laws.Trees.{below-children}
 use Rattle.html_render_layout.specs.declared.tree.RenderNode.{RenderNode}
-use Rattle.html_render_layout.specs.Splits.{followed_by-none, followed_by-followed_by, count-followed_by}
-use Rattle.html_render_tree.specs.declared.rules.IfEmpty.{IfEmpty}
-use Rattle.html_render_tree.specs.declared.rules.IfEmpty.TheVariants.{Stands}
-use Rattle.html_render_tree.specs.declared.rules.Outline.{Outline}
-use Rattle.html_render_tree.specs.declared.rules.Outline.TheVariants.{Alone, Over}
-use Rattle.html_render_tree.specs.declared.rules.Outline.TheVariants as outline
-use Rattle.html_render_tree.specs.declared.rules.Rule.{Rule}
-use Rattle.html_render_tree.specs.declared.rules.Rule.TheVariants.{Nothing, Leaf, Parent}
+use Rattle.html_render_layout.specs.laws.Splits.{followed_by-none, followed_by-followed_by, count-followed_by}
+use Rattle.html_render_tree.specs.declared.mapping.IfEmpty.{IfEmpty}
+use Rattle.html_render_tree.specs.declared.mapping.IfEmpty.TheVariants.{Stands}
+use Rattle.html_render_tree.specs.declared.mapping.Outline.{Outline}
+use Rattle.html_render_tree.specs.declared.mapping.Outline.TheVariants.{Alone, Over}
+use Rattle.html_render_tree.specs.declared.mapping.Outline.TheVariants as outline
+use Rattle.html_render_tree.specs.declared.mapping.Mapping.{Mapping}
+use Rattle.html_render_tree.specs.declared.mapping.Mapping.TheVariants.{Nothing, Leaf, Parent}
 use Rattle.html_render_tree.specs.declared.convert.Open.{Open}
 use Rattle.html_render_tree.specs.Insertion.{Tree, in_front, with_contents}
-use Rattle.html_render_tree.specs.Conversion.{element_rule, node_style, over, styled, result_of, converted, render_tree_of}
-use Rattle.html_render_tree.specs.Converting.{Progress, styled_outline, outline_of, put_content, met, closed, ClosingAt}
+use Rattle.html_render_tree.specs.Conversion.{element_mapping, node_style, over, styled, result_of, converted, render_tree_of}
+use Rattle.html_render_tree.specs.Converting.{Progress, styled_outline, outline_of, put_content, open_node, close_element, ClosingAt}
 
 -- ---- what an outline says
 
@@ -33,7 +34,8 @@ result_by (Alone n) children = Some (record { top = n; children = none })
 result_by (Over n if_empty has_children before after) children =
     option_map (with_contents before after) (over n if_empty (if has_children then children else none))
 
-displayed_result : (hidden : Bool) (n : RenderNode) (if_empty : IfEmpty) (has_children : Bool) (before after : Option (List ℕ)) (children : Forest RenderNode) →
+displayed_result : (hidden : Bool) (n : RenderNode) (if_empty : IfEmpty) (has_children : Bool) (before after : Option (List ℕ))
+    (children : Forest RenderNode) →
     result_by (if hidden then outline.Nothing else Over n if_empty has_children before after) children
     ≡ (if hidden then None else option_map (with_contents before after) (over n if_empty (if has_children then children else none)))
 displayed_result true n if_empty has_children before after children = refl
@@ -43,18 +45,22 @@ none_either_way : {A : Type 0} (b : Bool) → (if b then (let n : Option A = Non
 none_either_way true = refl
 none_either_way false = refl
 
-styled_result : (rule : Rule) (style : ElementStyle) (children : Forest RenderNode) → result_by (styled_outline rule style) children ≡ styled rule style children
+styled_result : (mapping : Mapping) (style : ElementStyle) (children : Forest RenderNode) →
+    result_by (styled_outline mapping style) children ≡ styled mapping style children
 styled_result Nothing style children = sym (none_either_way (is_some style.display))
 styled_result (Leaf kind) style children =
-    displayed_result (is_some style.display) (record { kind = kind; style = node_style style }) Stands false (value_of style.content_before) (value_of style.content_after) children
+    displayed_result (is_some style.display) (record { kind = kind; style = node_style style }) Stands false
+    (value_of style.content_before) (value_of style.content_after) children
 styled_result (Parent kind if_empty) style children =
-    displayed_result (is_some style.display) (record { kind = kind; style = node_style style }) if_empty true (value_of style.content_before) (value_of style.content_after) children
+    displayed_result (is_some style.display) (record { kind = kind; style = node_style style }) if_empty true
+    (value_of style.content_before) (value_of style.content_after) children
 
-outline_result : (rules : List StyleRule) (content : Content) (children : Forest RenderNode) → result_by (outline_of rules content) children ≡ result_of rules content children
+outline_result : (rules : List StyleRule) (content : Content) (children : Forest RenderNode) →
+    result_by (outline_of rules content) children ≡ result_of rules content children
 outline_result rules document children = refl
 outline_result rules (text contents) children = refl
 outline_result rules (element name properties template_contents integration_point) children =
-    styled_result (element_rule name.space name.local) (element_style rules name.local properties) children
+    styled_result (element_mapping name.space name.local) (element_style rules name.local properties) children
 outline_result rules (doctype name public_id system_id) children = refl
 outline_result rules (comment contents) children = refl
 outline_result rules (instruction target contents) children = refl
@@ -69,7 +75,8 @@ in_front-followed_by : (r : Option Tree) (t u : Forest RenderNode) → followed_
 in_front-followed_by None t u = refl
 in_front-followed_by (Some tree) t u = refl
 
-converted-followed_by : (rules : List StyleRule) (t u : Forest Content) → converted rules (followed_by t u) ≡ followed_by (converted rules t) (converted rules u)
+converted-followed_by : (rules : List StyleRule) (t u : Forest Content) →
+    converted rules (followed_by t u) ≡ followed_by (converted rules t) (converted rules u)
 converted-followed_by rules none u = refl
 converted-followed_by rules (node c children beside) u =
     ap (in_front (result_of rules c (converted rules children))) (converted-followed_by rules beside u)
@@ -109,7 +116,7 @@ inside (x ∷ path) = put_content x.after (followed_by x.beside (inside path))
 abbrev pub resumed : List StyleRule → Dom → Path → Forest RenderNode → Forest RenderNode
 resumed rules dom [] nodes = nodes
 resumed rules dom (x ∷ path) nodes =
-    resumed rules dom path (in_front (closed x.element x.after (followed_by (still rules dom x.element) nodes)) x.beside)
+    resumed rules dom path (in_front (close_element x.element x.after (followed_by (still rules dom x.element) nodes)) x.beside)
 
 abbrev pub IsSound : Dom → Step → Path → Type 0
 IsSound dom x path = record {
@@ -131,8 +138,8 @@ pub record Converting (rules : List StyleRule) (dom : Dom) (elements : List Open
   pub result : resumed rules dom path nodes ≡ render_tree_of rules dom
   pub sound : AreSound dom path
 
--- the same, where a node is about to be converted
-pub record Meeting (rules : List StyleRule) (dom : Dom) (h : ℕ) (elements : List Open) (built : Forest RenderNode) : Type 0 where
+-- the same, where a node is about to be opened
+pub record Opening (rules : List StyleRule) (dom : Dom) (h : ℕ) (elements : List Open) (built : Forest RenderNode) : Type 0 where
   pub path : Path
   pub nodes : Forest RenderNode
   pub elements_are : elements ≡ elements_of path
@@ -141,8 +148,8 @@ pub record Meeting (rules : List StyleRule) (dom : Dom) (h : ℕ) (elements : Li
   pub sound : AreSound dom path
   pub is_node : IsNode dom h
 
-pub Meeting-start : (rules : List StyleRule) (dom : Dom) → IsNode dom 0 → Meeting rules dom 0 [] none
-Meeting-start rules dom is = record {
+pub Opening-start : (rules : List StyleRule) (dom : Dom) → IsNode dom 0 → Opening rules dom 0 [] none
+Opening-start rules dom is = record {
   path = [];
   nodes = none;
   elements_are = refl;
@@ -153,7 +160,7 @@ Meeting-start rules dom is = record {
 }
 
 module _ (rules : List StyleRule) (dom : Dom) (f : IsForest dom) where
-  -- ---- a node is met
+  -- ---- a node is opened
 
   module _ (h : ℕ) (p : Progress) (path : Path) (nodes : Forest RenderNode)
       (is : IsNode dom h) (elements_are : p.open_elements ≡ elements_of path) (built_is : p.made_nodes ≡ followed_by nodes (inside path))
@@ -164,14 +171,18 @@ module _ (rules : List StyleRule) (dom : Dom) (f : IsForest dom) where
     ahead_within false n = omega arith
 
     ahead_become : (has_children : Bool) → let children = children_at dom h in
-        converted rules (trees_of dom (take (if has_children then length children else 0) children)) ≡ (if has_children then converted rules (trees_of dom children) else none)
+        converted rules (trees_of dom (take (if has_children then length children else 0) children))
+        ≡ (if has_children then converted rules (trees_of dom children) else none)
     ahead_become true = ap (λ hs. converted rules (trees_of dom hs)) (take-length (children_at dom h))
     ahead_become false = refl
 
-    met-by : (o : Outline) → resumed rules dom path (in_front (result_by o (converted rules (trees_of dom (children_at dom h)))) nodes) ≡ render_tree_of rules dom →
-        Converting rules dom (met dom h o p).open_elements (met dom h o p).made_nodes
-    met-by outline.Nothing result = record { path = path; nodes = nodes; elements_are = elements_are; built_is = built_is; result = result; sound = sound }
-    met-by (Alone n) result = record {
+    open_node-by : (o : Outline) →
+        resumed rules dom path (in_front (result_by o (converted rules (trees_of dom (children_at dom h)))) nodes)
+        ≡ render_tree_of rules dom →
+        Converting rules dom (open_node dom h o p).open_elements (open_node dom h o p).made_nodes
+    open_node-by outline.Nothing result =
+        record { path = path; nodes = nodes; elements_are = elements_are; built_is = built_is; result = result; sound = sound }
+    open_node-by (Alone n) result = record {
       path = path;
       nodes = node n none nodes;
       elements_are = elements_are;
@@ -179,7 +190,7 @@ module _ (rules : List StyleRule) (dom : Dom) (f : IsForest dom) where
       result = result;
       sound = sound;
     }
-    met-by (Over n if_empty has_children before after) result =
+    open_node-by (Over n if_empty has_children before after) result =
         let children = children_at dom h in
         let o : Open = record {
           handle = h;
@@ -196,7 +207,8 @@ module _ (rules : List StyleRule) (dom : Dom) (f : IsForest dom) where
           elements_are = ap (λ es. es ++ o ∷ []) elements_are;
           built_is = ap (put_content after) built_is;
           result =
-              ap (λ t. resumed rules dom path (in_front (closed o after t) nodes)) (followed_by-none (still rules dom o) ∙ ahead_become has_children)
+              ap (λ t. resumed rules dom path (in_front (close_element o after t) nodes)) (followed_by-none (still rules dom o)
+              ∙ ahead_become has_children)
               ∙ result;
           sound = (
             record {
@@ -209,15 +221,18 @@ module _ (rules : List StyleRule) (dom : Dom) (f : IsForest dom) where
           );
         }
 
-  pub Meeting-met : (h : ℕ) (p : Progress) → Meeting rules dom h p.open_elements p.made_nodes →
+  pub Opening-open_node : (h : ℕ) (p : Progress) → Opening rules dom h p.open_elements p.made_nodes →
       let o = outline_of rules (content_at dom h) in
-      Converting rules dom (met dom h o p).open_elements (met dom h o p).made_nodes
-  Meeting-met h p m =
+      Converting rules dom (open_node dom h o p).open_elements (open_node dom h o p).made_nodes
+  Opening-open_node h p m =
       let content = content_at dom h in
-      met-by h p m.path m.nodes m.is_node m.elements_are m.built_is m.sound (outline_of rules content)
-      (ap (λ r. resumed rules dom m.path (in_front r m.nodes)) (outline_result rules content (converted rules (trees_of dom (children_at dom h))))
-      ∙ ap (λ t. resumed rules dom m.path (in_front (result_of rules content (converted rules t)) m.nodes)) (sym (below-children dom f h m.is_node))
-      ∙ ap (λ t. resumed rules dom m.path t) (sym (in_front-followed_by (result_of rules content (converted rules (below (node_count dom) dom h))) none m.nodes))
+      open_node-by h p m.path m.nodes m.is_node m.elements_are m.built_is m.sound (outline_of rules content)
+      (ap (λ r. resumed rules dom m.path (in_front r m.nodes))
+      (outline_result rules content (converted rules (trees_of dom (children_at dom h))))
+      ∙ ap (λ t. resumed rules dom m.path (in_front (result_of rules content (converted rules t)) m.nodes))
+      (sym (below-children dom f h m.is_node))
+      ∙ ap (λ t. resumed rules dom m.path t)
+      (sym (in_front-followed_by (result_of rules content (converted rules (below (node_count dom) dom h))) none m.nodes))
       ∙ m.result)
 
   -- ---- the next child of the innermost element
@@ -227,15 +242,24 @@ module _ (rules : List StyleRule) (dom : Dom) (f : IsForest dom) where
     shorter = record o { ahead = n }
 
     child_at : (h : ℕ) (path : Path) (nodes : Forest RenderNode) → o.ahead ≡ suc n → h ≡ get_or (children_at dom o.handle) n h →
-        elements ++ o ∷ [] ≡ elements_of path → built ≡ followed_by nodes (inside path) → resumed rules dom path nodes ≡ render_tree_of rules dom → AreSound dom path →
-        Meeting rules dom h (elements ++ shorter ∷ []) built
-    child_at h [] nodes ahead at elements_are built_is result sound = absurd (omega (arith, ap length elements_are, length-append elements (o ∷ [])))
+        elements ++ o ∷ [] ≡ elements_of path → built ≡ followed_by nodes (inside path) →
+        resumed rules dom path nodes ≡ render_tree_of rules dom → AreSound dom path →
+        Opening rules dom h (elements ++ shorter ∷ []) built
+    child_at h [] nodes ahead at elements_are built_is result sound =
+        absurd (omega (arith, ap length elements_are, length-append elements (o ∷ [])))
     child_at h (x ∷ path) nodes ahead at elements_are built_is result sound =
         let same = same_from_push elements (elements_of path) o x.element elements_are in
         let children = children_at dom o.handle in
         let in_children : n < length children =
-        omega (arith, ahead, ap (λ (e : Open). e.ahead) same.1, sound.0.ahead_within, ap (λ (e : Open). length (children_at dom e.handle)) same.1) in
-        let last : remaining dom o ≡ remaining dom shorter ++ h ∷ [] = ap (λ k. take k children) ahead ∙ take-suc children n h in_children ∙ ap (λ c. take n children ++ c ∷ []) (sym at) in
+        omega (
+          arith,
+          ahead,
+          ap (λ (e : Open). e.ahead) same.1,
+          sound.0.ahead_within,
+          ap (λ (e : Open). length (children_at dom e.handle)) same.1,
+        ) in
+        let last : remaining dom o ≡ remaining dom shorter ++ h ∷ [] = ap (λ k. take k children) ahead ∙ take-suc children n h in_children
+        ∙ ap (λ c. take n children ++ c ∷ []) (sym at) in
         let trees : still rules dom o ≡ followed_by (still rules dom shorter) (converted rules (tree_of dom h)) =
         ap (λ hs. converted rules (trees_of dom hs)) last
         ∙ ap (converted rules) (trees_of-append dom (remaining dom shorter) (h ∷ []))
@@ -246,9 +270,11 @@ module _ (rules : List StyleRule) (dom : Dom) (f : IsForest dom) where
           elements_are = ap (λ es. es ++ shorter ∷ []) same.0;
           built_is = built_is;
           result =
-              ap (λ t. resumed rules dom path (in_front (closed o x.after t) x.beside))
-              (sym (followed_by-followed_by (still rules dom shorter) (converted rules (tree_of dom h)) nodes) ∙ ap (λ t. followed_by t nodes) (sym trees))
-              ∙ ap (λ (e : Open). resumed rules dom path (in_front (closed e x.after (followed_by (still rules dom e) nodes)) x.beside)) same.1
+              ap (λ t. resumed rules dom path (in_front (close_element o x.after t) x.beside))
+              (sym (followed_by-followed_by (still rules dom shorter) (converted rules (tree_of dom h)) nodes)
+              ∙ ap (λ t. followed_by t nodes) (sym trees))
+              ∙ ap (λ (e : Open). resumed rules dom path
+              (in_front (close_element e x.after (followed_by (still rules dom e) nodes)) x.beside)) same.1
               ∙ result;
           sound = (
             record {
@@ -264,7 +290,7 @@ module _ (rules : List StyleRule) (dom : Dom) (f : IsForest dom) where
 
   pub Converting-child : (elements : List Open) (o : Open) (n : ℕ) (built : Forest RenderNode) (h : ℕ) →
       o.ahead ≡ suc n → h ≡ get_or (children_at dom o.handle) n h → Converting rules dom (elements ++ o ∷ []) built →
-      Meeting rules dom h (elements ++ record o { ahead = n } ∷ []) built
+      Opening rules dom h (elements ++ record o { ahead = n } ∷ []) built
   Converting-child elements o n built h ahead at c =
       child_at elements o n built h c.path c.nodes ahead at c.elements_are c.built_is c.result c.sound
 
@@ -272,12 +298,14 @@ module _ (rules : List StyleRule) (dom : Dom) (f : IsForest dom) where
 
   module _ (elements : List Open) (o : Open) (built : Forest RenderNode) where
     abbrev pub Closed : Type 0
-    Closed = (s : ClosingAt built o.inner o.outer) × Converting rules dom elements (in_front (closed o s.after s.children) s.beside)
+    Closed = (s : ClosingAt built o.inner o.outer) × Converting rules dom elements (in_front (close_element o s.after s.children) s.beside)
 
     close_at : (path : Path) (nodes : Forest RenderNode) → o.ahead ≡ 0 →
-        elements ++ o ∷ [] ≡ elements_of path → built ≡ followed_by nodes (inside path) → resumed rules dom path nodes ≡ render_tree_of rules dom → AreSound dom path →
+        elements ++ o ∷ [] ≡ elements_of path → built ≡ followed_by nodes (inside path) →
+        resumed rules dom path nodes ≡ render_tree_of rules dom → AreSound dom path →
         Closed
-    close_at [] nodes ahead elements_are built_is result sound = absurd (omega (arith, ap length elements_are, length-append elements (o ∷ [])))
+    close_at [] nodes ahead elements_are built_is result sound =
+        absurd (omega (arith, ap length elements_are, length-append elements (o ∷ [])))
     close_at (x ∷ path) nodes ahead elements_are built_is result sound =
         let same = same_from_push elements (elements_of path) o x.element elements_are in
         let s : ClosingAt built o.inner o.outer = record {
@@ -292,12 +320,13 @@ module _ (rules : List StyleRule) (dom : Dom) (f : IsForest dom) where
           s,
           record {
             path = path;
-            nodes = in_front (closed o x.after nodes) x.beside;
+            nodes = in_front (close_element o x.after nodes) x.beside;
             elements_are = same.0;
-            built_is = sym (in_front-followed_by (closed o x.after nodes) x.beside (inside path));
+            built_is = sym (in_front-followed_by (close_element o x.after nodes) x.beside (inside path));
             result =
-                ap (λ t. resumed rules dom path (in_front (closed o x.after (followed_by t nodes)) x.beside)) (sym over)
-                ∙ ap (λ (e : Open). resumed rules dom path (in_front (closed e x.after (followed_by (still rules dom e) nodes)) x.beside)) same.1
+                ap (λ t. resumed rules dom path (in_front (close_element o x.after (followed_by t nodes)) x.beside)) (sym over)
+                ∙ ap (λ (e : Open). resumed rules dom path
+                (in_front (close_element e x.after (followed_by (still rules dom e) nodes)) x.beside)) same.1
                 ∙ result;
             sound = sound.1;
           },
@@ -315,7 +344,8 @@ module _ (rules : List StyleRule) (dom : Dom) (f : IsForest dom) where
   top_at elements o [] elements_are sound = absurd (omega (arith, ap length elements_are, length-append elements (o ∷ [])))
   top_at elements o (x ∷ path) elements_are sound =
       let same = same_from_push elements (elements_of path) o x.element elements_are in
-      subst (λ (e : Open). IsNode dom e.handle × (e.ahead ≤ length (children_at dom e.handle))) (sym same.1) (sound.0.is_node, sound.0.ahead_within)
+      subst (λ (e : Open). IsNode dom e.handle × (e.ahead ≤ length (children_at dom e.handle))) (sym same.1)
+      (sound.0.is_node, sound.0.ahead_within)
 
   pub Converting-top : (elements : List Open) (o : Open) (built : Forest RenderNode) →
       Converting rules dom (elements ++ o ∷ []) built → IsNode dom o.handle × (o.ahead ≤ length (children_at dom o.handle))
@@ -324,7 +354,8 @@ module _ (rules : List StyleRule) (dom : Dom) (f : IsForest dom) where
   -- ---- the end of it all
 
   done_at : (elements : List Open) (built : Forest RenderNode) (path : Path) (nodes : Forest RenderNode) → length elements ≡ 0 →
-      elements ≡ elements_of path → built ≡ followed_by nodes (inside path) → resumed rules dom path nodes ≡ render_tree_of rules dom → built ≡ render_tree_of rules dom
+      elements ≡ elements_of path → built ≡ followed_by nodes (inside path) → resumed rules dom path nodes ≡ render_tree_of rules dom →
+      built ≡ render_tree_of rules dom
   done_at elements built [] nodes empty elements_are built_is result = built_is ∙ followed_by-none nodes ∙ result
   done_at elements built (x ∷ path) nodes empty elements_are built_is result =
       absurd (omega (arith, ap length elements_are, length-append (elements_of path) (x.element ∷ [])))
@@ -335,7 +366,7 @@ module _ (rules : List StyleRule) (dom : Dom) (f : IsForest dom) where
 
 -- ---- why it ends
 
--- the nodes that are still to be met, twice, and the elements that are still to be closed
+-- the nodes that are still to be opened, twice, and the elements that are still to be closed
 abbrev pub work : Dom → List Open → ℕ
 work dom [] = 0
 work dom (o ∷ os) = 2 * count (trees_of dom (remaining dom o)) + 1 + work dom os
@@ -353,10 +384,11 @@ module _ (dom : Dom) (h : ℕ) (p : Progress) where
   ahead_count true = omega (arith, ap (λ hs. count (trees_of dom hs)) (take-length (children_at dom h)))
   ahead_count false = omega arith
 
-  work-met : (o : Outline) → work dom (met dom h o p).open_elements ≤ work dom p.open_elements + (2 * count (trees_of dom (children_at dom h)) + 1)
-  work-met outline.Nothing = omega arith
-  work-met (Alone n) = omega arith
-  work-met (Over n if_empty has_children before after) =
+  work-open_node : (o : Outline) →
+      work dom (open_node dom h o p).open_elements ≤ work dom p.open_elements + (2 * count (trees_of dom (children_at dom h)) + 1)
+  work-open_node outline.Nothing = omega arith
+  work-open_node (Alone n) = omega arith
+  work-open_node (Over n if_empty has_children before after) =
       let children = children_at dom h in
       let o : Open = record {
         handle = h;
@@ -369,16 +401,20 @@ module _ (dom : Dom) (h : ℕ) (p : Progress) where
       } in
       omega (arith, work-append dom p.open_elements (o ∷ []), ahead_count has_children)
 
-pub work-child : (dom : Dom) → IsForest dom → (elements : List Open) (o : Open) (n h : ℕ) (r : Outline) (built : Forest RenderNode) → IsNode dom h → o.ahead ≡ suc n → n < length (children_at dom o.handle) →
+pub work-child : (dom : Dom) → IsForest dom → (elements : List Open) (o : Open) (n h : ℕ) (r : Outline) (built : Forest RenderNode) →
+    IsNode dom h → o.ahead ≡ suc n → n < length (children_at dom o.handle) →
     h ≡ get_or (children_at dom o.handle) n h →
-    work dom (met dom h r (record { open_elements = elements ++ record o { ahead = n } ∷ []; made_nodes = built })).open_elements < work dom (elements ++ o ∷ [])
+    work dom (open_node dom h r
+    (record { open_elements = elements ++ record o { ahead = n } ∷ []; made_nodes = built })).open_elements < work dom
+    (elements ++ o ∷ [])
 work-child dom f elements o n h r built is ahead in_children at =
     let children = children_at dom o.handle in
     let shorter : Open = record o { ahead = n } in
-    let last : remaining dom o ≡ take n children ++ h ∷ [] = ap (λ k. take k children) ahead ∙ take-suc children n h in_children ∙ ap (λ c. take n children ++ c ∷ []) (sym at) in
+    let last : remaining dom o ≡ take n children ++ h ∷ [] = ap (λ k. take k children) ahead ∙ take-suc children n h in_children
+    ∙ ap (λ c. take n children ++ c ∷ []) (sym at) in
     omega (
       arith,
-      work-met dom h (record { open_elements = elements ++ shorter ∷ []; made_nodes = built }) r,
+      work-open_node dom h (record { open_elements = elements ++ shorter ∷ []; made_nodes = built }) r,
       work-append dom elements (shorter ∷ []),
       work-append dom elements (o ∷ []),
       ap (λ hs. count (trees_of dom hs)) last,

@@ -13,18 +13,18 @@ use Rattle.html_render_layout.specs.declared.tree.Emphasis.TheVariants.{Em, Stro
 use Rattle.html_render_layout.specs.declared.tree.NodeKind.TheVariants.{Container, Break, Block, Div, Emphasis}
 use Rattle.html_render_layout.specs.declared.tree.NodeStyle.{NodeStyle}
 use Rattle.html_render_layout.specs.declared.tree.RenderNode.{RenderNode}
-use Rattle.html_render_tree.specs.declared.rules.IfEmpty.{IfEmpty}
-use Rattle.html_render_tree.specs.declared.rules.IfEmpty.TheVariants.{Stands, Vanishes}
-use Rattle.html_render_tree.specs.declared.rules.Rule.{Rule}
-use Rattle.html_render_tree.specs.declared.rules.Rule.TheVariants.{Nothing, Leaf, Parent}
+use Rattle.html_render_tree.specs.declared.mapping.IfEmpty.{IfEmpty}
+use Rattle.html_render_tree.specs.declared.mapping.IfEmpty.TheVariants.{Stands, Vanishes}
+use Rattle.html_render_tree.specs.declared.mapping.Mapping.{Mapping}
+use Rattle.html_render_tree.specs.declared.mapping.Mapping.TheVariants.{Nothing, Leaf, Parent}
 use Rattle.html_render_tree.specs.Insertion.{Tree, container, in_front, text_node, with_contents}
 
 abbrev pub is_one_of : List ℕ → List (List ℕ) → Bool
 is_one_of name names = list_any (bytes_eq name) names
 
--- the rule for an element of HTML, by its name
-abbrev pub html_rule : List ℕ → Rule
-html_rule name =
+-- what becomes of an element of HTML, by its name
+abbrev pub html_mapping : List ℕ → Mapping
+html_mapping name =
     if is_one_of name (codes "html" ∷ codes "body" ∷ []) then Parent Container Stands
     else if bytes_eq name (codes "p") then Parent Block Vanishes
     else if bytes_eq name (codes "div") then Parent Div Vanishes
@@ -35,13 +35,13 @@ html_rule name =
     else if is_one_of name (codes "head" ∷ codes "link" ∷ codes "meta" ∷ codes "hr" ∷ codes "script" ∷ codes "style" ∷ []) then Nothing
     else Parent Container Vanishes
 
--- the rule for an element of a namespace: outside HTML no name is special
-abbrev pub element_rule : Space → List ℕ → Rule
-element_rule html name = html_rule name
-element_rule no_space name = Parent Container Vanishes
-element_rule svg name = Parent Container Vanishes
-element_rule mathml name = Parent Container Vanishes
-element_rule (other address) name = Parent Container Vanishes
+-- what becomes of an element of a namespace: outside HTML no name is special
+abbrev pub element_mapping : Space → List ℕ → Mapping
+element_mapping html name = html_mapping name
+element_mapping no_space name = Parent Container Vanishes
+element_mapping svg name = Parent Container Vanishes
+element_mapping mathml name = Parent Container Vanishes
+element_mapping (other address) name = Parent Container Vanishes
 
 -- what an element's style gives the node that it becomes; white space is Normal where nothing else is declared
 abbrev pub node_style : ElementStyle → NodeStyle
@@ -57,24 +57,25 @@ over n Stands children = Some (record { top = n; children = children })
 over n Vanishes none = None
 over n Vanishes (node first below beside) = Some (record { top = n; children = node first below beside })
 
--- what an element becomes under its rule, from what its children become
-abbrev pub made : Rule → NodeStyle → Forest RenderNode → Option Tree
+-- what an element becomes under its mapping, from what its children become
+abbrev pub made : Mapping → NodeStyle → Forest RenderNode → Option Tree
 made Nothing style children = None
 made (Leaf kind) style children = over (record { kind = kind; style = style }) Stands none
 made (Parent kind if_empty) style children = over (record { kind = kind; style = style }) if_empty children
 
 -- the same under its style too: nothing where `display` is set, since its only value is `none`; else with its contents
-abbrev pub styled : Rule → ElementStyle → Forest RenderNode → Option Tree
-styled rule style children =
+abbrev pub styled : Mapping → ElementStyle → Forest RenderNode → Option Tree
+styled mapping style children =
     if is_some style.display then None
-    else option_map (with_contents (value_of style.content_before) (value_of style.content_after)) (made rule (node_style style) children)
+    else option_map (with_contents (value_of style.content_before) (value_of style.content_after))
+    (made mapping (node_style style) children)
 
 -- what a node of a document becomes, from what its children become
 abbrev pub result_of : List StyleRule → Content → Forest RenderNode → Option Tree
 result_of rules document children = Some (container children)
 result_of rules (text contents) children = Some (record { top = text_node contents; children = none })
 result_of rules (element name properties template_contents integration_point) children =
-    styled (element_rule name.space name.local) (element_style rules name.local properties) children
+    styled (element_mapping name.space name.local) (element_style rules name.local properties) children
 result_of rules (doctype name public_id system_id) children = None
 result_of rules (comment contents) children = None
 result_of rules (instruction target contents) children = None

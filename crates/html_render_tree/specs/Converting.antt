@@ -12,24 +12,25 @@ use Rattle.html_render_layout.specs.declared.tree.NodeKind.TheVariants.{Containe
 use Rattle.html_render_layout.specs.declared.tree.RenderNode.{RenderNode}
 use Rattle.html_render_layout.specs.RenderNodes.{without_style}
 use Rattle.html_render_tree.specs.declared.convert.Open.{Open}
-use Rattle.html_render_tree.specs.declared.rules.IfEmpty.{IfEmpty}
-use Rattle.html_render_tree.specs.declared.rules.IfEmpty.TheVariants.{Stands}
-use Rattle.html_render_tree.specs.declared.rules.Outline.{Outline}
-use Rattle.html_render_tree.specs.declared.rules.Outline.TheVariants.{Alone, Over}
-use Rattle.html_render_tree.specs.declared.rules.Outline.TheVariants as outline
-use Rattle.html_render_tree.specs.declared.rules.Rule.{Rule}
-use Rattle.html_render_tree.specs.declared.rules.Rule.TheVariants.{Nothing, Leaf, Parent}
+use Rattle.html_render_tree.specs.declared.mapping.IfEmpty.{IfEmpty}
+use Rattle.html_render_tree.specs.declared.mapping.IfEmpty.TheVariants.{Stands}
+use Rattle.html_render_tree.specs.declared.mapping.Outline.{Outline}
+use Rattle.html_render_tree.specs.declared.mapping.Outline.TheVariants.{Alone, Over}
+use Rattle.html_render_tree.specs.declared.mapping.Outline.TheVariants as outline
+use Rattle.html_render_tree.specs.declared.mapping.Mapping.{Mapping}
+use Rattle.html_render_tree.specs.declared.mapping.Mapping.TheVariants.{Nothing, Leaf, Parent}
 use Rattle.html_render_tree.specs.Insertion.{Tree, text_node, with_contents}
-use Rattle.html_render_tree.specs.Conversion.{element_rule, node_style, over}
+use Rattle.html_render_tree.specs.Conversion.{element_mapping, node_style, over}
 
 -- ---- what becomes of a node, its children aside
 
 abbrev pub displayed_outline : NodeKind → IfEmpty → (has_children : Bool) → ElementStyle → Outline
 displayed_outline kind if_empty has_children style =
     if is_some style.display then outline.Nothing
-    else Over (record { kind = kind; style = node_style style }) if_empty has_children (value_of style.content_before) (value_of style.content_after)
+    else Over (record { kind = kind; style = node_style style }) if_empty has_children (value_of style.content_before)
+    (value_of style.content_after)
 
-abbrev pub styled_outline : Rule → ElementStyle → Outline
+abbrev pub styled_outline : Mapping → ElementStyle → Outline
 styled_outline Nothing style = outline.Nothing
 styled_outline (Leaf kind) style = displayed_outline kind Stands false style
 styled_outline (Parent kind if_empty) style = displayed_outline kind if_empty true style
@@ -38,7 +39,7 @@ abbrev pub outline_of : List StyleRule → Content → Outline
 outline_of rules document = Over (without_style Container) Stands true None None
 outline_of rules (text contents) = Alone (text_node contents)
 outline_of rules (element name properties template_contents integration_point) =
-    styled_outline (element_rule name.space name.local) (element_style rules name.local properties)
+    styled_outline (element_mapping name.space name.local) (element_style rules name.local properties)
 outline_of rules (doctype name public_id system_id) = outline.Nothing
 outline_of rules (comment contents) = outline.Nothing
 outline_of rules (instruction target contents) = outline.Nothing
@@ -58,11 +59,11 @@ abbrev pub put_content : Option (List ℕ) → Forest RenderNode → Forest Rend
 put_content None trees = trees
 put_content (Some content) trees = node (text_node content) none trees
 
--- a node is met: an element opens in front of its after content, with its children, if they count, still to be converted
-abbrev pub met : Dom → (handle : ℕ) → Outline → Progress → Progress
-met dom handle outline.Nothing p = p
-met dom handle (Alone n) p = record p { made_nodes = node n none p.made_nodes }
-met dom handle (Over n if_empty has_children before after) p = record {
+-- a node is opened: an element opens in front of its after content, with its children, if they count, still to be converted
+abbrev pub open_node : Dom → (handle : ℕ) → Outline → Progress → Progress
+open_node dom handle outline.Nothing p = p
+open_node dom handle (Alone n) p = record p { made_nodes = node n none p.made_nodes }
+open_node dom handle (Over n if_empty has_children before after) p = record {
   open_elements = p.open_elements ++ record {
     handle = handle;
     ahead = if has_children then length (children_at dom handle) else 0;
@@ -77,9 +78,9 @@ met dom handle (Over n if_empty has_children before after) p = record {
 
 -- ---- the end of an element
 
--- what the element becomes with this content behind it, once its children have become these
-abbrev pub closed : Open → (after : Option (List ℕ)) → Forest RenderNode → Option Tree
-closed o after children = option_map (with_contents o.before after) (over o.node o.if_empty children)
+-- what an element becomes when it is closed: with this content behind it, once its children have become these
+abbrev pub close_element : Open → (after : Option (List ℕ)) → Forest RenderNode → Option Tree
+close_element o after children = option_map (with_contents o.before after) (over o.node o.if_empty children)
 
 -- the nodes that have been made, parted at an element: what its children became, its content behind these, and the rest
 pub record ClosingAt (built : Forest RenderNode) (inner outer : ℕ) : Type 0 where

@@ -14,7 +14,7 @@ decoration name text place = record {
   id = None;
   classes = [];
   pseudo = Some place;
-  declarations = record { important = false; setting = content text } ∷ [];
+  declarations = record { important = false; style = content text } ∷ [];
 }
 
 -- how specific such a rule is: it names an element and a pseudo-element
@@ -22,14 +22,14 @@ abbrev pub decoration_specificity : Specificity
 decoration_specificity = record { inline = false; id = 0; class = 0; typ = 2 }
 
 -- a text before and after the children of each element of this name
-abbrev pub round : (name text : List ℕ) → List Rule
-round name text = decoration name text Before ∷ decoration name text After ∷ []
+abbrev pub before_and_after : (name text : List ℕ) → List Rule
+before_and_after name text = decoration name text Before ∷ decoration name text After ∷ []
 
 -- THE DECORATIONS, in the order in which they are added
 abbrev pub decorations : List Rule
 decorations =
-    round (codes "em") (codes "*")
-    ++ round (codes "dt") (codes "*")
-    ++ round (codes "strong") (codes "**")
-    ++ round (codes "b") (codes "**")
-    ++ round (codes "code") (codes "`")
+    before_and_after (codes "em") (codes "*")
+    ++ before_and_after (codes "dt") (codes "*")
+    ++ before_and_after (codes "strong") (codes "**")
+    ++ before_and_after (codes "b") (codes "**")
+    ++ before_and_after (codes "code") (codes "`")

@@ -1,6 +1,12 @@
+-- a document becomes a render tree
 pub mod Insertion
 pub mod Conversion
 pub mod Converting
+-- the settings of a configuration, and the text of a render tree
 pub mod Texts
 pub mod Decorations
 pub mod Rendering
+-- the calls of the program's scripts
+pub mod Scripts
+-- what a decorator answers, for callers that implement one
+pub use Rattle.html_render_parts.specs.Decoration

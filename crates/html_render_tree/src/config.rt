@@ -27,7 +27,7 @@ use std::marker::Model;
 #[derive(Drop)]
 pub struct Config<D: TextDecorator> {
     decorator: D,
-    // in the order in which they were added
+    /// In the order in which they were added.
     rules: Vec<StyleRule>,
     overflow: bool,
     link_footnotes: bool,

@@ -8,9 +8,9 @@ ghost use Rattle.html_render_dom.specs.Dom.{IsNode, content_at};
 ghost use Rattle.html_render_dom.specs.Rules.{rule_of};
 ghost use Rattle.html_render_tree.specs.Insertion.{in_front, with_contents};
 ghost use Rattle.html_render_tree.specs.Conversion.{render_tree_of};
-ghost use Rattle.html_render_tree.specs.Converting.{progress, met, put_content, closed, outline_of, ClosingAt};
+ghost use Rattle.html_render_tree.specs.Converting.{progress, open_node, put_content, close_element, outline_of, ClosingAt};
 
-use crate::rules::{IfEmpty, Outline, holds_insertions, outline_of};
+use crate::mapping::{IfEmpty, Outline, holds_insertions, outline_of};
 use html_render_dom::Error;
 use html_render_dom::dom::{Handle, RcDom};
 use html_render_dom::style::StyleRule;
@@ -48,8 +48,8 @@ fn put_content(builder: &mut Builder<RenderNode>, content: Option<Text>) -> Resu
     }
 }
 
-/// Converts a node as far as can be without its children.
-fn meet(
+/// Converts a node as far as can be without its children: an element is opened, anything else is done.
+fn open_node(
     alloc: Global,
     rules: &[StyleRule],
     dom: &RcDom,
@@ -58,7 +58,8 @@ fn meet(
     builder: &mut Builder<RenderNode>,
 ) -> Result<(), Error>
     requires { IsNode dom.now handle }
-    ensures ok { OnOk result (progress elements.new builder.new ≡ met dom.now handle (outline_of (map rule_of rules.now) (content_at dom.now handle)) (progress elements.old builder.old)) }
+    ensures ok { let outline = outline_of (map rule_of rules.now) (content_at dom.now handle) in
+        OnOk result (progress elements.new builder.new ≡ open_node dom.now handle outline (progress elements.old builder.old)) }
     ensures err { IfErr result (λ e. e ≡ Error.OutOfMemory) }
 {
     match outline_of(alloc, rules, dom.data(handle))? {
@@ -92,8 +93,8 @@ fn meet(
     Ok(())
 }
 
-/// Makes an element's node, with its contents, where its children are made and the content behind them.
-fn stand(
+/// Builds an element's node, with its contents, where its children are made and the content behind them.
+fn build_element(
     node: RenderNode,
     before: Option<Text>,
     inner: usize,
@@ -117,10 +118,11 @@ fn stand(
     builder.enclose(RenderNode::from(NodeKind::Container), outer)
 }
 
-/// Makes the node of an element whose children are converted.
-fn close(element: Open, builder: &mut Builder<RenderNode>) -> Result<(), Error>
+/// Closes an element whose children are converted: builds its node, unless it vanishes.
+fn close_element(element: Open, builder: &mut Builder<RenderNode>) -> Result<(), Error>
     requires { ClosingAt builder.old element.inner element.outer }
-    ensures ok { OnOk result ((s : ClosingAt builder.old element.inner element.outer) → builder.new ≡ in_front (closed element s.after s.children) s.beside) }
+    ensures ok { OnOk result ((s : ClosingAt builder.old element.inner element.outer) →
+        builder.new ≡ in_front (close_element element s.after s.children) s.beside) }
     ensures err { IfErr result (λ e. e ≡ Error.OutOfMemory) }
 {
     let Open {
@@ -136,7 +138,7 @@ fn close(element: Open, builder: &mut Builder<RenderNode>) -> Result<(), Error>
             builder.truncate(outer);
             Ok(())
         }
-        _ => stand(node, before, inner, outer, builder),
+        _ => build_element(node, before, inner, outer, builder),
     }
 }
 
@@ -156,7 +158,7 @@ pub fn dom_to_render_tree(
 {
     let mut open = Vec::new(alloc);
     let mut builder = Builder::new(alloc);
-    meet(
+    open_node(
         alloc,
         rules,
         dom,
@@ -169,12 +171,12 @@ pub fn dom_to_render_tree(
             return Ok(RenderTree::from(builder));
         };
         if element.ahead == 0 {
-            close(element, &mut builder)?;
+            close_element(element, &mut builder)?;
         } else {
             element.ahead -= 1;
             let child = dom.child_list(element.handle)[element.ahead];
             open.push(element)?;
-            meet(alloc, rules, dom, child, &mut open, &mut builder)?;
+            open_node(alloc, rules, dom, child, &mut open, &mut builder)?;
         }
     }
 }

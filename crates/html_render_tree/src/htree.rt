@@ -3,15 +3,19 @@
 //! `run(alloc, words, &mut input, &mut output, &mut faults)` with the words `11`, `plain`, `overflow` and the
 //! input `<p` and `"Hello wide world` writes `Hello wide` and `world` to `output` and answers 0.
 
-ghost use Rattle.std.specs.Prelude.{IfOk, IfSome, ◌≤◌};
+ghost use Rattle.std.specs.Prelude.{◌≡◌, ◌≤◌, IfOk, IfSome, OnOk, string_bytes};
+ghost use Rattle.html_render_dom.specs.Content.{space_of};
 ghost use Rattle.html_render_dom.specs.Dom.{IsNode, IsElement, content_at, node_count};
+ghost use Rattle.html_render_tree.specs.Scripts.{with_element, with_comment, with_attribute, called, next_of};
 
-use crate::config::{plain, plain_no_decorate};
-use crate::script::{Call, line_of, unescaped};
+use crate::config::{Config, plain, plain_no_decorate};
+use crate::script::{Call, line_of};
 use html_render_dom::Error;
 use html_render_dom::dom::{
     Attribute, ElementFlags, Handle, Namespace, NodeOrText, QualName, RcDom,
 };
+use html_render_layout::tree::RenderTree;
+use html_render_parts::decorate::PlainDecorator;
 use std::alloc::{AllocError, AllocFailed, Global};
 use std::io;
 use std::io::{ErrorKind, Read, Write};
@@ -46,38 +50,41 @@ impl Fault {
 }
 
 impl From<Error> for Fault {
+    /// A document can't be rendered, or memory is out.
     fn from(error: Error) -> Fault {
         Fault::Refused(error)
     }
 }
 
 impl From<AllocError> for Fault {
+    /// Memory is out.
     fn from(refusal: AllocError) -> Fault {
         Fault::Refused(Error::from(refusal))
     }
 }
 
 impl<T: Drop> From<AllocFailed<T>> for Fault {
+    /// Memory is out; what could not be kept is dropped.
     fn from(refusal: AllocFailed<T>) -> Fault {
         Fault::Refused(Error::from(refusal))
     }
 }
 
-/// How a text is decorated, as the program's words name it.
+/// A configuration that the program's words can name.
 #[derive(Clone, Copy)]
-enum Style {
+enum Preset {
     /// `plain`: with decorations and footnotes.
     Plain,
     /// `bare`: without any.
     Bare,
 }
 
-impl Style {
-    /// The style of a word.
-    fn read(word: &str) -> Result<Style, Fault> {
+impl Preset {
+    /// The preset of a word.
+    fn read(word: &str) -> Result<Preset, Fault> {
         match word {
-            "plain" => Ok(Style::Plain),
-            "bare" => Ok(Style::Bare),
+            "plain" => Ok(Preset::Plain),
+            "bare" => Ok(Preset::Bare),
             _ => Err(Fault::Arguments),
         }
     }
@@ -87,26 +94,26 @@ impl Style {
 #[derive(Clone, Copy)]
 struct Settings {
     width: usize,
-    style: Style,
+    preset: Preset,
     overflow: bool,
 }
 
 impl Settings {
-    /// The settings of `WIDTH [plain|bare] [overflow]`; without a style it is `plain`.
+    /// The settings of `WIDTH [plain|bare] [overflow]`; without a preset it is `plain`.
     fn read(words: &[String]) -> Result<Settings, Fault> {
         let (words, overflow) = match words {
             [front @ .., last] if last.as_str() == "overflow" => (front, true),
             _ => (words, false),
         };
-        let (width, style) = match words {
-            [width] => (width, Style::Plain),
-            [width, style] => (width, Style::read(style.as_str())?),
+        let (width, preset) = match words {
+            [width] => (width, Preset::Plain),
+            [width, preset] => (width, Preset::read(preset.as_str())?),
             _ => return Err(Fault::Arguments),
         };
         match width.as_str().parse::<usize>() {
             Ok(width) => Ok(Settings {
                 width,
-                style,
+                preset,
                 overflow,
             }),
             Err(_) => Err(Fault::Arguments),
@@ -135,7 +142,9 @@ fn open_element(
     name: &str,
 ) -> Result<Handle, Fault>
     requires { IsNode dom.old current }
-    ensures { IfOk result (λ element. IsNode dom.new element) }
+    ensures ok { OnOk result (dom.new ≡ with_element dom.old current (space_of ns) name.now) }
+    ensures number { IfOk result (λ element. element ≡ node_count dom.old) }
+    ensures is_node { IfOk result (λ element. IsNode dom.new element) }
 {
     let local = String::from_str(alloc, name)?;
     let name = QualName { ns, local };
@@ -153,7 +162,8 @@ fn set_attribute(
     value: String,
 ) -> Result<(), Fault>
     requires { IsElement (content_at dom.old element) }
-    ensures { node_count dom.old ≤ node_count dom.new }
+    ensures ok { OnOk result (dom.new ≡ with_attribute dom.old element name.now (string_bytes value)) }
+    ensures grows { node_count dom.old ≤ node_count dom.new }
 {
     let name = QualName {
         ns: Namespace::None,
@@ -172,41 +182,42 @@ fn append_comment(
     contents: String,
 ) -> Result<(), Fault>
     requires { IsNode dom.old current }
-    ensures { node_count dom.old ≤ node_count dom.new }
+    ensures ok { OnOk result (dom.new ≡ with_comment dom.old current (string_bytes contents)) }
+    ensures grows { node_count dom.old ≤ node_count dom.new }
 {
     let comment = dom.create_comment(alloc, contents)?;
     Ok(dom.append(alloc, current, NodeOrText::AppendNode(comment))?)
 }
 
-/// Makes a call whose text is plain by now, and answers the node that is current behind it, or `None` where an
-/// attribute is given to the document.
+/// Makes a call, and answers the node that is current behind it, or `None` where an attribute is given to the document.
 fn take_call(
     alloc: Global,
     dom: &mut RcDom,
     current: Handle,
     call: Call<'_>,
-    text: String,
 ) -> Result<Option<Handle>, Fault>
     requires { IsNode dom.old current }
-    ensures { IfOk result (λ next. IfSome next (λ node. IsNode dom.new node)) }
+    ensures ok { OnOk result (dom.new ≡ called dom.old current call.entry) }
+    ensures next { IfOk result (λ next. next ≡ next_of dom.old current call.entry) }
+    ensures is_node { IfOk result (λ next. IfSome next (λ node. IsNode dom.new node)) }
 {
     match call {
         Call::Open(name) => Ok(Some(open_element(alloc, dom, current, Namespace::Html, name)?)),
         Call::OpenSvg(name) => Ok(Some(open_element(alloc, dom, current, Namespace::Svg, name)?)),
         Call::Close => Ok(dom.get_parent(current)),
-        Call::Text(_) => {
+        Call::Text(text) => {
             dom.append(alloc, current, NodeOrText::AppendText(text))?;
             Ok(Some(current))
         }
-        Call::Comment(_) => {
-            append_comment(alloc, dom, current, text)?;
+        Call::Comment(contents) => {
+            append_comment(alloc, dom, current, contents)?;
             Ok(Some(current))
         }
-        Call::Attribute { name, .. } => {
+        Call::Attribute { name, value } => {
             if !dom.is_element(current) {
                 return Ok(None);
             }
-            set_attribute(alloc, dom, current, name, text)?;
+            set_attribute(alloc, dom, current, name, value)?;
             Ok(Some(current))
         }
     }
@@ -225,11 +236,8 @@ fn take_line(
     if line.is_empty() {
         return Ok(Some(current));
     }
-    let Some(call) = Call::read(line) else {
-        return Ok(None);
-    };
-    match unescaped(alloc, call.text())? {
-        Some(text) => take_call(alloc, dom, current, call, text),
+    match Call::read(alloc, line)? {
+        Some(call) => take_call(alloc, dom, current, call),
         None => Ok(None),
     }
 }
@@ -249,30 +257,58 @@ fn built(alloc: Global, script: &str) -> Result<RcDom, Fault> {
     Ok(dom)
 }
 
+/// The DOM that the script in `input` builds. The script is dropped.
+fn read_dom<R: Read>(alloc: Global, input: &mut R) -> Result<RcDom, Fault> {
+    let script = read_all(alloc, input)?;
+    built(alloc, script.as_str())
+}
+
+/// The configuration that the settings ask for.
+fn configured(alloc: Global, settings: Settings) -> Result<Config<PlainDecorator>, Fault> {
+    let config = match settings.preset {
+        Preset::Plain => plain(alloc)?,
+        Preset::Bare => plain_no_decorate(alloc),
+    };
+    Ok(if settings.overflow {
+        config.allow_width_overflow()
+    } else {
+        config
+    })
+}
+
+/// The render tree of the script in `input`. Its DOM is dropped.
+fn read_tree<R: Read>(
+    alloc: Global,
+    settings: Settings,
+    input: &mut R,
+) -> Result<(Config<PlainDecorator>, RenderTree), Fault> {
+    let dom = read_dom(alloc, input)?;
+    let config = configured(alloc, settings)?;
+    let tree = config.dom_to_render_tree(alloc, &dom)?;
+    Ok((config, tree))
+}
+
 /// The text of the script in `input`.
 fn rendered<R: Read>(alloc: Global, words: &[String], input: &mut R) -> Result<String, Fault> {
     let settings = Settings::read(words)?;
-    let script = read_all(alloc, input)?;
-    let dom = built(alloc, script.as_str())?;
-    let mut config = match settings.style {
-        Style::Plain => plain(alloc)?,
-        Style::Bare => plain_no_decorate(alloc),
-    };
-    if settings.overflow {
-        config = config.allow_width_overflow();
-    }
-    let tree = config.dom_to_render_tree(alloc, &dom)?;
+    let (config, tree) = read_tree(alloc, settings, input)?;
     Ok(config.render_to_string(alloc, tree, settings.width)?)
+}
+
+/// Writes a whole text, and flushes it.
+fn write_text<O: Write>(text: &str, output: &mut O) -> io::Result<()> {
+    output.write_all(text.as_bytes())?;
+    output.flush()
 }
 
 /// Writes the text of the script in `input` to `output`, or one line on what is wrong to `faults`, and answers the
 /// program's exit status: 0 for a text; 1 with an [`Error`]'s text, where the document can't be rendered or memory
 /// is out; 2 with `htree: arguments` for words that are not `WIDTH [plain|bare] [overflow]`, `htree: input` where
 /// `input` can't be read or isn't UTF-8, `htree: line N` (from 1) for a faulty line, `htree: output` where `output`
-/// can't be written. A failed write to `faults` changes no status.
+/// can't be written or flushed. A failed write to `faults` changes no status.
 ///
 /// The words are those behind the program's name, and are looked at first; then the whole input is read. The width is
-/// a number of columns. `plain`, which is also the style of words that name none, is text as
+/// a number of columns. `plain`, which is also the preset of words that name none, is text as
 /// [`plain`](crate::config::plain) renders it, and `bare` as [`plain_no_decorate`]; `overflow` stands for
 /// [`Config::allow_width_overflow`](crate::config::Config::allow_width_overflow).
 pub fn run<R: Read, O: Write, F: Write>(
@@ -285,7 +321,7 @@ pub fn run<R: Read, O: Write, F: Write>(
     ensures { result ≤ 2 }
 {
     match rendered(alloc, words, input) {
-        Ok(text) => match output.write_all(text.as_str().as_bytes()) {
+        Ok(text) => match write_text(text.as_str(), output) {
             Ok(()) => 0,
             Err(_) => report(&Fault::Output, faults),
         },
@@ -314,3 +350,6 @@ fn report<F: Write>(fault: &Fault, faults: &mut F) -> u8
     let _ = writeln!(faults, "{fault}");
     fault.status()
 }
+
+#[cfg(test)]
+mod tests;

@@ -5,12 +5,16 @@
 #![tactic(auto)]
 
 pub mod config;
-pub mod convert;
+mod convert;
 pub mod htree;
-mod rules;
+mod mapping;
 mod script;
 mod texts;
 
 pub use html_render_dom::{Error, dom, style};
-pub use html_render_layout::tree;
 pub use html_render_parts::{decorate, table, widths};
+
+/// What a document becomes before it is wrapped.
+pub mod tree {
+    pub use html_render_layout::tree::RenderTree;
+}

@@ -1,54 +1,65 @@
 //! The lines of a script, each one call on a DOM.
 //!
-//! `Call::read("<p")` is `Some(Call::Open("p"))`, and `Call::read("p")` is `None`: a faulty line.
+//! `Call::read(alloc, "<p")?` is `Some(Call::Open("p"))`, and `Call::read(alloc, "p")?` is `None`: a faulty line.
 
 use memchr::memchr;
 use std::alloc::{AllocError, Global};
 
-/// What a line of a script asks for. Texts stand here as they are written, with their escapes.
-#[derive(Clone, Copy, Debug, PartialEq, Eq)]
+/// What a line of a script asks for. Texts are plain: their escapes are resolved.
+#[derive(Debug, Drop)]
 pub enum Call<'a> {
     /// `<name`: an HTML element is appended and becomes the current node.
     Open(&'a str),
     /// `<svg:name`: the same in the SVG namespace.
     OpenSvg(&'a str),
     /// `@name=value`: the current element gets an attribute, unless it has one of that name.
-    Attribute { name: &'a str, value: &'a str },
+    Attribute { name: &'a str, value: String },
     /// `"text`: a text is appended.
-    Text(&'a str),
+    Text(String),
     /// `!comment`: a comment is appended.
-    Comment(&'a str),
+    Comment(String),
     /// `>`: the parent becomes the current node.
     Close,
 }
 
 impl<'a> Call<'a> {
     /// The call of a line, or `None` where the line is faulty: another first character, an element or an attribute
-    /// without a name, an attribute without `=`, or more behind `>`.
-    pub fn read(line: &'a str) -> Option<Call<'a>> {
+    /// without a name, an attribute without `=`, more behind `>`, or an escape that isn't known.
+    pub fn read(alloc: Global, line: &'a str) -> Result<Option<Call<'a>>, AllocError> {
         if let Some(name) = line.strip_prefix("<svg:") {
-            named(name).map(Call::OpenSvg)
+            Ok(named(name).map(Call::OpenSvg))
         } else if let Some(name) = line.strip_prefix('<') {
-            named(name).map(Call::Open)
+            Ok(named(name).map(Call::Open))
         } else if let Some(attribute) = line.strip_prefix('@') {
-            let (name, value) = attribute.split_once('=')?;
-            named(name).map(|name| Call::Attribute { name, value })
+            Call::read_attribute(alloc, attribute)
         } else if let Some(text) = line.strip_prefix('"') {
-            Some(Call::Text(text))
+            match unescaped(alloc, text)? {
+                Some(text) => Ok(Some(Call::Text(text))),
+                None => Ok(None),
+            }
         } else if let Some(comment) = line.strip_prefix('!') {
-            Some(Call::Comment(comment))
+            match unescaped(alloc, comment)? {
+                Some(contents) => Ok(Some(Call::Comment(contents))),
+                None => Ok(None),
+            }
         } else if line == ">" {
-            Some(Call::Close)
+            Ok(Some(Call::Close))
         } else {
-            None
+            Ok(None)
         }
     }
 
-    /// The part of the line in which escapes count: a text, a comment or an attribute's value.
-    pub fn text(self) -> &'a str {
-        match self {
-            Call::Text(text) | Call::Comment(text) | Call::Attribute { value: text, .. } => text,
-            Call::Open(_) | Call::OpenSvg(_) | Call::Close => "",
+    /// The call of `name=value`, or `None` where there is no name or no `=`, or an escape isn't known.
+    fn read_attribute(alloc: Global, attribute: &'a str) -> Result<Option<Call<'a>>, AllocError> {
+        let Some((name, value)) = attribute.split_once('=') else {
+            return Ok(None);
+        };
+        let Some(name) = named(name) else {
+            return Ok(None);
+        };
+        match unescaped(alloc, value)? {
+            Some(value) => Ok(Some(Call::Attribute { name, value })),
+            None => Ok(None),
         }
     }
 }
@@ -68,7 +79,7 @@ pub fn line_of(piece: &str) -> &str {
 
 /// A text in which `\n` stands for a line feed and `\\` for a backslash, or `None` where a backslash stands before
 /// anything else.
-pub fn unescaped(alloc: Global, text: &str) -> Result<Option<String>, AllocError> {
+fn unescaped(alloc: Global, text: &str) -> Result<Option<String>, AllocError> {
     if memchr(b'\\', text.as_bytes()).is_none() {
         return Ok(Some(String::from_str(alloc, text)?));
     }
@@ -98,39 +109,34 @@ mod tests {
     use std::test::Fail;
 
     #[test]
-    fn lines_are_calls_or_faulty(rt: HostRuntime) {
+    fn lines_are_calls_or_faulty(rt: HostRuntime) -> Result<(), Fail> {
+        let alloc = rt.alloc();
         for (line, call) in [
-            ("<p", Some(Call::Open("p"))),
-            ("\"a>", Some(Call::Text("a>"))),
-            ("\"", Some(Call::Text(""))),
-            (">", Some(Call::Close)),
-            ("<svg:a", Some(Call::OpenSvg("a"))),
-            (
-                "@a=b=c",
-                Some(Call::Attribute {
-                    name: "a",
-                    value: "b=c",
-                }),
-            ),
-            (
-                "@a=",
-                Some(Call::Attribute {
-                    name: "a",
-                    value: "",
-                }),
-            ),
-            ("!a", Some(Call::Comment("a"))),
-            ("!", Some(Call::Comment(""))),
-            ("<", None),
-            ("<svg:", None),
-            ("> ", None),
-            ("@a", None),
-            ("@=v", None),
-            (" <p", None),
-            ("p", None),
+            ("<p", "Some(Open(\"p\"))"),
+            ("\"a>", "Some(Text(\"a>\"))"),
+            ("\"", "Some(Text(\"\"))"),
+            ("\"a\\\\n", "Some(Text(\"a\\\\n\"))"),
+            (">", "Some(Close)"),
+            ("<svg:a", "Some(OpenSvg(\"a\"))"),
+            ("@a=b=c", "Some(Attribute { name: \"a\", value: \"b=c\" })"),
+            ("@a=", "Some(Attribute { name: \"a\", value: \"\" })"),
+            ("!a", "Some(Comment(\"a\"))"),
+            ("!", "Some(Comment(\"\"))"),
+            ("<", "None"),
+            ("<svg:", "None"),
+            ("> ", "None"),
+            ("@a", "None"),
+            ("@=v", "None"),
+            ("@a=\\t", "None"),
+            ("!\\", "None"),
+            ("\"\\", "None"),
+            (" <p", "None"),
+            ("p", "None"),
         ] {
-            assert_eq!(rt; Call::read(line), call, "{line}");
+            let got = Call::read(alloc, line)?;
+            assert_eq!(rt; format!(in alloc; "{got:?}")?.as_str(), call, "{line}");
         }
+        Ok(())
     }
 
     #[test]

@@ -1,4 +1,4 @@
-//! Renders a script of DOM calls as text: `htree WIDTH bare [overflow]`, with the script on standard input.
+//! Renders a script of DOM calls as text: `htree WIDTH [plain|bare] [overflow]`, with the script on standard input.
 #![tactic(auto)]
 
 use html_render_tree::htree::{run, run_without_words};
@@ -13,6 +13,7 @@ fn words(rt: &(impl Env + AllocGlobal)) -> io::Result<Vec<String>> {
     Ok(words.collect(rt.alloc())?)
 }
 
+/// Runs the program over the standard streams; its exit status is that of [`run`] or [`run_without_words`].
 fn main(rt: HostRuntime) -> ExitCode {
     let mut faults = rt.stderr();
     let status = match words(&rt) {

@@ -1,4 +1,4 @@
-// Documents that are built by calls, and the text that each becomes.
+//! Documents that are built by calls, and the text that each becomes.
 
 use html_render_tree::Error;
 use html_render_tree::config::plain;
@@ -6,6 +6,7 @@ use html_render_tree::dom::{ElementFlags, NodeOrText, QualName, RcDom};
 use std::alloc::Global;
 use std::test::Fail;
 
+/// A paragraph, as text of 11 columns.
 fn greeting(alloc: Global) -> Result<String, Error> {
     let mut dom = RcDom::new(alloc)?;
     let name = QualName::html(String::from_str(alloc, "p")?);

@@ -6,6 +6,8 @@
 #[cfg(test)]
 mod column_cuts;
 #[cfg(test)]
+mod decorators;
+#[cfg(test)]
 mod documents;
 #[cfg(test)]
 mod scripts;

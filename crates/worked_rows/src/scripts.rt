@@ -1,9 +1,9 @@
-// Scripts of the program, and what it answers.
+//! Scripts of the program, and what it answers.
 
 use html_render_tree::htree::{run, run_without_words};
 use std::alloc::{AllocError, Global};
 use std::io;
-use std::io::{ErrorKind, Read, Write};
+use std::io::{BufWriter, ErrorKind, Read, Write};
 use std::test::Fail;
 
 /// What one run of the program gave.
@@ -14,6 +14,7 @@ struct Answer {
     faults: Vec<u8>,
 }
 
+/// The words between the spaces of a text.
 fn words(alloc: Global, arguments: &str) -> Result<Vec<String>, AllocError> {
     let mut words = Vec::new(alloc);
     for word in arguments.split(' ') {
@@ -22,6 +23,7 @@ fn words(alloc: Global, arguments: &str) -> Result<Vec<String>, AllocError> {
     Ok(words)
 }
 
+/// A run over a script.
 fn run_script(alloc: Global, arguments: &str, script: &[u8]) -> Result<Answer, AllocError> {
     let words = words(alloc, arguments)?;
     let mut input = script;
@@ -35,6 +37,7 @@ fn run_script(alloc: Global, arguments: &str, script: &[u8]) -> Result<Answer, A
     })
 }
 
+/// Bytes as a text.
 fn text(bytes: &[u8]) -> &str {
     str::from_utf8(bytes).unwrap_or("not UTF-8")
 }
@@ -196,61 +199,116 @@ fn faults_have_a_line_and_a_status(rt: HostRuntime) -> Result<(), Fail> {
     Ok(())
 }
 
-/// A reader or writer that fails at once.
+/// A reader and writer that lets some bytes pass, one at a time, and then fails. It reads newlines.
 #[derive(Drop)]
-struct Broken {
+struct Failing {
+    /// How many bytes still pass.
+    bytes: usize,
+    /// How the call behind them fails.
     kind: ErrorKind,
 }
 
-impl Read for Broken {
-    fn read(&mut self, _buf: &mut [u8]) -> io::Result<usize> {
-        Err(io::Error::from(self.kind))
-    }
-}
-
-impl Write for Broken {
-    fn write(&mut self, _buf: &[u8]) -> io::Result<usize> {
-        Err(io::Error::from(self.kind))
-    }
-
-    fn flush(&mut self) -> io::Result<()> {
+impl Failing {
+    /// Lets a byte pass, or fails.
+    fn pass(&mut self) -> io::Result<()> {
+        if self.bytes == 0 {
+            return Err(io::Error::from(self.kind));
+        }
+        self.bytes -= 1;
         Ok(())
     }
 }
 
+impl Read for Failing {
+    fn read(&mut self, buf: &mut [u8]) -> io::Result<usize> {
+        match buf.first_mut() {
+            Some(first) => {
+                self.pass()?;
+                *first = b'\n';
+                Ok(1)
+            }
+            None => Ok(0),
+        }
+    }
+}
+
+impl Write for Failing {
+    fn write(&mut self, buf: &[u8]) -> io::Result<usize> {
+        if buf.is_empty() {
+            return Ok(0);
+        }
+        self.pass()?;
+        Ok(1)
+    }
+
+    fn flush(&mut self) -> io::Result<()> {
+        self.pass()
+    }
+}
+
 #[test]
-fn input_and_output_may_fail(rt: HostRuntime) -> Result<(), Fail> {
+fn input_may_fail(rt: HostRuntime) -> Result<(), Fail> {
     let alloc = rt.alloc();
     let not_utf8 = run_script(alloc, "10 bare", b"\"a\xff\n")?;
     assert_eq!(rt; text(&not_utf8.faults), "htree: input\n");
     assert_eq!(rt; not_utf8.status, 2);
 
     let words = words(alloc, "10 bare")?;
-    for (kind, line, status) in [
-        (ErrorKind::BrokenPipe, "htree: input\n", 2),
-        (ErrorKind::OutOfMemory, "Out of memory\n", 1),
+    for (bytes, kind, line, status) in [
+        (0, ErrorKind::BrokenPipe, "htree: input\n", 2),
+        (0, ErrorKind::OutOfMemory, "Out of memory\n", 1),
+        (3, ErrorKind::BrokenPipe, "htree: input\n", 2),
+        (3, ErrorKind::OutOfMemory, "Out of memory\n", 1),
     ] {
+        let mut input = Failing { bytes, kind };
         let mut output = Vec::new(alloc);
         let mut faults = Vec::new(alloc);
-        let mut broken = Broken { kind };
-        let got = run(alloc, &words, &mut broken, &mut output, &mut faults);
-        assert_eq!(rt; text(&faults), line);
-        assert_eq!(rt; got, status);
+        let got = run(alloc, &words, &mut input, &mut output, &mut faults);
+        assert_eq!(rt; text(&output), "", "behind {bytes} bytes");
+        assert_eq!(rt; text(&faults), line, "behind {bytes} bytes");
+        assert_eq!(rt; got, status, "behind {bytes} bytes");
     }
+    Ok(())
+}
 
-    let mut input = b"<p\n\"a\n".as_slice();
-    let mut faults = Vec::new(alloc);
-    let mut broken = Broken {
-        kind: ErrorKind::BrokenPipe,
-    };
-    let status = run(alloc, &words, &mut input, &mut broken, &mut faults);
-    assert_eq!(rt; text(&faults), "htree: output\n");
-    assert_eq!(rt; status, 2);
+#[test]
+fn output_may_fail(rt: HostRuntime) -> Result<(), Fail> {
+    let alloc = rt.alloc();
+    let words = words(alloc, "10 bare")?;
+    let kind = ErrorKind::BrokenPipe;
+    // at once, in the middle, and at the flush; the text has four bytes
+    for (bytes, line, status) in [
+        (0, "htree: output\n", 2),
+        (1, "htree: output\n", 2),
+        (4, "htree: output\n", 2),
+        (5, "", 0),
+    ] {
+        let mut input = b"<p\n\"abc\n".as_slice();
+        let mut output = Failing { bytes, kind };
+        let mut faults = Vec::new(alloc);
+        let got = run(alloc, &words, &mut input, &mut output, &mut faults);
+        assert_eq!(rt; text(&faults), line, "behind {bytes} bytes");
+        assert_eq!(rt; got, status, "behind {bytes} bytes");
+    }
 
     let mut input = b"<\n".as_slice();
     let mut output = Vec::new(alloc);
-    let status = run(alloc, &words, &mut input, &mut output, &mut broken);
+    let mut faults = Failing { bytes: 1, kind };
+    let status = run(alloc, &words, &mut input, &mut output, &mut faults);
     assert_eq!(rt; status, 2);
+    Ok(())
+}
+
+#[test]
+fn a_buffered_output_is_flushed(rt: HostRuntime) -> Result<(), Fail> {
+    let alloc = rt.alloc();
+    let words = words(alloc, "10 bare")?;
+    let mut input = b"<p\n\"a\n".as_slice();
+    let mut output = BufWriter::new(alloc, Vec::new(alloc))?;
+    let mut faults = Vec::new(alloc);
+    let status = run(alloc, &words, &mut input, &mut output, &mut faults);
+    assert_eq!(rt; text(output.get_ref()), "a\n");
+    assert_eq!(rt; status, 0);
     Ok(())
 }
 

@@ -1,4 +1,4 @@
-// Documents that are styled by rules, and the text that each becomes.
+//! Documents that are styled by rules, and the text that each becomes.
 
 ghost use Rattle.std.specs.Prelude.{IfOk};
 ghost use Rattle.html_render_dom.specs.Dom.{IsNode};
@@ -46,6 +46,7 @@ fn author(element: &'static str, declares: Declares) -> Rule {
     normal(StyleOrigin::Author, element, declares)
 }
 
+/// A copy of a text, where there is one.
 fn stated(alloc: Global, part: Option<&str>) -> Result<Option<String>, Error> {
     match part {
         Some(text) => Ok(Some(String::from_str(alloc, text)?)),
@@ -53,6 +54,7 @@ fn stated(alloc: Global, part: Option<&str>) -> Result<Option<String>, Error> {
     }
 }
 
+/// A rule as the library takes it.
 fn style_rule(alloc: Global, rule: &Rule) -> Result<StyleRule, Error> {
     let (pseudo, style) = match rule.declares {
         Declares::Hidden => (None, Style::Display(Display::None)),
@@ -95,6 +97,7 @@ enum Step {
 
 use Step::{Close, Open, OpenWith, Text};
 
+/// Appends an element with an attribute, where there is one, and answers the element.
 fn opened(
     alloc: Global,
     dom: &mut RcDom,
@@ -118,6 +121,7 @@ fn opened(
     Ok(element)
 }
 
+/// Takes a step, and answers the node that is current behind it.
 fn taken(alloc: Global, dom: &mut RcDom, current: Handle, step: Step) -> Result<Handle, Error>
     requires { IsNode dom.old current }
     ensures { IfOk result (λ next. IsNode dom.new next) }
@@ -136,6 +140,7 @@ fn taken(alloc: Global, dom: &mut RcDom, current: Handle, step: Step) -> Result<
     }
 }
 
+/// The document that some steps build.
 fn document(alloc: Global, steps: &[Step]) -> Result<RcDom, Error> {
     let mut dom = RcDom::new(alloc)?;
     let mut current = dom.get_document();
@@ -156,6 +161,7 @@ fn shown(alloc: Global, rules: &[Rule], steps: &[Step]) -> Result<String, Error>
     config.render_to_string(alloc, tree, 20)
 }
 
+/// A paragraph of one character.
 const WORD: [Step; 2] = [Open("p"), Text("x")];
 
 #[test]

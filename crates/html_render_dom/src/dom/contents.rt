@@ -19,10 +19,12 @@ pub enum NodeData {
     },
     /// A text.
     Text {
+        /// The text.
         contents: String,
     },
     /// A comment.
     Comment {
+        /// The comment's text.
         contents: String,
     },
     /// An element.
@@ -38,7 +40,9 @@ pub enum NodeData {
     },
     /// A processing instruction.
     ProcessingInstruction {
+        /// The target.
         target: String,
+        /// The text behind the target.
         contents: String,
     },
 }

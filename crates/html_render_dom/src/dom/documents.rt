@@ -16,7 +16,8 @@ use std::marker::Model;
 
 /// A document: its nodes, the messages of its errors and its quirks mode.
 ///
-/// Each node has an ordered list of children. A child stands in one list, once, and no node is its own ancestor.
+/// Each node has an ordered list of children. A child stands in one list, once, and no node is its own ancestor. A
+/// template's contents are a node of the document.
 #[derive(Drop)]
 pub struct RcDom {
     pub(super) nodes: Vec<Node>,
@@ -39,7 +40,9 @@ impl Model for RcDom {
 impl RcDom {
     /// The document alone, without errors, in no quirks mode.
     ///
-    /// Its only error is `Error::OutOfMemory`.
+    /// # Errors
+    ///
+    /// `OutOfMemory`.
     pub fn new(alloc: Global) -> Result<RcDom, Error>
         ensures ok { IfOk result (λ dom. dom ≡ empty_dom) }
         ensures err { IfErr result (λ e. e ≡ Error.OutOfMemory) }
@@ -58,6 +61,7 @@ impl RcDom {
         ensures document { result ≡ 0 }
         ensures forest { IsForest self.now }
     {
+        // a field is named so that the proof can read that the nodes are a forest
         let _ = &self.nodes;
         Handle::new(0)
     }
@@ -133,7 +137,9 @@ impl RcDom {
 
     /// The node's children, in order.
     ///
-    /// Its only error is `Error::OutOfMemory`.
+    /// # Errors
+    ///
+    /// `OutOfMemory`.
     pub fn children(&self, alloc: Global, node: Handle) -> Result<Vec<Handle>, Error>
         requires { IsNode self.now node }
         ensures ok { IfOk result (λ list. list.items ≡ children_at self.now node) }

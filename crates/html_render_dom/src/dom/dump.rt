@@ -12,11 +12,14 @@ use super::handles::Handle;
 use crate::Error;
 use std::alloc::{AllocError, Global};
 
-/// A node whose start is written: how many of its children are, and the indent of the children.
+/// A node whose start is written, and whose end is not.
 #[derive(Drop)]
 pub struct Frame {
+    /// The node.
     pub node: Handle,
+    /// How many of its children are written.
     pub passed: usize,
+    /// The indent of its children.
     pub indent: usize,
 }
 
@@ -27,12 +30,15 @@ impl RcDom {
     /// `Text:` and the text as it is, an element `<name>`, its children one space deeper and `</name>`; comments and
     /// processing instructions write nothing. Each piece stands behind its indent in spaces and ends with a line feed.
     ///
-    /// Its only error is `Error::OutOfMemory`.
+    /// # Errors
+    ///
+    /// `OutOfMemory`.
     pub fn node_as_dom_string(&self, alloc: Global, node: Handle) -> Result<String, Error>
         requires { IsNode self.now node }
         ensures ok { IfOk result (λ text. string_bytes text ≡ dump 0 (tree_of self.now node)) }
         ensures err { IfErr result (λ e. e ≡ Error.OutOfMemory) }
     {
+        // a field is named so that the proof can read that the nodes are a forest
         let _ = &self.nodes;
         let mut text = String::new(alloc);
         let mut frames = Vec::new(alloc);
@@ -45,7 +51,9 @@ impl RcDom {
 
     /// The whole document, as lines of text: see `node_as_dom_string`.
     ///
-    /// Its only error is `Error::OutOfMemory`.
+    /// # Errors
+    ///
+    /// `OutOfMemory`.
     pub fn as_dom_string(&self, alloc: Global) -> Result<String, Error>
         ensures ok { IfOk result (λ text. string_bytes text ≡ dump 0 (tree_of self.now 0)) }
         ensures err { IfErr result (λ e. e ≡ Error.OutOfMemory) }
@@ -99,6 +107,7 @@ impl RcDom {
         ensures steps { OnOk result (steps self.now frames.new.items
             < 2 * count (tree_of self.now node) + steps self.now frames.old.items) }
     {
+        // a field is named so that the proof can read that the nodes are a forest
         let _ = &self.nodes;
         match self.data(node) {
             NodeData::Document => open_children(frames, node, indent),

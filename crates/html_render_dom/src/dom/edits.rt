@@ -1,9 +1,9 @@
 //! The calls that change a document. Each grows whatever it has to before it changes anything.
 
-ghost use Rattle.std.specs.Prelude.{◌≡◌, ◌≤◌, ◌++◌, ◌∷◌, [], OnOk, OnErr, IfOk, IfErr, map, string_bytes};
+ghost use Rattle.std.specs.Prelude.{◌≡◌, ◌≤◌, ◌++◌, ◌∷◌, [], None, OnOk, OnErr, IfOk, IfErr, map, string_bytes};
 ghost use Rattle.html_render_dom.specs.Content.{name_of, property_of, content_of, doctype, comment, instruction};
 ghost use Rattle.html_render_dom.specs.Dom.{IsNode, IsElement, node_count, content_at};
-ghost use Rattle.html_render_dom.specs.Elements.{completed};
+ghost use Rattle.html_render_dom.specs.Elements.{completed, contents_in};
 ghost use Rattle.html_render_dom.specs.Edits.{CanAppend, IsFresh, appended, attached_new, created, element_created, with_content};
 
 use super::contents::{NodeData, NodeOrText};
@@ -21,7 +21,9 @@ impl RcDom {
     /// A text joins the last child if that is a text node; else it becomes a text node, of the next number. A node
     /// must stand in no list of children yet, and the parent must not be in its tree.
     ///
-    /// Its only error is `Error::OutOfMemory`. The document is then as it was, and what was handed in is gone.
+    /// # Errors
+    ///
+    /// `OutOfMemory`. The document is then as it was, and what was handed in is gone.
     pub fn append(&mut self, alloc: Global, parent: Handle, child: NodeOrText) -> Result<(), Error>
         requires parent { IsNode self.old parent }
         requires child { CanAppend self.old parent child }
@@ -62,7 +64,9 @@ impl RcDom {
     /// Makes an element of the next number, which hangs nowhere and has no children. A template's contents, a document
     /// node, have the number after it.
     ///
-    /// Its only error is `Error::OutOfMemory`. The document is then as it was, and what was handed in is gone.
+    /// # Errors
+    ///
+    /// `OutOfMemory`. The document is then as it was, and what was handed in is gone.
     pub fn create_element(
         &mut self,
         alloc: Global,
@@ -85,7 +89,9 @@ impl RcDom {
 
     /// Makes a comment of the next number, which hangs nowhere.
     ///
-    /// Its only error is `Error::OutOfMemory`. The document is then as it was, and the text is gone.
+    /// # Errors
+    ///
+    /// `OutOfMemory`. The document is then as it was, and the text is gone.
     pub fn create_comment(&mut self, alloc: Global, contents: String) -> Result<Handle, Error>
         ensures number { IfOk result (λ made. made ≡ node_count self.old) }
         ensures ok { OnOk result (self.new
@@ -100,7 +106,9 @@ impl RcDom {
 
     /// Makes a processing instruction of the next number, which hangs nowhere.
     ///
-    /// Its only error is `Error::OutOfMemory`. The document is then as it was, and the texts are gone.
+    /// # Errors
+    ///
+    /// `OutOfMemory`. The document is then as it was, and the texts are gone.
     pub fn create_pi(
         &mut self,
         alloc: Global,
@@ -118,8 +126,9 @@ impl RcDom {
         Ok(self.create(alloc, NodeData::ProcessingInstruction { target, contents })?)
     }
 
-    /// Makes a node of the next number, which hangs nowhere and has no children.
+    /// Makes a node of the next number, which hangs nowhere and has no children; it is no template.
     fn create(&mut self, alloc: Global, contents: NodeData) -> Result<Handle, AllocError>
+        requires { contents_in (content_of contents) ≡ None }
         ensures number { IfOk result (λ made. made ≡ node_count self.old) }
         ensures ok { OnOk result (self.new
             ≡ record self.old { nodes = created self.old.nodes (content_of contents) }) }
@@ -134,7 +143,9 @@ impl RcDom {
 
     /// Makes a doctype of the next number, the document's last child.
     ///
-    /// Its only error is `Error::OutOfMemory`. The document is then as it was, and the texts are gone.
+    /// # Errors
+    ///
+    /// `OutOfMemory`. The document is then as it was, and the texts are gone.
     pub fn append_doctype_to_document(
         &mut self,
         alloc: Global,
@@ -161,7 +172,9 @@ impl RcDom {
     /// Adds to the element's attributes, in order, those given whose name none of them has: two new ones of one name
     /// are both added.
     ///
-    /// Its only error is `Error::OutOfMemory`. The document is then as it was, and the attributes given are gone.
+    /// # Errors
+    ///
+    /// `OutOfMemory`. The document is then as it was, and the attributes given are gone.
     pub fn add_attrs_if_missing(
         &mut self,
         _alloc: Global,
@@ -181,7 +194,9 @@ impl RcDom {
 
     /// Puts a parser's message behind those that came before.
     ///
-    /// Its only error is `Error::OutOfMemory`. The document is then as it was, and the message is gone.
+    /// # Errors
+    ///
+    /// `OutOfMemory`. The document is then as it was, and the message is gone.
     pub fn parse_error(&mut self, _alloc: Global, message: String) -> Result<(), Error>
         ensures ok { OnOk result (self.new
             ≡ record self.old { messages = self.old.messages ++ string_bytes message ∷ [] }) }

@@ -2,7 +2,8 @@
 
 ghost use Rattle.std.specs.Prelude.{◌≡◌, ◌≤◌, OnOk, OnErr, IfErr, IfSome, IsSome, Some, None, Contains, string_bytes};
 ghost use Rattle.html_render_dom.specs.Dom.{IsNode, IsInclusiveAncestor, node_count, parent_at};
-ghost use Rattle.html_render_dom.specs.Moves.{CanAppendBefore, CanPutByParent, appended_before, placed, previous, put_by_parent, reparented, taken_out, text_before, text_placed};
+ghost use Rattle.html_render_dom.specs.Moves.{CanAppendBefore, CanPutByParent, appended_before, placed, previous, put_by_parent, reparented};
+ghost use Rattle.html_render_dom.specs.Moves.{taken_out, text_before, text_placed};
 
 use super::contents::{NodeData, NodeOrText};
 use super::documents::RcDom;
@@ -30,7 +31,9 @@ impl RcDom {
     /// next number. A node is first taken out of the list in which it stands; it must not be the sibling, nor an
     /// ancestor of it.
     ///
-    /// Its only error is `Error::OutOfMemory`. The document is then as it was, and what was handed in is gone.
+    /// # Errors
+    ///
+    /// `OutOfMemory`. The document is then as it was, and what was handed in is gone.
     pub fn append_before_sibling(
         &mut self,
         alloc: Global,
@@ -109,7 +112,9 @@ impl RcDom {
     /// Puts a node or a text directly before the element, where that has a parent; else behind the last child of the
     /// other node.
     ///
-    /// Its only error is `Error::OutOfMemory`. The document is then as it was, and what was handed in is gone.
+    /// # Errors
+    ///
+    /// `OutOfMemory`. The document is then as it was, and what was handed in is gone.
     pub fn append_based_on_parent_node(
         &mut self,
         alloc: Global,
@@ -133,7 +138,9 @@ impl RcDom {
 
     /// Moves all children of a node, in order, behind those of another, which is not in the node's tree.
     ///
-    /// Its only error is `Error::OutOfMemory`. The document is then as it was.
+    /// # Errors
+    ///
+    /// `OutOfMemory`. The document is then as it was.
     pub fn reparent_children(
         &mut self,
         alloc: Global,

@@ -2,7 +2,8 @@
 
 ghost use Rattle.std.specs.Cmp.{on_equiv, partial_equiv_from_equiv};
 ghost use Rattle.html_render_dom.specs.Content.{name_of, property_of, space_of};
-ghost use Rattle.html_render_dom.specs.Names.{name_eq, name_eq_equiv, property_eq, property_eq_equiv, space_eq, space_eq_equiv};
+ghost use Rattle.html_render_dom.specs.Names.{name_eq, property_eq, space_eq};
+ghost use Rattle.html_render_dom.specs.laws.Names.{name_eq_equiv, property_eq_equiv, space_eq_equiv};
 ghost use Rattle.std.specs.Prelude.{◌≡◌, map, OnOk, OnErr, string_bytes};
 ghost use Rattle.html_render_dom.specs.Elements.{has_name, with_missing};
 ghost use Rattle.html_render_dom.specs.Content as content;

@@ -18,8 +18,11 @@ use std::alloc::{AllocError, Global};
 /// A node: what it holds, and its place in the forest.
 #[derive(Drop)]
 pub struct Node {
+    /// What the node holds.
     pub data: NodeData,
+    /// The children, in order.
     pub children: Vec<Handle>,
+    /// The node in whose list of children the node stands.
     pub parent: Option<Handle>,
 }
 

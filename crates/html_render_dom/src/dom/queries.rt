@@ -18,7 +18,6 @@ impl RcDom {
     pub fn same_node(&self, x: Handle, y: Handle) -> bool
         ensures { IsTrue result ↔ (x ≡ y) }
     {
-        let _ = &self.nodes;
         x == y
     }
 
@@ -41,9 +40,10 @@ impl RcDom {
     /// The node that holds the template's contents.
     pub fn get_template_contents(&self, node: Handle) -> Handle
         requires { IsSome (contents_in (content_at self.now node)) }
-        ensures { contents_in (content_at self.now node) ≡ Some result }
+        ensures contents { contents_in (content_at self.now node) ≡ Some result }
+        ensures is_node { IsNode self.now result }
     {
-        match self.data(node) {
+        match &self.entry(node).data {
             NodeData::Element {
                 template_contents: Some(contents),
                 ..
@@ -65,7 +65,9 @@ impl RcDom {
 
     /// The element's name within its namespace; `None` where the node is no element.
     ///
-    /// Its only error is `Error::OutOfMemory`.
+    /// # Errors
+    ///
+    /// `OutOfMemory`.
     pub fn element_name(&self, alloc: Global, node: Handle) -> Result<Option<String>, Error>
         requires { IsNode self.now node }
         ensures ok { IfOk result

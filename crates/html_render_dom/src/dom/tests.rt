@@ -11,10 +11,12 @@ use super::{Attribute, ElementFlags, Handle, Namespace, NodeData, NodeOrText, Qu
 use std::alloc::{AllocError, Global};
 use std::test::Fail;
 
+/// The text as a string.
 fn string(alloc: Global, text: &str) -> Result<String, AllocError> {
     String::from_str(alloc, text)
 }
 
+/// An HTML name.
 fn html_name(alloc: Global, local: &str) -> Result<QualName, AllocError> {
     Ok(QualName::html(string(alloc, local)?))
 }
@@ -155,18 +157,38 @@ fn a_template_has_contents_of_its_own(rt: HostRuntime) -> Result<(), Fail> {
         Vec::new(alloc),
         flags,
     )?;
-    let NodeData::Element {
-        template_contents,
-        ..
-    } = dom.data(template)
-    else {
-        return Err(Fail::from("not an element"));
-    };
-    let contents = template_contents.ok_or("no contents")?;
-    assert!(rt; dom.is_node(contents));
+    if !dom.is_template(template) {
+        return Err(Fail::from("no template"));
+    }
+    let contents = dom.get_template_contents(template);
     assert!(rt; matches!(dom.data(contents), NodeData::Document));
+    assert!(rt; dom.child_list(contents).is_empty());
     assert!(rt; !dom.has_parent(contents));
     assert!(rt; !dom.has_parent(template));
+    let p = put_element(alloc, &mut dom, contents, "p")?;
+    assert_eq!(rt; labels(alloc, &dom, contents)?.as_str(), " p");
+    assert_eq!(rt; labels(alloc, &dom, template)?.as_str(), "");
+    assert!(rt; !dom.is_template(p));
+    Ok(())
+}
+
+#[test]
+fn an_element_has_a_name_and_a_text_has_none(rt: HostRuntime) -> Result<(), Fail> {
+    let alloc = rt.alloc();
+    let mut dom = RcDom::new(alloc)?;
+    let document = dom.get_document();
+    let p = put_element(alloc, &mut dom, document, "p")?;
+    put_text(alloc, &mut dom, p, "x")?;
+    if !dom.is_node(p) {
+        return Err(Fail::from("no node"));
+    }
+    let name = dom.element_name(alloc, p)?.ok_or("no name")?;
+    assert_eq!(rt; name.as_str(), "p");
+    let text = *dom.child_list(p).first().ok_or("no child")?;
+    if !dom.is_node(text) {
+        return Err(Fail::from("no node"));
+    }
+    assert!(rt; dom.element_name(alloc, text)?.is_none());
     Ok(())
 }
 

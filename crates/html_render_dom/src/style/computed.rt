@@ -45,8 +45,11 @@ pub struct ComputedStyle {
 /// What a rule says of each of its declarations.
 #[derive(Clone, Copy)]
 struct Source {
+    /// Where the rule comes from.
     origin: StyleOrigin,
+    /// How specific the rule is.
     specificity: Specificity,
+    /// The place beside the element's children that the rule is for, or none for the element itself.
     pseudo: Option<PseudoElement>,
 }
 
@@ -60,7 +63,8 @@ fn update_content(
     text: &String,
 ) -> Result<(), AllocError>
     ensures ok { OnOk result (option_map text_update kept.new
-        ≡ winner (option_to_list (option_map text_update kept.old) ++ record { important = important; origin = origin; specificity = specificity; value = string_bytes text.now } ∷ [])) }
+        ≡ winner (option_to_list (option_map text_update kept.old)
+        ++ record { important = important; origin = origin; specificity = specificity; value = string_bytes text.now } ∷ [])) }
 {
     if kept.yields_to(important, origin, specificity) {
         kept.maybe_update(important, origin, specificity, text.clone()?);
@@ -180,8 +184,11 @@ impl ComputedStyle {
 /// were added.
 ///
 /// For each property the declaration that wins is the last one whose importance, origin and specificity are greatest,
-/// among those of the rules that select the element: CSS Cascading and Inheritance Level 3, section 6. `OutOfMemory`
-/// comes where the clone of a content was refused.
+/// among those of the rules that select the element: CSS Cascading and Inheritance Level 3, section 6.
+///
+/// # Errors
+///
+/// `OutOfMemory`, where the clone of a content was refused.
 pub fn computed_style(
     alloc: Global,
     rules: &[StyleRule],

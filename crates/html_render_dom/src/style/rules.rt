@@ -79,7 +79,14 @@ impl StyleRule {
         pseudo: Option<PseudoElement>,
         declarations: Vec<Declaration>,
     ) -> StyleRule
-        ensures { rule_of result ≡ record { origin = origin; element = Some (string_bytes element); id = None; classes = []; pseudo = pseudo; declarations = map declared_of declarations.items } }
+        ensures { rule_of result ≡ record {
+          origin = origin;
+          element = Some (string_bytes element);
+          id = None;
+          classes = [];
+          pseudo = pseudo;
+          declarations = map declared_of declarations.items;
+        } }
     {
         StyleRule {
             origin,

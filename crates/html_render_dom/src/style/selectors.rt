@@ -6,7 +6,7 @@ ghost use Rattle.std.specs.Char.{is_ascii_whitespace};
 ghost use Rattle.std.specs.Str.{bytes_eq};
 ghost use Rattle.html_render_dom.specs.Content.{property_of};
 ghost use Rattle.html_render_dom.specs.Rules.{rule_of};
-ghost use Rattle.html_render_dom.specs.Selectors.{first_value, has_class, meets, selects};
+ghost use Rattle.html_render_dom.specs.Selectors.{first_value, has_class, matches_part, selects};
 
 use super::rules::StyleRule;
 use crate::dom::Attribute;
@@ -32,8 +32,8 @@ pub fn first_value<'a>(attrs: &'a [Attribute], name: &str) -> Option<&'a str>
 }
 
 /// Whether a part of a rule asks for nothing, or for what the element has.
-fn meets(stated: &Option<String>, has: Option<&str>) -> bool
-    ensures { result ≡ meets (option_map string_bytes stated.now) (option_copied has.entry) }
+fn matches_part(stated: &Option<String>, has: Option<&str>) -> bool
+    ensures { result ≡ matches_part (option_map string_bytes stated.now) (option_copied has.entry) }
 {
     match stated {
         None => true,
@@ -95,8 +95,8 @@ impl StyleRule {
         ensures { result ≡ selects (rule_of self.now)
             (record { name = name.now; id = option_copied id.entry; classes = option_copied classes.entry }) }
     {
-        meets(&self.element, Some(name))
-            && meets(&self.id, id)
+        matches_part(&self.element, Some(name))
+            && matches_part(&self.id, id)
             && has_classes(classes, &self.classes)
     }
 }

@@ -16,10 +16,12 @@ fn counts(id: u16, class: u16, typ: u16) -> Specificity {
     }
 }
 
+/// The text as a string.
 fn string(alloc: Global, text: &str) -> Result<String, AllocError> {
     String::from_str(alloc, text)
 }
 
+/// An attribute of this value, whose name is an HTML one.
 fn attribute(alloc: Global, name: &str, value: &str) -> Result<Attribute, AllocError> {
     Ok(Attribute {
         name: QualName::html(string(alloc, name)?),
@@ -34,6 +36,7 @@ fn declaring(alloc: Global, important: bool, style: Style) -> Result<Vec<Declara
     Ok(declarations)
 }
 
+/// A colour of red alone.
 fn red(r: u8) -> Style {
     Style::Colour(Colour { r, g: 0, b: 0 })
 }
@@ -246,14 +249,17 @@ fn rule_for_p(
     Ok(StyleRule::for_element(alloc, origin, string(alloc, "p")?, pseudo, declarations))
 }
 
+/// The text of a content, if there is one.
 fn text(content: &WithSpec<String>) -> Option<&str> {
     content.val().map(|text| text.as_str())
 }
 
+/// A content of this text.
 fn content_of(alloc: Global, text: &str) -> Result<Style, AllocError> {
     Ok(Style::Content(string(alloc, text)?))
 }
 
+/// The style of a `p` by rules of content.
 fn contents(alloc: Global) -> Result<ComputedStyle, crate::Error> {
     let before = Some(PseudoElement::Before);
     let after = Some(PseudoElement::After);

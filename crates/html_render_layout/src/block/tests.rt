@@ -1,6 +1,7 @@
 use super::*;
 use std::test::Fail;
 
+/// A style of this mode.
 fn style(mode: WhiteSpace) -> TextStyle<u8> {
     TextStyle {
         mode,
@@ -9,6 +10,7 @@ fn style(mode: WhiteSpace) -> TextStyle<u8> {
     }
 }
 
+/// What the lines of a block say, each with a stroke behind it.
 fn shown(alloc: Global, block: Block<u8, u8>) -> Result<String, Fail> {
     let mut text = String::new(alloc);
     let lines = block.into_lines();

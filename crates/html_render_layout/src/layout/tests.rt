@@ -6,7 +6,7 @@ use html_render_dom::text::Text;
 use html_render_parts::decorate::PlainDecorator;
 use std::test::Fail;
 
-// what lines say, each with a bar behind it
+/// What lines say, each with a bar behind it.
 fn shown<T>(alloc: Global, lines: &[Vec<Element<T, ()>>]) -> Result<String, Fail> {
     let mut text = String::new(alloc);
     for line in lines {
@@ -20,12 +20,13 @@ fn shown<T>(alloc: Global, lines: &[Vec<Element<T, ()>>]) -> Result<String, Fail
     Ok(text)
 }
 
+/// A node of a text.
 fn text(alloc: Global, text: &str) -> Result<RenderNode, Error> {
     let text = Text::new(String::from_str(alloc, text)?);
     Ok(RenderNode::from(NodeKind::Text(text)))
 }
 
-// a block of `ab cd`; a part of a text, a break, a text and a container of a text
+/// A block of `ab cd`; a part of a text, a break, a text and a container of a text.
 fn sample(alloc: Global) -> Result<RenderTree, Error> {
     let mut builder = Builder::new(alloc);
     builder.put(text(alloc, "g")?)?;
@@ -40,6 +41,7 @@ fn sample(alloc: Global) -> Result<RenderTree, Error> {
     Ok(RenderTree::from(builder))
 }
 
+/// A meter that counted something before.
 fn meter() -> Meter {
     Meter {
         probes: 7,
@@ -49,6 +51,7 @@ fn meter() -> Meter {
     }
 }
 
+/// What the lines of the sample say.
 fn shown_at(alloc: Global, width: usize, overflow: bool) -> Result<String, Fail> {
     let tree = sample(alloc)?;
     let mut meter = meter();
@@ -124,7 +127,7 @@ fn lines_without_annotations_are_the_same(rt: HostRuntime) -> Result<(), Fail> {
     Ok(())
 }
 
-// writes signs round each emphasis
+/// Writes signs round each emphasis.
 #[derive(Clone, Copy, Drop)]
 struct Signs;
 
@@ -169,7 +172,7 @@ impl TextDecorator for Signs {
     }
 }
 
-// the tags of all characters, as digits
+/// The tags of all characters, as digits.
 fn tags(alloc: Global, lines: &[Vec<Element<usize, ()>>]) -> Result<String, Fail> {
     let mut text = String::new(alloc);
     for line in lines {
@@ -182,7 +185,7 @@ fn tags(alloc: Global, lines: &[Vec<Element<usize, ()>>]) -> Result<String, Fail
     Ok(text)
 }
 
-// `a`, and strong text of `b` and an emphasis of the code `c`
+/// `a`, and strong text of `b` and an emphasis of the code `c`.
 fn emphases(alloc: Global) -> Result<RenderTree, Error> {
     let mut builder = Builder::new(alloc);
     builder.put(text(alloc, "c")?)?;

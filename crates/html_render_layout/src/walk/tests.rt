@@ -5,7 +5,7 @@ use crate::tree::Builder;
 use std::marker::Model;
 use std::test::Fail;
 
-// the numbers of the nodes, as they are entered and left
+/// The numbers of the nodes, as they are entered and left.
 #[derive(Drop)]
 struct Trace {
     steps: Vec<u32>,
@@ -20,6 +20,7 @@ impl Model for Trace {
 }
 
 impl Trace {
+    /// Adds a number.
     fn push(&mut self, step: u32) -> Result<(), Error>
         ensures ok { OnOk result (self.new ≡ self.old ++ step ∷ []) }
         ensures err { IfErr result (λ e. e ≡ Error.OutOfMemory) }
@@ -29,7 +30,7 @@ impl Trace {
     }
 }
 
-// a node 0 refuses
+/// A pass that a node 0 refuses.
 struct Tracing;
 
 impl Pass for Tracing {
@@ -61,7 +62,7 @@ impl Pass for Tracing {
     }
 }
 
-// 1 over 2, which is over 3 and 4; and 5 beside 1, where a node over 4 was taken back
+/// 1 over 2, which is over 3 and 4; and 5 beside 1, where a node over 4 was taken back.
 fn sample(alloc: Global) -> Result<Flat<u32>, Error> {
     let mut builder = Builder::new(alloc);
     builder.put(5)?;
@@ -76,6 +77,7 @@ fn sample(alloc: Global) -> Result<Flat<u32>, Error> {
     Ok(builder.finish())
 }
 
+/// A meter that counted something before.
 fn meter() -> Meter {
     Meter {
         probes: 7,

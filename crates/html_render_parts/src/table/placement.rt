@@ -2,7 +2,8 @@
 
 ghost use Rattle.std.specs.Prelude.{◌≡◌, ◌≤◌, nat_lt, [], Some, filter, IfOk, OnOk, IfErr, MatchOption, Contains, All};
 ghost use Rattle.html_render_parts.specs.Placement.{end_of, hangs_into, lists, not_due};
-ghost use Rattle.html_render_parts.specs.PlacementSteps.{empty_row, put, put_to, keeping, with_hanging, with_due, with_own, with_gap, with_rest, with_row, bottoms_with, rows_with};
+ghost use Rattle.html_render_parts.specs.PlacementSteps.{empty_row, put, put_to, keeping, with_hanging, with_due, with_own, with_gap, with_rest};
+ghost use Rattle.html_render_parts.specs.PlacementSteps.{with_row, bottoms_with, rows_with};
 ghost use Rattle.html_render_parts.specs.Refusal.{Fails};
 
 use crate::table::{CellKind, Span};
@@ -13,16 +14,22 @@ use std::marker::Model;
 /// A cell at its own column of its own row.
 #[derive(Clone, Copy)]
 pub(crate) struct Standing {
+    /// The row, counted from 0.
     row: usize,
+    /// The position at which the cell begins in its own row.
     column: u128,
+    /// How many columns and rows it asks for.
     span: Span,
 }
 
 /// A part of a row that is taken: by a cell, a placeholder or a gap.
 #[derive(Clone, Copy)]
 pub(crate) struct Place {
+    /// What stands there.
     pub kind: CellKind,
+    /// The position at which it begins.
     pub start: u128,
+    /// The position before which it ends.
     pub end: u128,
 }
 
@@ -51,8 +58,11 @@ impl Standing {
 /// A row that is being placed: its places so far, and its own and hanging cells in the order in which they stand.
 #[derive(Drop)]
 struct RowBuilder {
+    /// The places so far.
     places: Vec<Place>,
+    /// The cells that were placed, the row's own and those that hang into it.
     standing: Vec<Standing>,
+    /// Where the next place begins.
     cursor: u128,
 }
 
@@ -69,6 +79,7 @@ impl Model for RowBuilder {
 }
 
 impl RowBuilder {
+    /// A row without places.
     fn new(alloc: Global) -> RowBuilder
         ensures { result ≡ empty_row }
     {
@@ -79,6 +90,7 @@ impl RowBuilder {
         }
     }
 
+    /// Where the next place begins.
     fn cursor(&self) -> u128
         ensures { result ≡ self.now.cursor }
     {
@@ -174,7 +186,7 @@ impl RowBuilder {
     }
 
     /// Places a row's cells and those that hang into it.
-    #[tactic(auto, using(crate::specs::Refusal::refusals))]
+    #[tactic(auto, using(crate::specs::laws::Refusal::refusals))]
     fn put_row(&mut self, row: usize, cells: &[Span], hanging: &[Standing]) -> Result<(), Error>
         ensures ok { OnOk result (with_row row cells.now hanging.now self.old ≡ Some self.new) }
         ensures err { IfErr result (λ e. Fails e (with_row row cells.now hanging.now self.old)) }
@@ -224,7 +236,7 @@ fn keep_later(cells: &mut Vec<Standing>, first: Standing)
 }
 
 /// Places the rows below the last one, one for each end of the cells that hang there.
-#[tactic(auto, using(crate::specs::Refusal::refusals))]
+#[tactic(auto, using(crate::specs::laws::Refusal::refusals))]
 fn place_bottom_rows(
     alloc: Global,
     mut hanging: Vec<Standing>,
@@ -244,7 +256,7 @@ fn place_bottom_rows(
 }
 
 /// Places all rows of a table, and those below the last one.
-#[tactic(auto, using(crate::specs::Refusal::refusals))]
+#[tactic(auto, using(crate::specs::laws::Refusal::refusals))]
 pub(crate) fn place_rows(alloc: Global, rows: &[Vec<Span>]) -> Result<Vec<Vec<Place>>, Error>
     ensures ok { IfOk result (λ all. rows_with 0 (lists rows.now) [] [] ≡ Some (lists all.items)) }
     ensures err { IfErr result (λ e. Fails e (rows_with 0 (lists rows.now) [] [])) }

@@ -1,8 +1,8 @@
 //! Whether a list of widths is the cut that `column_widths` answers, in a few passes and without memory.
 
 ghost use Rattle.std.specs.Prelude.{◌≡◌, ◌≢◌, ℕ, ◌+◌, ◌-◌, ◌*◌, ◌^◌, ◌<◌, ◌≤◌, ◌↔◌, ◌⊎◌, length, min, sum, slice_index, IsTrue, IfSome, IfNone};
-ghost use Rattle.html_render_parts.specs.Cuts.{ranges, capped_sum, full_width, CutFits, IsAtLevel, IsLowered, IsLevel, IsLevelForm};
-ghost use Rattle.html_render_parts.specs.CutSteps.{IsFull, LoweredBefore, LowersFirst};
+ghost use Rattle.html_render_parts.specs.Cuts.{ranges, capped_sum, CutFits, IsAtLevel, IsLowered, IsLevel, IsLevelForm};
+ghost use Rattle.html_render_parts.specs.CutSteps.{AreColumns, IsFull, LoweredBefore, LowersFirst};
 
 use super::cut::ColumnCut;
 use super::fit::{cut_fits, sum_up, wanted};
@@ -19,6 +19,7 @@ pub fn check_cut(minimums: &[usize], shares: &[usize], width: usize, cut: &Colum
     cut_fits(minimums, shares, width) && is_level_form(minimums, shares, width, cut)
 }
 
+/// Whether a cut is the level form of columns that fit.
 fn is_level_form(minimums: &[usize], shares: &[usize], width: usize, cut: &ColumnCut) -> bool
     requires { CutFits minimums.now shares.now width }
     ensures { IsTrue result ↔ IsLevelForm minimums.now shares.now width cut.now.widths.items cut.now.level cut.now.lowered }
@@ -58,8 +59,7 @@ fn is_least_level(
     needed: u128,
     full: u128,
 ) -> bool
-    requires lengths { length minimums.now ≡ length shares.now }
-    requires each { (k : ℕ) → k < length minimums.now → slice_index minimums.now k ≤ slice_index shares.now k }
+    requires columns { AreColumns minimums.now shares.now }
     requires full { full ≡ capped_sum level (ranges minimums.now shares.now) }
     ensures { IsTrue result ↔ IsLevel level (ranges minimums.now shares.now) needed }
 {
@@ -84,10 +84,10 @@ fn is_lowered(minimum: usize, share: usize, level: usize, width: usize) -> bool
 
 /// Whether each column has its full width or is lowered.
 fn are_full_or_lowered(minimums: &[usize], shares: &[usize], level: usize, widths: &[usize]) -> bool
-    requires lengths { length minimums.now ≡ length shares.now }
-    requires each { (k : ℕ) → k < length minimums.now → slice_index minimums.now k ≤ slice_index shares.now k }
+    requires columns { AreColumns minimums.now shares.now }
     requires widths { length widths.now ≡ length minimums.now }
-    ensures { IsTrue result ↔ ((k : ℕ) → k < length minimums.now → IsFull minimums.now shares.now widths.now level k ⊎ IsLowered minimums.now shares.now widths.now level k) }
+    ensures { IsTrue result ↔ ((k : ℕ) → k < length minimums.now
+        → IsFull minimums.now shares.now widths.now level k ⊎ IsLowered minimums.now shares.now widths.now level k) }
 {
     for (i, width) in widths.iter().enumerate() {
         let is_full = is_full(minimums[i], shares[i], level, *width);
@@ -105,8 +105,7 @@ fn last_lowered(
     level: usize,
     widths: &[usize],
 ) -> Option<usize>
-    requires lengths { length minimums.now ≡ length shares.now }
-    requires each { (k : ℕ) → k < length minimums.now → slice_index minimums.now k ≤ slice_index shares.now k }
+    requires columns { AreColumns minimums.now shares.now }
     requires widths { length widths.now ≡ length minimums.now }
     ensures found { IfSome result (λ i. (i < length minimums.now) × IsLowered minimums.now shares.now widths.now level i) }
     ensures last { IfSome result (λ i. (k : ℕ) → k < length minimums.now → k ≢ i → IsLowered minimums.now shares.now widths.now level k
@@ -132,13 +131,15 @@ fn next_lowered(
     level: usize,
     widths: &[usize],
 ) -> Option<usize>
-    requires lengths { length minimums.now ≡ length shares.now }
-    requires each { (k : ℕ) → k < length minimums.now → slice_index minimums.now k ≤ slice_index shares.now k }
+    requires columns { AreColumns minimums.now shares.now }
     requires widths { length widths.now ≡ length minimums.now }
-    ensures found { IfSome result (λ i. (i < length minimums.now) × IsAtLevel minimums.now shares.now level i × IsFull minimums.now shares.now widths.now level i) }
-    ensures first { IfSome result (λ i. (k : ℕ) → k < length minimums.now → k ≢ i → IsAtLevel minimums.now shares.now level k → IsFull minimums.now shares.now widths.now level k
+    ensures found { IfSome result (λ i. (i < length minimums.now) × IsAtLevel minimums.now shares.now level i
+        × IsFull minimums.now shares.now widths.now level i) }
+    ensures first { IfSome result (λ i. (k : ℕ) → k < length minimums.now → k ≢ i → IsAtLevel minimums.now shares.now level k
+        → IsFull minimums.now shares.now widths.now level k
         → LoweredBefore (slice_index minimums.now i) i (slice_index minimums.now k) k) }
-    ensures none { IfNone result ((k : ℕ) → k < length minimums.now → IsAtLevel minimums.now shares.now level k → ¬ IsFull minimums.now shares.now widths.now level k) }
+    ensures none { IfNone result ((k : ℕ) → k < length minimums.now → IsAtLevel minimums.now shares.now level k
+        → ¬ IsFull minimums.now shares.now widths.now level k) }
 {
     let mut next = None;
     for (i, width) in widths.iter().enumerate() {
@@ -154,8 +155,7 @@ fn next_lowered(
 
 /// Whether each lowered column comes before each other one at the level.
 fn lowers_first(minimums: &[usize], shares: &[usize], level: usize, widths: &[usize]) -> bool
-    requires lengths { length minimums.now ≡ length shares.now }
-    requires each { (k : ℕ) → k < length minimums.now → slice_index minimums.now k ≤ slice_index shares.now k }
+    requires columns { AreColumns minimums.now shares.now }
     requires widths { length widths.now ≡ length minimums.now }
     ensures { IsTrue result ↔ LowersFirst minimums.now shares.now widths.now level }
 {

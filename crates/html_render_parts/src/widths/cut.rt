@@ -1,7 +1,9 @@
 //! The widths of a table's columns: the fairest cut of their shares.
 
-ghost use Rattle.std.specs.Prelude.{◌≡◌, ℕ, ◌+◌, ◌-◌, ◌*◌, ◌/◌, ◌^◌, ◌<◌, ◌≤◌, List, length, min, sum, slice_index, IfOk, IfErr};
-ghost use Rattle.html_render_parts.specs.Cuts.{ranges, capped_sum, full_width, largest_slack, units_taken, wanted, cut_by_units, CutFits, HoldTogether, IsCut, IsFairestCut, IsLevel, IsLevelForm};
+ghost use Rattle.std.specs.Prelude.{◌≡◌, ℕ, ◌+◌, ◌-◌, ◌*◌, ◌^◌, ◌<◌, ◌≤◌, length, min, sum, slice_index, IfOk, IfErr};
+ghost use Rattle.html_render_parts.specs.Cuts.{ranges, capped_sum, full_width, largest_slack, wanted, CutFits, IsLevel, IsLevelForm};
+ghost use Rattle.html_render_parts.specs.ColumnCuts.{IsColumnCut};
+ghost use Rattle.html_render_parts.specs.CutSteps.{AreColumns};
 
 use super::Meter;
 use super::fit::{sum_up, wanted};
@@ -31,7 +33,9 @@ pub struct ColumnCut {
 /// from the column of greatest slack (its width less its minimum), of these from the widest, of these from the leftmost.
 /// It is found by at most 64 sums and one sort.
 ///
-/// The only error is [`Error::OutOfMemory`], where an allocation is refused.
+/// # Errors
+///
+/// `OutOfMemory`.
 pub fn column_widths(
     alloc: Global,
     minimums: &[usize],
@@ -39,17 +43,7 @@ pub fn column_widths(
     width: usize,
 ) -> Result<ColumnCut, Error>
     requires { CutFits minimums.now shares.now width }
-    ensures form { IfOk result (λ c. IsLevelForm minimums.now shares.now width c.widths.items c.level c.lowered) }
-    ensures only_form { IfOk result (λ c. (widths : List ℕ) (l d : ℕ) → IsLevelForm minimums.now shares.now width widths l d
-        → (widths ≡ c.widths.items) × (l ≡ c.level) × (d ≡ c.lowered)) }
-    ensures fairest { IfOk result (λ c. IsFairestCut minimums.now shares.now width c.widths.items) }
-    ensures only_fairest { IfOk result (λ c. (other : List ℕ) → IsFairestCut minimums.now shares.now width other → other ≡ c.widths.items) }
-    ensures by_units { IfOk result (λ c. c.widths.items ≡ cut_by_units minimums.now shares.now width) }
-    ensures within { IfOk result (λ c. sum c.widths.items + (length c.widths.items - 1) ≤ width) }
-    ensures least_slack { IfOk result (λ c. (other : List ℕ) → IsCut minimums.now shares.now width other
-        → largest_slack minimums.now c.widths.items ≤ largest_slack minimums.now other) }
-    ensures units_taken { IfOk result (λ c. sum shares.now ≤ sum minimums.now + width → units_taken shares.now c.widths.items ≤ width) }
-    ensures neighbours { IfOk result (λ c. HoldTogether minimums.now c.widths.items) }
+    ensures cut { IfOk result (λ c. IsColumnCut minimums.now shares.now width c.widths.items c.level c.lowered) }
     ensures err { IfErr result (λ e. e ≡ Error.OutOfMemory) }
 {
     let mut meter = Meter::default();
@@ -59,7 +53,9 @@ pub fn column_widths(
 /// [`column_widths`], and how many sums of capped ranges the search took: it sets `probes` of the meter, counted from
 /// 0, also where it refuses, and leaves the meter's other fields.
 ///
-/// The only error is [`Error::OutOfMemory`], where an allocation is refused.
+/// # Errors
+///
+/// `OutOfMemory`. The meter is then set all the same.
 pub fn column_widths_metered(
     alloc: Global,
     minimums: &[usize],
@@ -68,17 +64,7 @@ pub fn column_widths_metered(
     meter: &mut Meter,
 ) -> Result<ColumnCut, Error>
     requires { CutFits minimums.now shares.now width }
-    ensures form { IfOk result (λ c. IsLevelForm minimums.now shares.now width c.widths.items c.level c.lowered) }
-    ensures only_form { IfOk result (λ c. (widths : List ℕ) (l d : ℕ) → IsLevelForm minimums.now shares.now width widths l d
-        → (widths ≡ c.widths.items) × (l ≡ c.level) × (d ≡ c.lowered)) }
-    ensures fairest { IfOk result (λ c. IsFairestCut minimums.now shares.now width c.widths.items) }
-    ensures only_fairest { IfOk result (λ c. (other : List ℕ) → IsFairestCut minimums.now shares.now width other → other ≡ c.widths.items) }
-    ensures by_units { IfOk result (λ c. c.widths.items ≡ cut_by_units minimums.now shares.now width) }
-    ensures within { IfOk result (λ c. sum c.widths.items + (length c.widths.items - 1) ≤ width) }
-    ensures least_slack { IfOk result (λ c. (other : List ℕ) → IsCut minimums.now shares.now width other
-        → largest_slack minimums.now c.widths.items ≤ largest_slack minimums.now other) }
-    ensures units_taken { IfOk result (λ c. sum shares.now ≤ sum minimums.now + width → units_taken shares.now c.widths.items ≤ width) }
-    ensures neighbours { IfOk result (λ c. HoldTogether minimums.now c.widths.items) }
+    ensures cut { IfOk result (λ c. IsColumnCut minimums.now shares.now width c.widths.items c.level c.lowered) }
 
     // The search halves the levels up to the greatest range, and counts each halving.
     ensures probes { meter.new.probes ≤ 64 }
@@ -136,10 +122,9 @@ fn excess(minimums: &[usize], shares: &[usize], needed: u128, found: Level) -> u
     requires sum { found.sum ≡ capped_sum found.level (ranges minimums.now shares.now) }
     ensures value { result + needed ≡ capped_sum found.level (ranges minimums.now shares.now) }
     ensures above { 0 < result → 0 < found.level }
-    ensures enough { 0 < result → result + capped_sum (found.level - 1) (ranges minimums.now shares.now) ≤ capped_sum found.level (ranges minimums.now shares.now) }
+    ensures enough { 0 < result
+        → result + capped_sum (found.level - 1) (ranges minimums.now shares.now) ≤ capped_sum found.level (ranges minimums.now shares.now) }
 {
-    let _columns = minimums.len();
-    let _shares = shares.len();
     (found.sum - needed) as usize
 }
 
@@ -150,8 +135,7 @@ fn full_widths(
     shares: &[usize],
     level: usize,
 ) -> Result<Vec<usize>, AllocError>
-    requires lengths { length minimums.now ≡ length shares.now }
-    requires each { (k : ℕ) → k < length minimums.now → slice_index minimums.now k ≤ slice_index shares.now k }
+    requires columns { AreColumns minimums.now shares.now }
     ensures len { IfOk result (λ v. length v.items ≡ length minimums.now) }
     ensures each { IfOk result (λ v. (k : ℕ) → k < length minimums.now → slice_index v.items k ≡ full_width minimums.now shares.now level k) }
 {

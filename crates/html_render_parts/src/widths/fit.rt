@@ -2,8 +2,9 @@
 //!
 //! `cut_fits(&[3, 3], &[9, 4], 7)` is `true`: the minimums and the separator are 7.
 
-ghost use Rattle.std.specs.Prelude.{◌≡◌, ℕ, ◌+◌, ◌-◌, ◌*◌, ◌^◌, ◌<◌, ◌≤◌, ◌↔◌, length, sum, slice_index, IsTrue};
+ghost use Rattle.std.specs.Prelude.{◌≡◌, ◌+◌, ◌-◌, ◌≤◌, ◌↔◌, sum, IsTrue};
 ghost use Rattle.html_render_parts.specs.Cuts.{CutFits, ranges, largest_slack, wanted};
+ghost use Rattle.html_render_parts.specs.CutSteps.{AreColumns};
 
 /// Whether columns of these minimums and shares can be cut to `width`: there are as many minimums as shares, each
 /// minimum is at most its share, and the minimums and a separator between neighbouring columns are at most `width`.
@@ -29,15 +30,17 @@ pub fn cut_fits(minimums: &[usize], shares: &[usize], width: usize) -> bool
 /// The sums of the minimums and of the shares, and the greatest range.
 #[derive(Clone, Copy)]
 pub(super) struct Totals {
+    /// The sum of the minimums.
     pub(super) minimums: u128,
+    /// The sum of the shares.
     pub(super) shares: u128,
+    /// The greatest share less its minimum, 0 without columns.
     pub(super) greatest_range: usize,
 }
 
 /// One pass over the columns.
 pub(super) fn sum_up(minimums: &[usize], shares: &[usize]) -> Totals
-    requires lengths { length minimums.now ≡ length shares.now }
-    requires each { (k : ℕ) → k < length minimums.now → slice_index minimums.now k ≤ slice_index shares.now k }
+    requires columns { AreColumns minimums.now shares.now }
     ensures minimums { result.minimums ≡ sum minimums.now }
     ensures shares { result.shares ≡ sum shares.now }
     ensures greatest_range { result.greatest_range ≡ largest_slack minimums.now shares.now }
@@ -65,7 +68,6 @@ pub(super) fn wanted(minimums: &[usize], shares: &[usize], width: usize, totals:
     ensures value { result ≡ wanted minimums.now shares.now width }
     ensures reachable { result ≤ sum (ranges minimums.now shares.now) }
 {
-    let _shares = shares.len();
     let separators = minimums.len().saturating_sub(1);
     totals.shares.min((width - separators) as u128) - totals.minimums
 }

@@ -1,19 +1,21 @@
 //! The least level at which the capped ranges are enough, found by halving.
 
-ghost use Rattle.std.specs.Prelude.{◌≡◌, ℕ, ◌+◌, ◌-◌, ◌*◌, ◌^◌, ◌<◌, ◌≤◌, length, sum, slice_index};
+ghost use Rattle.std.specs.Prelude.{◌≡◌, ◌+◌, ◌-◌, ◌*◌, ◌^◌, ◌<◌, ◌≤◌, sum};
 ghost use Rattle.html_render_parts.specs.Cuts.{ranges, capped_sum, IsLevel};
+ghost use Rattle.html_render_parts.specs.CutSteps.{AreColumns};
 
 /// A level, and the sum of the ranges, each capped at it.
 #[derive(Clone, Copy)]
 pub(super) struct Level {
+    /// The cap on the ranges.
     pub(super) level: usize,
+    /// The sum of the capped ranges.
     pub(super) sum: u128,
 }
 
 /// The sum of the ranges, each capped at the level: one probe.
 pub(super) fn capped_sum(minimums: &[usize], shares: &[usize], level: usize) -> u128
-    requires lengths { length minimums.now ≡ length shares.now }
-    requires each { (k : ℕ) → k < length minimums.now → slice_index minimums.now k ≤ slice_index shares.now k }
+    requires columns { AreColumns minimums.now shares.now }
     ensures { result ≡ capped_sum level (ranges minimums.now shares.now) }
 {
     let mut all = 0u128;
@@ -30,8 +32,7 @@ pub(super) fn find_level(
     highest: Level,
     wanted: u128,
 ) -> (Level, usize)
-    requires lengths { length minimums.now ≡ length shares.now }
-    requires each { (k : ℕ) → k < length minimums.now → slice_index minimums.now k ≤ slice_index shares.now k }
+    requires columns { AreColumns minimums.now shares.now }
     requires sum { highest.sum ≡ capped_sum highest.level (ranges minimums.now shares.now) }
     requires enough { wanted ≤ highest.sum }
     ensures level { IsLevel result.0.level (ranges minimums.now shares.now) wanted }

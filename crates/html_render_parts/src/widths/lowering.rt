@@ -1,8 +1,8 @@
 //! Which of the columns at the level are lowered: the first, by greater width and then from the left.
 
-ghost use Rattle.std.specs.Prelude.{◌≡◌, ℕ, ◌+◌, ◌-◌, ◌*◌, ◌^◌, ◌<◌, ◌≤◌, All, map, length, slice_index, IfOk};
+ghost use Rattle.std.specs.Prelude.{◌≡◌, ℕ, ◌+◌, ◌-◌, ◌<◌, ◌≤◌, All, map, length, slice_index, IfOk};
 ghost use Rattle.html_render_parts.specs.Cuts.{ranges, capped_sum, full_width};
-ghost use Rattle.html_render_parts.specs.CutSteps.{AreAtLevel, AreInOrder, AreLowered};
+ghost use Rattle.html_render_parts.specs.CutSteps.{AreColumns, AreAtLevel, AreInOrder, AreLowered};
 
 use std::alloc::{AllocError, Global};
 use std::cmp::Reverse;
@@ -10,7 +10,9 @@ use std::cmp::Reverse;
 /// A column at the level. Those that come first are lowered first.
 #[derive(Clone, Copy, PartialEq, Eq, PartialOrd, Ord)]
 struct AtLevel {
+    /// Its full width, the greater one first.
     width: Reverse<usize>,
+    /// Its place among all columns.
     place: usize,
 }
 
@@ -21,11 +23,11 @@ fn columns_at_level(
     shares: &[usize],
     level: usize,
 ) -> Result<Vec<AtLevel>, AllocError>
-    requires lengths { length minimums.now ≡ length shares.now }
-    requires each { (k : ℕ) → k < length minimums.now → slice_index minimums.now k ≤ slice_index shares.now k }
+    requires columns { AreColumns minimums.now shares.now }
     ensures places { IfOk result (λ v. AreAtLevel minimums.now shares.now level (length minimums.now) (map (λ c. c.place) v.items)) }
     ensures widths { IfOk result (λ v. All (λ c. c.width.0 ≡ slice_index minimums.now c.place + level) v.items) }
-    ensures count { IfOk result (λ v. 0 < level → length v.items + capped_sum (level - 1) (ranges minimums.now shares.now) ≡ capped_sum level (ranges minimums.now shares.now)) }
+    ensures count { IfOk result (λ v. 0 < level
+        → length v.items + capped_sum (level - 1) (ranges minimums.now shares.now) ≡ capped_sum level (ranges minimums.now shares.now)) }
 {
     let mut columns = Vec::new(alloc);
     for (place, least) in minimums.iter().enumerate() {
@@ -44,10 +46,10 @@ fn columns_in_order(
     shares: &[usize],
     level: usize,
 ) -> Result<Vec<AtLevel>, AllocError>
-    requires lengths { length minimums.now ≡ length shares.now }
-    requires each { (k : ℕ) → k < length minimums.now → slice_index minimums.now k ≤ slice_index shares.now k }
+    requires columns { AreColumns minimums.now shares.now }
     ensures places { IfOk result (λ v. AreInOrder minimums.now shares.now level (map (λ c. c.place) v.items)) }
-    ensures count { IfOk result (λ v. 0 < level → length v.items + capped_sum (level - 1) (ranges minimums.now shares.now) ≡ capped_sum level (ranges minimums.now shares.now)) }
+    ensures count { IfOk result (λ v. 0 < level
+        → length v.items + capped_sum (level - 1) (ranges minimums.now shares.now) ≡ capped_sum level (ranges minimums.now shares.now)) }
 {
     let mut columns = columns_at_level(alloc, minimums, shares, level)?;
     columns.sort_unstable();
@@ -63,8 +65,7 @@ pub(super) fn lowered(
     mut widths: Vec<usize>,
     count: usize,
 ) -> Result<Vec<usize>, AllocError>
-    requires lengths { length minimums.now ≡ length shares.now }
-    requires each { (k : ℕ) → k < length minimums.now → slice_index minimums.now k ≤ slice_index shares.now k }
+    requires columns { AreColumns minimums.now shares.now }
     requires widths { length widths.items ≡ length minimums.now }
     requires full { (k : ℕ) → k < length minimums.now → slice_index widths.items k ≡ full_width minimums.now shares.now level k }
     requires above { 0 < level }

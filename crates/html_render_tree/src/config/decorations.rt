@@ -5,7 +5,7 @@
 ghost use Rattle.std.specs.Prelude.{◌≡◌, ◌∷◌, ◌++◌, [], IfOk, OnOk, map};
 ghost use Rattle.html_render_dom.specs.Rules.{rule_of};
 ghost use Rattle.html_render_dom.specs.Selectors.{specificity_of};
-ghost use Rattle.html_render_tree.specs.Decorations.{decoration, decoration_specificity, decorations, round};
+ghost use Rattle.html_render_tree.specs.Decorations.{decoration, decoration_specificity, decorations, before_and_after};
 
 use html_render_dom::style::{Declaration, PseudoElement, Style, StyleOrigin, StyleRule};
 use std::alloc::{AllocError, Global};
@@ -30,13 +30,13 @@ fn decoration(
 }
 
 /// Adds the rules that put a text before and after the children of each element of a name.
-fn add_round(
+fn add_before_and_after(
     alloc: Global,
     rules: &mut Vec<StyleRule>,
     name: &str,
     text: &str,
 ) -> Result<(), AllocError>
-    ensures { OnOk result (map rule_of rules.new.items ≡ map rule_of rules.old.items ++ round name.now text.now) }
+    ensures { OnOk result (map rule_of rules.new.items ≡ map rule_of rules.old.items ++ before_and_after name.now text.now) }
 {
     rules.push(decoration(alloc, name, text, PseudoElement::Before)?)?;
     rules.push(decoration(alloc, name, text, PseudoElement::After)?)?;
@@ -47,10 +47,10 @@ fn add_round(
 pub(super) fn add_all(alloc: Global, rules: &mut Vec<StyleRule>) -> Result<(), AllocError>
     ensures { OnOk result (map rule_of rules.new.items ≡ map rule_of rules.old.items ++ decorations) }
 {
-    add_round(alloc, rules, "em", "*")?;
-    add_round(alloc, rules, "dt", "*")?;
-    add_round(alloc, rules, "strong", "**")?;
-    add_round(alloc, rules, "b", "**")?;
-    add_round(alloc, rules, "code", "`")?;
+    add_before_and_after(alloc, rules, "em", "*")?;
+    add_before_and_after(alloc, rules, "dt", "*")?;
+    add_before_and_after(alloc, rules, "strong", "**")?;
+    add_before_and_after(alloc, rules, "b", "**")?;
+    add_before_and_after(alloc, rules, "code", "`")?;
     Ok(())
 }

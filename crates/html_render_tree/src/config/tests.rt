@@ -84,6 +84,7 @@ fn contents<D: TextDecorator>(
     ))
 }
 
+/// The text of a content, if there is one.
 fn text(content: &Option<String>) -> Option<&str> {
     content.as_ref().map(|text| text.as_str())
 }

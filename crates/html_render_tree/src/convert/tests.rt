@@ -95,8 +95,8 @@ fn rules(alloc: Global) -> Result<Vec<StyleRule>, AllocError> {
 /// The nodes of a tree in pre-order, each with the number of nodes that its tree has, and `#` where it has a colour.
 fn shown(alloc: Global, tree: &RenderTree) -> Result<String, AllocError> {
     let mut shown = String::new(alloc);
-    for entry in tree.nodes().nodes() {
-        match &entry.kind.kind {
+    for entry in tree.nodes().entries() {
+        match &entry.node.kind {
             NodeKind::Text(text) => shown.push_str(text.as_str())?,
             NodeKind::Container => shown.push_str("Container")?,
             NodeKind::Break => shown.push_str("Break")?,
@@ -106,7 +106,7 @@ fn shown(alloc: Global, tree: &RenderTree) -> Result<String, AllocError> {
             NodeKind::Emphasis(Emphasis::Strong) => shown.push_str("Strong")?,
             NodeKind::Emphasis(Emphasis::Code) => shown.push_str("Code")?,
         }
-        if entry.kind.style.colour.is_some() {
+        if entry.node.style.colour.is_some() {
             shown.push('#')?;
         }
         shown.push_str(format!(in alloc; "{} ", entry.size)?.as_str())?;

@@ -5,9 +5,10 @@ use super::{can_append, put_element};
 use std::alloc::{AllocError, Global};
 use std::test::Fail;
 
-/// How many elements are moved, and in how many steps.
+/// How many elements are moved.
 const ELEMENTS: usize = 60;
 
+/// How many steps are tried.
 const STEPS: usize = 20_000;
 
 /// Draws, each from the one before.
@@ -17,6 +18,7 @@ struct Draws {
 }
 
 impl Draws {
+    /// The next draw.
     fn next(&mut self) -> u64 {
         self.last = self.last.wrapping_mul(48271) % 2147483647;
         self.last

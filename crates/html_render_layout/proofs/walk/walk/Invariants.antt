@@ -12,14 +12,15 @@ how g = record { meaning = g.P.Pass.meaning; kept = g.P.Pass.kept_of; leaves = g
 abbrev pub invariant-walk : goal.invariant-walk
 invariant-walk g l =
     record {
-      nodes_are : l.nodes ≡ flatten l.forest;
-      all : length l.nodes ≡ count l.forest;
-      walking : Walking (how g) (flatten l.forest) (run g.P.Pass.meaning l.forest l.fn.state) (depth l.forest) l.frames.items l.meter.frames l.next l.state;
-      within : l.next ≤ length l.nodes;
+      entries_are : l.entries ≡ flatten l.forest;
+      all : length l.entries ≡ count l.forest;
+      walking : Walking (how g) (flatten l.forest) (run g.P.Pass.meaning l.forest l.fn.state)
+          (depth l.forest) l.frames.items l.meter.frames l.next l.state;
+      within : l.next ≤ length l.entries;
       entered : l.meter.entered ≡ l.next;
       left : l.meter.left + length l.frames.items ≡ l.next;
       probes : l.meter.probes ≡ l.fn.meter.probes;
     }
 
 abbrev pub decreases-walk : goal.decreases-walk
-decreases-walk g l = 2 * (length l.nodes - l.next) + length l.frames.items
+decreases-walk g l = 2 * (length l.entries - l.next) + length l.frames.items

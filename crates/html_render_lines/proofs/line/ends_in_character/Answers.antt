@@ -11,5 +11,6 @@ returns-in-Character g c =
     let last = sym c.last-item.is ∙ c.in-Character.is in (
       take n word,
       c.in-Character.field-0,
-      sym (take-length word) ∙ ap (λ k. take k word) (sym whole) ∙ take_more word n c.last-item.result (omega arith) ∙ ap (λ x. take n word ++ x ∷ []) last,
+      sym (take-length word) ∙ ap (λ k. take k word) (sym whole) ∙ take_more word n c.last-item.result (omega arith)
+          ∙ ap (λ x. take n word ++ x ∷ []) last,
     )

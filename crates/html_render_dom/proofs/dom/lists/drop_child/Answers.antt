@@ -11,4 +11,7 @@ returns-clause-list c =
     let n = c.index_mut.result.now in
     let at : c.number.result < length items = search rules in
     let child = c.args.child in
-    rw (← c.number.ensures) (written items c.number.result n _ at c.index_mut.ensures.value (λ x. record x { children = without child x.children }) (ap (λ cs. record (node_of n) { children = cs }) (filter_same _ (λ x. not (x == child)) _ (λ x b q k. search (rules, tests)) _ _ c.retain.ensures.filtered)))
+    rw (← c.number.ensures) (written items c.number.result n _ at c.index_mut.ensures.value
+    (λ x. record x { children = without child x.children })
+    (ap (λ cs. record (node_of n) { children = cs })
+    (filter_same _ (λ x. not (x == child)) _ (λ x b q k. search (rules, tests)) _ _ c.retain.ensures.filtered)))

@@ -11,4 +11,6 @@ returns-clause-list c =
     let at : c.number.result < length items = search rules in
     let child = c.args.child in
     let sibling = c.args.sibling in
-    rw (← c.number.ensures) (written items c.number.result n _ at c.index_mut.ensures.value (λ x. record x { children = before sibling child x.children }) (ap (λ cs. record (node_of n) { children = cs }) c.insert_before.ensures))
+    rw (← c.number.ensures) (written items c.number.result n _ at c.index_mut.ensures.value
+    (λ x. record x { children = before sibling child x.children })
+    (ap (λ cs. record (node_of n) { children = cs }) c.insert_before.ensures))

@@ -10,9 +10,12 @@ push_children-requires-clause-room c =
     let n = c.index.result.now in
     let at : c.number.result < length items = search rules in
     let read = node_in-map items c.number.result n at c.index.ensures in
-    let kids : (node_in (map node_of items) c.args.from).children ≡ n.children.items = rw (← c.number.ensures) (ap (λ x. x.children) read) in
+    let kids : (node_in (map node_of items) c.args.from).children ≡ n.children.items =
+    rw (← c.number.ensures) (ap (λ x. x.children) read) in
     let same : length c.as_slice.result.now ≡ length n.children.items =
-    ap length (c.as_slice.ensures.value ∙ c.take_children-moved.ensures.list ∙ ap (λ ns. (node_in ns c.args.from).children) c.reserve_children.ensures.same ∙ kids) in
+    ap length (c.as_slice.ensures.value ∙ c.take_children-moved.ensures.list
+    ∙ ap (λ ns. (node_in ns c.args.from).children) c.reserve_children.ensures.same ∙ kids) in
     let len : vec_len n.children ≡ length n.children.items = search rules in
-    let room = c.take_children-moved.ensures.room c.args.to c.len-more.result (λ e. c.requires.apart (sym e)) c.in_ok-reserve_children.ensures.room in
+    let room = c.take_children-moved.ensures.room c.args.to c.len-more.result
+    (λ e. c.requires.apart (sym e)) c.in_ok-reserve_children.ensures.room in
     λ other. omega (arith, room other, same, len, c.len-more.ensures)

@@ -12,4 +12,7 @@ returns-clause-list c =
     let more = c.args.children.now in
     let read : n ≡ slice_index_or items c.args.parent n = rw c.number.ensures at c.index_mut.ensures.value in
     let room : vec_len n.children + length more ≤ vec_capacity n.children = rw read (c.requires.room n) in
-    rw (← c.number.ensures) (written items c.number.result n _ at c.index_mut.ensures.value (λ x. record x { children = x.children ++ more }) (ap (λ cs. record (node_of n) { children = cs }) (ok_list c.extend_from_slice.result _ _ _ (c.extend_from_slice.ensures.succeeds room) c.extend_from_slice.ensures.items)))
+    rw (← c.number.ensures) (written items c.number.result n _ at c.index_mut.ensures.value
+    (λ x. record x { children = x.children ++ more })
+    (ap (λ cs. record (node_of n) { children = cs })
+    (ok_list c.extend_from_slice.result _ _ _ (c.extend_from_slice.ensures.succeeds room) c.extend_from_slice.ensures.items)))

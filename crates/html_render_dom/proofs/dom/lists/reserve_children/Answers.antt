@@ -8,4 +8,5 @@ returns-clause-same c =
     let items = c.args.nodes.now.items in
     let n = c.index_mut.result.now in
     let at : c.number.result < length items = search rules in
-    written-same items c.number.result n _ at c.index_mut.ensures.value (ap (λ cs. record (node_of n) { children = cs }) c.reserve.ensures.items)
+    written-same items c.number.result n _ at c.index_mut.ensures.value
+    (ap (λ cs. record (node_of n) { children = cs }) c.reserve.ensures.items)

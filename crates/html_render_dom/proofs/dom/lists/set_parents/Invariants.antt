@@ -5,4 +5,6 @@ use Rattle.html_render_dom.proofs.dom.lists.set_parents.Given as goal
 
 abbrev pub invariant-loop-child : goal.invariant-loop-child
 invariant-loop-child l =
-    (vec_len l.nodes ≡ vec_len l.initial.nodes) × (with_parents (nodes_of l.nodes.items) (drop l.child-index l.children) l.parent ≡ with_parents (nodes_of l.initial.nodes.items) l.children l.parent)
+    (vec_len l.nodes ≡ vec_len l.initial.nodes) ×
+    (with_parents (nodes_of l.nodes.items) (drop l.child-index l.children) l.parent
+    ≡ with_parents (nodes_of l.initial.nodes.items) l.children l.parent)

@@ -8,4 +8,5 @@ returns-clause-cleared c =
     let items = c.args.nodes.now.items in
     let n = c.index_mut.result.now in
     let at : c.number.result < length items = search rules in
-    rw (← c.number.ensures) (written items c.number.result n _ at c.index_mut.ensures.value (λ x. record x { children = [] }) (ap (λ cs. record (node_of n) { children = cs }) (ap (λ v. v.items) c.replace.ensures.after ∙ c.new.ensures.items)))
+    rw (← c.number.ensures) (written items c.number.result n _ at c.index_mut.ensures.value (λ x. record x { children = [] })
+    (ap (λ cs. record (node_of n) { children = cs }) (ap (λ v. v.items) c.replace.ensures.after ∙ c.new.ensures.items)))

@@ -9,11 +9,15 @@ use Rattle.html_render_dom.proofs.Names.{map-filter}
 use Rattle.html_render_dom.proofs.dom.names.add_missing.Goals as goal
 
 -- the attributes, where those left of the given ones were put behind them
-added : {T E : Type 0} (r : Result T E) (old given left new : List Attribute) → left ≡ filter (λ a. not (has_name (map property_of old) (name_of a.name))) given → new ≡ (if is_ok r then old ++ left else old) → OnOk r (map property_of new ≡ with_missing (map property_of old) (map property_of given))
+added : {T E : Type 0} (r : Result T E) (old given left new : List Attribute) →
+    left ≡ filter (λ a. not (has_name (map property_of old) (name_of a.name))) given → new ≡ (if is_ok r then old ++ left else old) →
+    OnOk r (map property_of new ≡ with_missing (map property_of old) (map property_of given))
 added (Ok x) old given left new q e = rw (e, q, map-append, map-filter property_of (λ p. not (has_name (map property_of old) p.name)) given)
 added (Err y) old given left new q e = tt
 
 pub returns-clause-ok : goal.returns-clause-ok
 returns-clause-ok c =
     let old = c.args.attrs.now.items in
-    added c.append.result old c.args.given.items _ _ (filter_same _ (λ a. not (has_name (map property_of old) (name_of a.name))) _ (λ x b q k. search (rules, tests)) _ _ c.retain.ensures.filtered) c.append.ensures.items
+    added c.append.result old c.args.given.items _ _
+    (filter_same _ (λ a. not (has_name (map property_of old) (name_of a.name))) _
+    (λ x b q k. search (rules, tests)) _ _ c.retain.ensures.filtered) c.append.ensures.items

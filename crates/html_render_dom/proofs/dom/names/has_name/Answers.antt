@@ -10,4 +10,5 @@ pub returns : goal.returns
 returns c =
     let name = name_of c.args.name.now in
     let xs = c.args.attrs.now in
-    any_from_yields_List (λ a. name_eq (name_of a.name) name) _ _ _ c.any.ensures.ran (YieldsList-from_slice xs cc) (λ x b q k. search (rules, tests)) ∙ list_any-map property_of (λ p. name_eq p.name name) xs
+    any_from_yields_List (λ a. name_eq (name_of a.name) name) _ _ _ c.any.ensures.ran (YieldsList-from_slice xs cc)
+    (λ x b q k. search (rules, tests)) ∙ list_any-map property_of (λ p. name_eq p.name name) xs

@@ -13,7 +13,10 @@ returns-in_err-add_missing-clause-err c =
     let n = c.index_mut.result.now in
     let at : c.number.result < length items = search rules in
     let e = c.in-Element in
-    rw p.1 (written-same items c.number.result n _ at c.index_mut.ensures.value (ap (λ d. record (node_of n) { content = d }) (ap (λ ps. element (name_of e.name) ps e.template_contents e.mathml_annotation_xml_integration_point) c.in_err-add_missing.ensures.err ∙ ap content_of (sym e.is))))
+    rw p.1 (written-same items c.number.result n _ at c.index_mut.ensures.value
+    (ap (λ d. record (node_of n) { content = d })
+    (ap (λ ps. element (name_of e.name) ps e.template_contents e.mathml_annotation_xml_integration_point)
+    c.in_err-add_missing.ensures.err ∙ ap content_of (sym e.is))))
 
 pub returns-in_ok-add_missing-clause-ok : goal.returns-in_ok-add_missing-clause-ok
 returns-in_ok-add_missing-clause-ok c =
@@ -22,4 +25,8 @@ returns-in_ok-add_missing-clause-ok c =
     let at : c.number.result < length items = search rules in
     let e = c.in-Element in
     let given = map property_of c.args.given.items in
-    rw (← c.number.ensures) (written items c.number.result n _ at c.index_mut.ensures.value (λ x. record x { content = completed x.content given }) (ap (λ d. record (node_of n) { content = d }) (ap (λ ps. element (name_of e.name) ps e.template_contents e.mathml_annotation_xml_integration_point) c.in_ok-add_missing.ensures.ok ∙ ap (λ d. completed (content_of d) given) (sym e.is))))
+    rw (← c.number.ensures) (written items c.number.result n _ at c.index_mut.ensures.value
+    (λ x. record x { content = completed x.content given })
+    (ap (λ d. record (node_of n) { content = d })
+    (ap (λ ps. element (name_of e.name) ps e.template_contents e.mathml_annotation_xml_integration_point)
+    c.in_ok-add_missing.ensures.ok ∙ ap (λ d. completed (content_of d) given) (sym e.is))))

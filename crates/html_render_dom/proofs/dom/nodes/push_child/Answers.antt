@@ -10,7 +10,8 @@ returns-in_err-push-clause-err c =
     let items = c.args.nodes.now.items in
     let n = c.index_mut.result.now in
     let at : c.number.result < length items = search rules in
-    rw p.1 (written-same items c.number.result n _ at c.index_mut.ensures.value (ap (λ cs. record (node_of n) { children = cs }) c.in_err-push.ensures.items))
+    rw p.1 (written-same items c.number.result n _ at c.index_mut.ensures.value
+    (ap (λ cs. record (node_of n) { children = cs }) c.in_err-push.ensures.items))
 
 pub returns-clause-ok : goal.returns-clause-ok
 returns-clause-ok c =
@@ -18,4 +19,6 @@ returns-clause-ok c =
     let n = c.index_mut.result.now in
     let at : c.number.result < length items = search rules in
     let child = c.args.child in
-    rw (← c.number.ensures) (written items c.number.result n _ at c.index_mut.ensures.value (λ x. record x { children = x.children ++ child ∷ [] }) (ap (λ cs. record (node_of n) { children = cs }) c.in_ok-push.ensures.items))
+    rw (← c.number.ensures) (written items c.number.result n _ at c.index_mut.ensures.value
+    (λ x. record x { children = x.children ++ child ∷ [] })
+    (ap (λ cs. record (node_of n) { children = cs }) c.in_ok-push.ensures.items))

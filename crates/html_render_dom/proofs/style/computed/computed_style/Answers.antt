@@ -12,7 +12,11 @@ use Rattle.html_render_dom.proofs.style.computed.computed_style.Goals.{then-sele
 
 pub loop-rule-preserved : goal.loop-rule-preserved
 loop-rule-preserved c =
-    let subject : Subject = record { name = c.args.element.now; id = option_copied c.first_value-id.result; classes = option_copied c.first_value-classes.result } in
+    let subject : Subject = record {
+      name = c.args.element.now;
+      id = option_copied c.first_value-id.result;
+      classes = option_copied c.first_value-classes.result;
+    } in
     let rule = c.rule-item.result in
     let turn =
     ap (λ s. with_declarations s (said_to subject rule)) c.loop-rule.invariant
@@ -43,4 +47,5 @@ returns-clause-ok c =
     ∙ ap (λ rs. with_declarations (style_by []) (flat_map (said_to subject) rs)) (take_all c.loop-rule.rule-index rules (omega arith))
     ∙ ap (with_declarations (style_by [])) (said_to-all subject rules)
     ∙ ap (λ v. style_for (record { name = c.args.element.now; id = v; classes = classes })) c.first_value-id.ensures
-    ∙ ap (λ v. style_for (record { name = c.args.element.now; id = first_value (codes "id") properties; classes = v })) c.first_value-classes.ensures
+    ∙ ap (λ v. style_for (record { name = c.args.element.now; id = first_value (codes "id") properties; classes = v }))
+    c.first_value-classes.ensures

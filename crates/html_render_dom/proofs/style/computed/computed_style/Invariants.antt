@@ -7,4 +7,5 @@ use Rattle.html_render_dom.proofs.style.computed.computed_style.Given as goal
 abbrev pub invariant-loop-rule : goal.invariant-loop-rule
 invariant-loop-rule l =
     style_of l.style ≡ with_declarations (style_by [])
-    (flat_map (said_to (record { name = l.element; id = option_copied l.id; classes = option_copied l.classes })) (take l.rule-index l.rules))
+    (flat_map (said_to (record { name = l.element; id = option_copied l.id; classes = option_copied l.classes }))
+    (take l.rule-index l.rules))

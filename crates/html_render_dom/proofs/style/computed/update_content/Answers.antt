@@ -10,6 +10,11 @@ returns-in_ok-clone c = record {
   ok =
       content-taken _ _ _ c.maybe_update.ensures
       ∙ ap
-      (λ text. winner (option_to_list (option_map text_update c.args.kept.now) ++ record { important = c.args.important; origin = c.args.origin; specificity = c.args.specificity; value = text } ∷ []))
+      (λ text. winner (option_to_list (option_map text_update c.args.kept.now) ++ record {
+        important = c.args.important;
+        origin = c.args.origin;
+        specificity = c.args.specificity;
+        value = text;
+      } ∷ []))
       c.in_ok-clone.ensures.cases;
 }

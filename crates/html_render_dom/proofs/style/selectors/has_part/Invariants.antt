@@ -6,7 +6,8 @@ use Rattle.html_render_dom.proofs.style.selectors.has_part.Given as goal
 
 abbrev pub invariant-loop-end : goal.invariant-loop-end
 invariant-loop-end l =
-    list_any (bytes_eq l.part) (slice_split is_ascii_whitespace l.rest) ≡ list_any (bytes_eq l.part) (slice_split is_ascii_whitespace l.text)
+    list_any (bytes_eq l.part) (slice_split is_ascii_whitespace l.rest)
+    ≡ list_any (bytes_eq l.part) (slice_split is_ascii_whitespace l.text)
 
 abbrev pub decreases-loop-end : goal.decreases-loop-end
 decreases-loop-end l = length l.rest

@@ -1,9 +1,11 @@
 use Rattle.std.proofs.Common.{[], ◌∷◌, ◌++◌, length, arith, ap, ◌∙◌}
-use Rattle.html_render_layout.specs.Stacks.{stack_at, stacks_of, stacks_after-push, length-stacks_after}
+use Rattle.html_render_layout.specs.Stacks.{stack_at, stacks_of}
+use Rattle.html_render_layout.specs.laws.Stacks.{stacks_after-push, length-stacks_after}
 use Rattle.html_render_layout.proofs.stacks.Stacks.push.Goals as goal
 
 pub returns-clause-tag : goal.returns-clause-tag
-returns-clause-tag g c = omega (arith, length-stacks_after ([] ∷ []) c.self.inside.pushed.items, ap length c.self.view_is, c.len-tag.ensures)
+returns-clause-tag g c = omega
+    (arith, length-stacks_after ([] ∷ []) c.self.inside.pushed.items, ap length c.self.view_is, c.len-tag.ensures)
 
 pub returns-clause-ok : goal.returns-clause-ok
 returns-clause-ok g c =

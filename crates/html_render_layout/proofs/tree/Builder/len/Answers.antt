@@ -5,4 +5,9 @@ use Rattle.html_render_layout.proofs.tree.Builder.len.Goals as goal
 
 pub returns : goal.returns
 returns g c =
-    omega (arith, c.len.ensures, c.self.inside.entries.ok.0, length-entries c.self.inside.entries.items c.args.self.now (sym (ap flatten c.self.view_is) ∙ c.self.invariant))
+    omega (
+      arith,
+      c.len.ensures,
+      c.self.inside.entries.ok.0,
+      length-entries c.self.inside.entries.items c.args.self.now (sym (ap flatten c.self.view_is) ∙ c.self.invariant),
+    )

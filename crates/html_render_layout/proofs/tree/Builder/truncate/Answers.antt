@@ -1,11 +1,13 @@
 use Rattle.std.proofs.Common.{◌≡◌, reverse, ap, sym, ◌∙◌}
-use Rattle.html_render_layout.specs.Preorder.{flatten, IsForest}
+use Rattle.html_render_layout.specs.Preorder.{flatten}
+use Rattle.html_render_layout.specs.laws.Preorder.{IsForest}
 use Rattle.html_render_layout.specs.Splits.{SplitAt}
 use Rattle.html_render_layout.proofs.Building.{truncated}
 use Rattle.html_render_layout.proofs.tree.Builder.truncate.Goals as goal
 use Rattle.html_render_layout.proofs.tree.Builder.truncate.Given.{Over}
 
-now : (g : Over) (c : goal.After-truncate g) (s : SplitAt c.args.self.now c.args.mark) → IsForest (reverse c.truncate.new.self.items) s.beside
+now : (g : Over) (c : goal.After-truncate g) (s : SplitAt c.args.self.now c.args.mark) →
+    IsForest (reverse c.truncate.new.self.items) s.beside
 now g c s =
     let entries : flatten c.args.self.now ≡ reverse c.self.inside.entries.items = sym (ap flatten c.self.view_is) ∙ c.self.invariant in
     rw c.truncate.ensures.items (truncated c.self.inside.entries.items c.args.self.now c.args.mark s entries)

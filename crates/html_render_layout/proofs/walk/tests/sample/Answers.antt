@@ -13,11 +13,14 @@ truncate-requires c = pair _ c.put.new.self _ _ c.len-five.ensures c.in_ok-put-2
 
 pub enclose-requires : goal.enclose-requires
 enclose-requires c =
-    let back : c.truncate.new.self ≡ c.put.new.self = c.truncate.ensures (pair _ c.put.new.self _ _ c.len-five.ensures c.in_ok-put-2.ensures.ok c.in_ok-put-3.ensures.ok) in
+    let back : c.truncate.new.self ≡ c.put.new.self =
+    c.truncate.ensures (pair _ c.put.new.self _ _ c.len-five.ensures c.in_ok-put-2.ensures.ok c.in_ok-put-3.ensures.ok) in
     pair _ c.put.new.self _ _ c.len-five.ensures (c.in_ok-put-4.ensures.ok ∙ ap (λ v. node 4 none v) back) c.in_ok-put-5.ensures.ok
 
 pub enclose-requires-2 : goal.enclose-requires-2
 enclose-requires-2 c =
-    let back : c.truncate.new.self ≡ c.put.new.self = c.truncate.ensures (pair _ c.put.new.self _ _ c.len-five.ensures c.in_ok-put-2.ensures.ok c.in_ok-put-3.ensures.ok) in
-    let s = pair _ c.put.new.self _ _ c.len-five.ensures (c.in_ok-put-4.ensures.ok ∙ ap (λ v. node 4 none v) back) c.in_ok-put-5.ensures.ok in
+    let back : c.truncate.new.self ≡ c.put.new.self =
+    c.truncate.ensures (pair _ c.put.new.self _ _ c.len-five.ensures c.in_ok-put-2.ensures.ok c.in_ok-put-3.ensures.ok) in
+    let s = pair _ c.put.new.self _ _ c.len-five.ensures (c.in_ok-put-4.ensures.ok
+    ∙ ap (λ v. node 4 none v) back) c.in_ok-put-5.ensures.ok in
     record { children = node 2 s.children none; beside = c.put.new.self; is = c.in_ok-enclose.ensures.ok s; mark_is = c.len-five.ensures }

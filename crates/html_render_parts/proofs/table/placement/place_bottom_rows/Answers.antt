@@ -2,7 +2,7 @@ use Rattle.std.proofs.Common.{◌≡◌, ◌++◌, ◌∷◌, [], sym, ◌∙◌
 use Rattle.std.proofs.lemmas.List.{map_push}
 use Rattle.std.proofs.lemmas.Result.{err_from_is_err_and}
 use Rattle.html_render_parts.specs.Placement.{lists}
-use Rattle.html_render_parts.specs.Refusal.{Fails-same, Fails-then}
+use Rattle.html_render_parts.specs.laws.Refusal.{Fails-same, Fails-then}
 use Rattle.html_render_parts.proofs.RisingEnds.{bottoms_with-step, bottoms-next, later-shorter}
 use Rattle.html_render_parts.proofs.table.placement.place_bottom_rows.Goals as goal
 
@@ -24,5 +24,6 @@ loop-first-preserved c =
     let h = rw c.deref.ensures.value at c.in-Some.ensures in
     let built = rw (c.deref-in-Some.ensures.value, c.new-builder.ensures) at c.in_ok-put_rest.ensures.ok in
     let done : lists c.push.new.self.items ≡ lists c.loop-first.placed.items ++ c.put_rest.new.self.places ∷ [] =
-    ap lists c.in_ok-push.ensures.items ∙ map_push _ c.loop-first.placed.items _ ∙ ap (λ p. lists c.loop-first.placed.items ++ p ∷ []) c.into_parts-places.ensures.places in
+    ap lists c.in_ok-push.ensures.items ∙ map_push _ c.loop-first.placed.items _
+    ∙ ap (λ p. lists c.loop-first.placed.items ++ p ∷ []) c.into_parts-places.ensures.places in
     rw done (bottoms-next c.loop-first.hanging.items _ _ c.in-Some.first _ h.0 h.1 built c.keep_later.ensures ∙ c.loop-first.invariant)

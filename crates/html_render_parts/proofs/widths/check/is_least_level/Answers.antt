@@ -13,5 +13,6 @@ returns-else-level-eq0 c =
             let short : c.capped_sum.result < c.args.needed = grind (arith, nat_tests) in
             omega (arith, short, c.capped_sum.ensures, capped_sum-mono m (c.args.level - 1) rs (omega arith));
       },
-      λ h. let short = h.least (c.args.level - 1) (omega arith) in let here : c.capped_sum.result < c.args.needed = omega (arith, short, c.capped_sum.ensures) in grind (arith, nat_tests),
+      λ h. let short = h.least (c.args.level - 1) (omega arith) in let here : c.capped_sum.result < c.args.needed =
+          omega (arith, short, c.capped_sum.ensures) in grind (arith, nat_tests),
     )

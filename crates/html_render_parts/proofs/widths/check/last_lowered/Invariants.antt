@@ -9,4 +9,5 @@ abbrev pub invariant-loop-i : goal.invariant-loop-i
 invariant-loop-i l = MatchOption l.last
     ((k : ℕ) → k < l.i → ¬ IsLowered l.minimums l.shares l.widths l.level k)
     (λ b. (b < l.i) × IsLowered l.minimums l.shares l.widths l.level b
-    × ((k : ℕ) → k < l.i → k ≢ b → IsLowered l.minimums l.shares l.widths l.level k → LoweredBefore (slice_index l.minimums k) k (slice_index l.minimums b) b))
+    × ((k : ℕ) → k < l.i → k ≢ b → IsLowered l.minimums l.shares l.widths l.level k →
+    LoweredBefore (slice_index l.minimums k) k (slice_index l.minimums b) b))

@@ -9,4 +9,5 @@ abbrev pub invariant-loop-i : goal.invariant-loop-i
 invariant-loop-i l = MatchOption l.next
     ((k : ℕ) → k < l.i → IsAtLevel l.minimums l.shares l.level k → ¬ IsFull l.minimums l.shares l.widths l.level k)
     (λ b. (b < l.i) × IsAtLevel l.minimums l.shares l.level b × IsFull l.minimums l.shares l.widths l.level b
-    × ((k : ℕ) → k < l.i → k ≢ b → IsAtLevel l.minimums l.shares l.level k → IsFull l.minimums l.shares l.widths l.level k → LoweredBefore (slice_index l.minimums b) b (slice_index l.minimums k) k))
+    × ((k : ℕ) → k < l.i → k ≢ b → IsAtLevel l.minimums l.shares l.level k → IsFull l.minimums l.shares l.widths l.level k →
+    LoweredBefore (slice_index l.minimums b) b (slice_index l.minimums k) k))

@@ -1,10 +1,11 @@
 use Rattle.std.proofs.Common.{arith}
 use Rattle.html_render_parts.proofs.CutLevels.{excess-some, excess-below}
-use Rattle.html_render_parts.specs.CutLaws.{length-ranges}
+use Rattle.html_render_parts.specs.laws.Cuts.{length-ranges}
 use Rattle.html_render_parts.proofs.widths.cut.excess.Goals as goal
 
 pub overflow_cast-result : goal.overflow_cast-result
-overflow_cast-result c = let e = excess-below _ _ _ c.requires.level in let l = length-ranges c.args.minimums.now c.args.shares.now c.requires.lengths in omega arith
+overflow_cast-result c = let e = excess-below _ _ _ c.requires.level in let l =
+    length-ranges c.args.minimums.now c.args.shares.now c.requires.lengths in omega arith
 
 pub returns-clause-above : goal.returns-clause-above
 returns-clause-above c = λ some. let t = excess-some _ _ _ c.requires.level (omega arith) in t.0

@@ -3,4 +3,5 @@ use Rattle.html_render_parts.specs.Cuts.{full_width}
 use Rattle.html_render_parts.proofs.widths.cut.full_widths.Given as goal
 
 abbrev pub invariant-loop-i : goal.invariant-loop-i
-invariant-loop-i l = (length l.widths.items ≡ l.i) × ((k : ℕ) → k < l.i → slice_index l.widths.items k ≡ full_width l.minimums l.shares l.level k)
+invariant-loop-i l = (length l.widths.items ≡ l.i) ×
+    ((k : ℕ) → k < l.i → slice_index l.widths.items k ≡ full_width l.minimums l.shares l.level k)

@@ -13,9 +13,11 @@ returns c =
     elim c.if-count-eq0.branch [
       | then-count-eq0 w ↦
           let zero : c.excess-count.result ≡ 0 = omega arith in
-          rw (w.widths-is, zero) (form-lowered ms ss c.args.width c.in_ok-full.full.items c.in_ok-full.full.items c.args.found.level 0 c.requires.fits is (rw zero at rest) c.in_ok-full.ensures.len c.in_ok-full.ensures.each
+          rw (w.widths-is, zero) (form-lowered ms ss c.args.width c.in_ok-full.full.items c.in_ok-full.full.items c.args.found.level 0
+          c.requires.fits is (rw zero at rest) c.in_ok-full.ensures.len c.in_ok-full.ensures.each
           (none-lowered ms ss [] c.args.found.level c.in_ok-full.full.items).are_lowered)
       | else-count-eq0+in_ok-widths w ↦
-          rw w.widths-is (form-lowered ms ss c.args.width c.in_ok-full.full.items w.in_ok-widths.widths.items c.args.found.level c.excess-count.result c.requires.fits is rest c.in_ok-full.ensures.len c.in_ok-full.ensures.each
+          rw w.widths-is (form-lowered ms ss c.args.width c.in_ok-full.full.items w.in_ok-widths.widths.items c.args.found.level
+          c.excess-count.result c.requires.fits is rest c.in_ok-full.ensures.len c.in_ok-full.ensures.each
           w.in_ok-widths.ensures)
     ]

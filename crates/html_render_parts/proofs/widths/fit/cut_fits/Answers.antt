@@ -1,7 +1,9 @@
 use Rattle.std.proofs.Common.{◌<◌, length, arith}
 use Rattle.std.proofs.lemmas.List.Sums.{sum_by_more_le}
 use Rattle.html_render_parts.proofs.widths.fit.cut_fits.Goals as goal
-use Rattle.html_render_parts.proofs.widths.fit.cut_fits.Goals.{then-least-shares-via-then-least-shares, then-least-shares-via-else-least-shares+then-least-room, then-least-shares-via-else-least-shares+else-least-room+then-separator-room}
+use Rattle.html_render_parts.proofs.widths.fit.cut_fits.Goals.{then-least-shares-via-then-least-shares}
+use Rattle.html_render_parts.proofs.widths.fit.cut_fits.Goals.{then-least-shares-via-else-least-shares+then-least-room}
+use Rattle.html_render_parts.proofs.widths.fit.cut_fits.Goals.{then-least-shares-via-else-least-shares+else-least-room+then-separator-room}
 
 pub returns-then-least-shares : goal.returns-then-least-shares
 returns-then-least-shares c =

@@ -1,5 +1,5 @@
 use Rattle.std.proofs.Common.{arith}
-use Rattle.html_render_parts.specs.CutLaws.{minimums-fit}
+use Rattle.html_render_parts.specs.laws.Cuts.{minimums-fit}
 use Rattle.html_render_parts.proofs.FairestCut.{wanted-le}
 use Rattle.html_render_parts.proofs.widths.fit.wanted.Goals as goal
 

@@ -18,18 +18,23 @@ loop-column-init c = record {
 
 pub index_mut-requires : goal.index_mut-requires
 index_mut-requires c =
-    let t = lowering-next _ _ _ _ _ _ _ _ c.requires.widths c.requires.full c.requires.above c.loop-column.invariant c.loop-column-test.true in
+    let t = lowering-next _ _ _ _ _ _ _ _ c.requires.widths c.requires.full c.requires.above c.loop-column.invariant
+    c.loop-column-test.true in
     omega (arith, t.inside, c.loop-column.widths.ok.0)
 
 pub overflow_sub-index_mut : goal.overflow_sub-index_mut
 overflow_sub-index_mut c =
-    let t = lowering-next _ _ _ _ _ _ _ _ c.requires.widths c.requires.full c.requires.above c.loop-column.invariant c.loop-column-test.true in
+    let t = lowering-next _ _ _ _ _ _ _ _ c.requires.widths c.requires.full c.requires.above c.loop-column.invariant
+    c.loop-column-test.true in
     omega (arith, t.some, t.inside, read _ _ _ t.inside c.index_mut.ensures.value)
 
 pub loop-column-preserved : goal.loop-column-preserved
 loop-column-preserved c =
-    let t = lowering-next _ _ _ _ _ _ _ _ c.requires.widths c.requires.full c.requires.above c.loop-column.invariant c.loop-column-test.true in
-    rw (read _ _ _ t.inside c.index_mut.ensures.value) (lowering-more _ _ _ _ _ _ _ _ c.requires.widths c.requires.full c.requires.above c.loop-column.invariant c.loop-column-test.true _ refl)
+    let t = lowering-next _ _ _ _ _ _ _ _ c.requires.widths c.requires.full c.requires.above c.loop-column.invariant
+    c.loop-column-test.true in
+    rw (read _ _ _ t.inside c.index_mut.ensures.value)
+    (lowering-more _ _ _ _ _ _ _ _ c.requires.widths c.requires.full c.requires.above c.loop-column.invariant c.loop-column-test.true _
+    refl)
 
 pub returns : goal.returns
 returns c =

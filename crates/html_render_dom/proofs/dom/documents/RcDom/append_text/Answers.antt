@@ -6,4 +6,5 @@ use Rattle.html_render_dom.proofs.dom.documents.RcDom.append_text.Goals as goal
 pub invariant_of-self : goal.invariant_of-self
 invariant_of-self c =
     let dom = dom_of c.self.inside in
-    IsForest-either c.put_text.result dom _ _ c.self.invariant c.put_text.ensures.ok c.put_text.ensures.err (IsForest-put_text dom _ c.self.view_is c.self.invariant c.args.parent c.requires _ c.last_text-last.ensures.is_node _)
+    IsForest-either c.put_text.result dom _ _ c.self.invariant c.put_text.ensures.ok c.put_text.ensures.err
+    (IsForest-put_text dom _ c.self.view_is c.self.invariant c.args.parent c.requires _ c.last_text-last.ensures.is_node _)

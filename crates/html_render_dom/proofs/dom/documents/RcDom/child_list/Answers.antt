@@ -1,5 +1,5 @@
 use Rattle.std.proofs.Common.{◌∙◌, ap}
-use Rattle.html_render_dom.specs.Forests.{All-children}
+use Rattle.html_render_dom.specs.laws.Forests.{All-children}
 use Rattle.html_render_dom.proofs.dom.documents.RcDom.child_list.Goals as goal
 
 pub returns-clause-nodes : goal.returns-clause-nodes

@@ -10,7 +10,7 @@ pub invariant_of-self-2 : goal.invariant_of-self-2
 invariant_of-self-2 c =
     let made : map node_of c.push.new.self.items ≡ created (map node_of c.self.inside.nodes.items) (content_of c.args.contents) =
     rw (c.in_ok-push.ensures.items, map-append, c.lone.ensures) in
-    IsForest-create (dom_of c.self.inside) c.self.invariant _ _ made
+    IsForest-create (dom_of c.self.inside) c.self.invariant _ c.requires _ made
 
 pub returns-clause-fresh : goal.returns-clause-fresh
 returns-clause-fresh c =

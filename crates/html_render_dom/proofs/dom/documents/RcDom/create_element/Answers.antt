@@ -10,4 +10,5 @@ invariant_of-self-2 c =
 
 pub returns-clause-fresh : goal.returns-clause-fresh
 returns-clause-fresh c =
-    IsFresh-create_element (dom_of c.self.inside) _ c.self.view_is c.self.invariant _ _ _ _ c.in_ok-push_element.ensures.ok _ (search (rules, length-map))
+    IsFresh-create_element (dom_of c.self.inside) _ c.self.view_is c.self.invariant _ _ _ _ c.in_ok-push_element.ensures.ok _
+    (search (rules, length-map))

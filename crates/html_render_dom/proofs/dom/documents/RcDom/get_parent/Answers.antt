@@ -1,5 +1,5 @@
 use Rattle.std.proofs.Common.{ap}
-use Rattle.html_render_dom.specs.Forests.{IfSome-parent}
+use Rattle.html_render_dom.specs.laws.Forests.{IfSome-parent}
 use Rattle.html_render_dom.proofs.dom.documents.RcDom.get_parent.Goals as goal
 
 pub returns-clause-is_node : goal.returns-clause-is_node

@@ -1,10 +1,11 @@
 use Rattle.std.proofs.Common.{◌≡◌, ◌≢◌, ℕ, ap, sym, ◌∙◌, subst, arith, rules, Some, [], ◌∷◌, inl, inr}
 use Rattle.html_render_dom.specs.Dom.{Dom, IsNode, IsInclusiveAncestor, itself, above, parent_at, tree_of}
-use Rattle.html_render_dom.specs.Forests.{IfSome-parent}
-use Rattle.html_render_dom.specs.Trees.{depth-child, depth-le, Stands-tree_of, IsInclusiveAncestor-cases}
+use Rattle.html_render_dom.specs.laws.Forests.{IfSome-parent}
+use Rattle.html_render_dom.specs.laws.Trees.{depth-child, depth-le, HaveTrees-tree_of, IsInclusiveAncestor-cases}
 use Rattle.html_render_dom.proofs.dom.documents.RcDom.is_inclusive_ancestor.Goals as goal
 
-some_is : (dom : Dom) (a h p : ℕ) → parent_at dom h ≡ Some p → (q : ℕ) × (parent_at dom h ≡ Some q) × IsInclusiveAncestor dom a q → IsInclusiveAncestor dom a p
+some_is : (dom : Dom) (a h p : ℕ) → parent_at dom h ≡ Some p → (q : ℕ) × (parent_at dom h ≡ Some q) × IsInclusiveAncestor dom a q →
+    IsInclusiveAncestor dom a p
 some_is dom a h p e r = let same : r.0 ≡ p = cc in subst (IsInclusiveAncestor dom a) same r.2
 
 pub loop-ancestor-smaller : goal.loop-ancestor-smaller
@@ -15,7 +16,7 @@ loop-ancestor-smaller c =
     let p = c.in-Some.parent in
     let e : parent_at dom at ≡ Some p = sym (ap (λ n. n.parent) c.entry.ensures.node) ∙ c.in-Some.is in
     let in_p : IsNode dom p = IfSome-parent dom f at (Some p) (sym e) in
-    omega (arith, depth-child dom f at p e in_p, depth-le dom f (tree_of dom p) (p ∷ []) (Stands-tree_of dom f p in_p))
+    omega (arith, depth-child dom f at p e in_p, depth-le dom f (tree_of dom p) (p ∷ []) (HaveTrees-tree_of dom f p in_p))
 
 pub loop-ancestor-preserved : goal.loop-ancestor-preserved
 loop-ancestor-preserved c =

@@ -9,11 +9,14 @@ use Rattle.html_render_dom.proofs.dom.documents.RcDom.move_before.Goals as goal
 pub move_before-requires-clause-parent : goal.move_before-requires-clause-parent
 move_before-requires-clause-parent c =
     let items = c.self.inside.nodes.items in
-    let named = IsNode-named (dom_of c.self.inside) c.self.invariant c.args.parent c.args.sibling (subst (λ d. parent_at d c.args.sibling ≡ Some c.args.parent) (sym c.self.view_is) c.requires.parent) in
+    let named = IsNode-named (dom_of c.self.inside) c.self.invariant c.args.parent c.args.sibling
+    (subst (λ d. parent_at d c.args.sibling ≡ Some c.args.parent) (sym c.self.view_is) c.requires.parent) in
     let len : vec_len c.self.inside.nodes ≡ length (map node_of items) = search (rules, length-map) in
     omega (arith, len, named.0)
 
 pub invariant_of-self : goal.invariant_of-self
 invariant_of-self c =
     let dom = dom_of c.self.inside in
-    IsForest-either c.move_before.result dom _ _ c.self.invariant c.move_before.ensures.ok c.move_before.ensures.err (IsForest-move_before dom _ c.self.view_is c.self.invariant c.args.parent c.args.sibling c.args.child c.requires.parent c.requires.child _ c.get_parent-from.ensures.parent)
+    IsForest-either c.move_before.result dom _ _ c.self.invariant c.move_before.ensures.ok c.move_before.ensures.err
+    (IsForest-move_before dom _ c.self.view_is c.self.invariant c.args.parent c.args.sibling c.args.child c.requires.parent
+    c.requires.child _ c.get_parent-from.ensures.parent)

@@ -5,4 +5,5 @@ use Rattle.html_render_dom.proofs.dom.documents.RcDom.nth_child.Given as goal
 
 abbrev pub invariant-loop-child : goal.invariant-loop-child
 invariant-loop-child l =
-    slice_get (elements_of l.self (children_at l.self l.fn.node)) (l.fn.index - 1) ≡ slice_get (elements_of l.self (drop l.child-index l.child-items)) l.passed
+    slice_get (elements_of l.self (children_at l.self l.fn.node)) (l.fn.index - 1)
+    ≡ slice_get (elements_of l.self (drop l.child-index l.child-items)) l.passed

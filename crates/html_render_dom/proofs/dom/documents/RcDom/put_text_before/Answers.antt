@@ -8,17 +8,21 @@ use Rattle.html_render_dom.proofs.dom.documents.RcDom.put_text_before.Goals as g
 
 pub text_before-last-requires : goal.text_before-last-requires
 text_before-last-requires c =
-    let named = IsNode-named (dom_of c.self.inside) c.self.invariant c.args.parent c.args.sibling (subst (λ d. parent_at d c.args.sibling ≡ Some c.args.parent) (sym c.self.view_is) c.requires) in
+    let named = IsNode-named (dom_of c.self.inside) c.self.invariant c.args.parent c.args.sibling
+    (subst (λ d. parent_at d c.args.sibling ≡ Some c.args.parent) (sym c.self.view_is) c.requires) in
     subst (λ d. IsNode d c.args.parent) c.self.view_is named.0
 
 pub put_text_before-requires-clause-parent : goal.put_text_before-requires-clause-parent
 put_text_before-requires-clause-parent c =
     let items = c.self.inside.nodes.items in
-    let named = IsNode-named (dom_of c.self.inside) c.self.invariant c.args.parent c.args.sibling (subst (λ d. parent_at d c.args.sibling ≡ Some c.args.parent) (sym c.self.view_is) c.requires) in
+    let named = IsNode-named (dom_of c.self.inside) c.self.invariant c.args.parent c.args.sibling
+    (subst (λ d. parent_at d c.args.sibling ≡ Some c.args.parent) (sym c.self.view_is) c.requires) in
     let len : vec_len c.self.inside.nodes ≡ length (map node_of items) = search (rules, length-map) in
     omega (arith, len, named.0)
 
 pub invariant_of-self : goal.invariant_of-self
 invariant_of-self c =
     let dom = dom_of c.self.inside in
-    IsForest-either c.put_text_before.result dom _ _ c.self.invariant c.put_text_before.ensures.ok c.put_text_before.ensures.err (IsForest-text_placed dom _ c.self.view_is c.self.invariant c.args.parent c.args.sibling c.requires _ c.text_before-last.ensures.is_node _)
+    IsForest-either c.put_text_before.result dom _ _ c.self.invariant c.put_text_before.ensures.ok c.put_text_before.ensures.err
+    (IsForest-text_placed dom _ c.self.view_is c.self.invariant c.args.parent c.args.sibling c.requires _
+    c.text_before-last.ensures.is_node _)

@@ -5,4 +5,5 @@ use Rattle.html_render_dom.proofs.dom.documents.RcDom.remove_from_parent.Goals a
 
 pub invariant_of-self : goal.invariant_of-self
 invariant_of-self c =
-    IsForest-taken_out (dom_of c.self.inside) c.args.self.now c.self.view_is c.self.invariant c.in-Some.parent c.args.node (sym c.get_parent.ensures.parent ∙ c.in-Some.is) _ c.take_out.ensures.taken_out
+    IsForest-taken_out (dom_of c.self.inside) c.args.self.now c.self.view_is c.self.invariant c.in-Some.parent c.args.node
+    (sym c.get_parent.ensures.parent ∙ c.in-Some.is) _ c.take_out.ensures.taken_out

@@ -2,7 +2,7 @@ use Rattle.std.proofs.Common.{rules, arith, ◌≡◌, ◌<◌, length, map, ref
 use Rattle.std.proofs.lemmas.List.{length-map}
 use Rattle.std.proofs.lemmas.List.Elements.{All-weaker}
 use Rattle.html_render_dom.specs.Dom.{IsNode, IsInclusiveAncestor, itself, children_at}
-use Rattle.html_render_dom.specs.Forests.{All-children}
+use Rattle.html_render_dom.specs.laws.Forests.{All-children}
 use Rattle.html_render_dom.specs.Nodes.{dom_of, node_of}
 use Rattle.html_render_dom.proofs.Moves.{IsForest-reparented}
 use Rattle.html_render_dom.proofs.dom.documents.RcDom.reparent_children.Goals as goal
@@ -14,8 +14,10 @@ pub move_children-requires-clause-children : goal.move_children-requires-clause-
 move_children-requires-clause-children c =
     let dom = dom_of c.self.inside in
     let len : vec_len c.self.inside.nodes ≡ length (map node_of c.self.inside.nodes.items) = search (rules, length-map) in
-    All-weaker (IsNode dom) (λ x. x < vec_len c.self.inside.nodes) (λ x at. omega (arith, len, at)) (children_at dom c.args.node) (All-children dom c.self.invariant c.args.node _ refl)
+    All-weaker (IsNode dom) (λ x. x < vec_len c.self.inside.nodes) (λ x at. omega (arith, len, at)) (children_at dom c.args.node)
+    (All-children dom c.self.invariant c.args.node _ refl)
 
 pub invariant_of-self-2 : goal.invariant_of-self-2
 invariant_of-self-2 c =
-    IsForest-reparented (dom_of c.self.inside) c.args.self.now c.self.view_is c.self.invariant c.args.node c.args.new_parent c.requires.node c.requires.new_parent c.requires.away _ c.in_ok-move_children.ensures.ok
+    IsForest-reparented (dom_of c.self.inside) c.args.self.now c.self.view_is c.self.invariant c.args.node c.args.new_parent
+    c.requires.node c.requires.new_parent c.requires.away _ c.in_ok-move_children.ensures.ok

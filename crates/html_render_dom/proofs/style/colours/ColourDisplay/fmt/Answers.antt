@@ -5,7 +5,8 @@ use Rattle.std.specs.Fmt.{digits, digits_output, format_spec, styled_digits_outp
 use Rattle.html_render_dom.specs.Colours as colours
 use Rattle.html_render_dom.proofs.style.colours.ColourDisplay.fmt.Goals as goal
 
-hex_written : (d : _) (s : _) (n : ℕ) → n < 256 → digits_output d ≡ Some (digits 16 false n) → s ≡ format_spec 32 0 4 2 18446744073709551615 → styled_digits_output d s ≡ Some (colours.hex_byte n)
+hex_written : (d : _) (s : _) (n : ℕ) → n < 256 → digits_output d ≡ Some (digits 16 false n) →
+    s ≡ format_spec 32 0 4 2 18446744073709551615 → styled_digits_output d s ≡ Some (colours.hex_byte n)
 hex_written d s n small e f = rw (f, e) (ap Some (hex_byte false n small))
 
 pub returns-clause-writes : goal.returns-clause-writes

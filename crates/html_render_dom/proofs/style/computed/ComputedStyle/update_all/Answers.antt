@@ -16,7 +16,8 @@ loop-declaration-preserved c =
     let items = c.deref-declaration-items.result.now in
     c.in_ok-update.ensures
     ∙ ap (λ s. with_declarations s (said c.declaration-item.result)) c.loop-declaration.invariant
-    ∙ with_declarations-more said (style_of c.args.self.now) items c.loop-declaration.declaration-index c.declaration-item.result (omega arith) c.declaration-item.is
+    ∙ with_declarations-more said (style_of c.args.self.now) items c.loop-declaration.declaration-index c.declaration-item.result
+    (omega arith) c.declaration-item.is
 
 pub returns : goal.returns
 returns c =
@@ -24,6 +25,8 @@ returns c =
     let said = said_by rule.origin c.specificity.result rule.pseudo in
     let items = c.deref-declaration-items.result.now in
     c.loop-declaration.invariant
-    ∙ ap (λ ds. with_declarations (style_of c.args.self.now) (flat_map said ds)) (take_all c.loop-declaration.declaration-index items (omega arith) ∙ c.deref-declaration-items.ensures.value)
-    ∙ ap (λ n. with_declarations (style_of c.args.self.now) (flat_map (said_by rule.origin n rule.pseudo) rule.declarations.items)) c.specificity.ensures
+    ∙ ap (λ ds. with_declarations (style_of c.args.self.now) (flat_map said ds))
+    (take_all c.loop-declaration.declaration-index items (omega arith) ∙ c.deref-declaration-items.ensures.value)
+    ∙ ap (λ n. with_declarations (style_of c.args.self.now)
+    (flat_map (said_by rule.origin n rule.pseudo) rule.declarations.items)) c.specificity.ensures
     ∙ ap (with_declarations (style_of c.args.self.now)) (said_by-all rule)

@@ -5,12 +5,17 @@ use Rattle.html_render_dom.proofs.style.computed.ComputedStyle.update_beside.Goa
 
 pub returns-in_ok-update_content-in-Before : goal.returns-in_ok-update_content-in-Before
 returns-in_ok-update_content-in-Before c =
-    rw (c.in-Content.is, c.in-Before.is) (content_before_taken (style_of c.args.self.now) c.args.declaration.now.important c.args.origin c.args.specificity _ _ c.in_ok-update_content-in-Before.ensures.ok)
+    rw (c.in-Content.is, c.in-Before.is)
+    (content_before_taken (style_of c.args.self.now) c.args.declaration.now.important c.args.origin c.args.specificity _ _
+    c.in_ok-update_content-in-Before.ensures.ok)
 
 pub returns-in_ok-update_content-in-After : goal.returns-in_ok-update_content-in-After
 returns-in_ok-update_content-in-After c =
-    rw (c.in-Content.is, c.in-After.is) (content_after_taken (style_of c.args.self.now) c.args.declaration.now.important c.args.origin c.args.specificity _ _ c.in_ok-update_content-in-After.ensures.ok)
+    rw (c.in-Content.is, c.in-After.is)
+    (content_after_taken (style_of c.args.self.now) c.args.declaration.now.important c.args.origin c.args.specificity _ _
+    c.in_ok-update_content-in-After.ensures.ok)
 
 pub returns-in_default : goal.returns-in_default
 returns-in_default c =
-    other_beside (style_of c.args.self.now) c.args.declaration.now.important c.args.origin c.args.specificity c.args.place c.args.declaration.now.style c.in_default.not-Content
+    other_beside (style_of c.args.self.now) c.args.declaration.now.important c.args.origin c.args.specificity c.args.place
+    c.args.declaration.now.style c.in_default.not-Content

@@ -1,7 +1,7 @@
 use Rattle.std.proofs.Common.{sym, arith}
 use Rattle.std.proofs.lemmas.List.{drop_more}
 use Rattle.std.proofs.lemmas.Result.{err_from_is_err_and}
-use Rattle.html_render_parts.specs.Refusal.{Fails-same, Fails-then}
+use Rattle.html_render_parts.specs.laws.Refusal.{Fails-same, Fails-then}
 use Rattle.html_render_parts.proofs.table.placement.RowBuilder.put_row.Goals as goal
 
 pub returns-in_err-rest-clause-err : goal.returns-in_err-rest-clause-err

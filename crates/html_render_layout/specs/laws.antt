@@ -1,0 +1,14 @@
+pub mod Preorder
+pub mod Splits
+pub mod Agree
+pub mod Runs
+pub mod Operations
+pub mod BlockTags
+pub mod BlockFed
+pub mod BlockLaws
+pub mod Stacks
+pub mod Leaving
+pub mod Representation
+pub mod LayoutKeeps
+pub mod LayoutLaws
+pub mod LayoutWorks

@@ -1,0 +1,14 @@
+-- facts on values that may be missing, and on choices
+pub mod Cases
+-- feeding keeps the setting
+pub mod Kept
+-- what is fed piece by piece is the paragraph of all of it
+pub mod Whole
+-- without overflow no line passes the width
+pub mod Within
+-- with overflow no paragraph is too narrow, and its lines are those without
+pub mod Overflow
+-- no visible character is lost
+pub mod Visible
+-- the wrapping doesn't depend on the tags
+pub mod Tags

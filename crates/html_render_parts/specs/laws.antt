@@ -1,0 +1,4 @@
+pub mod Cuts
+pub mod GivingOrder
+pub mod Refusal
+pub mod UnitCut

@@ -1,0 +1,43 @@
+-- What each call of a script makes of a DOM, and which node is current behind it.
+use Rattle.std.specs.Prelude.{ℕ, false, List, [], ◌∷◌, Option, Some, None, if◌then◌else◌, string_bytes}
+use Rattle.html_render_dom.specs.declared.dom.contents.NodeOrText.TheVariants.{AppendText}
+use Rattle.html_render_dom.specs.Content.{Space, no_space, html, svg, element, comment}
+use Rattle.html_render_dom.specs.Dom.{Dom, node_count, content_at, parent_at, is_element}
+use Rattle.html_render_dom.specs.Edits.{appended, attached_new, with_content}
+use Rattle.html_render_dom.specs.Elements.{completed}
+use Rattle.html_render_tree.specs.declared.script.Call.{Call}
+use Rattle.html_render_tree.specs.declared.script.Call.TheVariants.{Open, OpenSvg, Attribute, Text, Comment, Close}
+
+-- an element more, without attributes: the parent's last child
+abbrev pub with_element : Dom → (parent : ℕ) → Space → (name : List ℕ) → Dom
+with_element dom parent space name =
+    record dom { nodes = attached_new dom.nodes (element (record { space = space; local = name }) [] None false) parent }
+
+-- a comment more: the parent's last child
+abbrev pub with_comment : Dom → (parent : ℕ) → (contents : List ℕ) → Dom
+with_comment dom parent contents = record dom { nodes = attached_new dom.nodes (comment contents) parent }
+
+-- an element with an attribute in no namespace, unless it has one of that name
+abbrev pub with_attribute : Dom → (h : ℕ) → (name value : List ℕ) → Dom
+with_attribute dom h name value =
+    let given = record { name = record { space = no_space; local = name }; value = value } ∷ [] in
+    record dom { nodes = with_content dom.nodes h (completed (content_at dom h) given) }
+
+-- the DOM after a call
+abbrev pub called : Dom → (current : ℕ) → Call → Dom
+called dom current (Open name) = with_element dom current html name.now
+called dom current (OpenSvg name) = with_element dom current svg name.now
+called dom current (Attribute name value) =
+    if is_element (content_at dom current) then with_attribute dom current name.now (string_bytes value) else dom
+called dom current (Text text) = appended dom current (AppendText text)
+called dom current (Comment contents) = with_comment dom current (string_bytes contents)
+called dom current Close = dom
+
+-- the node that is current behind it; none where an attribute is given to no element, and behind the document's end
+abbrev pub next_of : Dom → (current : ℕ) → Call → Option ℕ
+next_of dom current (Open name) = Some (node_count dom)
+next_of dom current (OpenSvg name) = Some (node_count dom)
+next_of dom current (Attribute name value) = if is_element (content_at dom current) then Some current else None
+next_of dom current (Text text) = Some current
+next_of dom current (Comment contents) = Some current
+next_of dom current Close = parent_at dom current
