@@ -9,7 +9,7 @@ ghost use Rattle.html_render_dom.specs.Dom.{IsNode, IsElement, content_at, node_
 ghost use Rattle.html_render_tree.specs.Scripts.{with_element, with_comment, with_attribute, called, next_of};
 
 use crate::config::{Config, plain, plain_no_decorate};
-use crate::script::{Call, line_of};
+use crate::script::{Call, line_of, split_line};
 use html_render_dom::Error;
 use html_render_dom::dom::{
     Attribute, ElementFlags, Handle, Namespace, NodeOrText, QualName, RcDom,
@@ -190,6 +190,7 @@ fn append_comment(
 }
 
 /// Makes a call, and answers the node that is current behind it, or `None` where an attribute is given to the document.
+#[inline(always)]
 fn take_call(
     alloc: Global,
     dom: &mut RcDom,
@@ -224,6 +225,7 @@ fn take_call(
 }
 
 /// Takes one line of a script, and answers the node that is current behind it, or `None` where the line is faulty.
+#[inline(always)]
 fn take_line(
     alloc: Global,
     dom: &mut RcDom,
@@ -247,7 +249,10 @@ fn built(alloc: Global, script: &str) -> Result<RcDom, Fault> {
     let mut dom = RcDom::new(alloc)?;
     let mut current = dom.get_document();
     let mut number = 0usize;
-    for piece in script.split_inclusive('\n') {
+    let mut rest = script;
+    while !rest.is_empty() {
+        let (piece, behind) = split_line(rest);
+        rest = behind;
         number = number.saturating_add(1);
         match take_line(alloc, &mut dom, current, line_of(piece))? {
             Some(next) => current = next,

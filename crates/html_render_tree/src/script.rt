@@ -2,6 +2,9 @@
 //!
 //! `Call::read(alloc, "<p")?` is `Some(Call::Open("p"))`, and `Call::read(alloc, "p")?` is `None`: a faulty line.
 
+ghost use Rattle.std.specs.Prelude.{◌<◌, length};
+ghost use Rattle.std.specs.Str.{IsUtf8};
+
 use memchr::memchr;
 use std::alloc::{AllocError, Global};
 
@@ -25,6 +28,7 @@ pub enum Call<'a> {
 impl<'a> Call<'a> {
     /// The call of a line, or `None` where the line is faulty: another first character, an element or an attribute
     /// without a name, an attribute without `=`, more behind `>`, or an escape that isn't known.
+    #[inline(always)]
     pub fn read(alloc: Global, line: &'a str) -> Result<Option<Call<'a>>, AllocError> {
         if let Some(name) = line.strip_prefix("<svg:") {
             Ok(named(name).map(Call::OpenSvg))
@@ -69,6 +73,17 @@ fn named(name: &str) -> Option<&str> {
     if name.is_empty() { None } else { Some(name) }
 }
 
+/// The first line of a script, with its line feed if it has one, and the lines behind it.
+pub fn split_line(script: &str) -> (&str, &str)
+    ensures shorter { 0 < length script.now → length result.1.now < length script.now }
+    ensures text { IsUtf8 result.1.now }
+{
+    match memchr(b'\n', script.as_bytes()) {
+        Some(at) => (&script[..at + 1], &script[at + 1..]),
+        None => (script, ""),
+    }
+}
+
 /// The line of a piece that may end with a line feed, without it and without a carriage return before it.
 pub fn line_of(piece: &str) -> &str {
     match piece.strip_suffix('\n') {
@@ -79,6 +94,7 @@ pub fn line_of(piece: &str) -> &str {
 
 /// A text in which `\n` stands for a line feed and `\\` for a backslash, or `None` where a backslash stands before
 /// anything else.
+#[inline(always)]
 fn unescaped(alloc: Global, text: &str) -> Result<Option<String>, AllocError> {
     if memchr(b'\\', text.as_bytes()).is_none() {
         return Ok(Some(String::from_str(alloc, text)?));
