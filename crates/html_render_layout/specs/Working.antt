@@ -4,7 +4,6 @@ use Rattle.std.specs.Prelude.{ℕ, List, [], ◌∷◌, ◌++◌, length, Option
 use Rattle.html_render_dom.specs.Forest.{Forest}
 use Rattle.html_render_parts.specs.Decoration.{Decoration}
 use Rattle.html_render_lines.specs.Line.{Line}
-use Rattle.html_render_lines.specs.Stream.{lines_in}
 use Rattle.html_render_lines.specs.Tags.{lines_with}
 use Rattle.html_render_layout.specs.declared.tree.RenderNode.{RenderNode}
 use Rattle.html_render_layout.specs.declared.layout.Desk.{Desk}
@@ -31,7 +30,7 @@ abbrev pub tagged : {A : Type 0} → List (List A) → List (Line ℕ (Unit {0})
 tagged stacks lines = lines_with (stack_at stacks) lines
 
 abbrev pub laid_out : {A : Type 0} → LaidOut A → List (Line (List A) (Unit {0}))
-laid_out l = tagged l.stacks (lines_in l.lines)
+laid_out l = tagged l.stacks l.lines.items
 
 -- the lines that the code makes from a desk
 abbrev pub work_lines : {S A : Type 0} → Decoration S A → Forest RenderNode → Worked S A → Option (List (Line (List A) (Unit {0})))

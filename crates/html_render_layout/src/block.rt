@@ -9,15 +9,15 @@ ghost use Rattle.std.specs.Str.{chars};
 ghost use Rattle.html_render_dom.specs.Outcome.{Refuses};
 ghost use Rattle.html_render_lines.specs.Character.{is_collapsible};
 ghost use Rattle.html_render_lines.specs.Line.{marks_line};
-ghost use Rattle.html_render_lines.specs.Stream.{lines_in};
 ghost use Rattle.html_render_layout.specs.Block.{is_blank};
 ghost use Rattle.html_render_layout.specs.BlockMachine as machine;
 
 use html_render_dom::Error;
 use html_render_dom::style::WhiteSpace;
 use html_render_lines::character::{TextStyle, is_collapsible};
-use html_render_lines::line::Element;
+use html_render_lines::line::Line;
 use html_render_lines::paragraph::Paragraph;
+use html_render_lines::tag::Tag;
 use std::alloc::{AllocError, Global};
 use std::marker::Model;
 
@@ -31,7 +31,7 @@ pub struct Block<T, M> {
     /// Whether a character that is wider than a line stands alone on one.
     overflow: bool,
     /// The finished lines.
-    lines: Vec<Vec<Element<T, M>>>,
+    lines: Vec<Line<T, M>>,
     /// The open paragraph, unless a character was too wide for it.
     paragraph: Option<Paragraph<T, M>>,
     /// Whether a block ended here.
@@ -39,14 +39,13 @@ pub struct Block<T, M> {
 }
 
 impl<T, M> Model for Block<T, M> {
-    ghost use Rattle.std.specs.Prelude.{map};
     ghost use Rattle.html_render_layout.specs.BlockMachine.{MachineBlock};
 
     ghost Value = { MachineBlock T M };
 
     ghost view = { λ b. record {
       setting = record { width = b.width; overflow = b.overflow };
-      lines = map (λ v. v.items) b.lines.items;
+      lines = b.lines.items;
       paragraph = b.paragraph;
       at_block_end = b.at_block_end;
     } };
@@ -81,7 +80,7 @@ fn is_collapsible_alone(text: &str) -> bool
     true
 }
 
-impl<T: Copy, M: Copy> Block<T, M> {
+impl<T: Tag, M: Copy> Block<T, M> {
     /// An empty block of so many columns. Where a character is wider than a line, it stands alone on one with
     /// `overflow`; without, the block is too narrow.
     pub fn new(alloc: Global, width: usize, overflow: bool) -> Block<T, M>
@@ -106,8 +105,8 @@ impl<T: Copy, M: Copy> Block<T, M> {
     }
 
     /// The finished lines.
-    pub fn into_lines(self) -> Vec<Vec<Element<T, M>>>
-        ensures { lines_in result ≡ self.lines }
+    pub fn into_lines(self) -> Vec<Line<T, M>>
+        ensures { result.items ≡ self.lines }
     {
         self.lines
     }
@@ -164,8 +163,8 @@ impl<T: Copy, M: Copy> Block<T, M> {
     }
 
     /// Adds a finished line.
-    fn push_line(&mut self, line: Vec<Element<T, M>>) -> Result<(), AllocError>
-        ensures { OnOk result (self.new ≡ record self.old { lines = self.old.lines ++ line.items ∷ [] }) }
+    fn push_line(&mut self, line: Line<T, M>) -> Result<(), AllocError>
+        ensures { OnOk result (self.new ≡ record self.old { lines = self.old.lines ++ line ∷ [] }) }
     {
         self.lines.push(line)?;
         Ok(())
@@ -278,15 +277,12 @@ impl<T: Copy, M: Copy> Block<T, M> {
 }
 
 /// A line of marks alone.
-fn marks_line<T: Copy, M: Copy>(
-    alloc: Global,
-    marks: &[M],
-) -> Result<Vec<Element<T, M>>, AllocError>
-    ensures { IfOk result (λ v. v.items ≡ marks_line marks.now) }
+fn marks_line<T: Tag, M: Copy>(alloc: Global, marks: &[M]) -> Result<Line<T, M>, AllocError>
+    ensures { IfOk result (λ line. line ≡ marks_line marks.now) }
 {
-    let mut line = Vec::new(alloc);
+    let mut line = Line::new(alloc);
     for mark in marks {
-        line.push(Element::Mark(*mark))?;
+        line.push_mark(*mark)?;
     }
     Ok(line)
 }

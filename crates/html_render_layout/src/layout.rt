@@ -5,7 +5,6 @@
 ghost use Rattle.std.specs.Prelude.{◌≡◌, ◌≢◌, ◌≤◌, ◌<◌, Some, ℕ, true, false, Err, OnOk, OnErr, IfOk, IfErr, IfSome};
 ghost use Rattle.html_render_dom.specs.Outcome.{Refuses};
 ghost use Rattle.html_render_lines.specs.Line.{AllWithinWidth};
-ghost use Rattle.html_render_lines.specs.Stream.{lines_in};
 ghost use Rattle.html_render_layout.specs.BlockMachine as machine;
 ghost use Rattle.html_render_layout.specs.Counts.{CountsNodes};
 ghost use Rattle.html_render_layout.specs.Pass.{run};
@@ -20,7 +19,7 @@ use crate::tagging::{Tagging, Untagged};
 use crate::tree::{Emphasis, RenderNode, RenderTree};
 use crate::walk::{Pass, walk};
 use html_render_dom::Error;
-use html_render_lines::line::Element;
+use html_render_lines::line::Line;
 use html_render_parts::decorate::TextDecorator;
 use html_render_parts::widths::Meter;
 use std::alloc::Global;
@@ -58,7 +57,7 @@ pub enum Leaving<T> {
 #[derive(Drop)]
 pub struct LaidOut<A> {
     /// The lines.
-    pub lines: Vec<Vec<Element<usize, ()>>>,
+    pub lines: Vec<Line<usize, ()>>,
     /// What their tags stand for.
     pub stacks: Stacks<A>,
 }
@@ -189,8 +188,8 @@ fn untagged_lines_on<D: TextDecorator>(
     alloc: Global,
     tree: &RenderTree,
     desk: Desk<D, Untagged, (), Block<(), ()>>,
-) -> Result<Vec<Vec<Element<(), ()>>>, Error>
-    ensures ok { IfOk result (λ lines. untagged_work D.decoration tree.now desk ≡ Some (lines_in lines)) }
+) -> Result<Vec<Line<(), ()>>, Error>
+    ensures ok { IfOk result (λ lines. untagged_work D.decoration tree.now desk ≡ Some lines.items) }
     ensures err { IfErr result (λ e. Refuses e (untagged_work D.decoration tree.now desk)) }
 {
     let mut meter = Meter::default();
@@ -210,12 +209,12 @@ pub fn lay_out_untagged<D: TextDecorator>(
     tree: &RenderTree,
     width: usize,
     overflow: bool,
-) -> Result<Vec<Vec<Element<(), ()>>>, Error>
-    ensures ok { IfOk result (λ lines. untagged_lines D.decoration tree.now decorator.now width overflow ≡ Some (lines_in lines)) }
+) -> Result<Vec<Line<(), ()>>, Error>
+    ensures ok { IfOk result (λ lines. untagged_lines D.decoration tree.now decorator.now width overflow ≡ Some lines.items) }
     ensures err { IfErr result (λ e. Refuses e (untagged_lines D.decoration tree.now decorator.now width overflow)) }
 
     // as for the lines with annotations
-    ensures within { IfOk result (λ lines. overflow ≡ false → AllWithinWidth width (lines_in lines)) }
+    ensures within { IfOk result (λ lines. overflow ≡ false → AllWithinWidth width lines.items) }
     ensures answered { 0 < width → overflow ≡ true → result ≢ Err Error.TooNarrow }
     ensures no_width { width ≡ 0 → result ≡ Err Error.TooNarrow }
 {

@@ -8,11 +8,12 @@ ghost use Rattle.html_render_layout.specs.Working.{tabled, untagged};
 
 use crate::stacks::Stacks;
 use html_render_dom::Error;
+use html_render_lines::tag::Tag;
 
 /// What keeps the annotations of the characters of a layout.
 pub trait Tagging<A>: Drop {
     /// What a character carries.
-    type Tag: Copy;
+    type Tag: Tag;
 
     // what is kept, and the tag, with one annotation more on a tag
     ghost annotated: { Self → Self.Tag → A → Self × Self.Tag };

@@ -1,6 +1,9 @@
-pub mod Rooms
+pub mod TaggedTexts
+pub mod LineColumns
+pub mod WordColumns
+pub mod PageColumns
 pub mod Words
 pub mod Copies
 pub mod Letters
 pub mod WholeWords
-pub mod Items
+pub mod Fronts

@@ -10,9 +10,13 @@ pub mod Visible
 pub mod Tags
 -- a paragraph that is fed character by character
 pub mod Stream
+-- whether a word is open
+pub mod OpenWord
+-- a text under runs of tags
+pub mod TaggedText
 -- a word put on a line as a whole
 pub mod Word
--- the room that is left behind a line
-pub mod Room
+-- texts that a paragraph takes as slices
+pub mod Feeding
 -- what follows from the definitions
 pub mod laws

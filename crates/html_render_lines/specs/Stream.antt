@@ -1,6 +1,5 @@
 -- A paragraph that is fed character by character.
-use Rattle.std.specs.Prelude.{ℕ, Bool, false, List, [], ◌∷◌, ◌++◌, Option, Some, None, Vec, map, option_and_then, option_map, if◌then◌else◌}
-use Rattle.std.specs.declared.alloc.Global.{Global}
+use Rattle.std.specs.Prelude.{ℕ, Bool, false, List, [], ◌∷◌, ◌++◌, Option, Some, None, map, option_and_then, option_map, if◌then◌else◌}
 use Rattle.html_render_dom.specs.WhiteSpace.{preserves}
 use Rattle.html_render_lines.specs.declared.character.Kind.{Kind}
 use Rattle.html_render_lines.specs.declared.character.Kind.TheVariants.{Letter, Space, Divider, Dropped, Preserved, Newline, Tab, SoftSpace, SoftTab}
@@ -8,7 +7,6 @@ use Rattle.html_render_lines.specs.declared.character.Character.{Character}
 use Rattle.html_render_lines.specs.declared.character.Item.{Item}
 use Rattle.html_render_lines.specs.declared.character.TextStyle.{TextStyle}
 use Rattle.html_render_lines.specs.declared.character.Item.TheVariants as item
-use Rattle.html_render_lines.specs.declared.line.Element.{Element}
 use Rattle.html_render_lines.specs.Character.{kind}
 use Rattle.html_render_lines.specs.Line.{Line}
 use Rattle.html_render_lines.specs.Paragraph.{Page, Setting, blank_page, with_waiting_mark, put_word, put_single, page_for_single, first_of, is_same, all_lines}
@@ -105,10 +103,6 @@ abbrev pub letters_step : {T M : Type 0} → State T M → TextStyle T → List 
 letters_step {T} {M} st style cs =
     if joins st.open_word (preserves style.mode) then Some (record st { word = st.word ++ styled style cs })
     else option_map (λ (t : State T M). record t { word = styled style cs; open_word = Some (preserves style.mode) }) (end_word st)
-
--- the lines as a vector of vectors holds them
-abbrev pub lines_in : {T M : Type 0} → Vec (Vec (Element T M) Global) Global → List (Line T M)
-lines_in {T} {M} lines = map (λ (v : Vec (Element T M) Global). v.items) lines.items
 
 -- lines with those of a finished page, and a paragraph that begins with the marks that still wait
 abbrev pub flushed_to : {T M : Type 0} → Setting → List (Line T M) → Page T M → List (Line T M) × State T M

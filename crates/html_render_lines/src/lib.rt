@@ -7,3 +7,4 @@ pub mod character;
 mod laws;
 pub mod line;
 pub mod paragraph;
+pub mod tag;

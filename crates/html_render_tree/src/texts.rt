@@ -1,26 +1,23 @@
 //! Lines as a string.
 
-ghost use Rattle.std.specs.Prelude.{◌≡◌, ◌++◌, IfOk, OnOk, string_bytes, map};
+ghost use Rattle.std.specs.Prelude.{◌≡◌, ◌++◌, IfOk, OnOk, string_bytes};
 ghost use Rattle.html_render_tree.specs.Texts.{line_bytes, text_of};
 
-use html_render_lines::line::Element;
+use html_render_lines::line::Line;
+use html_render_lines::tag::Tag;
 use std::alloc::{AllocError, Global};
 
 /// Adds a line's characters and a newline.
-fn push_line<T, M>(text: &mut String, line: &[Element<T, M>]) -> Result<(), AllocError>
+fn push_line<T: Tag, M: Copy>(text: &mut String, line: &Line<T, M>) -> Result<(), AllocError>
     ensures { OnOk result (string_bytes text.new ≡ string_bytes text.old ++ line_bytes line.now) }
 {
-    for element in line {
-        if let Element::Character(c, _) = element {
-            text.push(*c)?;
-        }
-    }
+    line.write_to(text)?;
     text.push('\n')
 }
 
 /// The string of some lines: each line's characters, and a newline.
-pub fn string_of<T, M>(alloc: Global, lines: &[Vec<Element<T, M>>]) -> Result<String, AllocError>
-    ensures { IfOk result (λ text. string_bytes text ≡ text_of (map (λ l. l.items) lines.now)) }
+pub fn string_of<T: Tag, M: Copy>(alloc: Global, lines: &[Line<T, M>]) -> Result<String, AllocError>
+    ensures { IfOk result (λ text. string_bytes text ≡ text_of lines.now) }
 {
     let mut text = String::new(alloc);
     for line in lines {

@@ -2,7 +2,7 @@ use super::*;
 use std::test::Fail;
 
 /// A style of this mode.
-fn style(mode: WhiteSpace) -> TextStyle<u8> {
+fn style(mode: WhiteSpace) -> TextStyle<usize> {
     TextStyle {
         mode,
         tag: 0,
@@ -11,16 +11,11 @@ fn style(mode: WhiteSpace) -> TextStyle<u8> {
 }
 
 /// What the lines of a block say, each with a stroke behind it.
-fn shown(alloc: Global, block: Block<u8, u8>) -> Result<String, Fail> {
+fn shown(alloc: Global, block: Block<usize, u8>) -> Result<String, Fail> {
     let mut text = String::new(alloc);
     let lines = block.into_lines();
     for line in lines.as_slice() {
-        for element in line.as_slice() {
-            match element {
-                Element::Character(c, _) => text.push(*c)?,
-                Element::Mark(_) => text.push('*')?,
-            }
-        }
+        line.write_to(&mut text)?;
         text.push('/')?;
     }
     Ok(text)
@@ -29,7 +24,7 @@ fn shown(alloc: Global, block: Block<u8, u8>) -> Result<String, Fail> {
 #[test]
 fn blocks_are_separated(rt: HostRuntime) -> Result<(), Fail> {
     let normal = style(WhiteSpace::Normal);
-    let mut block: Block<u8, u8> = Block::new(rt.alloc(), 9, false);
+    let mut block: Block<usize, u8> = Block::new(rt.alloc(), 9, false);
     assert_eq!(rt; block.width(), 9);
     block.start_block()?;
     block.add_inline_text("one", normal)?;
@@ -47,7 +42,7 @@ fn blocks_are_separated(rt: HostRuntime) -> Result<(), Fail> {
 #[test]
 fn hard_breaks_end_lines(rt: HostRuntime) -> Result<(), Fail> {
     let normal = style(WhiteSpace::Normal);
-    let mut block: Block<u8, u8> = Block::new(rt.alloc(), 9, false);
+    let mut block: Block<usize, u8> = Block::new(rt.alloc(), 9, false);
     block.add_inline_text("a", normal)?;
     block.end_block();
     block.new_line_hard()?;
@@ -63,7 +58,7 @@ fn hard_breaks_end_lines(rt: HostRuntime) -> Result<(), Fail> {
 #[test]
 fn what_is_too_wide_refuses_at_the_next_flush(rt: HostRuntime) -> Result<(), Fail> {
     let normal = style(WhiteSpace::Normal);
-    let mut block: Block<u8, u8> = Block::new(rt.alloc(), 1, false);
+    let mut block: Block<usize, u8> = Block::new(rt.alloc(), 1, false);
     block.add_inline_text("世 a", normal)?;
     block.add_inline_text("b", normal)?;
     assert_eq!(rt; block.flush(), Err(Error::TooNarrow));

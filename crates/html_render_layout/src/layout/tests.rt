@@ -3,18 +3,16 @@ ghost use Rattle.std.specs.Prelude.{codes, refl};
 use super::*;
 use crate::tree::{Builder, NodeKind};
 use html_render_dom::text::Text;
+use html_render_lines::line::Run;
+use html_render_lines::tag::Tag;
 use html_render_parts::decorate::PlainDecorator;
 use std::test::Fail;
 
 /// What lines say, each with a bar behind it.
-fn shown<T>(alloc: Global, lines: &[Vec<Element<T, ()>>]) -> Result<String, Fail> {
+fn shown<T: Tag>(alloc: Global, lines: &[Line<T, ()>]) -> Result<String, Fail> {
     let mut text = String::new(alloc);
     for line in lines {
-        for element in line {
-            if let Element::Character(c, _) = element {
-                text.push(*c)?;
-            }
-        }
+        line.write_to(&mut text)?;
         text.push('|')?;
     }
     Ok(text)
@@ -172,12 +170,20 @@ impl TextDecorator for Signs {
     }
 }
 
-/// The tags of all characters, as digits.
-fn tags(alloc: Global, lines: &[Vec<Element<usize, ()>>]) -> Result<String, Fail> {
+/// The tags of all characters, as digits: each character has one byte.
+fn tags(alloc: Global, lines: &[Line<usize, ()>]) -> Result<String, Fail> {
     let mut text = String::new(alloc);
     for line in lines {
-        for element in line {
-            if let Element::Character(_, tag) = element {
+        let parts = line.parts().text;
+        for run in parts.closed {
+            if let Run::Text(bytes, tag) = run {
+                for _byte in 0..*bytes {
+                    write!(text, "{tag}")?;
+                }
+            }
+        }
+        if let Some(tag) = parts.tag {
+            for _character in parts.open_text.chars() {
                 write!(text, "{tag}")?;
             }
         }

@@ -58,8 +58,10 @@ continued_within {T} {M} w page h = by page.line h refl
     by : (line : Line T M) → IsWithin w page → page.line ≡ line → IsWithin w (continued_by page line)
     by [] h e = h
     by (x ∷ xs) h e = record {
-      lines = All-push (λ (l : Line T M). columns l ≤ w) page.lines (x ∷ xs) h.lines (subst (λ (l : Line T M). columns l ≤ w) e h.line);
-      line = omega arith;
+      lines =
+          All-push (λ (l : Line T M). columns l ≤ w) page.lines (x ∷ xs) h.lines (subst (λ (l : Line T M). columns l ≤ w) e h.line);
+      line =
+          omega arith;
     }
 
 pub columns-continued : {T M : Type 0} (page : Page T M) → columns (continued page).line ≡ 0

@@ -3,4 +3,4 @@ use Rattle.html_render_lines.specs.Line.{marks_line}
 use Rattle.html_render_layout.proofs.block.marks_line.Given as goal
 
 abbrev pub invariant-loop-mark : goal.invariant-loop-mark
-invariant-loop-mark g l = l.line.items ≡ marks_line (take l.mark-index l.marks)
+invariant-loop-mark g l = l.line ≡ marks_line (take l.mark-index l.marks)

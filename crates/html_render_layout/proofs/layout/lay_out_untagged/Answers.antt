@@ -1,7 +1,6 @@
 use Rattle.std.proofs.Common.{◌≡◌, Some, IfOk, IfErr, Result, Ok, Err, subst}
 use Rattle.html_render_dom.specs.declared.errors.Error.{Error}
 use Rattle.html_render_dom.specs.Outcome.{Refuses}
-use Rattle.html_render_lines.specs.Stream.{lines_in}
 use Rattle.html_render_layout.specs.declared.tagging.Untagged.{Untagged as Nothing}
 use Rattle.html_render_layout.specs.Layout.{layout_lines, untagged_lines}
 use Rattle.html_render_layout.specs.laws.LayoutWorks.{empty_untagged, untagged_lines-works}
@@ -24,7 +23,7 @@ works g c =
     (record {}) desk c.if-width-eq0.false empty
 
 pub returns-clause-ok : goal.returns-clause-ok
-returns-clause-ok g c = subst (λ o. IfOk c.untagged_lines_on.result (λ lines. o ≡ Some (lines_in lines)))
+returns-clause-ok g c = subst (λ o. IfOk c.untagged_lines_on.result (λ lines. o ≡ Some lines.items))
     (works g c) c.untagged_lines_on.ensures.ok
 
 pub returns-clause-err : goal.returns-clause-err
@@ -33,7 +32,7 @@ returns-clause-err g c = subst (λ o. IfErr c.untagged_lines_on.result (λ e. Re
 pub returns-clause-within : goal.returns-clause-within
 returns-clause-within g c =
     untagged_within-answered g.D.TextDecorator.decoration c.args.tree.now c.args.decorator.now c.args.width c.args.overflow
-    (λ v. lines_in v) c.untagged_lines_on.result (returns-clause-ok g c)
+    (λ v. v.items) c.untagged_lines_on.result (returns-clause-ok g c)
 
 pub returns-clause-answered : goal.returns-clause-answered
 returns-clause-answered g c =

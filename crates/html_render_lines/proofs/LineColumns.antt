@@ -1,0 +1,109 @@
+-- The columns of a line that grows at either end.
+use Rattle.std.proofs.Common.{◌≡◌, ℕ, ◌+◌, Bool, true, false, List, [], ◌∷◌, ◌++◌, Option, Some, None, map, take, drop, reverse, refl, sym, ap, ◌∙◌}
+use Rattle.std.proofs.Common.{arith, append_assoc}
+use Rattle.std.proofs.lemmas.List.Sums.{sum_by-append}
+use Rattle.std.proofs.lemmas.List.{take-append-drop, reverse-append}
+use Rattle.std.proofs.lemmas.Str.{chars-append, chars-nil}
+use Rattle.std.specs.Str.{chars}
+use Rattle.html_render_lines.specs.declared.character.TextStyle.{TextStyle}
+use Rattle.html_render_lines.specs.declared.line.Element.{Element}
+use Rattle.html_render_lines.specs.declared.line.Element.TheVariants as element
+use Rattle.html_render_lines.specs.Character.{width_of}
+use Rattle.html_render_lines.specs.Line.{Line, columns, element_width}
+use Rattle.html_render_lines.specs.declared.line.tagged_text.Run.{Run}
+use Rattle.html_render_lines.specs.declared.line.tagged_text.Run.TheVariants as run
+use Rattle.html_render_lines.specs.TaggedText.{elements_of, open_elements, Cuts, HasTag, under, text_columns, items_of}
+use Rattle.html_render_lines.specs.Word.{element_of}
+
+pub columns-append : {T M : Type 0} (a b : Line T M) → columns (a ++ b) ≡ columns a + columns b
+columns-append {T} {M} a b = sum_by-append (λ (e : Element T M). element_width e) a b
+
+pub columns-single : {T M : Type 0} (e : Element T M) → columns (e ∷ []) ≡ element_width e
+columns-single e = omega arith
+
+pub columns-cons : {T M : Type 0} (e : Element T M) (b : Line T M) → columns (e ∷ b) ≡ element_width e + columns b
+columns-cons e b = omega (arith, columns-append (e ∷ []) b, columns-single e)
+
+pub columns-under : {T : Type 0} (M : Type 0) (tag : T) (cs : List ℕ) → columns (under {M = M} tag cs) ≡ text_columns cs
+columns-under M tag [] = refl
+columns-under M tag (c ∷ cs) =
+    let front = columns-cons {M = M} (element.Character c tag) (under tag cs) in
+    let text = sum_by-append width_of (c ∷ []) cs in
+    omega (arith, front, text, columns-under M tag cs)
+
+-- a word has the same columns with either tag
+pub columns-placed : {T M : Type 0} (continues : Bool) (word : Line (TextStyle T) M) →
+    columns (map (element_of continues) (items_of word)) ≡ columns word
+columns-placed continues [] = refl
+columns-placed {T} {M} continues (element.Character c style ∷ es) =
+    let one : Line (TextStyle T) M = element.Character c style ∷ [] in
+    let placed = columns-append {T = T} {M = M} (map (element_of continues) (items_of one)) (map (element_of continues) (items_of es)) in
+    let word = columns-append one es in
+    omega (arith, placed, word, columns-placed continues es)
+columns-placed {T} {M} continues (element.Mark m ∷ es) =
+    let one : Line (TextStyle T) M = element.Mark m ∷ [] in
+    let placed = columns-append {T = T} {M = M} (map (element_of continues) (items_of one)) (map (element_of continues) (items_of es)) in
+    let word = columns-append one es in
+    omega (arith, placed, word, columns-placed continues es)
+
+-- a line and its columns, with a word behind it
+pub columns-with_word : {T M : Type 0} (continues : Bool) (front old new : Line T M) (word : Line (TextStyle T) M) (width : ℕ) →
+    width ≡ columns word → new ≡ old ++ map (element_of continues) (items_of word) → columns (front ++ old) + width ≡ columns (front ++ new)
+columns-with_word {T} {M} continues front old new word width w e =
+    let placed : Line T M = map (element_of continues) (items_of word) in
+    let grown : columns new ≡ columns (old ++ placed) = ap (λ (l : Line T M). columns l) e in
+    omega (arith, columns-append front old, columns-append front new, columns-append old placed, columns-placed continues word, grown)
+
+pub ruleset pushes = (columns-append, columns-single, columns-under, columns-placed, append_assoc)
+
+pub ruleset prefixes = (columns-cons)
+
+-- ---- where a line stands between tab stops
+
+elements_columns : {T M : Type 0} (rs : List (Run T M)) (bs : List ℕ) → Cuts rs bs → columns (elements_of rs bs) ≡ text_columns (chars bs)
+elements_columns [] bs cuts = sym (ap text_columns (ap chars cuts ∙ chars-nil))
+elements_columns (run.Mark m ∷ rs) bs cuts = omega (arith, columns-cons (element.Mark m) (elements_of rs bs), elements_columns rs bs cuts)
+elements_columns {T} {M} (run.Text n tag ∷ rs) bs cuts =
+    let whole : chars bs ≡ chars (take n bs) ++ chars (drop n bs) =
+    ap chars (sym (take-append-drop n bs)) ∙ chars-append (take n bs) (drop n bs) cuts.1 in
+    omega (
+      arith,
+      columns-append (under {M = M} tag (chars (take n bs))) (elements_of rs (drop n bs)),
+      columns-under M tag (chars (take n bs)),
+      elements_columns rs (drop n bs) cuts.2,
+      ap text_columns whole,
+      sum_by-append width_of (chars (take n bs)) (chars (drop n bs)),
+    )
+
+open_columns : {T : Type 0} (M : Type 0) (tag : Option T) (bs : List ℕ) → HasTag tag bs →
+    columns (open_elements {M = M} tag bs) ≡ text_columns (chars bs)
+open_columns M None bs none = sym (ap text_columns (ap chars none ∙ chars-nil))
+open_columns M (Some tag) bs none = columns-under M tag (chars bs)
+
+reverse_columns : {T M : Type 0} (es : Line T M) → columns (reverse es) ≡ columns es
+reverse_columns [] = refl
+reverse_columns {T} {M} (e ∷ es) =
+    omega (
+      arith,
+      ap columns (reverse-append (e ∷ []) es),
+      columns-append (reverse es) (e ∷ []),
+      columns-single e,
+      columns-cons e es,
+      reverse_columns es,
+    )
+
+-- the columns of a line by its parts
+pub columns-parts : {T M : Type 0} (front : Line T M) (rs : List (Run T M)) (tag : Option T) (closed behind : List ℕ) (text : Line T M) →
+    Cuts rs closed →
+    HasTag tag behind → elements_of rs closed ++ open_elements tag behind ≡ text →
+    columns front + text_columns (chars closed) + text_columns (chars behind) ≡ columns (reverse front ++ text)
+columns-parts {T} {M} front rs tag closed behind text cuts none e =
+    omega (
+      arith,
+      columns-append (reverse front) text,
+      reverse_columns front,
+      ap columns e,
+      columns-append (elements_of rs closed) (open_elements tag behind),
+      elements_columns rs closed cuts,
+      open_columns M tag behind none,
+    )

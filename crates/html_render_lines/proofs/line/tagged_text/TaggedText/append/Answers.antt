@@ -1,0 +1,10 @@
+use Rattle.std.proofs.lemmas.Str.{IsCharBoundary-from_drop}
+use Rattle.html_render_lines.proofs.line.tagged_text.TaggedText.append.Goals as goal
+
+pub range-requires-clause-end_boundary : goal.range-requires-clause-end_boundary
+range-requires-clause-end_boundary g c =
+    rw c.as_str-text.ensures.value (IsCharBoundary-from_drop _ _ c.other.invariant.within c.other.invariant.ending)
+
+pub range_from-requires : goal.range_from-requires
+range_from-requires g c = λ _. rw c.as_str-text.ensures.value
+    (IsCharBoundary-from_drop _ _ c.other.invariant.within c.other.invariant.ending)
