@@ -1,9 +1,10 @@
 -- The columns of a line that grows at either end.
 use Rattle.std.proofs.Common.{◌≡◌, ℕ, ◌+◌, Bool, true, false, List, [], ◌∷◌, ◌++◌, Option, Some, None, map, take, drop, reverse, refl, sym, ap, ◌∙◌}
-use Rattle.std.proofs.Common.{arith, append_assoc}
+use Rattle.std.proofs.Common.{length, ◌==◌, arith, append_assoc}
 use Rattle.std.proofs.lemmas.List.Sums.{sum_by-append}
 use Rattle.std.proofs.lemmas.List.{take-append-drop, reverse-append}
 use Rattle.std.proofs.lemmas.Str.{chars-append, chars-nil}
+use Rattle.std.proofs.lemmas.Bool.Decides.{nat_tests}
 use Rattle.std.specs.Str.{chars}
 use Rattle.html_render_lines.specs.declared.character.TextStyle.{TextStyle}
 use Rattle.html_render_lines.specs.declared.line.Element.{Element}
@@ -92,6 +93,60 @@ reverse_columns {T} {M} (e ∷ es) =
       reverse_columns es,
     )
 
+-- a line's columns, with an element put at its front
+pub columns-with_front : {T M : Type 0} (e : Element T M) (front new text : Line T M) → new ≡ front ++ e ∷ [] →
+    columns (reverse front ++ text) + element_width e ≡ columns (reverse new ++ text)
+columns-with_front e front new text n =
+    omega (
+      arith,
+      columns-append (reverse front) text,
+      columns-append (reverse new) text,
+      reverse_columns front,
+      reverse_columns new,
+      ap columns n,
+      columns-append front (e ∷ []),
+      columns-single e,
+    )
+
+-- a line's columns, with a text, a character or a mark behind it
+pub columns-with_text : {T M : Type 0} (front old new : Line T M) (tag : T) (cs : List ℕ) (width : ℕ) → width ≡ text_columns cs →
+    new ≡ old ++ under tag cs → columns (front ++ old) + width ≡ columns (front ++ new)
+columns-with_text {T} {M} front old new tag cs width w n =
+    omega (
+      arith,
+      columns-append front old,
+      columns-append front new,
+      ap columns n,
+      columns-append old (under tag cs),
+      columns-under M tag cs,
+    )
+
+pub columns-with_character : {T M : Type 0} (front old new : Line T M) (tag : T) (c width : ℕ) → width ≡ width_of c →
+    new ≡ old ++ element.Character c tag ∷ [] → columns (front ++ old) + width ≡ columns (front ++ new)
+columns-with_character {T} {M} front old new tag c width w n =
+    let single = columns-single {T = T} {M = M} (element.Character c tag) in
+    omega (
+      arith,
+      columns-append front old,
+      columns-append front new,
+      ap columns n,
+      columns-append old (element.Character c tag ∷ []),
+      single,
+    )
+
+pub columns-with_mark : {T M : Type 0} (front old new : Line T M) (m : M) → new ≡ old ++ element.Mark m ∷ [] →
+    columns (front ++ old) ≡ columns (front ++ new)
+columns-with_mark {T} {M} front old new m n =
+    let single = columns-single {T = T} {M = M} (element.Mark m) in
+    omega (
+      arith,
+      columns-append front old,
+      columns-append front new,
+      ap columns n,
+      columns-append old (element.Mark m ∷ []),
+      single,
+    )
+
 -- the columns of a line by its parts
 pub columns-parts : {T M : Type 0} (front : Line T M) (rs : List (Run T M)) (tag : Option T) (closed behind : List ℕ) (text : Line T M) →
     Cuts rs closed →
@@ -107,3 +162,9 @@ columns-parts {T} {M} front rs tag closed behind text cuts none e =
       elements_columns rs closed cuts,
       open_columns M tag behind none,
     )
+
+-- a line at whose front nothing stands is empty where its text is
+pub empty-without_front : {A : Type 0} (front text : List A) → (length front == 0) ≡ true →
+    (length (reverse front ++ text) == 0) ≡ (length text == 0)
+empty-without_front [] text h = refl
+empty-without_front (e ∷ es) text h = grind (arith, nat_tests)

@@ -1,10 +1,8 @@
-//! Tests that cross crates: worked rows of documents and of calls, and cases that were not made with this code.
+//! Tests that cross crates: worked rows of documents, of rules, of decorators and of scripts.
 //!
 //! There is nothing to call here.
 #![tactic(auto)]
 
-#[cfg(test)]
-mod column_cuts;
 #[cfg(test)]
 mod decorators;
 #[cfg(test)]
@@ -13,5 +11,3 @@ mod documents;
 mod scripts;
 #[cfg(test)]
 mod styles;
-#[cfg(test)]
-mod table_grids;

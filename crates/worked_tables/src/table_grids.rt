@@ -1,6 +1,8 @@
 //! The grids of tables: a case a line, and a table that hangs far below itself.
 
-use html_render_parts::table::{CellKind, Span, TableGrid, spans_are_valid, table_grid};
+use html_render_parts::table::{
+    CellKind, PlacedCell, Span, TableGrid, spans_are_valid, table_grid,
+};
 use std::alloc::Global;
 use std::test::Fail;
 
@@ -29,25 +31,51 @@ const CASES: &str = "\
 2,1;1,1 5,340282366920938463463374607431768211455; = 0 1 2 6 | C 0 2 2; C 0 1 1 C 1 6 2; G 0 1 1 P 1 6 2;
 ";
 
+/// The cell that a text holds.
+fn cell_of(text: &str) -> Result<Span, Fail> {
+    let (columns, rows) = text.split_once(',').ok_or("a cell has two numbers")?;
+    Ok(Span {
+        colspan: columns.parse()?,
+        rowspan: rows.parse()?,
+    })
+}
+
+/// The row that a text holds.
+fn row_of(alloc: Global, text: &str) -> Result<Vec<Span>, Fail> {
+    let mut cells = Vec::new(alloc);
+    for cell in text.split_whitespace() {
+        cells.push(cell_of(cell)?)?;
+    }
+    Ok(cells)
+}
+
 /// The rows that a text holds.
 fn rows_of(alloc: Global, text: &str) -> Result<Vec<Vec<Span>>, Fail> {
     let mut rows = Vec::new(alloc);
     for piece in text.split_inclusive(';') {
-        let mut cells = Vec::new(alloc);
-        for cell in piece
-            .strip_suffix(';')
-            .ok_or("a row ends in `;`")?
-            .split_whitespace()
-        {
-            let (columns, rows) = cell.split_once(',').ok_or("a cell has two numbers")?;
-            cells.push(Span {
-                colspan: columns.parse()?,
-                rowspan: rows.parse()?,
-            })?;
-        }
-        rows.push(cells)?;
+        let row = piece.strip_suffix(';').ok_or("a row ends in `;`")?;
+        rows.push(row_of(alloc, row)?)?;
     }
     Ok(rows)
+}
+
+/// The letter of a kind.
+fn letter_of(kind: CellKind) -> char {
+    match kind {
+        CellKind::Cell => 'C',
+        CellKind::Placeholder => 'P',
+        CellKind::Gap => 'G',
+    }
+}
+
+/// Adds a row's cells to the text of a case.
+fn push_row(alloc: Global, text: &mut String, cells: &[PlacedCell]) -> Result<(), Fail> {
+    for cell in cells {
+        let kind = letter_of(cell.kind);
+        text.push_str(&format!(in alloc; " {kind} {} {} {}", cell.start, cell.end, cell.columns)?)?;
+    }
+    text.push(';')?;
+    Ok(())
 }
 
 /// A grid as the text of a case.
@@ -58,18 +86,7 @@ fn text_of(alloc: Global, grid: &TableGrid) -> Result<String, Fail> {
     }
     text.push('|')?;
     for cells in &grid.rows {
-        for cell in cells {
-            let kind = match cell.kind {
-                CellKind::Cell => 'C',
-                CellKind::Placeholder => 'P',
-                CellKind::Gap => 'G',
-            };
-            text.push_str(&format!(in alloc;
-                " {kind} {} {} {}",
-                cell.start, cell.end, cell.columns
-            )?)?;
-        }
-        text.push(';')?;
+        push_row(alloc, &mut text, cells)?;
     }
     Ok(text)
 }
@@ -111,9 +128,8 @@ fn spans_of_nothing_are_not_valid(rt: HostRuntime) -> Result<(), Fail> {
     Ok(())
 }
 
-#[test]
-fn a_thousand_rows_hang_as_far_as_there_are_numbers(rt: HostRuntime) -> Result<(), Fail> {
-    let alloc = rt.alloc();
+/// A thousand rows of one cell each, which hangs as far as there are numbers.
+fn hanging_rows(alloc: Global) -> Result<Vec<Vec<Span>>, Fail> {
     let mut rows = Vec::new(alloc);
     for _ in 0..1000 {
         rows.push(vec![in alloc;
@@ -123,19 +139,30 @@ fn a_thousand_rows_hang_as_far_as_there_are_numbers(rt: HostRuntime) -> Result<(
             },
         ]?)?;
     }
-    assert!(rt; spans_are_valid(&rows));
-    let grid = table_grid(alloc, &rows)?;
-    assert_eq!(rt; grid.rows.len(), 2000);
-    assert_eq!(rt; grid.edges.len(), 1001);
+    Ok(rows)
+}
+
+/// How many cells the first thousand rows have, and how many the others.
+fn cells_above_and_below(rows: &[Vec<PlacedCell>]) -> (usize, usize) {
     let mut above = 0usize;
     let mut below = 0usize;
-    for (row, cells) in grid.rows.iter().enumerate() {
+    for (row, cells) in rows.iter().enumerate() {
         if row < 1000 {
             above = above.saturating_add(cells.len());
         } else {
             below = below.saturating_add(cells.len());
         }
     }
-    assert_eq!(rt; (above, below), (500_500, 501_499));
+    (above, below)
+}
+
+#[test]
+fn a_thousand_rows_hang_as_far_as_there_are_numbers(rt: HostRuntime) -> Result<(), Fail> {
+    let rows = hanging_rows(rt.alloc())?;
+    assert!(rt; spans_are_valid(&rows));
+    let grid = table_grid(rt.alloc(), &rows)?;
+    assert_eq!(rt; grid.rows.len(), 2000);
+    assert_eq!(rt; grid.edges.len(), 1001);
+    assert_eq!(rt; cells_above_and_below(&grid.rows), (500_500, 501_499));
     Ok(())
 }
