@@ -111,20 +111,28 @@ impl<T: Tag, M: Copy> Block<T, M> {
         self.lines
     }
 
+    /// Leaves no paragraph open.
+    #[inline(never)]
+    fn close_paragraph(&mut self)
+        ensures { self.new ≡ record self.old { paragraph = None } }
+    {
+        self.paragraph = None;
+    }
+
     /// Takes a text. Where a character is too wide, the next flush says so.
     fn feed(&mut self, text: &str, style: TextStyle<T>) -> Result<(), Error>
         ensures ok { OnOk result (self.new ≡ machine.feed self.old style (chars text.now)) }
         ensures err { IfErr result (λ e. e ≡ Error.OutOfMemory) }
     {
-        let Some(mut paragraph) = self.paragraph.take() else {
+        let Some(paragraph) = &mut self.paragraph else {
             return Ok(());
         };
         match paragraph.add_text(text, style) {
-            Ok(()) => {
-                self.paragraph = Some(paragraph);
+            Ok(()) => Ok(()),
+            Err(Error::TooNarrow) => {
+                self.close_paragraph();
                 Ok(())
             }
-            Err(Error::TooNarrow) => Ok(()),
             Err(_) => Err(Error::OutOfMemory),
         }
     }
@@ -139,12 +147,10 @@ impl<T: Tag, M: Copy> Block<T, M> {
         ensures ok { OnOk result (machine.flush self.old ≡ Some self.new) }
         ensures err { IfErr result (λ e. Refuses e (machine.flush self.old)) }
     {
-        let Some(mut paragraph) = self.paragraph.take() else {
+        let Some(paragraph) = &mut self.paragraph else {
             return Err(Error::TooNarrow);
         };
-        paragraph.flush(&mut self.lines)?;
-        self.paragraph = Some(paragraph);
-        Ok(())
+        paragraph.flush(&mut self.lines)
     }
 
     /// Takes out the marks that wait.
@@ -152,12 +158,8 @@ impl<T: Tag, M: Copy> Block<T, M> {
         ensures marks { result.items ≡ machine.waiting self.old.paragraph }
         ensures after { self.new ≡ record self.old { paragraph = machine.take_waiting self.old.paragraph } }
     {
-        match self.paragraph.take() {
-            Some(mut paragraph) => {
-                let marks = paragraph.take_waiting();
-                self.paragraph = Some(paragraph);
-                marks
-            }
+        match &mut self.paragraph {
+            Some(paragraph) => paragraph.take_waiting(),
             None => Vec::new(self.alloc),
         }
     }

@@ -1,5 +1,5 @@
 -- Fronts of a text that are put on a line as a whole.
-use Rattle.std.proofs.Common.{◌≡◌, ℕ, ◌+◌, ◌-◌, ◌<◌, ◌≤◌, true, List, [], ◌∷◌, ◌++◌, Some, map, take, drop, length, ap, ◌∙◌, sym, subst, arith}
+use Rattle.std.proofs.Common.{◌≡◌, ℕ, ◌+◌, ◌-◌, ◌<◌, true, List, [], ◌∷◌, ◌++◌, map, take, drop, length, ap, ◌∙◌, sym, subst, arith}
 use Rattle.std.proofs.Common.{option_and_then, length-append}
 use Rattle.std.proofs.lemmas.List.{take-append-drop, take-append-le, take_all, map-append, length-drop}
 use Rattle.std.proofs.lemmas.List.Sums.{sum_by-append}
@@ -16,7 +16,6 @@ use Rattle.html_render_lines.specs.Feeding.{IsFront}
 use Rattle.html_render_lines.specs.Paragraph.{Page, Setting, fits, put_items}
 use Rattle.html_render_lines.specs.Stream.{character_of, styled}
 use Rattle.html_render_lines.specs.TaggedText.{text_columns, under, style_tag}
-use Rattle.html_render_lines.proofs.Letters.{some-chars}
 use Rattle.html_render_lines.proofs.TaggedTexts.{chars-one}
 use Rattle.html_render_lines.proofs.WordColumns.{put_items-append}
 use Rattle.html_render_lines.proofs.Words.{put_items-text}

@@ -6,7 +6,7 @@ use Rattle.std.proofs.lemmas.List.Folds.{list_all-append}
 use Rattle.std.proofs.lemmas.List.{take-append-drop, map-append, length-take, length-drop, get_or-take, take-append-le, take_all}
 use Rattle.std.proofs.lemmas.List.Elements.{All-nil, All-cons}
 use Rattle.std.proofs.lemmas.Bool.{and_parts, leb-true}
-use Rattle.std.proofs.lemmas.Str.{chars-append, chars-nil, chars-IsAscii, encodes-chars, IsUtf8-from_ascii, IsUtf8-take, IsUtf8-drop}
+use Rattle.std.proofs.lemmas.Str.{chars-append, chars-nil, chars-IsAscii, encodes-chars, IsUtf8-from_ascii, IsUtf8-take}
 use Rattle.std.proofs.lemmas.Str.{IsCharBoundary-at_seam, IsCharBoundary-after_ascii, IsCharBoundary-start, IsCharBoundary-from_rest}
 use Rattle.std.proofs.lemmas.Str.Ascii.{IsAscii-from_all}
 use Rattle.std.proofs.Math.Seq.{take-add}
@@ -259,8 +259,8 @@ after-front {T} {M} st style bs n w u are low =
 
 -- ---- a word and the space behind it
 
-chars-ascii : (b : ℕ) (bs : List ℕ) → b < 128 → IsUtf8 (b ∷ bs) → chars (b ∷ bs) ≡ b ∷ chars bs
-chars-ascii b bs h u =
+pub chars-ascii : (b : ℕ) (bs : List ℕ) → b < 128 → chars (b ∷ bs) ≡ b ∷ chars bs
+chars-ascii b bs h =
     let one : IsAscii (b ∷ []) = IsAscii-from_all (b ∷ []) (All-cons (λ b. b < 128) b [] h (All-nil (λ b. b < 128))) in
     chars-append (b ∷ []) bs (IsUtf8-from_ascii (b ∷ []) one) ∙ ap (λ cs. cs ++ chars bs) (chars-IsAscii (b ∷ []) one)
 
@@ -315,10 +315,9 @@ after-word {T} {M} st style bs n w u mode are low high byte space none empty =
     let rest : List ℕ = drop (n + 1) bs in
     let next : n + 1 ≡ suc n = omega arith in
     let whole : drop n bs ≡ b ∷ rest = drop-cons bs n 0 high ∙ rw next refl in
-    let tail : IsUtf8 (b ∷ rest) = subst IsUtf8 whole (IsUtf8-drop bs n u are.boundary) in
     after-front st style bs n w u are low
     ∙ ap (λ cs. option_and_then (λ (t : State T M). after t (styled style cs)) (letters_step st style (chars (take n bs))))
-    (ap chars whole ∙ chars-ascii b rest byte tail)
+    (ap chars whole ∙ chars-ascii b rest byte)
     ∙ after_first style b (chars rest) (letters_step st style (chars (take n bs)))
     ∙ ap (option_and_then (λ (t : State T M). after t (styled style (chars rest))))
     (word_space st style (chars (take n bs)) b none empty mode space)

@@ -7,3 +7,4 @@ pub mod Copies
 pub mod Letters
 pub mod WholeWords
 pub mod Fronts
+pub mod SpacedWords

@@ -1,6 +1,6 @@
 -- Texts that a paragraph takes as slices: letters that come together, and words with the space behind them.
-use Rattle.std.specs.Prelude.{◌≡◌, ℕ, ◌≤◌, Bool, true, false, List, [], ◌∷◌, Option, Some, None, take, drop, length, option_map, option_and_then}
-use Rattle.std.specs.List.{list_all}
+use Rattle.std.specs.Prelude.{◌≡◌, ℕ, ◌+◌, ◌≤◌, ◌<◌, Bool, true, false, List, [], ◌∷◌, ◌++◌, Option, Some, None, take, drop, length, option_map, option_and_then}
+use Rattle.std.specs.List.{list_all, slice_index}
 use Rattle.std.specs.Str.{chars, IsCharBoundary}
 use Rattle.html_render_dom.specs.declared.style.WhiteSpace.{WhiteSpace}
 use Rattle.html_render_lines.specs.declared.character.Kind.{Kind}
@@ -11,7 +11,8 @@ use Rattle.html_render_lines.specs.declared.line.tagged_text.Run.{Run}
 use Rattle.html_render_lines.specs.declared.line.tagged_text.Run.TheVariants as run
 use Rattle.html_render_lines.specs.Paragraph.{Page, Setting, put_items, put_word, with_waiting_mark}
 use Rattle.html_render_lines.specs.Stream.{State, styled, with_pending, character_of}
-use Rattle.html_render_lines.specs.TaggedText.{text_columns}
+use Rattle.html_render_lines.specs.Line.{columns}
+use Rattle.html_render_lines.specs.TaggedText.{text_columns, under, style_tag}
 
 abbrev pub is_letter_kind : Kind → Bool
 is_letter_kind Letter = true
@@ -33,6 +34,19 @@ pub record IsFront (text : List ℕ) (bytes width : ℕ) : Type 0 where
   pub within : bytes ≤ length text
   pub boundary : IsCharBoundary text bytes
   pub columns : width ≡ text_columns (chars (take bytes text))
+
+-- so many columns are free behind the line, which isn't empty and before whose next character no mark waits
+pub record HasRoom {T M : Type 0} (st : State T M) (room : ℕ) : Type 0 where
+  pub some : 0 < length st.page.line
+  pub no_mark : st.page.waiting ≡ []
+  pub fits : columns st.page.line + room ≤ st.setting.width
+
+-- the state with so many bytes of a text on the line, and with the space behind them due
+abbrev pub with_words : {T M : Type 0} → State T M → TextStyle T → List ℕ → ℕ → State T M
+with_words st style bs n = record st {
+  page = record st.page { line = st.page.line ++ under (style_tag st.page.continues style) (chars (take n bs)) };
+  pending = Some (character_of style (slice_index bs n));
+}
 
 -- the state with a text placed as a word, where no word is open
 abbrev pub placed_text : {T M : Type 0} → State T M → TextStyle T → List ℕ → Option (State T M)

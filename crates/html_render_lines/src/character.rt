@@ -108,6 +108,14 @@ pub fn class_of(mode: WhiteSpace, c: char) -> Class
             kind: Kind::Space,
             width: 1,
         },
+        '\u{A1}'..='\u{167F}' | '\u{3001}'..='\u{10FFFF}' => Class {
+            kind: if mode == WhiteSpace::Pre {
+                Kind::Preserved
+            } else {
+                Kind::Letter
+            },
+            width: width_of(c),
+        },
         _ => rare_class(mode, c),
     }
 }

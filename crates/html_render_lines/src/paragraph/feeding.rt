@@ -1,13 +1,13 @@
 //! Texts that a paragraph takes: words as slices of them where it can, else character by character.
 
-ghost use Rattle.std.specs.Prelude.{IfErr, IfOk, length, take, ◌≡◌, ◌+◌, ◌≤◌, ◌<◌, [], ◌∷◌, ◌++◌, Some, None, OnOk, true};
+ghost use Rattle.std.specs.Prelude.{IfErr, IfOk, length, take, drop, ◌≡◌, ◌+◌, ◌≤◌, ◌<◌, [], ◌∷◌, ◌++◌, Some, None, OnOk, true};
 ghost use Rattle.std.specs.Bool.{OnTrue};
 ghost use Rattle.std.specs.List.{list_all, slice_index};
 ghost use Rattle.std.specs.Str.{chars, IsUtf8};
 ghost use Rattle.html_render_dom.specs.Outcome.{Refuses};
 ghost use Rattle.html_render_dom.specs.declared.style.WhiteSpace.TheVariants.{Normal};
 ghost use Rattle.html_render_lines.specs.Character.{kind, width_of, is_plain};
-ghost use Rattle.html_render_lines.specs.Feeding.{AreLetters, placed_text_and_space};
+ghost use Rattle.html_render_lines.specs.Feeding.{AreLetters, IsFront, HasRoom, placed_text_and_space, with_words};
 ghost use Rattle.html_render_lines.specs.Stream.{after, step, letter_step, letters_step, then_single, character_step, with_pending, joins, character_of, styled};
 ghost use Rattle.html_render_lines.specs.TaggedText.{text_columns};
 
@@ -88,6 +88,14 @@ impl<T: Tag, M: Copy> Paragraph<T, M> {
         }
     }
 
+    /// Lets this space be due.
+    #[inline]
+    fn set_pending(&mut self, character: Character<T>)
+        ensures { self.new ≡ record self.old { pending = Some character } }
+    {
+        self.pending = Some(character);
+    }
+
     /// Takes a character of this class.
     fn add_classed(&mut self, class: Class, c: char, style: TextStyle<T>) -> Result<(), Error>
         requires { class.width ≡ width_of c }
@@ -157,6 +165,81 @@ impl<T: Tag, M: Copy> Paragraph<T, M> {
         Ok(())
     }
 
+    /// The columns that are free on the line for a space and a word behind it; 0 where the line is empty or marks wait.
+    #[inline]
+    fn room_behind_space(&self) -> usize
+        ensures { 0 < result → HasRoom self.now result }
+    {
+        if self.line.is_empty() || !self.waiting.is_empty() {
+            return 0;
+        }
+        match self.line.columns() {
+            Some(columns) if columns <= self.width => self.width - columns,
+            _ => 0,
+        }
+    }
+
+    /// The words at the front of a text that fit on the line: each has one space before it and white space behind it.
+    #[inline]
+    fn fitting_words(&self, text: &str, style: TextStyle<T>) -> Letters
+        requires mode { style.mode ≡ Normal }
+        requires some { 0 < length text.now }
+        requires byte { slice_index text.now 0 < 128 }
+        requires closed { self.now.open_word ≡ None }
+        requires word { self.now.word ≡ [] }
+        ensures front { IsFront text.now result.bytes result.columns }
+        ensures within { result.bytes < length text.now }
+        ensures byte { slice_index text.now result.bytes < 128 }
+        ensures waiting { 0 < result.bytes → self.now.page.waiting ≡ [] }
+        ensures fed { after (with_words self.now style text.now 0) (styled style (chars (drop 1 text.now)))
+            ≡ after (with_words self.now style text.now result.bytes) (styled style (chars (drop (result.bytes + 1) text.now))) }
+    {
+        let room = self.room_behind_space();
+        let mut bytes = 0;
+        let mut columns: usize = 0;
+        while bytes < text.len() && text.as_bytes()[bytes] == b' ' {
+            let word = letters_in_front(&text[bytes + 1..], style.mode);
+            let end = bytes + 1 + word.bytes;
+            if word.bytes == 0
+                || word.columns >= room - columns
+                || !has_space_at(text.as_bytes(), end)
+            {
+                break;
+            }
+            bytes = end;
+            columns = columns + 1 + word.columns;
+        }
+        Letters { bytes, columns }
+    }
+
+    /// Takes the words behind a space that is due, as many as fit on the line, and the space behind them, and gives the
+    /// rest back.
+    fn feed_fitting_words<'a>(
+        &mut self,
+        text: &'a str,
+        style: TextStyle<T>,
+    ) -> Result<&'a str, AllocError>
+        requires mode { style.mode ≡ Normal }
+        requires some { 0 < length text.now }
+        requires byte { slice_index text.now 0 < 128 }
+        requires closed { self.old.open_word ≡ None }
+        requires word { self.old.word ≡ [] }
+        requires due { self.old.pending ≡ Some (character_of style (slice_index text.now 0)) }
+        ensures ok { IfOk result (λ rest. after self.old (styled style (chars (drop 1 text.now))) ≡ after self.new (styled style (chars rest.now))) }
+        ensures text { IfOk result (λ rest. IsUtf8 rest.now) }
+        ensures shorter { IfOk result (λ rest. length rest.now < length text.now) }
+    {
+        let words = self.fitting_words(text, style);
+        let count = words.bytes;
+        if count == 0 {
+            return Ok(&text[1..]);
+        }
+        let space = char::from(text.as_bytes()[count]);
+        self.push_text(&text[..count], words.columns, style)?;
+        self.set_pending(character_of(space, style));
+        Ok(&text[count + 1..])
+    }
+
     /// Takes a word and the space behind it, where no word is open, and gives the rest back.
     fn feed_word<'a>(
         &mut self,
@@ -180,7 +263,7 @@ impl<T: Tag, M: Copy> Paragraph<T, M> {
         let count = letters.bytes;
         let space = char::from(text.as_bytes()[count]);
         self.add_word(&text[..count], letters.columns, space, style)?;
-        Ok(&text[count + 1..])
+        Ok(self.feed_fitting_words(&text[count..], style)?)
     }
 
     /// Takes the letters at the front of a text, and gives the rest back.
@@ -307,11 +390,10 @@ fn next_letters(text: &str, mode: WhiteSpace) -> Letters
     requires { 0 < length text.now }
     ensures { AreLetters mode text.now result.bytes result.columns }
 {
-    let letters = plain_letters(text, mode);
-    if letters.bytes == 0 && text.as_bytes()[0] >= 0x80 {
+    if text.as_bytes()[0] >= 0x80 {
         return first_letter(text, mode);
     }
-    letters
+    plain_letters(text, mode)
 }
 
 /// Letters at the front of a text: the printable ASCII characters there and, where another character follows these, all
@@ -328,6 +410,7 @@ fn letters_in_front(text: &str, mode: WhiteSpace) -> Letters
 }
 
 /// The letters at the front of a text, of which some are known.
+#[inline(never)]
 fn more_letters(text: &str, known: Letters, mode: WhiteSpace) -> Letters
     requires { AreLetters mode text.now known.bytes known.columns }
     ensures { AreLetters mode text.now result.bytes result.columns }

@@ -139,6 +139,28 @@ fn words_are_taken_as_they_come(rt: HostRuntime) -> Result<(), Fail> {
 }
 
 #[test]
+fn words_that_fit_follow_each_other(rt: HostRuntime) -> Result<(), Fail> {
+    let alloc = rt.alloc();
+    let normal = WhiteSpace::Normal;
+    let text = "a née b\nc  d 世 ef gh ij kl ";
+    let lines = wrapped(alloc, 9, false, normal, text)?;
+    assert_eq!(rt; lines.as_str(), "o a née b c/c d 世 ef/c gh ij kl/");
+    let mut paragraph: Paragraph<usize, u8> = Paragraph::new(alloc, 9, false);
+    let mut lines = Vec::new(alloc);
+    paragraph.add_text("a ", style(normal))?;
+    paragraph.add_mark(1)?;
+    paragraph.add_text("b c d ", style(normal))?;
+    paragraph.add_mark(2)?;
+    paragraph.add_text("e f g", style(normal))?;
+    paragraph.flush(&mut lines)?;
+    assert_eq!(rt;
+        shown(alloc, lines.as_slice())?.as_str(),
+        "o*o*o a b c d e/c f g/"
+    );
+    Ok(())
+}
+
+#[test]
 fn marks_stand_in_words(rt: HostRuntime) -> Result<(), Fail> {
     let alloc = rt.alloc();
     let mut paragraph: Paragraph<usize, u8> = Paragraph::new(alloc, 4, false);

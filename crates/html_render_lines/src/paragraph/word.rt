@@ -249,7 +249,12 @@ impl<T: Tag, M: Copy> Paragraph<T, M> {
 
     /// Puts a text of so many columns on the line, behind the marks that wait.
     #[inline]
-    fn push_text(&mut self, text: &str, width: usize, style: TextStyle<T>) -> Result<(), AllocError>
+    pub(super) fn push_text(
+        &mut self,
+        text: &str,
+        width: usize,
+        style: TextStyle<T>,
+    ) -> Result<(), AllocError>
         requires { width ≡ text_columns (chars text.now) }
         ensures { OnOk result (self.new ≡ record self.old {
           page = record self.old.page {
