@@ -1,7 +1,8 @@
 -- What a conversion keeps true: the nodes made so far, with what is still ahead, are those of the definition.
 use Rattle.std.proofs.Common.{◌≡◌, ℕ, suc, ◌+◌, ◌*◌, ◌<◌, ◌≤◌, Bool, true, false, if◌then◌else◌, List, [], ◌∷◌, ◌++◌, length, take, get_or, Option}
 use Rattle.std.proofs.Common.{Some, None, is_some, option_map, refl, sym, ap, subst, ◌∙◌, arith, length-append}
-use Rattle.std.proofs.lemmas.List.{same_from_push}
+use Rattle.std.proofs.lemmas.List.{same_from_push, take_all, take_more, take_more_set, length-set}
+use Rattle.std.proofs.Math.ListN.{set}
 use Rattle.std.proofs.lemmas.List.Elements.{Contains-get_or}
 use Rattle.std.proofs.Math.Seq.{take-suc, take-length}
 use Rattle.html_render_dom.specs.Cascade.{value_of}
@@ -158,6 +159,15 @@ Opening-start rules dom is = record {
   sound = tt;
   is_node = is;
 }
+
+-- ---- the innermost element stands last
+
+pub last_of : {A : Type 0} (xs : List A) (n : ℕ) (d : A) → length xs ≡ n + 1 → xs ≡ take n xs ++ get_or xs n d ∷ []
+last_of xs n d e = sym (take_all (n + 1) xs (omega arith)) ∙ take_more xs n d (omega arith)
+
+pub last_set : {A : Type 0} (xs : List A) (n : ℕ) (y : A) → length xs ≡ n + 1 → set xs n y ≡ take n xs ++ y ∷ []
+last_set xs n y e =
+    sym (take_all (n + 1) (set xs n y) (omega (arith, length-set xs n y))) ∙ take_more_set xs n y (omega arith)
 
 module _ (rules : List StyleRule) (dom : Dom) (f : IsForest dom) where
   -- ---- a node is opened

@@ -1,5 +1,5 @@
 -- Where a conversion stands that goes from the last node to the first: the elements that are open, and the nodes made.
-use Rattle.std.specs.Prelude.{◌≡◌, ℕ, Bool, true, false, List, [], ◌∷◌, ◌++◌, length, Option, Some, None, is_some, option_map, if◌then◌else◌, Vec}
+use Rattle.std.specs.Prelude.{◌≡◌, ◌+◌, ℕ, slice_index_or, Bool, true, false, List, [], ◌∷◌, ◌++◌, length, Option, Some, None, is_some, option_map, if◌then◌else◌, Vec}
 use Rattle.std.specs.declared.alloc.Global.{Global}
 use Rattle.html_render_dom.specs.Cascade.{value_of}
 use Rattle.html_render_dom.specs.Content.{Content, document, doctype, text, comment, element, instruction}
@@ -75,6 +75,18 @@ open_node dom handle (Over n if_empty has_children before after) p = record {
   } ∷ [];
   made_nodes = put_content after p.made_nodes;
 }
+
+-- ---- the next child
+
+-- the child that is converted next: the last of those that the innermost open element had ahead, which has one fewer now
+pub record NextChild (dom : Dom) (old new : List Open) (child : ℕ) : Type 0 where
+  pub below : List Open
+  pub element : Open
+  pub left : ℕ
+  pub old_is : old ≡ below ++ element ∷ []
+  pub ahead_is : element.ahead ≡ left + 1
+  pub child_is : child ≡ slice_index_or (children_at dom element.handle) left child
+  pub new_is : new ≡ below ++ record element { ahead = left } ∷ []
 
 -- ---- the end of an element
 

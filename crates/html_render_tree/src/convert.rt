@@ -3,12 +3,13 @@
 //! `dom_to_render_tree(alloc, &rules, &dom)?` is the tree of the DOM `dom` under the style rules `rules`: that of a
 //! document that holds `p("a")` alone is, without rules, a `Container` over a `Block` over the `Text` `a`.
 
-ghost use Rattle.std.specs.Prelude.{◌≡◌, Some, IfOk, OnOk, IfErr, map};
-ghost use Rattle.html_render_dom.specs.Dom.{IsNode, content_at};
+ghost use Rattle.std.specs.Prelude.{◌≡◌, ◌≤◌, List, [], ◌∷◌, ◌++◌, length, Some, IfSome, IfNone, IfOk, OnOk, IfErr, map};
+ghost use Rattle.html_render_dom.specs.Dom.{IsNode, content_at, children_at};
 ghost use Rattle.html_render_dom.specs.Rules.{rule_of};
 ghost use Rattle.html_render_tree.specs.Insertion.{in_front, with_contents};
 ghost use Rattle.html_render_tree.specs.Conversion.{render_tree_of};
-ghost use Rattle.html_render_tree.specs.Converting.{progress, open_node, put_content, close_element, outline_of, ClosingAt};
+ghost use Rattle.html_render_tree.specs.Converting.{progress, open_node, put_content, close_element, outline_of, ClosingAt, NextChild};
+ghost use Rattle.html_render_tree.specs.declared.convert.Open.{Open};
 
 use crate::mapping::{IfEmpty, Outline, holds_insertions, outline_of};
 use html_render_dom::Error;
@@ -142,6 +143,23 @@ fn close_element(element: Open, builder: &mut Builder<RenderNode>) -> Result<(),
     }
 }
 
+/// The last of the children that the innermost open element has ahead, which has one fewer ahead then; `None` where no
+/// child is ahead.
+#[inline(always)]
+fn next_child(dom: &RcDom, elements: &mut Vec<Open>) -> Option<Handle>
+    requires { (below : List Open) (o : Open) → elements.old.items ≡ below ++ o ∷ [] →
+        IsNode dom.now o.handle × (o.ahead ≤ length (children_at dom.now o.handle)) }
+    ensures next { IfSome result (NextChild dom.now elements.old.items elements.new.items) }
+    ensures same { IfNone result (elements.new.items ≡ elements.old.items) }
+    ensures over { IfNone result ((below : List Open) (o : Open) → elements.old.items ≡ below ++ o ∷ [] → o.ahead ≡ 0) }
+{
+    let last = elements.len().checked_sub(1)?;
+    let handle = elements[last].handle;
+    let ahead = elements[last].ahead.checked_sub(1)?;
+    elements[last].ahead = ahead;
+    Some(dom.child_list(handle)[ahead])
+}
+
 /// The render tree of a document, whose elements are styled by rules in the order in which these were added. It takes
 /// no more stack for a deep document than for a flat one.
 ///
@@ -167,16 +185,12 @@ pub fn dom_to_render_tree(
         &mut builder,
     )?;
     'converting: loop {
-        let Some(mut element) = open.pop() else {
-            return Ok(RenderTree::from(builder));
-        };
-        if element.ahead == 0 {
+        if let Some(child) = next_child(dom, &mut open) {
+            open_node(alloc, rules, dom, child, &mut open, &mut builder)?;
+        } else if let Some(element) = open.pop() {
             close_element(element, &mut builder)?;
         } else {
-            element.ahead -= 1;
-            let child = dom.child_list(element.handle)[element.ahead];
-            open.push(element)?;
-            open_node(alloc, rules, dom, child, &mut open, &mut builder)?;
+            return Ok(RenderTree::from(builder));
         }
     }
 }

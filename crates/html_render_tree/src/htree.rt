@@ -9,7 +9,7 @@ ghost use Rattle.html_render_dom.specs.Dom.{IsNode, IsElement, content_at, node_
 ghost use Rattle.html_render_tree.specs.Scripts.{with_element, with_comment, with_attribute, called, next_of};
 
 use crate::config::{Config, plain, plain_no_decorate};
-use crate::script::{Call, line_of, split_line};
+use crate::script::{Call, Texts, plain_len, split_line};
 use html_render_dom::Error;
 use html_render_dom::dom::{
     Attribute, ElementFlags, Handle, Namespace, NodeOrText, QualName, RcDom,
@@ -224,20 +224,43 @@ fn take_call(
     }
 }
 
-/// Takes one line of a script, and answers the node that is current behind it, or `None` where the line is faulty.
+/// Appends the texts that wait to the current node, as one.
+fn append_texts(
+    alloc: Global,
+    dom: &mut RcDom,
+    current: Handle,
+    texts: &mut Texts,
+) -> Result<(), Fault>
+    requires { IsNode dom.old current }
+    ensures { OnOk result (IsNode dom.new current) }
+{
+    if let Some(text) = texts.take(alloc)? {
+        take_call(alloc, dom, current, Call::Text(text))?;
+    }
+    Ok(())
+}
+
+/// Takes one line of a script, and answers the node that is current behind it, or `None` where the line is faulty. Its
+/// text waits for those of the lines behind it, so that all are appended at once.
 #[inline(always)]
 fn take_line(
     alloc: Global,
     dom: &mut RcDom,
     current: Handle,
+    texts: &mut Texts,
     line: &str,
+    is_plain: bool,
 ) -> Result<Option<Handle>, Fault>
     requires { IsNode dom.old current }
     ensures { IfOk result (λ next. IfSome next (λ node. IsNode dom.new node)) }
 {
+    if let Some(text) = line.strip_prefix('"') {
+        return Ok(texts.add(text, is_plain)?.then_some(current));
+    }
     if line.is_empty() {
         return Ok(Some(current));
     }
+    append_texts(alloc, dom, current, texts)?;
     match Call::read(alloc, line)? {
         Some(call) => take_call(alloc, dom, current, call),
         None => Ok(None),
@@ -248,17 +271,26 @@ fn take_line(
 fn built(alloc: Global, script: &str) -> Result<RcDom, Fault> {
     let mut dom = RcDom::new(alloc)?;
     let mut current = dom.get_document();
+    let mut texts = Texts::new(alloc);
     let mut number = 0usize;
     let mut rest = script;
+    let mut plain = 0;
     while !rest.is_empty() {
-        let (piece, behind) = split_line(rest);
+        let (line, behind) = split_line(rest);
+        // so that the search for a backslash goes over no line twice
+        if plain < line.len() {
+            plain = plain_len(rest);
+        }
+        let is_plain = line.len() <= plain;
+        plain = plain.saturating_sub(rest.len() - behind.len());
         rest = behind;
         number = number.saturating_add(1);
-        match take_line(alloc, &mut dom, current, line_of(piece))? {
+        match take_line(alloc, &mut dom, current, &mut texts, line, is_plain)? {
             Some(next) => current = next,
             None => return Err(Fault::Line(number)),
         }
     }
+    append_texts(alloc, &mut dom, current, &mut texts)?;
     Ok(dom)
 }
 

@@ -17,7 +17,7 @@ pub enum Call<'a> {
     OpenSvg(&'a str),
     /// `@name=value`: the current element gets an attribute, unless it has one of that name.
     Attribute { name: &'a str, value: String },
-    /// `"text`: a text is appended.
+    /// `"text`: a text is appended. Texts on lines one after the other are one call, which [`Texts`] gathers.
     Text(String),
     /// `!comment`: a comment is appended.
     Comment(String),
@@ -26,28 +26,27 @@ pub enum Call<'a> {
 }
 
 impl<'a> Call<'a> {
-    /// The call of a line, or `None` where the line is faulty: another first character, an element or an attribute
-    /// without a name, an attribute without `=`, more behind `>`, or an escape that isn't known.
+    /// The call of a line that is no text, or `None` where the line is faulty: another first character, an element or
+    /// an attribute without a name, an attribute without `=`, more behind `>`, or an escape that isn't known.
     #[inline(always)]
     pub fn read(alloc: Global, line: &'a str) -> Result<Option<Call<'a>>, AllocError> {
         if let Some(name) = line.strip_prefix("<svg:") {
             Ok(named(name).map(Call::OpenSvg))
         } else if let Some(name) = line.strip_prefix('<') {
             Ok(named(name).map(Call::Open))
+        } else if let Some(more) = line.strip_prefix('>') {
+            Ok(if more.is_empty() {
+                Some(Call::Close)
+            } else {
+                None
+            })
         } else if let Some(attribute) = line.strip_prefix('@') {
             Call::read_attribute(alloc, attribute)
-        } else if let Some(text) = line.strip_prefix('"') {
-            match unescaped(alloc, text)? {
-                Some(text) => Ok(Some(Call::Text(text))),
-                None => Ok(None),
-            }
         } else if let Some(comment) = line.strip_prefix('!') {
             match unescaped(alloc, comment)? {
                 Some(contents) => Ok(Some(Call::Comment(contents))),
                 None => Ok(None),
             }
-        } else if line == ">" {
-            Ok(Some(Call::Close))
         } else {
             Ok(None)
         }
@@ -73,33 +72,76 @@ fn named(name: &str) -> Option<&str> {
     if name.is_empty() { None } else { Some(name) }
 }
 
-/// The first line of a script, with its line feed if it has one, and the lines behind it.
+/// Texts that wait to be appended as one.
+#[derive(Drop)]
+pub struct Texts {
+    /// The texts, one behind the other.
+    gathered: String,
+    /// Whether there is a text, which may be empty.
+    is_any: bool,
+}
+
+impl Texts {
+    /// No text.
+    pub fn new(alloc: Global) -> Texts {
+        Texts {
+            gathered: String::new(alloc),
+            is_any: false,
+        }
+    }
+
+    /// Adds what a line's text stands for, and answers whether all of its escapes are known. A plain text is known to
+    /// have none.
+    #[inline(always)]
+    pub fn add(&mut self, text: &str, is_plain: bool) -> Result<bool, AllocError> {
+        self.is_any = true;
+        if is_plain {
+            self.gathered.push_str(text)?;
+            return Ok(true);
+        }
+        push_unescaped(text, &mut self.gathered)
+    }
+
+    /// The texts as one, if there is any. None is left.
+    #[inline(always)]
+    pub fn take(&mut self, alloc: Global) -> Result<Option<String>, AllocError> {
+        if !self.is_any {
+            return Ok(None);
+        }
+        let text = String::from_str(alloc, self.gathered.as_str())?;
+        self.gathered.clear();
+        self.is_any = false;
+        Ok(Some(text))
+    }
+}
+
+/// The first line of a script, without its line feed and a carriage return before that, and the lines behind it.
+#[inline(always)]
 pub fn split_line(script: &str) -> (&str, &str)
     ensures shorter { 0 < length script.now → length result.1.now < length script.now }
     ensures text { IsUtf8 result.1.now }
 {
     match memchr(b'\n', script.as_bytes()) {
-        Some(at) => (&script[..at + 1], &script[at + 1..]),
+        Some(at) => {
+            let line = &script[..at];
+            (line.strip_suffix('\r').unwrap_or(line), &script[at + 1..])
+        }
         None => (script, ""),
     }
 }
 
-/// The line of a piece that may end with a line feed, without it and without a carriage return before it.
-pub fn line_of(piece: &str) -> &str {
-    match piece.strip_suffix('\n') {
-        Some(line) => line.strip_suffix('\r').unwrap_or(line),
-        None => piece,
-    }
+/// How many bytes of a script stand before its first backslash.
+pub fn plain_len(script: &str) -> usize {
+    memchr(b'\\', script.as_bytes()).unwrap_or(script.len())
 }
 
-/// A text in which `\n` stands for a line feed and `\\` for a backslash, or `None` where a backslash stands before
-/// anything else.
-#[inline(always)]
-fn unescaped(alloc: Global, text: &str) -> Result<Option<String>, AllocError> {
+/// Puts what a text stands for behind another, where `\n` stands for a line feed and `\\` for a backslash, and answers
+/// whether a backslash stands before nothing else.
+fn push_unescaped(text: &str, plain: &mut String) -> Result<bool, AllocError> {
     if memchr(b'\\', text.as_bytes()).is_none() {
-        return Ok(Some(String::from_str(alloc, text)?));
+        plain.push_str(text)?;
+        return Ok(true);
     }
-    let mut plain = String::new(alloc);
     let mut in_escape = false;
     for c in text.chars() {
         match (in_escape, c) {
@@ -113,10 +155,16 @@ fn unescaped(alloc: Global, text: &str) -> Result<Option<String>, AllocError> {
                 plain.push('\\')?;
                 in_escape = false;
             }
-            (true, _) => return Ok(None),
+            (true, _) => return Ok(false),
         }
     }
-    Ok(if in_escape { None } else { Some(plain) })
+    Ok(!in_escape)
+}
+
+/// What a text stands for, or `None` where an escape isn't known.
+fn unescaped(alloc: Global, text: &str) -> Result<Option<String>, AllocError> {
+    let mut plain = String::new(alloc);
+    Ok(push_unescaped(text, &mut plain)?.then_some(plain))
 }
 
 #[cfg(test)]
@@ -129,9 +177,6 @@ mod tests {
         let alloc = rt.alloc();
         for (line, call) in [
             ("<p", "Some(Open(\"p\"))"),
-            ("\"a>", "Some(Text(\"a>\"))"),
-            ("\"", "Some(Text(\"\"))"),
-            ("\"a\\\\n", "Some(Text(\"a\\\\n\"))"),
             (">", "Some(Close)"),
             ("<svg:a", "Some(OpenSvg(\"a\"))"),
             ("@a=b=c", "Some(Attribute { name: \"a\", value: \"b=c\" })"),
@@ -145,13 +190,36 @@ mod tests {
             ("@=v", "None"),
             ("@a=\\t", "None"),
             ("!\\", "None"),
-            ("\"\\", "None"),
             (" <p", "None"),
             ("p", "None"),
         ] {
             let got = Call::read(alloc, line)?;
             assert_eq!(rt; format!(in alloc; "{got:?}")?.as_str(), call, "{line}");
         }
+        Ok(())
+    }
+
+    #[test]
+    fn texts_are_gathered(rt: HostRuntime) -> Result<(), Fail> {
+        let alloc = rt.alloc();
+        let mut texts = Texts::new(alloc);
+        assert!(rt; texts.take(alloc)?.is_none());
+        for (script, known) in [
+            ("a>\n", true),
+            ("", true),
+            ("\\nb\\\\", true),
+            ("c\\", false),
+        ] {
+            let text = split_line(script).0;
+            let is_plain = text.len() <= plain_len(script);
+            assert_eq!(rt; texts.add(text, is_plain)?, known, "{script:?}");
+        }
+        let text = texts.take(alloc)?;
+        assert_eq!(rt; text.as_ref().map(|s| s.as_str()), Some("a>\nb\\c"));
+        assert!(rt; texts.take(alloc)?.is_none());
+        assert!(rt; texts.add("", true)?);
+        let empty = texts.take(alloc)?;
+        assert_eq!(rt; empty.as_ref().map(|s| s.as_str()), Some(""));
         Ok(())
     }
 
@@ -165,7 +233,7 @@ mod tests {
             ("\n", ""),
             ("", ""),
         ] {
-            assert_eq!(rt; line_of(piece), line, "{piece:?}");
+            assert_eq!(rt; split_line(piece).0, line, "{piece:?}");
         }
     }
 

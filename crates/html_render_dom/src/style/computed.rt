@@ -165,6 +165,7 @@ impl ComputedStyle {
     }
 
     /// Takes all declarations of a rule.
+    #[inline(never)]
     fn update_all(&mut self, rule: &StyleRule) -> Result<(), AllocError>
         ensures { OnOk result (style_of self.new ≡ with_declarations (style_of self.old) (applied (rule_of rule.now))) }
     {

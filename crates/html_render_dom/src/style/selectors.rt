@@ -32,6 +32,7 @@ pub fn first_value<'a>(attrs: &'a [Attribute], name: &str) -> Option<&'a str>
 }
 
 /// Whether a part of a rule asks for nothing, or for what the element has.
+#[inline(always)]
 fn matches_part(stated: &Option<String>, has: Option<&str>) -> bool
     ensures { result ≡ matches_part (option_map string_bytes stated.now) (option_copied has.entry) }
 {
@@ -90,6 +91,7 @@ fn has_classes(classes: Option<&str>, wanted: &[String]) -> bool
 
 impl StyleRule {
     /// Whether the rule selects an element of this local name, id and classes.
+    #[inline(always)]
     #[tactic(auto, using(crate::proofs::Words::all_of))]
     pub(super) fn selects(&self, name: &str, id: Option<&str>, classes: Option<&str>) -> bool
         ensures { result ≡ selects (rule_of self.now)

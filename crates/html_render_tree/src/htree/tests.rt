@@ -52,3 +52,17 @@ fn scripts_give_attributes_and_comments(rt: HostRuntime) -> Result<(), Fail> {
     assert!(rt; children.next().is_none());
     Ok(())
 }
+
+#[test]
+fn texts_on_lines_one_after_the_other_are_one_node(rt: HostRuntime) -> Result<(), Fail> {
+    let alloc = rt.alloc();
+    let dom = built(alloc, "\"a\n\n\"\\nb\n<p\n\"c\n>\n\"")?;
+    let mut children = dom.child_list(dom.get_document()).iter();
+    for wanted in ["\"a\nb", "Html p", "\""] {
+        let child = *children.next().ok_or("a child")?;
+        assert!(rt; dom.is_node(child));
+        assert_eq!(rt; shown(alloc, dom.data(child))?.as_str(), wanted);
+    }
+    assert!(rt; children.next().is_none());
+    Ok(())
+}

@@ -1,11 +1,11 @@
-use Rattle.std.proofs.Common.{◌≡◌, ◌≢◌, ◌<◌, ◌-◌, ℕ, suc, [], ◌∷◌, ◌++◌, length, get_or, arith, sym, ap, subst, ◌∙◌, map}
+use Rattle.std.proofs.Common.{◌≡◌, ◌<◌, suc, [], ◌∷◌, ◌++◌, length, arith, sym, ap, subst, ◌∙◌, map}
 use Rattle.html_render_dom.specs.Dom.{content_at, children_at}
 use Rattle.html_render_dom.specs.Rules.{rule_of}
-use Rattle.html_render_tree.specs.Converting.{Progress, outline_of, open_node}
+use Rattle.html_render_tree.specs.Converting.{Progress, NextChild, outline_of, open_node}
 use Rattle.html_render_tree.proofs.Conversions.{Converting, Opening, Opening-start, Opening-open_node, Converting-top, Converting-child}
-use Rattle.html_render_tree.proofs.Conversions.{Converting-close, Converting-done, work, work-close, work-child}
+use Rattle.html_render_tree.proofs.Conversions.{Closed, Converting-close, Converting-done, work, work-close, work-child}
 use Rattle.html_render_tree.proofs.convert.dom_to_render_tree.Goals as goal
-use Rattle.html_render_tree.proofs.convert.dom_to_render_tree.Goals.{In-Some, Else-element-eq0}
+use Rattle.html_render_tree.proofs.convert.dom_to_render_tree.Goals.{In-Some, In-Some-pop}
 
 pub converting-init : goal.converting-init
 converting-init c =
@@ -18,108 +18,95 @@ converting-init c =
     subst (λ (q : Progress). Converting rules dom q.open_elements q.made_nodes) (sym c.in_ok-open_node.ensures.ok)
     (Opening-open_node rules dom f c.get_document.result p m)
 
-pub returns-in_default-clause-ok : goal.returns-in_default-clause-ok
-returns-in_default-clause-ok c =
+-- the innermost element has a child ahead
+opening-child : (c : In-Some) →
+    Opening (map rule_of c.args.rules.now) c.args.dom.now c.in-Some.child c.next_child.new.elements.items c.converting.builder
+opening-child c =
     let dom = c.args.dom.now in
     let rules = map rule_of c.args.rules.now in
-    let empty : length c.converting.open.items ≡ 0 = omega (arith, c.in_default.ensures.cases) in
-    c.from.ensures ∙ Converting-done rules dom c.get_document.ensures.forest _ _ empty c.converting.invariant
+    let built = c.converting.builder in
+    let next : NextChild dom c.converting.open.items c.next_child.new.elements.items c.in-Some.child = c.in-Some.ensures.next in
+    let ahead : next.element.ahead ≡ suc next.left = omega (arith, next.ahead_is) in
+    subst (λ es. Opening rules dom c.in-Some.child es built) (sym next.new_is)
+    (Converting-child rules dom c.get_document.ensures.forest next.below next.element next.left built c.in-Some.child ahead next.child_is
+    (subst (λ es. Converting rules dom es built) next.old_is c.converting.invariant))
 
--- the innermost element is on the stack
-popped : (c : In-Some) → Converting (map rule_of c.args.rules.now) c.args.dom.now
-    (c.pop.new.self.items ++ c.in-Some.element ∷ []) c.converting.builder
-popped c = subst (λ es. Converting
-    (map rule_of c.args.rules.now) c.args.dom.now es c.converting.builder) c.in-Some.ensures.items c.converting.invariant
-
-pub close_element-requires : goal.close_element-requires
-close_element-requires c =
+pub next_child-requires : goal.next_child-requires
+next_child-requires c = λ below o is.
     let dom = c.args.dom.now in
     let rules = map rule_of c.args.rules.now in
-    let done = Converting-close rules dom c.get_document.ensures.forest _ _ _ c.if-element-eq0.true
-    (popped (goal.at.close_element-requires c).In-Some) in
-    done.0
+    Converting-top rules dom c.get_document.ensures.forest below o c.converting.builder
+    (subst (λ es. Converting rules dom es c.converting.builder) is c.converting.invariant)
+
+pub open_node-requires-in-Some : goal.open_node-requires-in-Some
+open_node-requires-in-Some c = (opening-child (goal.at.open_node-requires-in-Some c).In-Some).is_node
 
 pub converting-preserved-in-Continue-branch-2 : goal.converting-preserved-in-Continue-branch-2
 converting-preserved-in-Continue-branch-2 c =
     let dom = c.args.dom.now in
     let rules = map rule_of c.args.rules.now in
-    let done = Converting-close rules dom c.get_document.ensures.forest _ _ _ c.if-element-eq0.true
-    (popped (goal.at.converting-preserved-in-Continue-branch-2 c).In-Some) in
-    subst (λ t. Converting rules dom c.pop.new.self.items t) (sym (c.in_ok-close_element.ensures.ok done.0)) done.1
+    let h = c.in-Some.child in
+    let p : Progress = record { open_elements = c.next_child.new.elements.items; made_nodes = c.converting.builder } in
+    let m : Opening rules dom h p.open_elements p.made_nodes =
+    opening-child (goal.at.converting-preserved-in-Continue-branch-2 c).In-Some in
+    subst (λ (q : Progress). Converting rules dom q.open_elements q.made_nodes) (sym c.in_ok-open_node-2.ensures.ok)
+    (Opening-open_node rules dom c.get_document.ensures.forest h p m)
 
 pub converting-smaller-in-Continue-branch-2 : goal.converting-smaller-in-Continue-branch-2
 converting-smaller-in-Continue-branch-2 c =
-    rw c.in-Some.ensures.items (work-close c.args.dom.now c.pop.new.self.items c.in-Some.element)
-
--- the innermost element has a child ahead
-pub child_list-requires : goal.child_list-requires
-child_list-requires c =
-    (Converting-top (map rule_of c.args.rules.now) c.args.dom.now c.get_document.ensures.forest _ _ _
-    (popped (goal.at.child_list-requires c).In-Some)).0
-
-within : (c : In-Some) (now : c.in-Some.element.ahead ≢ 0) →
-    c.in-Some.element.ahead - 1 < length (children_at c.args.dom.now c.in-Some.element.handle)
-within c now =
-    let top = Converting-top (map rule_of c.args.rules.now) c.args.dom.now c.get_document.ensures.forest _ _ _ (popped c) in
-    omega (arith, top.1, now)
-
-pub bounds-child_list-element : goal.bounds-child_list-element
-bounds-child_list-element c = rw c.child_list.ensures.list (within (goal.at.bounds-child_list-element c).In-Some c.if-element-eq0.false)
-
-pub offset_bounds-child_list-element : goal.offset_bounds-child_list-element
-offset_bounds-child_list-element c =
-    let below : c.in-Some.element.ahead - 1 < length c.child_list.result.now =
-    rw c.child_list.ensures.list (within (goal.at.offset_bounds-child_list-element c).In-Some c.if-element-eq0.false) in
-    omega (arith, c.child_list.type_inv)
-
-opening-child : (c : In-Some) (h : ℕ) → c.in-Some.element.ahead ≢ 0 →
-    h ≡ get_or (children_at c.args.dom.now c.in-Some.element.handle) (c.in-Some.element.ahead - 1) h →
-    Opening (map rule_of c.args.rules.now) c.args.dom.now h
-    (c.pop.new.self.items ++ record c.in-Some.element { ahead = c.in-Some.element.ahead - 1 } ∷ []) c.converting.builder
-opening-child c h now at =
-    let ahead : c.in-Some.element.ahead ≡ suc (c.in-Some.element.ahead - 1) = omega arith in
-    Converting-child (map rule_of c.args.rules.now) c.args.dom.now c.get_document.ensures.forest _ c.in-Some.element
-    (c.in-Some.element.ahead - 1) _ h ahead at (popped c)
-
-pub open_node-requires-else-element-eq0 : goal.open_node-requires-else-element-eq0
-open_node-requires-else-element-eq0 c =
-    let at = c.index-child_list-element.is
-    ∙ ap (λ cs. get_or cs (c.in-Some.element.ahead - 1) c.index-child_list-element.result) c.child_list.ensures.list in
-    (opening-child (goal.at.open_node-requires-else-element-eq0 c).In-Some c.index-child_list-element.result c.if-element-eq0.false
-    at).is_node
-
-pub converting-preserved : goal.converting-preserved
-converting-preserved c =
     let dom = c.args.dom.now in
     let rules = map rule_of c.args.rules.now in
-    let h = c.index-child_list-element.result in
-    let at = c.index-child_list-element.is ∙ ap (λ cs. get_or cs (c.in-Some.element.ahead - 1) h) c.child_list.ensures.list in
-    let m = opening-child (goal.at.converting-preserved c).In-Some h c.if-element-eq0.false at in
-    let p : Progress = record { open_elements = c.push.new.self.items; made_nodes = c.converting.builder } in
-    let n : Opening rules dom h p.open_elements p.made_nodes =
-    subst (λ es. Opening rules dom h es c.converting.builder) (sym c.in_ok-push.ensures.items) m in
-    subst (λ (q : Progress). Converting rules dom q.open_elements q.made_nodes) (sym c.in_ok-open_node-2.ensures.ok)
-    (Opening-open_node rules dom c.get_document.ensures.forest h p n)
-
-pub converting-smaller : goal.converting-smaller
-converting-smaller c =
-    let dom = c.args.dom.now in
-    let rules = map rule_of c.args.rules.now in
-    let o = c.in-Some.element in
-    let h = c.index-child_list-element.result in
-    let at = c.index-child_list-element.is ∙ ap (λ cs. get_or cs (o.ahead - 1) h) c.child_list.ensures.list in
-    let m = opening-child (goal.at.converting-smaller c).In-Some h c.if-element-eq0.false at in
-    let ahead : o.ahead ≡ suc (o.ahead - 1) = omega (arith, c.if-element-eq0.false) in
-    let less = work-child dom c.get_document.ensures.forest c.pop.new.self.items o (o.ahead - 1) h
-    (outline_of rules (content_at dom h)) c.converting.builder m.is_node ahead
-    (within (goal.at.converting-smaller c).In-Some c.if-element-eq0.false) at in
-    let after : c.open_node-else-element-eq0.new.elements.items
+    let h = c.in-Some.child in
+    let next : NextChild dom c.converting.open.items c.next_child.new.elements.items h = c.in-Some.ensures.next in
+    let ahead : next.element.ahead ≡ suc next.left = omega (arith, next.ahead_is) in
+    let top = Converting-top rules dom c.get_document.ensures.forest next.below next.element c.converting.builder
+    (subst (λ es. Converting rules dom es c.converting.builder) next.old_is c.converting.invariant) in
+    let within : next.left < length (children_at dom next.element.handle) = omega (arith, top.1, ahead) in
+    let m = opening-child (goal.at.converting-smaller-in-Continue-branch-2 c).In-Some in
+    let less = work-child dom c.get_document.ensures.forest next.below next.element next.left h
+    (outline_of rules (content_at dom h)) c.converting.builder m.is_node ahead within next.child_is in
+    let after : c.open_node-in-Some.new.elements.items
     ≡ (open_node dom h (outline_of rules (content_at dom h))
     (record {
-      open_elements = c.pop.new.self.items ++ record o { ahead = o.ahead - 1 } ∷ [];
+      open_elements = next.below ++ record next.element { ahead = next.left } ∷ [];
       made_nodes = c.converting.builder;
     })).open_elements =
     ap (λ (q : Progress). q.open_elements) c.in_ok-open_node-2.ensures.ok
     ∙ ap (λ es. (open_node dom h (outline_of rules (content_at dom h))
-    (record { open_elements = es; made_nodes = c.converting.builder })).open_elements) c.in_ok-push.ensures.items in
-    omega (arith, less, ap (work dom) after, ap (work dom) c.in-Some.ensures.items)
+    (record { open_elements = es; made_nodes = c.converting.builder })).open_elements) next.new_is in
+    omega (arith, less, ap (work dom) after, ap (work dom) next.old_is)
+
+-- the innermost element has none
+opened-are : (c : In-Some-pop) → c.converting.open.items ≡ c.pop.new.self.items ++ c.in-Some-pop.element ∷ []
+opened-are c = sym c.in_default.ensures.same ∙ c.in-Some-pop.ensures.items
+
+closed : (c : In-Some-pop) → Closed (map rule_of c.args.rules.now) c.args.dom.now c.get_document.ensures.forest c.pop.new.self.items
+    c.in-Some-pop.element c.converting.builder
+closed c =
+    let dom = c.args.dom.now in
+    let rules = map rule_of c.args.rules.now in
+    Converting-close rules dom c.get_document.ensures.forest c.pop.new.self.items c.in-Some-pop.element c.converting.builder
+    (c.in_default.ensures.over c.pop.new.self.items c.in-Some-pop.element (opened-are c))
+    (subst (λ es. Converting rules dom es c.converting.builder) (opened-are c) c.converting.invariant)
+
+pub close_element-requires : goal.close_element-requires
+close_element-requires c = (closed (goal.at.close_element-requires c).In-Some-pop).0
+
+pub converting-preserved : goal.converting-preserved
+converting-preserved c =
+    let done = closed (goal.at.converting-preserved c).In-Some-pop in
+    subst (λ t. Converting (map rule_of c.args.rules.now) c.args.dom.now c.pop.new.self.items t)
+    (sym (c.in_ok-close_element.ensures.ok done.0)) done.1
+
+pub converting-smaller : goal.converting-smaller
+converting-smaller c =
+    rw (opened-are (goal.at.converting-smaller c).In-Some-pop) (work-close c.args.dom.now c.pop.new.self.items c.in-Some-pop.element)
+
+-- no element is open
+pub returns-in_default-pop-clause-ok : goal.returns-in_default-pop-clause-ok
+returns-in_default-pop-clause-ok c =
+    let dom = c.args.dom.now in
+    let rules = map rule_of c.args.rules.now in
+    let empty : length c.converting.open.items ≡ 0 =
+    omega (arith, c.in_default-pop.ensures.cases, ap length c.in_default.ensures.same) in
+    c.from.ensures ∙ Converting-done rules dom c.get_document.ensures.forest _ _ empty c.converting.invariant
