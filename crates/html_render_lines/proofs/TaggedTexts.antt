@@ -12,9 +12,9 @@ use Rattle.html_render_lines.specs.declared.line.Element.{Element}
 use Rattle.html_render_lines.specs.declared.line.Element.TheVariants as element
 use Rattle.html_render_lines.specs.declared.line.tagged_text.Run.{Run}
 use Rattle.html_render_lines.specs.declared.line.tagged_text.Run.TheVariants as run
-use Rattle.html_render_lines.specs.Line.{Line}
-use Rattle.html_render_lines.specs.TaggedText.{under, elements_of, Cuts, open_elements, all_elements, HasTag, IsCut, closed_run, bytes_of}
-use Rattle.html_render_lines.specs.TaggedText.{text_bytes, items_of, style_tag, styled_elements}
+use Rattle.html_render_lines.specs.Line.{Line, bytes_of, text_bytes}
+use Rattle.html_render_lines.specs.TaggedText.{under, elements_of, Cuts, open_elements, all_elements, HasTag, IsCut, closed_run}
+use Rattle.html_render_lines.specs.TaggedText.{items_of, style_tag, styled_elements}
 use Rattle.html_render_lines.specs.Word.{element_of}
 
 -- ---- runs over a text, and more runs over more text

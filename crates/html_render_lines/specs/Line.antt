@@ -1,5 +1,6 @@
--- A line, and how wide it is.
-use Rattle.std.specs.Prelude.{ℕ, ◌≤◌, List, All, map, sum_by}
+-- A line, how wide it is, and its text.
+use Rattle.std.specs.Prelude.{ℕ, ◌≤◌, List, [], All, map, sum_by, encode_utf8}
+use Rattle.std.specs.List.{flat_map}
 use Rattle.html_render_lines.specs.declared.character.Item.{Item}
 use Rattle.html_render_lines.specs.declared.character.Item.TheVariants as item
 use Rattle.html_render_lines.specs.declared.line.Element.{Element}
@@ -32,3 +33,12 @@ AllWithinWidth {T} {M} width lines = All (λ (l : Line T M). columns l ≤ width
 -- a line of marks alone
 abbrev pub marks_line : {T M : Type 0} → List M → Line T M
 marks_line {T} {M} ms = map (λ (m : M). element.Mark m) ms
+
+-- the bytes of what a line holds, in UTF-8: a mark is not shown
+abbrev pub bytes_of : {T M : Type 0} → Element T M → List ℕ
+bytes_of (element.Character c tag) = encode_utf8 c
+bytes_of (element.Mark m) = []
+
+-- the bytes of a line's characters
+abbrev pub text_bytes : {T M : Type 0} → Line T M → List ℕ
+text_bytes {T} {M} line = flat_map (λ (e : Element T M). bytes_of e) line

@@ -1,7 +1,6 @@
 -- A text in UTF-8 under runs of tags, and the line that it stands for.
 use Rattle.std.specs.Prelude.{◌≡◌, ℕ, zero, suc, ◌≤◌, ◌<◌, ◌^◌, nat_lt, Bool, true, false, List, [], ◌∷◌, ◌++◌, Option, Some, None, map, sum_by}
-use Rattle.std.specs.Prelude.{take, drop, length, encode_utf8, if◌then◌else◌}
-use Rattle.std.specs.List.{flat_map}
+use Rattle.std.specs.Prelude.{take, drop, length, if◌then◌else◌}
 use Rattle.std.specs.Str.{chars, IsUtf8}
 use Rattle.html_render_lines.specs.declared.character.TextStyle.{TextStyle}
 use Rattle.html_render_lines.specs.declared.character.Item.{Item}
@@ -64,16 +63,7 @@ closed_run None n = []
 closed_run (Some tag) zero = []
 closed_run (Some tag) (suc n) = run.Text (suc n) tag ∷ []
 
--- ---- a line's bytes and columns
-
--- the bytes of what a line holds: a mark is not shown
-abbrev pub bytes_of : {T M : Type 0} → Element T M → List ℕ
-bytes_of (element.Character c tag) = encode_utf8 c
-bytes_of (element.Mark m) = []
-
--- the bytes of a line's characters
-abbrev pub text_bytes : {T M : Type 0} → Line T M → List ℕ
-text_bytes {T} {M} line = flat_map (λ (e : Element T M). bytes_of e) line
+-- ---- columns
 
 -- the columns of a text, character by character
 abbrev pub text_columns : List ℕ → ℕ

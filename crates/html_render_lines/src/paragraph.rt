@@ -91,7 +91,7 @@ impl<T: Tag, M: Copy> Paragraph<T, M> {
         ensures err { IfErr result (λ e. e ≡ Error.OutOfMemory) }
     {
         match self.open_word {
-            OpenWord::Closed => self.wait(mark)?,
+            OpenWord::Closed => self.hold_mark(mark)?,
             OpenWord::Collapsed | OpenWord::Preserved => self.word.push_mark(mark)?,
         }
         Ok(())

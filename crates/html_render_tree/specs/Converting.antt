@@ -1,5 +1,6 @@
 -- Where a conversion stands that goes from the last node to the first: the elements that are open, and the nodes made.
-use Rattle.std.specs.Prelude.{◌≡◌, ◌+◌, ℕ, slice_index_or, Bool, true, false, List, [], ◌∷◌, ◌++◌, length, Option, Some, None, is_some, option_map, if◌then◌else◌, Vec}
+use Rattle.std.specs.Prelude.{◌≡◌, ℕ, Bool, true, false, List, [], ◌∷◌, ◌++◌, length, Option, Some, None, is_some, option_map, if◌then◌else◌, Vec}
+use Rattle.std.specs.Prelude.{◌+◌, slice_index_or}
 use Rattle.std.specs.declared.alloc.Global.{Global}
 use Rattle.html_render_dom.specs.Cascade.{value_of}
 use Rattle.html_render_dom.specs.Content.{Content, document, doctype, text, comment, element, instruction}

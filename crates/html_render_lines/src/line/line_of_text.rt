@@ -5,8 +5,8 @@ ghost use Rattle.std.specs.Bool.{OnTrue};
 ghost use Rattle.std.specs.Str.{chars};
 ghost use Rattle.std.specs.String.{string_bytes};
 ghost use Rattle.html_render_lines.specs.Character.{width_of};
-ghost use Rattle.html_render_lines.specs.Line.{columns};
-ghost use Rattle.html_render_lines.specs.TaggedText.{counted, text_columns, under, text_bytes, items_of, Cuts, HasTag, elements_of, open_elements};
+ghost use Rattle.html_render_lines.specs.Line.{columns, text_bytes};
+ghost use Rattle.html_render_lines.specs.TaggedText.{counted, text_columns, under, items_of, Cuts, HasTag, elements_of, open_elements};
 ghost use Rattle.html_render_lines.specs.Word.{element_of};
 
 use crate::character::{TextStyle, width_of};

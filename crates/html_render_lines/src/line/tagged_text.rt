@@ -7,7 +7,8 @@ ghost use Rattle.std.specs.Prelude.{◌≡◌, ◌++◌, ◌∷◌, [], Some, No
 ghost use Rattle.std.specs.Bool.{OnTrue};
 ghost use Rattle.std.specs.Str.{chars, IsUtf8};
 ghost use Rattle.std.specs.String.{string_bytes};
-ghost use Rattle.html_render_lines.specs.TaggedText.{under, closed_run, text_bytes, Cuts, HasTag, elements_of, open_elements, items_of, style_tag};
+ghost use Rattle.html_render_lines.specs.TaggedText.{under, closed_run, Cuts, HasTag, elements_of, open_elements, items_of, style_tag};
+ghost use Rattle.html_render_lines.specs.Line.{text_bytes};
 ghost use Rattle.html_render_lines.specs.TaggedText.{styled_elements};
 ghost use Rattle.html_render_lines.specs.Word.{element_of};
 

@@ -206,7 +206,7 @@ impl<T: Tag, M: Copy> Paragraph<T, M> {
     }
 
     /// Lets a mark wait for the next character.
-    pub(super) fn wait(&mut self, mark: M) -> Result<(), AllocError>
+    pub(super) fn hold_mark(&mut self, mark: M) -> Result<(), AllocError>
         ensures { OnOk result (self.new ≡ record self.old { page = with_waiting_mark self.old.page mark }) }
     {
         self.waiting.push(mark)?;

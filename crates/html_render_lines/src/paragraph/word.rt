@@ -160,7 +160,7 @@ impl<T: Tag, M: Copy> Paragraph<T, M> {
                     self.put_characters(&text[at..end], *style)?;
                     at = end;
                 }
-                Run::Mark(mark) => self.wait(*mark)?,
+                Run::Mark(mark) => self.hold_mark(*mark)?,
             }
         }
         Ok(())

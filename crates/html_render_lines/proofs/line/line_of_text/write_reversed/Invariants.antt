@@ -1,6 +1,6 @@
 use Rattle.std.proofs.Common.{◌≡◌, ◌++◌, map}
 use Rattle.std.specs.String.{string_bytes}
-use Rattle.html_render_lines.specs.TaggedText.{text_bytes}
+use Rattle.html_render_lines.specs.Line.{text_bytes}
 use Rattle.html_render_lines.proofs.line.line_of_text.write_reversed.Given as goal
 
 abbrev pub invariant-loop-element : goal.invariant-loop-element

@@ -1,6 +1,6 @@
 use Rattle.std.proofs.Common.{◌++◌, reverse, append_assoc, sym, ap, ◌∙◌}
 use Rattle.std.specs.String.{string_bytes}
-use Rattle.html_render_lines.specs.TaggedText.{text_bytes}
+use Rattle.html_render_lines.specs.Line.{text_bytes}
 use Rattle.html_render_lines.proofs.TaggedTexts.{bytes-append}
 use Rattle.html_render_lines.proofs.line.line_of_text.Line.write_to.Goals as goal
 

@@ -1,6 +1,7 @@
 use Rattle.std.proofs.Common.{◌++◌, sym, ap, ◌∙◌}
 use Rattle.std.specs.String.{string_bytes}
-use Rattle.html_render_lines.specs.TaggedText.{Content, text_bytes}
+use Rattle.html_render_lines.specs.TaggedText.{Content}
+use Rattle.html_render_lines.specs.Line.{text_bytes}
 use Rattle.html_render_lines.proofs.TaggedTexts.{bytes-all}
 use Rattle.html_render_lines.proofs.line.tagged_text.TaggedText.write_to.Goals as goal
 
