@@ -1,3 +1,3 @@
-pub mod Building
+pub mod Items
 pub mod Refusing
-pub mod Walking
+pub mod Spaces

@@ -1,5 +1,6 @@
 -- THE DEFINITION of the layout, node kind by node kind.
-use Rattle.std.specs.Prelude.{ℕ, ◌==◌, Bool, List, [], ◌∷◌, ◌++◌, Option, Some, None, option_map, if◌then◌else◌}
+use Rattle.std.specs.Prelude.{ℕ, ℤ, pos, ◌+ℤ◌, ◌-◌, ◌==◌, max, Bool, List, [], ◌∷◌, ◌++◌, Option, Some, None, option_map, replicate, if◌then◌else◌}
+use Rattle.std.specs.Int.{saturate_signed, w64}
 use Rattle.std.specs.Str.{chars}
 use Rattle.html_render_dom.specs.Forest.{Forest}
 use Rattle.html_render_dom.specs.Outcome.{◌>>=◌}
@@ -8,16 +9,22 @@ use Rattle.html_render_parts.specs.Decoration.{Decoration, Round}
 use Rattle.html_render_lines.specs.declared.character.TextStyle.{TextStyle}
 use Rattle.html_render_lines.specs.Line.{Line}
 use Rattle.html_render_lines.specs.Tags.{lines_with}
-use Rattle.html_render_layout.specs.declared.tree.Emphasis.{Emphasis as TheEmphasis}
-use Rattle.html_render_layout.specs.declared.tree.Emphasis.TheVariants.{Em, Strong, Code}
-use Rattle.html_render_layout.specs.declared.tree.NodeKind.{NodeKind}
-use Rattle.html_render_layout.specs.declared.tree.NodeKind.TheVariants.{Text, Container, Break, Block, Div, Emphasis}
-use Rattle.html_render_layout.specs.declared.tree.RenderNode.{RenderNode}
-use Rattle.html_render_layout.specs.declared.layout.Desk.{Desk}
-use Rattle.html_render_layout.specs.Pass.{Meaning, run}
-use Rattle.html_render_layout.specs.Operations.{Operations}
-use Rattle.html_render_layout.specs.Block as definition
-use Rattle.html_render_layout.specs.Block.{DefinedBlock}
+use Rattle.html_render_nodes.specs.declared.tree.Emphasis.{Emphasis as TheEmphasis}
+use Rattle.html_render_nodes.specs.declared.tree.Emphasis.TheVariants.{Em, Strong, Code}
+use Rattle.html_render_nodes.specs.declared.tree.NodeKind.{NodeKind}
+use Rattle.html_render_nodes.specs.declared.tree.NodeKind.TheVariants.{Text, Container, Break, Block, Div, Emphasis}
+use Rattle.html_render_nodes.specs.declared.tree.NodeKind.TheVariants.{Header, BlockQuote, Ul, Ol, ListItem, Dl, Dt, Dd}
+use Rattle.html_render_nodes.specs.declared.tree.Estimate.{Estimate}
+use Rattle.html_render_nodes.specs.declared.tree.RenderNode.{RenderNode}
+use Rattle.html_render_nodes.specs.Pass.{Steps, Inside, run}
+use Rattle.html_render_blocks.specs.Operations.{Operations}
+use Rattle.html_render_blocks.specs.Block as definition
+use Rattle.html_render_blocks.specs.Block.{DefinedBlock}
+use Rattle.html_render_estimates.specs.Estimates.{prefix_columns, last_number, measured}
+use Rattle.html_render_layout.specs.declared.layout.state.Around.{Around}
+use Rattle.html_render_layout.specs.declared.layout.state.Around.TheVariants.{Plain, Bullets, Numbers}
+use Rattle.html_render_layout.specs.declared.layout.state.LayoutState.{LayoutState}
+use Rattle.html_render_layout.specs.declared.layout.state.TextContext.{TextContext}
 
 -- what stands round an emphasis
 abbrev pub emphasis_decoration : {S A : Type 0} → Decoration S A → TheEmphasis → Round S A
@@ -25,56 +32,193 @@ emphasis_decoration d Em = d.em
 emphasis_decoration d Strong = d.strong
 emphasis_decoration d Code = d.code
 
--- the style of texts under a tag
-abbrev pub text_style : {T : Type 0} → T → TextStyle T
-text_style tag = record { mode = Normal; tag = tag; continuation_tag = tag }
+-- the style of the texts that come
+abbrev pub text_style : {T : Type 0} → TextContext T → TextStyle T
+text_style x = record { mode = x.mode; tag = x.tag; continuation_tag = x.tag }
 
--- the desk with its block after an operation
-abbrev pub on_block : {S K T B : Type 0} → (B → Option B) → Desk S K T B → Option (Desk S K T B)
+-- the state with its block after an operation
+abbrev pub on_block : {S K T B : Type 0} → (B → Option B) → LayoutState S K T B → Option (LayoutState S K T B)
 on_block f s = do
   b ← f s.block
   Some (record s { block = b })
 
--- the desk with a text more, under its tag
-abbrev pub add_text : {S K T B : Type 0} → Operations B (TextStyle T) → List ℕ → Desk S K T B → Option (Desk S K T B)
-add_text o t s = on_block (λ b. o.add_inline_text b (text_style s.tag) (chars t)) s
+-- the state with a text more
+abbrev pub add_text : {S K T B : Type 0} → Operations B T → List ℕ → LayoutState S K T B → Option (LayoutState S K T B)
+add_text o t s = on_block (λ b. o.add_inline_text b (text_style s.text) (chars t)) s
 
--- the desk under another tag
-abbrev pub under : {S K T B : Type 0} → K × T → Desk S K T B → Desk S K T B
-under x s = record s { stacks = x.0; tag = x.1 }
+-- the state with its texts under another tag
+abbrev pub under : {S K T B : Type 0} → K × T → LayoutState S K T B → LayoutState S K T B
+under x s = record s { stacks = x.0; text = record s.text { tag = x.1 } }
+
+-- round every node: texts are treated behind it as they were before it
+abbrev pub restored : {S K T B : Type 0} → (LayoutState S K T B → Option (LayoutState S K T B)) → LayoutState S K T B →
+    Option (LayoutState S K T B)
+restored layout s = do
+  r ← layout s
+  Some (record r { text = s.text })
+
+-- ---- blocks in blocks
+
+-- the columns that a node needs behind its prefix
+abbrev pub inner_least : Estimate → ℕ
+inner_least e = e.least - e.prefix
+
+abbrev pub spaces : ℕ → List ℕ
+spaces count = replicate count 32
+
+-- a prefix, in UTF-8, with spaces behind it up to so many columns
+abbrev pub padded : (columns : ℕ) → List ℕ → List ℕ
+padded columns prefix = prefix ++ spaces (columns - prefix_columns prefix)
+
+-- numbers stop at the ends of their type
+abbrev pub next_number : ℤ → ℤ
+next_number number = saturate_signed w64 (number +ℤ pos 1)
+
+-- the state in an empty block inside the state's, behind a prefix of so many columns, with at least so many of its own;
+-- none where it is too narrow
+abbrev pub nested : {S A K T B : Type 0} → Decoration S A → Operations B T → (prefix least : ℕ) → LayoutState S K T B →
+    Option (LayoutState S K T B)
+nested d o prefix least s = do
+  b ← o.sub_block s.block prefix least
+  Some (record s { decorator = d.subblock s.decorator; block = b; around = Plain })
+
+-- the state s with this block, after the state r in the block inside its own; the nodes behind stand in this
+abbrev pub resumed : {S K T B : Type 0} → LayoutState S K T B → B → Around → LayoutState S K T B → LayoutState S K T B
+resumed s b behind r = record r { decorator = s.decorator; block = b; around = behind }
+
+-- what is laid out in a block of its own: its first line stands behind a prefix, and the later ones behind so many spaces
+abbrev pub indented : {S A K T B : Type 0} → Decoration S A → Operations B T → (prefix : List ℕ) → (columns least : ℕ) →
+    (behind : Around) → (LayoutState S K T B → Option (LayoutState S K T B)) → LayoutState S K T B → Option (LayoutState S K T B)
+indented d o prefix columns least behind layout s = do
+  q ← nested d o columns least s
+  r ← layout q
+  b ← o.append s.block r.block s.text.tag (chars prefix) (spaces columns)
+  Some (resumed s b behind r)
+
+-- what is laid out in a block of its own, that is one of the state's: each line stands behind a prefix
+abbrev pub quoted : {S A K T B : Type 0} → Decoration S A → Operations B T → (prefix : List ℕ) → (least : ℕ) →
+    (LayoutState S K T B → Option (LayoutState S K T B)) → LayoutState S K T B → Option (LayoutState S K T B)
+quoted d o prefix least layout s = do
+  q ← nested d o (prefix_columns prefix) least s
+  r ← layout q
+  b ← o.start_block s.block
+  c ← o.append b r.block s.text.tag (chars prefix) (chars prefix)
+  Some (resumed s (o.end_block c) s.around r)
+
+-- nodes that stand in something else, and behind them what the state stands in
+abbrev pub standing : {S K T B : Type 0} → Around → (LayoutState S K T B → Option (LayoutState S K T B)) → LayoutState S K T B →
+    Option (LayoutState S K T B)
+standing around children s = do
+  r ← children (record s { around = around })
+  Some (record r { around = s.around })
+
+-- what a node is to what it stands in, whatever it is: an item of a list stands in a block of its own, behind a bullet
+-- or its number
+abbrev pub placed : {S A K T B : Type 0} → Decoration S A → Operations B T → (LayoutState S K T B → Option (LayoutState S K T B)) →
+    LayoutState S K T B → Around → Option (LayoutState S K T B)
+placed d o layout s Plain = layout s
+placed d o layout s (Bullets least) =
+    let bullet = d.unordered_item_prefix s.decorator in
+    indented d o bullet (prefix_columns bullet) least (Bullets least) layout s
+placed d o layout s (Numbers least number columns) =
+    indented d o (padded columns (d.ordered_item_prefix s.decorator number)) columns least
+    (Numbers least (next_number number) columns) layout s
 
 -- d is what the decorators S answer, with annotations A; push gives the tag T of one annotation more, in the stacks K;
 -- and o are the operations on blocks B
-module _ {S A K T B : Type 0} (d : Decoration S A) (push : K → T → A → K × T) (o : Operations B (TextStyle T)) where
-  -- the desk for the children of a node; none where it is too narrow
-  abbrev pub entered : NodeKind → Desk S K T B → Option (Desk S K T B)
-  entered (Text t) s = add_text o t s
-  entered Container s = Some s
-  entered Break s = on_block o.new_line_hard s
-  entered Block s = on_block o.start_block s
-  entered Div s = on_block o.new_line s
-  entered (Emphasis e) s =
-      add_text o ((emphasis_decoration d e).start s.decorator).text
-      (under (push s.stacks s.tag ((emphasis_decoration d e).start s.decorator).annotation) s)
+module _ {S A K T B : Type 0} (d : Decoration S A) (push : K → T → A → K × T) (o : Operations B T) where
+  -- what stands before a part is written, under its annotation
+  abbrev pub begun : Round S A → LayoutState S K T B → Option (LayoutState S K T B)
+  begun round s = add_text o (round.start s.decorator).text (under (push s.stacks s.text.tag (round.start s.decorator).annotation) s)
 
-  -- the desk after a node, from the desk s before it and the desk r after its children
-  abbrev pub left : NodeKind → Desk S K T B → Desk S K T B → Option (Desk S K T B)
-  left (Text t) s r = Some r
-  left Container s r = Some r
-  left Break s r = Some r
-  left Block s r = Some (record r { block = o.end_block r.block })
-  left Div s r = on_block o.new_line r
-  left (Emphasis e) s r = do
-    q ← add_text o ((emphasis_decoration d e).end r.decorator) r
-    Some (record q { tag = s.tag })
+  -- a part between what stands round it
+  abbrev pub decorated : Round S A → (LayoutState S K T B → Option (LayoutState S K T B)) → LayoutState S K T B →
+      Option (LayoutState S K T B)
+  decorated round children s = do
+    q ← begun round s
+    r ← children q
+    add_text o (round.end r.decorator) r
 
-  abbrev pub meaning : Meaning RenderNode (Desk S K T B)
-  meaning = record { entered = λ n s. entered n.kind s; left = λ n s r. left n.kind s r }
+  -- the columns of the prefixes of an ordered list: those of the first number's or of the last number's
+  abbrev pub number_columns : S → (first : ℤ) → (items : ℕ) → ℕ
+  number_columns decorator first items =
+      max (prefix_columns (d.ordered_item_prefix decorator first))
+      (prefix_columns (d.ordered_item_prefix decorator (last_number first items)))
 
-  -- what the desk shows once all trees are laid out, and what is left in the open paragraph
-  abbrev pub shown_after : {L : Type 0} → (Desk S K T B → L) → Forest RenderNode → Desk S K T B → Option L
+  -- what the items of a list stand in
+  abbrev pub numbers : Estimate → (first : ℤ) → S → Around
+  numbers e first decorator = Numbers (inner_least e) first (number_columns decorator first e.children)
+
+  -- WHAT EACH KIND OF NODE DOES to a state, where this is what its children do to one; none where it is too narrow
+  abbrev pub kind_steps : NodeKind → Estimate → (children : LayoutState S K T B → Option (LayoutState S K T B)) →
+      LayoutState S K T B → Option (LayoutState S K T B)
+  kind_steps (Text t) e children s = add_text o t s
+  kind_steps Container e children s = children s
+  kind_steps Break e children s = on_block o.new_line_hard s
+  kind_steps Block e children s = do
+    q ← on_block o.start_block s
+    r ← children q
+    Some (record r { block = o.end_block r.block })
+  kind_steps Div e children s = do
+    q ← on_block o.new_line s
+    r ← children q
+    on_block o.new_line r
+  kind_steps (Emphasis m) e children s = decorated (emphasis_decoration d m) children s
+  kind_steps (Header level) e children s = quoted d o (d.header_prefix s.decorator level) (inner_least e) children s
+  kind_steps BlockQuote e children s = quoted d o (d.quote_prefix s.decorator) (inner_least e) children s
+  kind_steps Ul e children s = standing (Bullets (inner_least e)) children s
+  kind_steps (Ol first) e children s = standing (numbers e first s.decorator) children s
+  kind_steps ListItem e children s = do
+    q ← on_block o.start_block s
+    r ← children q
+    Some (record r { block = o.end_block r.block })
+  kind_steps Dl e children s = do
+    q ← on_block o.start_block s
+    children q
+  kind_steps Dt e children s = do
+    q ← on_block o.new_line s
+    decorated d.em children q
+  kind_steps Dd e children s = indented d o (spaces 2) 2 (inner_least e) s.around children s
+
+  abbrev pub steps : Steps RenderNode (LayoutState S K T B)
+  steps n trees children s = placed d o (λ q. restored (kind_steps n.kind n.estimate children) q) s s.around
+
+  -- the state in which a node's children are laid out, by its kind; none where it is too narrow for them, or has none
+  abbrev pub kind_inside : NodeKind → Estimate → LayoutState S K T B → Option (LayoutState S K T B)
+  kind_inside (Text t) e s = None
+  kind_inside Container e s = Some s
+  kind_inside Break e s = None
+  kind_inside Block e s = on_block o.start_block s
+  kind_inside Div e s = on_block o.new_line s
+  kind_inside (Emphasis m) e s = begun (emphasis_decoration d m) s
+  kind_inside (Header level) e s = nested d o (prefix_columns (d.header_prefix s.decorator level)) (inner_least e) s
+  kind_inside BlockQuote e s = nested d o (prefix_columns (d.quote_prefix s.decorator)) (inner_least e) s
+  kind_inside Ul e s = Some (record s { around = Bullets (inner_least e) })
+  kind_inside (Ol first) e s = Some (record s { around = numbers e first s.decorator })
+  kind_inside ListItem e s = on_block o.start_block s
+  kind_inside Dl e s = on_block o.start_block s
+  kind_inside Dt e s = do
+    q ← on_block o.new_line s
+    begun d.em q
+  kind_inside Dd e s = nested d o 2 (inner_least e) s
+
+  -- and by what it stands in
+  abbrev pub placed_inside : NodeKind → Estimate → LayoutState S K T B → Around → Option (LayoutState S K T B)
+  placed_inside k e s Plain = kind_inside k e s
+  placed_inside k e s (Bullets least) = do
+    q ← nested d o (prefix_columns (d.unordered_item_prefix s.decorator)) least s
+    kind_inside k e q
+  placed_inside k e s (Numbers least number columns) = do
+    q ← nested d o columns least s
+    kind_inside k e q
+
+  abbrev pub inside : Inside RenderNode (LayoutState S K T B)
+  inside n trees s = placed_inside n.kind n.estimate s s.around
+
+  -- what the state shows once all trees are laid out, and what is left in the open paragraph
+  abbrev pub shown_after : {L : Type 0} → (LayoutState S K T B → L) → Forest RenderNode → LayoutState S K T B → Option L
   shown_after shown t s = do
-    r ← run meaning t s
+    r ← run steps t s
     q ← on_block o.new_line r
     Some (shown q)
 
@@ -82,35 +226,59 @@ module _ {S A K T B : Type 0} (d : Decoration S A) (push : K → T → A → K �
 abbrev pub onto : {A : Type 0} → Unit {0} → List A → A → Unit {0} × List A
 onto k stack a = (k, stack ++ a ∷ [])
 
--- the desk of a layout by stacks, on lists of all that was fed
+-- the state of a layout by stacks, on lists of all that was fed; marks are numbers
 abbrev pub Defined : Type 0 → Type 0 → Type 0
-Defined S A = Desk S (Unit {0}) (List A) (DefinedBlock (List A) (Unit {0}))
+Defined S A = LayoutState S (Unit {0}) (List A) (DefinedBlock (List A) ℕ)
 
-abbrev pub defined : {S A : Type 0} → Decoration S A → Meaning RenderNode (Defined S A)
-defined d = meaning d onto definition.operations
+abbrev pub defined : {S A : Type 0} → Decoration S A → Steps RenderNode (Defined S A)
+defined d = steps d onto definition.operations
+
+abbrev pub defined_inside : {S A : Type 0} → Decoration S A → Inside RenderNode (Defined S A)
+defined_inside d = inside d onto definition.operations
+
+-- texts under a tag, that are wrapped
+abbrev pub plain_text : {T : Type 0} → T → TextContext T
+plain_text tag = record { tag = tag; mode = Normal; preformat = 0; strikeout = 0 }
+
+-- the state in which a layout begins
+abbrev pub begin_with : {S K T B : Type 0} → S → K → T → B → LayoutState S K T B
+begin_with decorator stacks tag block =
+    record {
+      decorator = decorator;
+      stacks = stacks;
+      text = plain_text tag;
+      block = block;
+      around = Plain;
+      targets = [];
+      names = [];
+    }
 
 -- an empty block in the decorator's sub-block, without annotations
-abbrev pub empty_desk : {S A : Type 0} → Decoration S A → S → (width : ℕ) → (overflow : Bool) → Defined S A
-empty_desk d decorator width overflow =
-    record {
-      decorator = d.subblock decorator;
-      stacks = tt;
-      tag = [];
-      block = definition.empty_block (record { width = width; overflow = overflow });
-    }
+abbrev pub empty_state : {S A : Type 0} → Decoration S A → S → (width : ℕ) → (overflow : Bool) → Defined S A
+empty_state d decorator width overflow =
+    begin_with (d.subblock decorator) tt [] (definition.empty_block (record { width = width; max_wrap_width = None; overflow = overflow }))
+
+-- a text needs its own columns, or so many
+abbrev pub min_wrap_width : ℕ
+min_wrap_width = 3
+
+-- a tree with the estimate of each node, whose prefixes are those of the decorator of a block inside the root's
+abbrev pub estimated : {S A : Type 0} → Decoration S A → S → Forest RenderNode → Forest RenderNode
+estimated d decorator t = measured d (d.subblock (d.subblock decorator)) min_wrap_width t
 
 -- THE LINES of a render tree, each character with its stack of annotations; none where it is too narrow
 abbrev pub layout_lines : {S A : Type 0} → Decoration S A → Forest RenderNode → S → (width : ℕ) → (overflow : Bool) →
-    Option (List (Line (List A) (Unit {0})))
+    Option (List (Line (List A) ℕ))
 layout_lines {S} {A} d t decorator width overflow =
     if width == 0 then None
-    else shown_after d onto definition.operations (λ (s : Defined S A). s.block.lines) t (empty_desk d decorator width overflow)
+    else shown_after d onto definition.operations (λ (s : Defined S A). s.block.lines) (estimated d decorator t)
+    (empty_state d decorator width overflow)
 
 abbrev pub no_tag : {X : Type 0} → X → Unit {0}
 no_tag x = tt
 
 -- the same lines without annotations
 abbrev pub untagged_lines : {S A : Type 0} → Decoration S A → Forest RenderNode → S → (width : ℕ) → (overflow : Bool) →
-    Option (List (Line (Unit {0}) (Unit {0})))
+    Option (List (Line (Unit {0}) ℕ))
 untagged_lines {S} {A} d t decorator width overflow =
     option_map (lines_with (λ (stack : List A). no_tag stack)) (layout_lines d t decorator width overflow)

@@ -5,11 +5,11 @@ use Rattle.html_render_dom.specs.Forest.{Forest}
 use Rattle.html_render_parts.specs.Decoration.{Decoration}
 use Rattle.html_render_lines.specs.Line.{Line}
 use Rattle.html_render_lines.specs.Tags.{lines_with}
-use Rattle.html_render_layout.specs.declared.tree.RenderNode.{RenderNode}
-use Rattle.html_render_layout.specs.declared.layout.Desk.{Desk}
+use Rattle.html_render_nodes.specs.declared.tree.RenderNode.{RenderNode}
+use Rattle.html_render_layout.specs.declared.layout.state.LayoutState.{LayoutState}
 use Rattle.html_render_layout.specs.declared.layout.LaidOut.{LaidOut}
-use Rattle.html_render_layout.specs.BlockMachine as machine
-use Rattle.html_render_layout.specs.BlockMachine.{MachineBlock}
+use Rattle.html_render_blocks.specs.BlockMachine as machine
+use Rattle.html_render_blocks.specs.BlockMachine.{MachineBlock}
 use Rattle.html_render_layout.specs.Stacks.{stack_at}
 use Rattle.html_render_layout.specs.Layout.{shown_after}
 
@@ -21,25 +21,25 @@ tabled stacks tag a = (stacks ++ (stack_at stacks tag ++ a ∷ []) ∷ [], lengt
 abbrev pub untagged : {K A : Type 0} → K → Unit {0} → A → K × Unit {0}
 untagged k tag a = (k, tag)
 
--- the desk of a layout by numbers
+-- the state of a layout by numbers
 abbrev pub Worked : Type 0 → Type 0 → Type 0
-Worked S A = Desk S (List (List A)) ℕ (MachineBlock ℕ (Unit {0}))
+Worked S A = LayoutState S (List (List A)) ℕ (MachineBlock ℕ ℕ)
 
 -- lines with the stacks of their tags
-abbrev pub tagged : {A : Type 0} → List (List A) → List (Line ℕ (Unit {0})) → List (Line (List A) (Unit {0}))
+abbrev pub tagged : {A : Type 0} → List (List A) → List (Line ℕ ℕ) → List (Line (List A) ℕ)
 tagged stacks lines = lines_with (stack_at stacks) lines
 
-abbrev pub laid_out : {A : Type 0} → LaidOut A → List (Line (List A) (Unit {0}))
+abbrev pub laid_out : {A : Type 0} → LaidOut A → List (Line (List A) ℕ)
 laid_out l = tagged l.stacks l.lines.items
 
--- the lines that the code makes from a desk
-abbrev pub work_lines : {S A : Type 0} → Decoration S A → Forest RenderNode → Worked S A → Option (List (Line (List A) (Unit {0})))
+-- the lines that the code makes from a state
+abbrev pub work_lines : {S A : Type 0} → Decoration S A → Forest RenderNode → Worked S A → Option (List (Line (List A) ℕ))
 work_lines {S} {A} d t s = shown_after d tabled machine.operations (λ (r : Worked S A). tagged r.stacks r.block.lines) t s
 
--- the desk of a layout without annotations
+-- the state of a layout without annotations
 abbrev pub Untagged : Type 0 → Type 0 → Type 0
-Untagged S K = Desk S K (Unit {0}) (MachineBlock (Unit {0}) (Unit {0}))
+Untagged S K = LayoutState S K (Unit {0}) (MachineBlock (Unit {0}) ℕ)
 
 -- the lines that the code makes from it
-abbrev pub untagged_work : {S A K : Type 0} → Decoration S A → Forest RenderNode → Untagged S K → Option (List (Line (Unit {0}) (Unit {0})))
+abbrev pub untagged_work : {S A K : Type 0} → Decoration S A → Forest RenderNode → Untagged S K → Option (List (Line (Unit {0}) ℕ))
 untagged_work {S} {A} {K} d t s = shown_after d untagged machine.operations (λ (r : Untagged S K). r.block.lines) t s

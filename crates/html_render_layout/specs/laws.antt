@@ -1,14 +1,8 @@
-pub mod Preorder
-pub mod Splits
-pub mod Agree
-pub mod Runs
-pub mod Operations
-pub mod BlockTags
-pub mod BlockFed
-pub mod BlockLaws
 pub mod Stacks
-pub mod Leaving
+pub mod Opening
 pub mod Representation
 pub mod LayoutKeeps
 pub mod LayoutLaws
 pub mod LayoutWorks
+pub mod LayoutOverflow
+pub mod LayoutVisible

@@ -1,63 +1,51 @@
 //! The layout of a render tree into lines.
 //!
-//! `lay_out(alloc, &decorator, &tree, 10, false, &mut meter)?` answers the lines of the tree, wrapped to 10 columns.
+//! `lay_out(alloc, &decorator, tree, 10, false, &mut meter)?` answers the lines of the tree, wrapped to 10 columns.
 
 ghost use Rattle.std.specs.Prelude.{◌≡◌, ◌≢◌, ◌≤◌, ◌<◌, Some, ℕ, true, false, Err, OnOk, OnErr, IfOk, IfErr, IfSome};
 ghost use Rattle.html_render_dom.specs.Outcome.{Refuses};
 ghost use Rattle.html_render_lines.specs.Line.{AllWithinWidth};
-ghost use Rattle.html_render_layout.specs.BlockMachine as machine;
-ghost use Rattle.html_render_layout.specs.Counts.{CountsNodes};
-ghost use Rattle.html_render_layout.specs.Pass.{run};
-ghost use Rattle.html_render_layout.specs.Layout.{meaning, shown_after, Defined, defined, layout_lines, untagged_lines};
-ghost use Rattle.html_render_layout.specs.Leaving.{leaving, leave};
-ghost use Rattle.html_render_layout.specs.laws.Leaving.{leave-leaving};
-ghost use Rattle.html_render_layout.specs.Working.{work_lines, laid_out, untagged_work};
+ghost use Rattle.html_render_blocks.specs.BlockMachine as machine;
+ghost use Rattle.html_render_nodes.specs.Counts.{CountsNodes};
+ghost use Rattle.html_render_nodes.specs.Pass.{run, inside_of};
+ghost use Rattle.html_render_estimates.specs.Estimates.{measured};
+ghost use Rattle.html_render_layout.specs.Layout.{steps, begin_with, shown_after, Defined, defined, defined_inside, empty_state};
+ghost use Rattle.html_render_layout.specs.Layout.{min_wrap_width, estimated, layout_lines, untagged_lines};
+ghost use Rattle.html_render_layout.specs.Opening.{opened, closed};
+ghost use Rattle.html_render_layout.specs.laws.Opening.{steps-told};
+ghost use Rattle.html_render_layout.specs.Working.{tabled, work_lines, laid_out, untagged_work};
 
-use crate::block::Block;
+use self::state::{Around, Closing, LayoutState, TextContext, TextList};
 use crate::stacks::Stacks;
 use crate::tagging::{Tagging, Untagged};
-use crate::tree::{Emphasis, RenderNode, RenderTree};
-use crate::walk::{Pass, walk};
+use html_render_blocks::block::{Block, BlockSetting};
 use html_render_dom::Error;
+use html_render_dom::style::WhiteSpace;
+use html_render_estimates::estimate::measure;
 use html_render_lines::line::Line;
+use html_render_lines::tag::Tag;
+use html_render_nodes::tree::{Entry, RenderNode, RenderTree};
+use html_render_nodes::walk::{Pass, walk};
 use html_render_parts::decorate::TextDecorator;
 use html_render_parts::widths::Meter;
 use std::alloc::Global;
 use std::marker::PhantomData;
 
+mod emphasis;
+mod items;
+mod nesting;
+mod spaces;
+pub mod state;
 mod steps;
 
-/// Where a layout stands.
-#[derive(Drop)]
-pub struct Desk<D, K, T, B> {
-    /// The decorator of the block.
-    pub decorator: D,
-    /// What the tags stand for.
-    pub stacks: K,
-    /// The tag of the texts that come.
-    pub tag: T,
-    /// The block that is laid out into.
-    pub block: B,
-}
-
-/// What is to be done once a node's children are laid out.
-#[derive(Clone, Copy)]
-pub enum Leaving<T> {
-    /// Nothing.
-    Nothing,
-    /// The block is at its end.
-    EndBlock,
-    /// A new line begins.
-    NewLine,
-    /// The emphasis ends, and the tag is again the one before it.
-    EndEmphasis(Emphasis, T),
-}
+/// The columns that a text needs at least, unless its own are fewer.
+const MIN_WRAP_WIDTH: usize = 3;
 
 /// Lines, and the stacks of annotations that the tags of their characters stand for.
 #[derive(Drop)]
 pub struct LaidOut<A> {
     /// The lines.
-    pub lines: Vec<Line<usize, ()>>,
+    pub lines: Vec<Line<usize, usize>>,
     /// What their tags stand for.
     pub stacks: Stacks<A>,
 }
@@ -71,71 +59,127 @@ struct Layout<D, G> {
 impl<D: TextDecorator, G: Tagging<D::Annotation>> Pass for Layout<D, G> {
     type Node = RenderNode;
 
-    type State = Desk<D, G, G::Tag, Block<G::Tag, ()>>;
+    type State = LayoutState<D, G, G::Tag, Block<G::Tag, usize>>;
 
-    type Kept = Leaving<G::Tag>;
+    type Kept = Closing<D, G::Tag, Block<G::Tag, usize>>;
 
-    ghost meaning = { meaning D.decoration G.annotated machine.operations };
+    ghost steps = { steps D.decoration G.annotated machine.operations };
 
-    ghost kept_of = { λ n s. leaving n.kind s };
+    ghost opened = { opened D.decoration G.annotated machine.operations };
 
-    ghost leaves = { leave D.decoration G.annotated machine.operations };
+    ghost closed = { closed D.decoration G.annotated machine.operations };
 
-    ghost leaves_kept = { λ n s r. leave-leaving D.decoration G.annotated machine.operations n.kind s r };
+    ghost told = { steps-told D.decoration G.annotated machine.operations };
 
-    /// Enters a node, as its kind says.
-    fn enter(
+    /// Opens a node, as its kind says.
+    fn open(
         alloc: Global,
         node: &RenderNode,
-        state: &mut Desk<D, G, G::Tag, Block<G::Tag, ()>>,
-    ) -> Result<Leaving<G::Tag>, Error> {
-        steps::enter(alloc, &node.kind, state)
+        _children: &[Entry<RenderNode>],
+        state: &mut LayoutState<D, G, G::Tag, Block<G::Tag, usize>>,
+    ) -> Result<Option<Closing<D, G::Tag, Block<G::Tag, usize>>>, Error> {
+        steps::open(alloc, &node.kind, node.estimate, state)
     }
 
-    /// Does what was kept of a node.
-    fn leave(
+    /// Closes it.
+    fn close(
         alloc: Global,
-        kept: Leaving<G::Tag>,
-        state: &mut Desk<D, G, G::Tag, Block<G::Tag, ()>>,
+        kept: Closing<D, G::Tag, Block<G::Tag, usize>>,
+        state: &mut LayoutState<D, G, G::Tag, Block<G::Tag, usize>>,
     ) -> Result<(), Error> {
-        steps::leave(alloc, kept, state)
+        steps::close(alloc, kept, state)
     }
 }
 
-/// The desk once a tree is laid out on it, and what is left in the open paragraph.
-#[tactic(auto, using(html_render_dom::specs::laws::Outcome::refusals))]
-fn laid_out_on<D: TextDecorator, G: Tagging<D::Annotation>>(
+/// The state in which a layout begins.
+fn begin_with<D: TextDecorator, G: Tagging<D::Annotation>>(
     alloc: Global,
-    tree: &RenderTree,
-    desk: Desk<D, G, G::Tag, Block<G::Tag, ()>>,
-    meter: &mut Meter,
-) -> Result<Desk<D, G, G::Tag, Block<G::Tag, ()>>, Error>
-    ensures ok { IfOk result (λ after. shown_after D.decoration G.annotated machine.operations (λ r. r) tree.now desk ≡ Some after) }
-    ensures err { IfErr result (λ e. Refuses e (shown_after D.decoration G.annotated machine.operations (λ r. r) tree.now desk)) }
-    ensures counts { CountsNodes result tree.now meter.old meter.new }
+    decorator: D,
+    stacks: G,
+    tag: G::Tag,
+    block: Block<G::Tag, usize>,
+) -> LayoutState<D, G, G::Tag, Block<G::Tag, usize>>
+    ensures { result ≡ begin_with decorator stacks tag block }
 {
-    let mut desk = desk;
-    walk::<Layout<D, G>>(alloc, tree.nodes(), &mut desk, meter)?;
-    desk.block.flush()?;
-    Ok(desk)
+    LayoutState {
+        decorator,
+        stacks,
+        text: TextContext {
+            tag,
+            mode: WhiteSpace::Normal,
+            preformat: 0,
+            strikeout: 0,
+        },
+        block,
+        around: Around::Plain,
+        targets: TextList::new(alloc),
+        names: TextList::new(alloc),
+    }
 }
 
-/// The lines of a tree on a desk, with the stacks of their tags.
-fn lines_on<D: TextDecorator>(
+/// The state once a tree is laid out, and what is left in the open paragraph.
+#[tactic(auto, using(html_render_dom::specs::laws::Outcome::refusals))]
+fn laid_out_from<D: TextDecorator, G: Tagging<D::Annotation>>(
     alloc: Global,
     tree: &RenderTree,
-    desk: Desk<D, Stacks<D::Annotation>, usize, Block<usize, ()>>,
+    state: LayoutState<D, G, G::Tag, Block<G::Tag, usize>>,
+    meter: &mut Meter,
+) -> Result<LayoutState<D, G, G::Tag, Block<G::Tag, usize>>, Error>
+    ensures ok { IfOk result (λ after. shown_after D.decoration G.annotated machine.operations (λ r. r) tree.now state ≡ Some after) }
+    ensures err { IfErr result (λ e. Refuses e (shown_after D.decoration G.annotated machine.operations (λ r. r) tree.now state)) }
+    ensures counts { CountsNodes result (steps D.decoration G.annotated machine.operations)
+        (inside_of (opened D.decoration G.annotated machine.operations)) tree.now state meter.old meter.new }
+{
+    let mut state = state;
+    walk::<Layout<D, G>>(alloc, tree.nodes(), &mut state, meter)?;
+    state.block.flush()?;
+    Ok(state)
+}
+
+/// The lines of a tree from a state, with the stacks of their tags.
+fn lines_from<D: TextDecorator>(
+    alloc: Global,
+    tree: &RenderTree,
+    state: LayoutState<D, Stacks<D::Annotation>, usize, Block<usize, usize>>,
     meter: &mut Meter,
 ) -> Result<LaidOut<D::Annotation>, Error>
-    ensures ok { IfOk result (λ lines. work_lines D.decoration tree.now desk ≡ Some (laid_out lines)) }
-    ensures err { IfErr result (λ e. Refuses e (work_lines D.decoration tree.now desk)) }
-    ensures counts { CountsNodes result tree.now meter.old meter.new }
+    ensures ok { IfOk result (λ lines. work_lines D.decoration tree.now state ≡ Some (laid_out lines)) }
+    ensures err { IfErr result (λ e. Refuses e (work_lines D.decoration tree.now state)) }
+    ensures counts { CountsNodes result (steps D.decoration tabled machine.operations)
+        (inside_of (opened D.decoration tabled machine.operations)) tree.now state meter.old meter.new }
 {
-    let desk = laid_out_on(alloc, tree, desk, meter)?;
+    let state = laid_out_from(alloc, tree, state, meter)?;
     Ok(LaidOut {
-        lines: desk.block.into_lines(),
-        stacks: desk.stacks,
+        lines: state.block.into_lines(),
+        stacks: state.stacks,
     })
+}
+
+/// A tree with the estimate of each node, whose prefixes are those of a sub-block of this sub-block's decorator.
+fn estimated<D: TextDecorator>(
+    alloc: Global,
+    inner: &D,
+    tree: RenderTree,
+) -> Result<RenderTree, Error>
+    ensures ok { IfOk result (λ t. t ≡ measured D.decoration (D.decoration.subblock inner.now) min_wrap_width tree) }
+    ensures err { IfErr result (λ e. e ≡ Error.OutOfMemory) }
+{
+    let innermost = inner.make_subblock_decorator(alloc)?;
+    measure(alloc, &innermost, MIN_WRAP_WIDTH, tree)
+}
+
+/// A block that is as wide as the lines.
+fn outermost<T: Tag>(alloc: Global, width: usize, overflow: bool) -> Block<T, usize>
+    ensures { result ≡ machine.empty_block (record { width = width; max_wrap_width = None; overflow = overflow }) }
+{
+    Block::new(
+        alloc,
+        BlockSetting {
+            width,
+            max_wrap_width: None,
+            overflow,
+        },
+    )
 }
 
 /// The lines of a tree, wrapped to `width` columns, with what a sub-block of the decorator's writes. Where a character
@@ -148,25 +192,26 @@ fn lines_on<D: TextDecorator>(
 pub fn lay_out<D: TextDecorator>(
     alloc: Global,
     decorator: &D,
-    tree: &RenderTree,
+    tree: RenderTree,
     width: usize,
     overflow: bool,
     meter: &mut Meter,
 ) -> Result<LaidOut<D::Annotation>, Error>
-    ensures ok { IfOk result (λ lines. layout_lines D.decoration tree.now decorator.now width overflow ≡ Some (laid_out lines)) }
-    ensures err { IfErr result (λ e. Refuses e (layout_lines D.decoration tree.now decorator.now width overflow)) }
+    ensures ok { IfOk result (λ lines. layout_lines D.decoration tree decorator.now width overflow ≡ Some (laid_out lines)) }
+    ensures err { IfErr result (λ e. Refuses e (layout_lines D.decoration tree decorator.now width overflow)) }
 
     // no line is too wide, and with overflow no width is too small but 0, before anything is allocated
     ensures within { IfOk result (λ lines. overflow ≡ false → AllWithinWidth width (laid_out lines)) }
     ensures answered { 0 < width → overflow ≡ true → result ≢ Err Error.TooNarrow }
     ensures no_width { width ≡ 0 → result ≡ Err Error.TooNarrow }
 
-    // a tree that is laid out leaves the annotations and the decorator of any desk as they were
+    // a tree that is laid out leaves the texts that follow, with their annotations, and the decorator of any state as they were
     ensures stacks { (s : Defined D D.Annotation) →
-        IfSome (run (defined D.decoration) tree.now s) (λ r. (r.tag ≡ s.tag) × (r.decorator ≡ s.decorator)) }
+        IfSome (run (defined D.decoration) (estimated D.decoration decorator.now tree) s) (λ r. (r.text ≡ s.text) × (r.decorator ≡ s.decorator)) }
 
     // what was counted, where there are lines, and where there are none
-    ensures counts { CountsNodes result tree.now meter.old meter.new }
+    ensures counts { CountsNodes result (defined D.decoration) (defined_inside D.decoration)
+        (estimated D.decoration decorator.now tree) (empty_state D.decoration decorator.now width overflow) meter.old meter.new }
 {
     meter.entered = 0;
     meter.left = 0;
@@ -174,27 +219,25 @@ pub fn lay_out<D: TextDecorator>(
     if width == 0 {
         return Err(Error::TooNarrow);
     }
-    let desk = Desk {
-        decorator: decorator.make_subblock_decorator(alloc)?,
-        stacks: Stacks::new(alloc),
-        tag: 0,
-        block: Block::new(alloc, width, overflow),
-    };
-    lines_on(alloc, tree, desk, meter)
+    let inner = decorator.make_subblock_decorator(alloc)?;
+    let tree = estimated(alloc, &inner, tree)?;
+    let block = outermost(alloc, width, overflow);
+    let state = begin_with(alloc, inner, Stacks::new(alloc), 0, block);
+    lines_from(alloc, &tree, state, meter)
 }
 
-/// The lines of a tree on a desk without annotations.
-fn untagged_lines_on<D: TextDecorator>(
+/// The lines of a tree from a state without annotations.
+fn untagged_lines_from<D: TextDecorator>(
     alloc: Global,
     tree: &RenderTree,
-    desk: Desk<D, Untagged, (), Block<(), ()>>,
-) -> Result<Vec<Line<(), ()>>, Error>
-    ensures ok { IfOk result (λ lines. untagged_work D.decoration tree.now desk ≡ Some lines.items) }
-    ensures err { IfErr result (λ e. Refuses e (untagged_work D.decoration tree.now desk)) }
+    state: LayoutState<D, Untagged, (), Block<(), usize>>,
+) -> Result<Vec<Line<(), usize>>, Error>
+    ensures ok { IfOk result (λ lines. untagged_work D.decoration tree.now state ≡ Some lines.items) }
+    ensures err { IfErr result (λ e. Refuses e (untagged_work D.decoration tree.now state)) }
 {
     let mut meter = Meter::default();
-    let desk = laid_out_on(alloc, tree, desk, &mut meter)?;
-    Ok(desk.block.into_lines())
+    let state = laid_out_from(alloc, tree, state, &mut meter)?;
+    Ok(state.block.into_lines())
 }
 
 /// The lines of a tree, as [`lay_out`] answers them, without what their characters are annotated with. Nothing is kept
@@ -206,12 +249,12 @@ fn untagged_lines_on<D: TextDecorator>(
 pub fn lay_out_untagged<D: TextDecorator>(
     alloc: Global,
     decorator: &D,
-    tree: &RenderTree,
+    tree: RenderTree,
     width: usize,
     overflow: bool,
-) -> Result<Vec<Line<(), ()>>, Error>
-    ensures ok { IfOk result (λ lines. untagged_lines D.decoration tree.now decorator.now width overflow ≡ Some lines.items) }
-    ensures err { IfErr result (λ e. Refuses e (untagged_lines D.decoration tree.now decorator.now width overflow)) }
+) -> Result<Vec<Line<(), usize>>, Error>
+    ensures ok { IfOk result (λ lines. untagged_lines D.decoration tree decorator.now width overflow ≡ Some lines.items) }
+    ensures err { IfErr result (λ e. Refuses e (untagged_lines D.decoration tree decorator.now width overflow)) }
 
     // as for the lines with annotations
     ensures within { IfOk result (λ lines. overflow ≡ false → AllWithinWidth width lines.items) }
@@ -221,13 +264,11 @@ pub fn lay_out_untagged<D: TextDecorator>(
     if width == 0 {
         return Err(Error::TooNarrow);
     }
-    let desk = Desk {
-        decorator: decorator.make_subblock_decorator(alloc)?,
-        stacks: Untagged,
-        tag: (),
-        block: Block::new(alloc, width, overflow),
-    };
-    untagged_lines_on(alloc, tree, desk)
+    let inner = decorator.make_subblock_decorator(alloc)?;
+    let tree = estimated(alloc, &inner, tree)?;
+    let block = outermost(alloc, width, overflow);
+    let state = begin_with(alloc, inner, Untagged, (), block);
+    untagged_lines_from(alloc, &tree, state)
 }
 
 #[cfg(test)]

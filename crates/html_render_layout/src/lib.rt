@@ -1,9 +1,7 @@
-//! The layout of a render tree: the tree in one vector, its walk, and what each node does.
+//! The layout of a render tree: what each node does to the block that it is laid out into.
 #![tactic(auto)]
 
-pub mod block;
+mod laws;
 pub mod layout;
 pub mod stacks;
 pub mod tagging;
-pub mod tree;
-pub mod walk;

@@ -29,6 +29,7 @@ use Rattle.html_render_lines.specs.Feeding.{is_letter, is_letter_kind, AreLetter
 use Rattle.html_render_lines.specs.Paragraph.{is_same, Page, put_word}
 use Rattle.html_render_lines.specs.TaggedText.{text_columns}
 use Rattle.html_render_lines.specs.laws.Cases.{if_true, if_false}
+use Rattle.html_render_lines.specs.laws.Characters.{plain_width}
 use Rattle.html_render_lines.specs.laws.Whole.{after-append}
 use Rattle.html_render_lines.specs.Stream.{State, end_word, end_word_by, begin_word, joins, after, step, character_step, letter_step, letters_step}
 use Rattle.html_render_lines.specs.Stream.{character_of, styled}
@@ -49,10 +50,6 @@ normal_kind c low high = grind (arith, common_steps)
 pre_wrap_kind : (c : ℕ) → 33 ≤ c → c ≤ 126 → kind PreWrap c ≡ Letter
 unfolding kind char_width
 pre_wrap_kind c low high = grind (arith, common_steps)
-
-plain_width : (c : ℕ) → 33 ≤ c → c ≤ 126 → width_of c ≡ 1
-unfolding width_of char_width
-plain_width c low high = grind (arith, common_steps)
 
 plain_kind : (mode : WhiteSpace) (c : ℕ) → wraps mode ≡ true → is_plain c ≡ true → kind mode c ≡ Letter
 plain_kind Normal c w e = normal_kind c (plain-low c e) (plain-high c e)

@@ -1,5 +1,7 @@
 -- facts on values that may be missing, and on choices
 pub mod Cases
+-- how wide printable characters are
+pub mod Characters
 -- feeding keeps the setting
 pub mod Kept
 -- what is fed piece by piece is the paragraph of all of it

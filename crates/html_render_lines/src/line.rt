@@ -12,7 +12,7 @@ mod line_of_text;
 mod tagged_text;
 mod word;
 
-pub use line_of_text::{Line, Parts};
+pub use line_of_text::{Line, Parts, text_columns};
 pub use tagged_text::{Run, TextParts};
 pub(crate) use tagged_text::{TaggedText, style_tag};
 pub(crate) use word::{Word, push_word};

@@ -1,10 +1,11 @@
 //! Decorators: what is written round the parts of a document, and what its characters are annotated with.
 //!
 //! `PlainDecorator::new()` is the decorator of plain text. Its annotations say nothing, and a sub-block has the
-//! same decorator: `PlainDecorator::new().make_subblock_decorator(alloc)?` is `PlainDecorator::new()`.
+//! same decorator: `PlainDecorator::new().make_subblock_decorator(alloc)?` is `PlainDecorator::new()`. Before an ordered
+//! list's item of number 3 it writes `3. `.
 
-ghost use Rattle.std.specs.Prelude.{◌≡◌, IfOk, IfErr, refl, string_bytes};
-ghost use Rattle.html_render_parts.specs.Decoration.{Decoration, nothing_round};
+ghost use Rattle.std.specs.Prelude.{◌≡◌, IfOk, IfErr, codes, refl, string_bytes};
+ghost use Rattle.html_render_parts.specs.Decoration.{Decoration, nothing_round, hashes, number_and_dot};
 
 use html_render_dom::Error;
 use std::alloc::Global;
@@ -76,6 +77,42 @@ pub trait TextDecorator: Drop {
         ensures ok { IfOk result (λ text. string_bytes text ≡ decoration.code.end self.now) }
         ensures err { IfErr result (λ e. e ≡ Error.OutOfMemory) };
 
+    /// What stands before each line of a heading of this level.
+    ///
+    /// # Errors
+    ///
+    /// `OutOfMemory`.
+    fn header_prefix(&self, alloc: Global, level: usize) -> Result<String, Error>
+        ensures ok { IfOk result (λ prefix. string_bytes prefix ≡ decoration.header_prefix self.now level) }
+        ensures err { IfErr result (λ e. e ≡ Error.OutOfMemory) };
+
+    /// What stands before each line of a quote.
+    ///
+    /// # Errors
+    ///
+    /// `OutOfMemory`.
+    fn quote_prefix(&self, alloc: Global) -> Result<String, Error>
+        ensures ok { IfOk result (λ prefix. string_bytes prefix ≡ decoration.quote_prefix self.now) }
+        ensures err { IfErr result (λ e. e ≡ Error.OutOfMemory) };
+
+    /// What stands before the first line of an item of an unordered list.
+    ///
+    /// # Errors
+    ///
+    /// `OutOfMemory`.
+    fn unordered_item_prefix(&self, alloc: Global) -> Result<String, Error>
+        ensures ok { IfOk result (λ prefix. string_bytes prefix ≡ decoration.unordered_item_prefix self.now) }
+        ensures err { IfErr result (λ e. e ≡ Error.OutOfMemory) };
+
+    /// What stands before the first line of an ordered list's item of this number.
+    ///
+    /// # Errors
+    ///
+    /// `OutOfMemory`.
+    fn ordered_item_prefix(&self, alloc: Global, number: i64) -> Result<String, Error>
+        ensures ok { IfOk result (λ prefix. string_bytes prefix ≡ decoration.ordered_item_prefix self.now number) }
+        ensures err { IfErr result (λ e. e ≡ Error.OutOfMemory) };
+
     /// The decorator of a block inside the decorator's own.
     ///
     /// # Errors
@@ -103,7 +140,16 @@ impl PlainDecorator {
 impl TextDecorator for PlainDecorator {
     type Annotation = ();
 
-    ghost decoration = { record { em = nothing_round; strong = nothing_round; code = nothing_round; subblock = λ plain. plain } };
+    ghost decoration = { record {
+      em = nothing_round;
+      strong = nothing_round;
+      code = nothing_round;
+      header_prefix = λ plain level. hashes level;
+      quote_prefix = λ plain. codes "> ";
+      unordered_item_prefix = λ plain. codes "* ";
+      ordered_item_prefix = λ plain number. number_and_dot number;
+      subblock = λ plain. plain;
+    } };
 
     ghost clone_is_same = { λ a b h. refl };
 
@@ -129,6 +175,24 @@ impl TextDecorator for PlainDecorator {
 
     fn decorate_code_end(&self, alloc: Global) -> Result<String, Error> {
         Ok(String::new(alloc))
+    }
+
+    fn header_prefix(&self, alloc: Global, level: usize) -> Result<String, Error> {
+        let mut prefix = "#".repeat(alloc, level)?;
+        prefix.push(' ')?;
+        Ok(prefix)
+    }
+
+    fn quote_prefix(&self, alloc: Global) -> Result<String, Error> {
+        Ok(String::from_str(alloc, "> ")?)
+    }
+
+    fn unordered_item_prefix(&self, alloc: Global) -> Result<String, Error> {
+        Ok(String::from_str(alloc, "* ")?)
+    }
+
+    fn ordered_item_prefix(&self, alloc: Global, number: i64) -> Result<String, Error> {
+        Ok(format!(in alloc; "{number}. ")?)
     }
 
     fn make_subblock_decorator(&self, _alloc: Global) -> Result<PlainDecorator, Error> {
@@ -164,6 +228,26 @@ mod tests {
     fn plain_text_has_nothing_round_its_parts(rt: HostRuntime) -> Result<(), Fail> {
         for text in &texts(rt.alloc(), &PlainDecorator::new())? {
             assert_eq!(rt; text.as_str(), "");
+        }
+        Ok(())
+    }
+
+    #[test]
+    fn plain_text_has_prefixes(rt: HostRuntime) -> Result<(), Fail> {
+        let alloc = rt.alloc();
+        let plain = PlainDecorator::new();
+        assert_eq!(rt; plain.header_prefix(alloc, 0)?.as_str(), " ");
+        assert_eq!(rt; plain.header_prefix(alloc, 3)?.as_str(), "### ");
+        assert_eq!(rt; plain.quote_prefix(alloc)?.as_str(), "> ");
+        assert_eq!(rt; plain.unordered_item_prefix(alloc)?.as_str(), "* ");
+        for (number, prefix) in [
+            (0, "0. "),
+            (10, "10. "),
+            (-1, "-1. "),
+            (i64::MAX, "9223372036854775807. "),
+            (i64::MIN, "-9223372036854775808. "),
+        ] {
+            assert_eq!(rt; plain.ordered_item_prefix(alloc, number)?.as_str(), prefix);
         }
         Ok(())
     }

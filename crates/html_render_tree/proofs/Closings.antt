@@ -1,16 +1,20 @@
 -- What an element gives when it is closed: what its contents were put beside, in one vector, is what they were inserted into.
-use Rattle.std.proofs.Common.{◌≡◌, ◌≢◌, ℕ, ◌+◌, true, false, if◌then◌else◌, List, Option, Some, None, option_map, refl, sym, ap, ◌∙◌, arith}
+use Rattle.std.proofs.Common.{◌≡◌, ◌≢◌, ℕ, ◌==◌, inl, inr, Bool, true, false, not, ◌||◌, if◌then◌else◌, List, Option, Some, None, is_some, option_map}
+use Rattle.std.proofs.Common.{refl, sym, ap, ◌∙◌, arith}
+use Rattle.std.proofs.lemmas.Bool.{cases_Bool}
+use borrow.Author.Tests.{eq-eqb, ne_eqb}
 use Rattle.html_render_dom.specs.Forest.{Forest, none, node, count, followed_by}
-use Rattle.html_render_layout.specs.declared.tree.NodeKind.TheVariants.{Container}
-use Rattle.html_render_layout.specs.declared.tree.RenderNode.{RenderNode}
-use Rattle.html_render_layout.specs.RenderNodes.{without_style}
-use Rattle.html_render_layout.specs.Splits.{SplitAt}
-use Rattle.html_render_layout.specs.laws.Splits.{followed_by-none, followed_by-followed_by, count-followed_by}
+use Rattle.html_render_nodes.specs.declared.tree.NodeKind.{NodeKind}
+use Rattle.html_render_nodes.specs.declared.tree.NodeKind.TheVariants.{Container}
+use Rattle.html_render_nodes.specs.declared.tree.RenderNode.{RenderNode}
+use Rattle.html_render_nodes.specs.RenderNodes.{without_style}
+use Rattle.html_render_nodes.specs.Splits.{SplitAt}
+use Rattle.html_render_nodes.specs.laws.Splits.{followed_by-none, followed_by-followed_by}
 use Rattle.html_render_tree.specs.declared.convert.Open.{Open}
-use Rattle.html_render_tree.specs.declared.mapping.IfEmpty.TheVariants.{Vanishes}
 use Rattle.html_render_tree.specs.Insertion.{Tree, in_front, holds_insertions, container, insert_first, insert_last, text_node, with_before}
 use Rattle.html_render_tree.specs.Insertion.{with_after, with_contents}
-use Rattle.html_render_tree.specs.Conversion.{over}
+use Rattle.html_render_tree.specs.Conversion.{vanishes}
+use Rattle.html_render_tree.specs.Converting.{Progress, received, is_kept, with_result, has_contents, kind_with}
 use Rattle.html_render_tree.specs.Converting.{put_content, close_element, ClosingAt}
 
 -- ---- contents in front of trees
@@ -153,18 +157,89 @@ module _ (n : RenderNode) (before : Option (List ℕ)) (t : Forest RenderNode) (
 
 -- ---- an element that is closed
 
-split-children : (t : Forest RenderNode) (inner outer : ℕ) (s : ClosingAt t inner outer) → count t ≡ count s.children + inner
-split-children t inner outer s = omega (arith, ap count s.is, count-followed_by s.children (put_content s.after s.beside), s.inner_is)
+-- what stands beside its contents, or takes them
 
--- nothing was made of its children, so it vanishes with its content
-pub close-vanishes : (o : Open) (t new : Forest RenderNode) → o.if_empty ≡ Vanishes → count t ≡ o.inner →
-    ((s : SplitAt t o.outer) → new ≡ s.beside) →
-    (s : ClosingAt t o.inner o.outer) → new ≡ in_front (close_element o s.after s.children) s.beside
-close-vanishes o t new vanishes empty taken s =
-    taken (split_outer t o.inner o.outer s) ∙ by s.children (split-children t o.inner o.outer s)
-    ∙ ap (λ e. in_front (option_map (with_contents o.before s.after) (over o.node e s.children)) s.beside) (sym vanishes)
+kind-held : (contents : Bool) (k : NodeKind) → holds_insertions k ≡ true → kind_with contents k ≡ k
+kind-held true k h = ap (λ b. if not b then Container else k) h
+kind-held false k h = refl
+
+kind-beside : (k : NodeKind) → holds_insertions k ≡ false → kind_with true k ≡ Container
+kind-beside k h = ap (λ b. if not b then Container else k) h
+
+contents-kind : (before after : Option (List ℕ)) (t : Tree) →
+    (with_contents before after t).top.kind ≡ kind_with (is_some before || is_some after) t.top.kind
+contents-kind before after t =
+    elim (cases_Bool (holds_insertions t.top.kind)) [
+      | inl h ↦ ap (λ (u : Tree). u.top.kind) (contents-held before after t h)
+          ∙ sym (kind-held (is_some before || is_some after) t.top.kind h)
+      | inr h ↦ beside before after h
+    ]
   where
-    by : (children : Forest RenderNode) → count t ≡ count children + o.inner →
-        s.beside ≡ in_front (option_map (with_contents o.before s.after) (over o.node Vanishes children)) s.beside
-    by none counts = refl
-    by (node n below beside) counts = absurd (omega arith)
+    beside : (b a : Option (List ℕ)) → holds_insertions t.top.kind ≡ false →
+        (with_contents b a t).top.kind ≡ kind_with (is_some b || is_some a) t.top.kind
+    beside None None h = refl
+    beside None (Some last) h =
+        ap (λ (u : Tree). u.top.kind) (contents-beside None (Some last) t h (λ e. λ f. cc)) ∙ sym (kind-beside t.top.kind h)
+    beside (Some first) None h =
+        ap (λ (u : Tree). u.top.kind) (contents-beside (Some first) None t h (λ e. cc)) ∙ sym (kind-beside t.top.kind h)
+    beside (Some first) (Some last) h =
+        ap (λ (u : Tree). u.top.kind) (contents-beside (Some first) (Some last) t h (λ e. cc)) ∙ sym (kind-beside t.top.kind h)
+
+module _ (o : Open) (t : Forest RenderNode) (old : List Open) where
+  -- where the conversion stands beside the element
+  abbrev pub beside_it : List Open → Forest RenderNode → Progress
+  beside_it elements made = record { open_elements = elements; made_nodes = made }
+
+  -- what it becomes with its contents
+  abbrev pub whole : ClosingAt t o.inner o.outer → Tree
+  whole s = with_contents o.before s.after (record { top = o.node; children = s.children })
+
+  counts-contents : (s : ClosingAt t o.inner o.outer) → has_contents o ≡ (is_some o.before || is_some s.after)
+  counts-contents s = ap (λ b. is_some o.before || b) (by s.after s.inner_is)
+    where
+      by : (after : Option (List ℕ)) → o.inner ≡ count (put_content after s.beside) → not (o.inner == o.outer) ≡ is_some after
+      by None is = ap not (eq-eqb o.inner o.outer (is ∙ sym s.outer_is))
+      by (Some text) is = ap not (ne_eqb o.inner o.outer (λ e. omega (arith, s.outer_is)))
+
+  whole-kind : (s : ClosingAt t o.inner o.outer) → (whole s).top.kind ≡ kind_with (has_contents o) o.node.kind
+  whole-kind s = contents-kind o.before s.after (record { top = o.node; children = s.children })
+      ∙ ap (λ b. kind_with b o.node.kind) (sym (counts-contents s))
+
+  close-stands : vanishes o.if_empty o.has_results ≡ false → (s : ClosingAt t o.inner o.outer) →
+      close_element o s.after s.children ≡ Some (whole s)
+  close-stands h s =
+      ap (λ b. option_map (with_contents o.before s.after) (if b then None else Some (record { top = o.node; children = s.children }))) h
+
+  -- it vanishes with its content
+  pub close-vanishes : (elements : List Open) (new : Forest RenderNode) → vanishes o.if_empty o.has_results ≡ true → elements ≡ old →
+      ((s : SplitAt t o.outer) → new ≡ s.beside) → (s : ClosingAt t o.inner o.outer) →
+      beside_it elements new ≡ with_result (close_element o s.after s.children) (beside_it old s.beside)
+  close-vanishes elements new h same taken s =
+      ap (λ es. beside_it es new) same
+      ∙ ap (beside_it old) (taken (split_outer t o.inner o.outer s))
+      ∙ ap (λ b. with_result (option_map (with_contents o.before s.after)
+      (if b then None else Some (record { top = o.node; children = s.children }))) (beside_it old s.beside)) (sym h)
+
+  -- the element round it drops it
+  pub close-dropped : (elements : List Open) (new : Forest RenderNode) → vanishes o.if_empty o.has_results ≡ false →
+      elements ≡ received old → is_kept old (kind_with (has_contents o) o.node.kind) ≡ false →
+      ((s : SplitAt t o.outer) → new ≡ s.beside) → (s : ClosingAt t o.inner o.outer) →
+      beside_it elements new ≡ with_result (close_element o s.after s.children) (beside_it old s.beside)
+  close-dropped elements new h got dropped taken s =
+      let is_dropped : is_kept old (whole s).top.kind ≡ false = ap (is_kept old) (whole-kind s) ∙ dropped in
+      ap (λ es. beside_it es new) got
+      ∙ ap (beside_it (received old)) (taken (split_outer t o.inner o.outer s))
+      ∙ ap (λ b. beside_it (received old) (if b then in_front (Some (whole s)) s.beside else s.beside)) (sym is_dropped)
+      ∙ ap (λ r. with_result r (beside_it old s.beside)) (sym (close-stands h s))
+
+  -- it is built
+  pub close-built : (elements : List Open) (new : Forest RenderNode) → vanishes o.if_empty o.has_results ≡ false →
+      elements ≡ received old → is_kept old (kind_with (has_contents o) o.node.kind) ≡ true →
+      ((s : ClosingAt t o.inner o.outer) → new ≡ in_front (Some (whole s)) s.beside) → (s : ClosingAt t o.inner o.outer) →
+      beside_it elements new ≡ with_result (close_element o s.after s.children) (beside_it old s.beside)
+  close-built elements new h got kept built s =
+      let is_kept_so : is_kept old (whole s).top.kind ≡ true = ap (is_kept old) (whole-kind s) ∙ kept in
+      ap (λ es. beside_it es new) got
+      ∙ ap (beside_it (received old)) (built s)
+      ∙ ap (λ b. beside_it (received old) (if b then in_front (Some (whole s)) s.beside else s.beside)) (sym is_kept_so)
+      ∙ ap (λ r. with_result r (beside_it old s.beside)) (sym (close-stands h s))

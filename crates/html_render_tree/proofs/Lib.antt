@@ -1,2 +1,4 @@
 pub mod Closings
 pub mod Conversions
+pub mod Numbers
+pub mod Receiving

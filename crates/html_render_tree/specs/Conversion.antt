@@ -1,18 +1,24 @@
 -- THE DEFINITION of the conversion: which nodes of a render tree the nodes of a document become.
-use Rattle.std.specs.Prelude.{ℕ, Bool, List, [], ◌∷◌, codes, Option, Some, None, is_some, option_map, unwrap_or, if◌then◌else◌}
-use Rattle.std.specs.Str.{bytes_eq}
+use Rattle.std.specs.Prelude.{ℕ, ◌^◌, nat_lt, ℤ, pos, negsuc, Bool, true, false, not, ◌&&◌, List, [], ◌∷◌, length, codes, Option, Some, None, is_some}
+use Rattle.std.specs.Prelude.{option_and_then, option_map, unwrap_or, if◌then◌else◌}
+use Rattle.std.specs.Str.{bytes_eq, all_ascii_digits}
+use Rattle.std.specs.Str.Parse.{without_leading_sign, signed_digits_value}
 use Rattle.std.specs.List.{list_any}
 use Rattle.html_render_dom.specs.declared.style.WhiteSpace.TheVariants.{Normal}
 use Rattle.html_render_dom.specs.Cascade.{value_of}
-use Rattle.html_render_dom.specs.Content.{Space, no_space, html, svg, mathml, other, Content, document, doctype, text, comment, element, instruction}
+use Rattle.html_render_dom.specs.Content.{Property, Space, no_space, html, svg, mathml, other, Content, document, doctype, text, comment, element, instruction}
 use Rattle.html_render_dom.specs.Dom.{Dom, tree_of}
 use Rattle.html_render_dom.specs.ElementStyle.{ElementStyle, element_style}
 use Rattle.html_render_dom.specs.Forest.{Forest, none, node}
 use Rattle.html_render_dom.specs.Rules.{Rule as StyleRule}
-use Rattle.html_render_layout.specs.declared.tree.Emphasis.TheVariants.{Em, Strong, Code}
-use Rattle.html_render_layout.specs.declared.tree.NodeKind.TheVariants.{Container, Break, Block, Div, Emphasis}
-use Rattle.html_render_layout.specs.declared.tree.NodeStyle.{NodeStyle}
-use Rattle.html_render_layout.specs.declared.tree.RenderNode.{RenderNode}
+use Rattle.html_render_dom.specs.Selectors.{first_value}
+use Rattle.html_render_nodes.specs.declared.tree.Emphasis.TheVariants.{Em, Strong, Code}
+use Rattle.html_render_nodes.specs.declared.tree.NodeKind.{NodeKind}
+use Rattle.html_render_nodes.specs.declared.tree.NodeKind.TheVariants.{Container, Break, Block, Div, Emphasis, Header}
+use Rattle.html_render_nodes.specs.declared.tree.NodeKind.TheVariants.{BlockQuote, Ul, Ol, ListItem, Dl, Dt, Dd}
+use Rattle.html_render_nodes.specs.declared.tree.NodeStyle.{NodeStyle}
+use Rattle.html_render_nodes.specs.declared.tree.RenderNode.{RenderNode}
+use Rattle.html_render_nodes.specs.RenderNodes.{unmeasured}
 use Rattle.html_render_tree.specs.declared.mapping.IfEmpty.{IfEmpty}
 use Rattle.html_render_tree.specs.declared.mapping.IfEmpty.TheVariants.{Stands, Vanishes}
 use Rattle.html_render_tree.specs.declared.mapping.Mapping.{Mapping}
@@ -22,9 +28,25 @@ use Rattle.html_render_tree.specs.Insertion.{Tree, container, in_front, text_nod
 abbrev pub is_one_of : List ℕ → List (List ℕ) → Bool
 is_one_of name names = list_any (bytes_eq name) names
 
--- what becomes of an element of HTML, by its name
-abbrev pub html_mapping : List ℕ → Mapping
-html_mapping name =
+-- whether an `i64` can be this number: from -2 ^ 63 up to 2 ^ 63 - 1
+abbrev pub fits_i64 : ℤ → Bool
+fits_i64 (pos n) = nat_lt n (2 ^ 63)
+fits_i64 (negsuc n) = nat_lt n (2 ^ 63)
+
+-- the number that a text is: a sign or none, and then digits alone, one or more
+abbrev pub number_of : List ℕ → Option ℤ
+number_of written =
+    let digits = without_leading_sign written in
+    let number = signed_digits_value 10 written in
+    if nat_lt 0 (length digits) && all_ascii_digits digits && fits_i64 number then Some number else None
+
+-- the number of an ordered list's first item: that of its first attribute `start`, and 1 without such a number
+abbrev pub start_of : List Property → ℤ
+start_of properties = unwrap_or (option_and_then number_of (first_value (codes "start") properties)) (pos 1)
+
+-- what becomes of an element of HTML, by its name and its attributes
+abbrev pub html_mapping : (name : List ℕ) → List Property → Mapping
+html_mapping name properties =
     if is_one_of name (codes "html" ∷ codes "body" ∷ []) then Parent Container Stands
     else if bytes_eq name (codes "p") then Parent Block Vanishes
     else if bytes_eq name (codes "div") then Parent Div Vanishes
@@ -32,16 +54,29 @@ html_mapping name =
     else if is_one_of name (codes "strong" ∷ codes "b" ∷ []) then Parent (Emphasis Strong) Stands
     else if bytes_eq name (codes "code") then Parent (Emphasis Code) Stands
     else if bytes_eq name (codes "br") then Leaf Break
+    else if bytes_eq name (codes "h1") then Parent (Header 1) Stands
+    else if bytes_eq name (codes "h2") then Parent (Header 2) Stands
+    else if bytes_eq name (codes "h3") then Parent (Header 3) Stands
+    else if bytes_eq name (codes "h4") then Parent (Header 4) Stands
+    else if bytes_eq name (codes "h5") then Parent (Header 5) Stands
+    else if bytes_eq name (codes "h6") then Parent (Header 6) Stands
+    else if bytes_eq name (codes "blockquote") then Parent BlockQuote Vanishes
+    else if bytes_eq name (codes "ul") then Parent Ul Vanishes
+    else if bytes_eq name (codes "ol") then Parent (Ol (start_of properties)) Vanishes
+    else if bytes_eq name (codes "li") then Parent ListItem Stands
+    else if bytes_eq name (codes "dl") then Parent Dl Vanishes
+    else if bytes_eq name (codes "dt") then Parent Dt Stands
+    else if bytes_eq name (codes "dd") then Parent Dd Stands
     else if is_one_of name (codes "head" ∷ codes "link" ∷ codes "meta" ∷ codes "hr" ∷ codes "script" ∷ codes "style" ∷ []) then Nothing
     else Parent Container Vanishes
 
 -- what becomes of an element of a namespace: outside HTML no name is special
-abbrev pub element_mapping : Space → List ℕ → Mapping
-element_mapping html name = html_mapping name
-element_mapping no_space name = Parent Container Vanishes
-element_mapping svg name = Parent Container Vanishes
-element_mapping mathml name = Parent Container Vanishes
-element_mapping (other address) name = Parent Container Vanishes
+abbrev pub element_mapping : Space → (name : List ℕ) → List Property → Mapping
+element_mapping html name properties = html_mapping name properties
+element_mapping no_space name properties = Parent Container Vanishes
+element_mapping svg name properties = Parent Container Vanishes
+element_mapping mathml name properties = Parent Container Vanishes
+element_mapping (other address) name properties = Parent Container Vanishes
 
 -- what an element's style gives the node that it becomes; white space is Normal where nothing else is declared
 abbrev pub node_style : ElementStyle → NodeStyle
@@ -51,17 +86,53 @@ node_style style = record {
   white_space = unwrap_or (value_of style.white_space) Normal;
 }
 
--- a node over what the children become
+-- whether a node is an item of a list, and whether it is a term or what is said of one
+abbrev pub is_item : NodeKind → Bool
+is_item ListItem = true
+is_item _ = false
+
+abbrev pub is_term_or_description : NodeKind → Bool
+is_term_or_description Dt = true
+is_term_or_description Dd = true
+is_term_or_description _ = false
+
+-- whether a node keeps a child's result: an ordered list keeps items, a list of descriptions terms and descriptions, and
+-- any other node whatever it is
+abbrev pub keeps : (parent child : NodeKind) → Bool
+keeps (Ol start) child = is_item child
+keeps Dl child = is_term_or_description child
+keeps _ child = true
+
+-- those of the children's results that a node keeps
+abbrev pub kept : (parent : NodeKind) → Forest RenderNode → Forest RenderNode
+kept parent none = none
+kept parent (node first below beside) =
+    if keeps parent first.kind then node first below (kept parent beside) else kept parent beside
+
+-- whether there are trees
+abbrev pub are_any : Forest RenderNode → Bool
+are_any none = false
+are_any (node first below beside) = true
+
+-- whether an element becomes nothing, whose children have results or none
+abbrev pub vanishes : IfEmpty → (has_results : Bool) → Bool
+vanishes Stands has_results = false
+vanishes Vanishes has_results = not has_results
+
+-- a node over those of its children's results that were kept, unless it vanishes
+abbrev pub standing : RenderNode → IfEmpty → (has_results : Bool) → Forest RenderNode → Option Tree
+standing n if_empty has_results children =
+    if vanishes if_empty has_results then None else Some (record { top = n; children = children })
+
+-- a node over its children's results: whether there are any is asked before any are dropped
 abbrev pub over : RenderNode → IfEmpty → Forest RenderNode → Option Tree
-over n Stands children = Some (record { top = n; children = children })
-over n Vanishes none = None
-over n Vanishes (node first below beside) = Some (record { top = n; children = node first below beside })
+over n if_empty results = standing n if_empty (are_any results) (kept n.kind results)
 
 -- what an element becomes under its mapping, from what its children become
 abbrev pub made : Mapping → NodeStyle → Forest RenderNode → Option Tree
 made Nothing style children = None
-made (Leaf kind) style children = over (record { kind = kind; style = style }) Stands none
-made (Parent kind if_empty) style children = over (record { kind = kind; style = style }) if_empty children
+made (Leaf kind) style children = over (record { kind = kind; style = style; estimate = unmeasured }) Stands none
+made (Parent kind if_empty) style children = over (record { kind = kind; style = style; estimate = unmeasured }) if_empty children
 
 -- the same under its style too: nothing where `display` is set, since its only value is `none`; else with its contents
 abbrev pub styled : Mapping → ElementStyle → Forest RenderNode → Option Tree
@@ -75,7 +146,7 @@ abbrev pub result_of : List StyleRule → Content → Forest RenderNode → Opti
 result_of rules document children = Some (container children)
 result_of rules (text contents) children = Some (record { top = text_node contents; children = none })
 result_of rules (element name properties template_contents integration_point) children =
-    styled (element_mapping name.space name.local) (element_style rules name.local properties) children
+    styled (element_mapping name.space name.local properties) (element_style rules name.local properties) children
 result_of rules (doctype name public_id system_id) children = None
 result_of rules (comment contents) children = None
 result_of rules (instruction target contents) children = None

@@ -1,6 +1,6 @@
 -- Where a conversion stands that goes from the last node to the first: the elements that are open, and the nodes made.
-use Rattle.std.specs.Prelude.{◌≡◌, ℕ, Bool, true, false, List, [], ◌∷◌, ◌++◌, length, Option, Some, None, is_some, option_map, if◌then◌else◌, Vec}
-use Rattle.std.specs.Prelude.{◌+◌, slice_index_or}
+use Rattle.std.specs.Prelude.{◌≡◌, ℕ, Bool, true, false, List, [], ◌∷◌, ◌++◌, length, Option, Some, None, is_some}
+use Rattle.std.specs.Prelude.{option_map, if◌then◌else◌, ◌+◌, ◌&&◌, ◌||◌, ◌==◌, not, slice_index_or, Vec}
 use Rattle.std.specs.declared.alloc.Global.{Global}
 use Rattle.html_render_dom.specs.Cascade.{value_of}
 use Rattle.html_render_dom.specs.Content.{Content, document, doctype, text, comment, element, instruction}
@@ -8,10 +8,10 @@ use Rattle.html_render_dom.specs.Dom.{Dom, children_at}
 use Rattle.html_render_dom.specs.ElementStyle.{ElementStyle, element_style}
 use Rattle.html_render_dom.specs.Forest.{Forest, none, node, count, followed_by}
 use Rattle.html_render_dom.specs.Rules.{Rule as StyleRule}
-use Rattle.html_render_layout.specs.declared.tree.NodeKind.{NodeKind}
-use Rattle.html_render_layout.specs.declared.tree.NodeKind.TheVariants.{Container}
-use Rattle.html_render_layout.specs.declared.tree.RenderNode.{RenderNode}
-use Rattle.html_render_layout.specs.RenderNodes.{without_style}
+use Rattle.html_render_nodes.specs.declared.tree.NodeKind.{NodeKind}
+use Rattle.html_render_nodes.specs.declared.tree.NodeKind.TheVariants.{Container}
+use Rattle.html_render_nodes.specs.declared.tree.RenderNode.{RenderNode}
+use Rattle.html_render_nodes.specs.RenderNodes.{without_style, unmeasured}
 use Rattle.html_render_tree.specs.declared.convert.Open.{Open}
 use Rattle.html_render_tree.specs.declared.mapping.IfEmpty.{IfEmpty}
 use Rattle.html_render_tree.specs.declared.mapping.IfEmpty.TheVariants.{Stands}
@@ -20,15 +20,15 @@ use Rattle.html_render_tree.specs.declared.mapping.Outline.TheVariants.{Alone, O
 use Rattle.html_render_tree.specs.declared.mapping.Outline.TheVariants as outline
 use Rattle.html_render_tree.specs.declared.mapping.Mapping.{Mapping}
 use Rattle.html_render_tree.specs.declared.mapping.Mapping.TheVariants.{Nothing, Leaf, Parent}
-use Rattle.html_render_tree.specs.Insertion.{Tree, text_node, with_contents}
-use Rattle.html_render_tree.specs.Conversion.{element_mapping, node_style, over}
+use Rattle.html_render_tree.specs.Insertion.{Tree, in_front, holds_insertions, text_node, with_contents}
+use Rattle.html_render_tree.specs.Conversion.{element_mapping, node_style, keeps, standing}
 
 -- ---- what becomes of a node, its children aside
 
 abbrev pub displayed_outline : NodeKind → IfEmpty → (has_children : Bool) → ElementStyle → Outline
 displayed_outline kind if_empty has_children style =
     if is_some style.display then outline.Nothing
-    else Over (record { kind = kind; style = node_style style }) if_empty has_children (value_of style.content_before)
+    else Over (record { kind = kind; style = node_style style; estimate = unmeasured }) if_empty has_children (value_of style.content_before)
     (value_of style.content_after)
 
 abbrev pub styled_outline : Mapping → ElementStyle → Outline
@@ -40,7 +40,7 @@ abbrev pub outline_of : List StyleRule → Content → Outline
 outline_of rules document = Over (without_style Container) Stands true None None
 outline_of rules (text contents) = Alone (text_node contents)
 outline_of rules (element name properties template_contents integration_point) =
-    styled_outline (element_mapping name.space name.local) (element_style rules name.local properties)
+    styled_outline (element_mapping name.space name.local properties) (element_style rules name.local properties)
 outline_of rules (doctype name public_id system_id) = outline.Nothing
 outline_of rules (comment contents) = outline.Nothing
 outline_of rules (instruction target contents) = outline.Nothing
@@ -60,10 +60,30 @@ abbrev pub put_content : Option (List ℕ) → Forest RenderNode → Forest Rend
 put_content None trees = trees
 put_content (Some content) trees = node (text_node content) none trees
 
+-- the open elements once the innermost one's children have a result
+abbrev pub received : List Open → List Open
+received [] = []
+received (o ∷ []) = record o { has_results = true } ∷ []
+received (o ∷ (p ∷ rest)) = o ∷ received (p ∷ rest)
+
+-- whether the innermost one keeps a result of this kind; where none is open, any is kept
+abbrev pub is_kept : List Open → NodeKind → Bool
+is_kept [] kind = true
+is_kept (o ∷ []) kind = keeps o.node.kind kind
+is_kept (o ∷ (p ∷ rest)) kind = is_kept (p ∷ rest) kind
+
+-- a node of the document has become this, if it is anything
+abbrev pub with_result : Option Tree → Progress → Progress
+with_result None p = p
+with_result (Some t) p = record {
+  open_elements = received p.open_elements;
+  made_nodes = if is_kept p.open_elements t.top.kind then in_front (Some t) p.made_nodes else p.made_nodes;
+}
+
 -- a node is opened: an element opens in front of its after content, with its children, if they count, still to be converted
 abbrev pub open_node : Dom → (handle : ℕ) → Outline → Progress → Progress
 open_node dom handle outline.Nothing p = p
-open_node dom handle (Alone n) p = record p { made_nodes = node n none p.made_nodes }
+open_node dom handle (Alone n) p = with_result (Some (record { top = n; children = none })) p
 open_node dom handle (Over n if_empty has_children before after) p = record {
   open_elements = p.open_elements ++ record {
     handle = handle;
@@ -72,6 +92,7 @@ open_node dom handle (Over n if_empty has_children before after) p = record {
     inner = count (put_content after p.made_nodes);
     node = n;
     if_empty = if_empty;
+    has_results = false;
     before = before;
   } ∷ [];
   made_nodes = put_content after p.made_nodes;
@@ -91,11 +112,19 @@ pub record NextChild (dom : Dom) (old new : List Open) (child : ℕ) : Type 0 wh
 
 -- ---- the end of an element
 
--- what an element becomes when it is closed: with this content behind it, once its children have become these
-abbrev pub close_element : Open → (after : Option (List ℕ)) → Forest RenderNode → Option Tree
-close_element o after children = option_map (with_contents o.before after) (over o.node o.if_empty children)
+-- whether an element has a content, before its children or behind them
+abbrev pub has_contents : Open → Bool
+has_contents o = is_some o.before || not (o.inner == o.outer)
 
--- the nodes that have been made, parted at an element: what its children became, its content behind these, and the rest
+-- the kind of what an element becomes whose node is of this kind: its contents may stand beside it
+abbrev pub kind_with : (contents : Bool) → NodeKind → NodeKind
+kind_with contents kind = if contents && not (holds_insertions kind) then Container else kind
+
+-- what an element becomes when it is closed: with this content behind it, where these of its children's results were kept
+abbrev pub close_element : Open → (after : Option (List ℕ)) → Forest RenderNode → Option Tree
+close_element o after children = option_map (with_contents o.before after) (standing o.node o.if_empty o.has_results children)
+
+-- the nodes that have been made, parted at an element: what was kept of its children's results, its content behind these, and the rest
 pub record ClosingAt (built : Forest RenderNode) (inner outer : ℕ) : Type 0 where
   pub children : Forest RenderNode
   pub after : Option (List ℕ)

@@ -1,10 +1,11 @@
 -- THE DEFINITION of insertion: where a node goes that is put at the front or at the end of what an element became.
 use Rattle.std.specs.Prelude.{ℕ, Bool, true, false, List, Option, Some, None, if◌then◌else◌}
 use Rattle.html_render_dom.specs.Forest.{Forest, none, node, followed_by}
-use Rattle.html_render_layout.specs.declared.tree.NodeKind.{NodeKind}
-use Rattle.html_render_layout.specs.declared.tree.NodeKind.TheVariants.{Text, Container, Break, Block, Div, Emphasis}
-use Rattle.html_render_layout.specs.declared.tree.RenderNode.{RenderNode}
-use Rattle.html_render_layout.specs.RenderNodes.{without_style}
+use Rattle.html_render_nodes.specs.declared.tree.NodeKind.{NodeKind}
+use Rattle.html_render_nodes.specs.declared.tree.NodeKind.TheVariants.{Text, Container, Break, Block, Div, Emphasis, Header}
+use Rattle.html_render_nodes.specs.declared.tree.NodeKind.TheVariants.{BlockQuote, Ul, Ol, ListItem, Dl, Dt, Dd}
+use Rattle.html_render_nodes.specs.declared.tree.RenderNode.{RenderNode}
+use Rattle.html_render_nodes.specs.RenderNodes.{without_style}
 
 -- one tree: its node, and the trees below that
 pub record Tree : Type 0 where
@@ -24,6 +25,14 @@ holds_insertions Break = false
 holds_insertions Block = true
 holds_insertions Div = true
 holds_insertions (Emphasis emphasis) = false
+holds_insertions (Header level) = false
+holds_insertions BlockQuote = true
+holds_insertions Ul = false
+holds_insertions (Ol start) = false
+holds_insertions ListItem = true
+holds_insertions Dl = true
+holds_insertions Dt = true
+holds_insertions Dd = true
 
 abbrev pub container : Forest RenderNode → Tree
 container trees = record { top = without_style Container; children = trees }

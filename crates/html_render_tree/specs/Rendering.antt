@@ -4,7 +4,8 @@ use Rattle.html_render_dom.specs.Forest.{Forest}
 use Rattle.html_render_dom.specs.Rules.{Rule}
 use Rattle.html_render_lines.specs.Line.{Line, AllWithinWidth}
 use Rattle.html_render_parts.specs.Decoration.{Decoration}
-use Rattle.html_render_layout.specs.declared.tree.RenderNode.{RenderNode}
+use Rattle.html_render_nodes.specs.declared.tree.RenderNode.{RenderNode}
+use Rattle.html_render_layout.specs.Kept.{KeepsTexts}
 use Rattle.html_render_layout.specs.Layout.{untagged_lines}
 use Rattle.html_render_tree.specs.Texts.{text_of}
 
@@ -26,4 +27,8 @@ rendered d tree decorator width overflow = option_map text_of (untagged_lines d 
 
 -- it is the text of lines none of which is wider
 abbrev pub IsTextWithin : (width : ℕ) → List ℕ → Type 0
-IsTextWithin width text = (lines : List (Line (Unit {0}) (Unit {0}))) × (text_of lines ≡ text) × AllWithinWidth width lines
+IsTextWithin width text = (lines : List (Line (Unit {0}) ℕ)) × (text_of lines ≡ text) × AllWithinWidth width lines
+
+-- it is the text of lines that lose no visible character of the texts among these nodes
+abbrev pub IsTextKeeping : List RenderNode → List ℕ → Type 0
+IsTextKeeping nodes text = (lines : List (Line (Unit {0}) ℕ)) × (text_of lines ≡ text) × KeepsTexts nodes lines

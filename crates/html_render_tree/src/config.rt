@@ -16,7 +16,7 @@ use html_render_dom::Error;
 use html_render_dom::dom::RcDom;
 use html_render_dom::style::StyleRule;
 use html_render_layout::layout::lay_out_untagged;
-use html_render_layout::tree::RenderTree;
+use html_render_nodes::tree::RenderTree;
 use html_render_parts::decorate::{PlainDecorator, TextDecorator};
 use std::alloc::Global;
 use std::marker::Model;
@@ -157,7 +157,7 @@ impl<D: TextDecorator> Config<D> {
         if width == 0 {
             return Err(Error::TooNarrow);
         }
-        let lines = lay_out_untagged(alloc, &self.decorator, &tree, width, self.overflow)?;
+        let lines = lay_out_untagged(alloc, &self.decorator, tree, width, self.overflow)?;
         Ok(string_of(alloc, &lines)?)
     }
 }

@@ -3,23 +3,25 @@
 //! `dom_to_render_tree(alloc, &rules, &dom)?` is the tree of the DOM `dom` under the style rules `rules`: that of a
 //! document that holds `p("a")` alone is, without rules, a `Container` over a `Block` over the `Text` `a`.
 
-ghost use Rattle.std.specs.Prelude.{◌≡◌, ◌≤◌, List, [], ◌∷◌, ◌++◌, length, Some, IfSome, IfNone, IfOk, OnOk, IfErr, map};
+ghost use Rattle.std.specs.Prelude.{◌≡◌, ◌≤◌, List, [], ◌∷◌, ◌++◌, length, true, Some, IfSome, IfNone, IfOk, OnOk, IfErr, map};
 ghost use Rattle.html_render_dom.specs.Dom.{IsNode, content_at, children_at};
 ghost use Rattle.html_render_dom.specs.Rules.{rule_of};
 ghost use Rattle.html_render_tree.specs.Insertion.{in_front, with_contents};
-ghost use Rattle.html_render_tree.specs.Conversion.{render_tree_of};
-ghost use Rattle.html_render_tree.specs.Converting.{progress, open_node, put_content, close_element, outline_of, ClosingAt, NextChild};
+ghost use Rattle.html_render_tree.specs.Conversion.{keeps, vanishes, render_tree_of};
+ghost use Rattle.html_render_tree.specs.Converting.{progress, open_node, put_content, received, is_kept, with_result, has_contents, kind_with};
+ghost use Rattle.html_render_tree.specs.Converting.{close_element, outline_of, ClosingAt, NextChild};
 ghost use Rattle.html_render_tree.specs.declared.convert.Open.{Open};
 
-use crate::mapping::{IfEmpty, Outline, holds_insertions, outline_of};
+use crate::mapping::{IfEmpty, Outline, holds_insertions, keeps, outline_of};
 use html_render_dom::Error;
 use html_render_dom::dom::{Handle, RcDom};
 use html_render_dom::style::StyleRule;
 use html_render_dom::text::Text;
-use html_render_layout::tree::{Builder, NodeKind, RenderNode, RenderTree};
+use html_render_nodes::tree::{Builder, NodeKind, RenderNode, RenderTree};
 use std::alloc::Global;
 
-/// An element whose children are being converted, from the last to the first. The content behind them has been made.
+/// An element whose children are being converted, from the last to the first. The content behind them has been made, and
+/// of what they become as much as the element keeps.
 #[derive(Drop)]
 pub struct Open {
     /// The element.
@@ -34,8 +36,38 @@ pub struct Open {
     pub node: RenderNode,
     /// What becomes of it if its children become nothing.
     pub if_empty: IfEmpty,
+    /// Whether a child has become something, also where that isn't kept.
+    pub has_results: bool,
     /// The content that comes before what its children become.
     pub before: Option<Text>,
+}
+
+impl Open {
+    /// A child has become something of this kind: answers whether the element keeps that.
+    fn receive(&mut self, kind: &NodeKind) -> bool
+        ensures received { self.new ≡ record self.old { has_results = true } }
+        ensures kept { result ≡ keeps self.old.node.kind kind.now }
+    {
+        self.has_results = true;
+        keeps(&self.node.kind, kind)
+    }
+
+    /// Whether it becomes nothing, where its children are converted.
+    fn vanishes(&self) -> bool
+        ensures { result ≡ vanishes self.now.if_empty self.now.has_results }
+    {
+        match self.if_empty {
+            IfEmpty::Stands => false,
+            IfEmpty::Vanishes => !self.has_results,
+        }
+    }
+
+    /// Whether it has a content, before its children or behind them.
+    fn has_contents(&self) -> bool
+        ensures { result ≡ has_contents self.now }
+    {
+        self.before.is_some() || self.inner != self.outer
+    }
 }
 
 /// Puts a content in front of what has been made, if there is one.
@@ -46,6 +78,29 @@ fn put_content(builder: &mut Builder<RenderNode>, content: Option<Text>) -> Resu
     match content {
         Some(text) => builder.put(RenderNode::from(NodeKind::Text(text))),
         None => Ok(()),
+    }
+}
+
+/// What a node of the document became, of this kind, comes to the innermost open element: answers whether that keeps it.
+fn receive(elements: &mut Vec<Open>, kind: &NodeKind) -> bool
+    ensures received { elements.new.items ≡ received elements.old.items }
+    ensures kept { result ≡ is_kept elements.old.items kind.now }
+{
+    match elements.last_mut() {
+        Some(parent) => parent.receive(kind),
+        None => true,
+    }
+}
+
+/// The same for what an element becomes whose children are converted: its node, or a Container of that and its contents.
+fn receive_element(elements: &mut Vec<Open>, element: &Open) -> bool
+    ensures received { elements.new.items ≡ received elements.old.items }
+    ensures kept { result ≡ is_kept elements.old.items (kind_with (has_contents element.now) element.now.node.kind) }
+{
+    if element.has_contents() && !holds_insertions(&element.node.kind) {
+        receive(elements, &NodeKind::Container)
+    } else {
+        receive(elements, &element.node.kind)
     }
 }
 
@@ -65,7 +120,11 @@ fn open_node(
 {
     match outline_of(alloc, rules, dom.data(handle))? {
         Outline::Nothing => {}
-        Outline::Alone(node) => builder.put(node)?,
+        Outline::Alone(node) => {
+            if receive(elements, &node.kind) {
+                builder.put(node)?;
+            }
+        }
         Outline::Over {
             node,
             if_empty,
@@ -87,6 +146,7 @@ fn open_node(
                 inner: builder.len(),
                 node,
                 if_empty,
+                has_results: false,
                 before,
             })?;
         }
@@ -119,28 +179,29 @@ fn build_element(
     builder.enclose(RenderNode::from(NodeKind::Container), outer)
 }
 
-/// Closes an element whose children are converted: builds its node, unless it vanishes.
-fn close_element(element: Open, builder: &mut Builder<RenderNode>) -> Result<(), Error>
+/// Closes an element whose children are converted: builds its node, unless it vanishes or isn't kept.
+fn close_element(
+    element: Open,
+    elements: &mut Vec<Open>,
+    builder: &mut Builder<RenderNode>,
+) -> Result<(), Error>
     requires { ClosingAt builder.old element.inner element.outer }
     ensures ok { OnOk result ((s : ClosingAt builder.old element.inner element.outer) →
-        builder.new ≡ in_front (close_element element s.after s.children) s.beside) }
+        progress elements.new builder.new ≡ with_result (close_element element s.after s.children) (progress elements.old s.beside)) }
     ensures err { IfErr result (λ e. e ≡ Error.OutOfMemory) }
 {
+    if element.vanishes() || !receive_element(elements, &element) {
+        builder.truncate(element.outer);
+        return Ok(());
+    }
     let Open {
         outer,
         inner,
         node,
-        if_empty,
         before,
         ..
     } = element;
-    match if_empty {
-        IfEmpty::Vanishes if builder.len() == inner => {
-            builder.truncate(outer);
-            Ok(())
-        }
-        _ => build_element(node, before, inner, outer, builder),
-    }
+    build_element(node, before, inner, outer, builder)
 }
 
 /// The last of the children that the innermost open element has ahead, which has one fewer ahead then; `None` where no
@@ -188,7 +249,7 @@ pub fn dom_to_render_tree(
         if let Some(child) = next_child(dom, &mut open) {
             open_node(alloc, rules, dom, child, &mut open, &mut builder)?;
         } else if let Some(element) = open.pop() {
-            close_element(element, &mut builder)?;
+            close_element(element, &mut open, &mut builder)?;
         } else {
             return Ok(RenderTree::from(builder));
         }

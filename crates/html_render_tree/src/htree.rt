@@ -14,7 +14,7 @@ use html_render_dom::Error;
 use html_render_dom::dom::{
     Attribute, ElementFlags, Handle, Namespace, NodeOrText, QualName, RcDom,
 };
-use html_render_layout::tree::RenderTree;
+use html_render_nodes::tree::RenderTree;
 use html_render_parts::decorate::PlainDecorator;
 use std::alloc::{AllocError, AllocFailed, Global};
 use std::io;

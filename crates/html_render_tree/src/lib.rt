@@ -7,6 +7,7 @@
 pub mod config;
 mod convert;
 pub mod htree;
+mod laws;
 mod mapping;
 mod script;
 mod texts;
@@ -16,5 +17,5 @@ pub use html_render_parts::{decorate, table, widths};
 
 /// What a document becomes before it is wrapped.
 pub mod tree {
-    pub use html_render_layout::tree::RenderTree;
+    pub use html_render_nodes::tree::RenderTree;
 }

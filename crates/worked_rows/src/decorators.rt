@@ -2,11 +2,11 @@
 
 ghost use Rattle.std.specs.Prelude.{◌+◌, ◌-◌, ◌^◌, codes, min, refl};
 ghost use Rattle.std.specs.List.{repeat};
-ghost use Rattle.html_render_tree.specs.Decoration.{nothing_round};
+ghost use Rattle.html_render_tree.specs.Decoration.{hashes, nothing_round, number_and_dot};
 
 use html_render_tree::Error;
 use html_render_tree::config::with_decorator;
-use html_render_tree::decorate::TextDecorator;
+use html_render_tree::decorate::{PlainDecorator, TextDecorator};
 use html_render_tree::dom::{ElementFlags, NodeOrText, QualName, RcDom};
 use std::alloc::Global;
 use std::test::Fail;
@@ -27,6 +27,10 @@ impl TextDecorator for Underscores {
       };
       strong = nothing_round;
       code = nothing_round;
+      header_prefix = λ s level. hashes level;
+      quote_prefix = λ s. codes "> ";
+      unordered_item_prefix = λ s. codes "* ";
+      ordered_item_prefix = λ s number. number_and_dot number;
       subblock = λ s. record { depth = min (s.depth + 1) (2 ^ 64 - 1) };
     } };
 
@@ -54,6 +58,22 @@ impl TextDecorator for Underscores {
 
     fn decorate_code_end(&self, alloc: Global) -> Result<String, Error> {
         Ok(String::new(alloc))
+    }
+
+    fn header_prefix(&self, alloc: Global, level: usize) -> Result<String, Error> {
+        PlainDecorator::new().header_prefix(alloc, level)
+    }
+
+    fn quote_prefix(&self, alloc: Global) -> Result<String, Error> {
+        PlainDecorator::new().quote_prefix(alloc)
+    }
+
+    fn unordered_item_prefix(&self, alloc: Global) -> Result<String, Error> {
+        PlainDecorator::new().unordered_item_prefix(alloc)
+    }
+
+    fn ordered_item_prefix(&self, alloc: Global, number: i64) -> Result<String, Error> {
+        PlainDecorator::new().ordered_item_prefix(alloc, number)
     }
 
     fn make_subblock_decorator(&self, _alloc: Global) -> Result<Underscores, Error> {

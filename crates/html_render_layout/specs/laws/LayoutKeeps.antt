@@ -1,143 +1,365 @@
 -- What a layout keeps, if each operation on blocks does, and what it gives back.
-use Rattle.std.proofs.Common.{◌≡◌, Option, Some, None, MatchOption, IfSome, List, ℕ, refl, ◌∙◌, option_and_then}
+use Rattle.std.proofs.Common.{◌≡◌, Option, Some, None, MatchOption, IfSome, List, ℕ, refl, ap, sym, ◌∙◌, option_and_then}
 use Rattle.std.specs.Option.{IsSomeAnd}
 use Rattle.std.specs.Str.{chars}
-use Rattle.html_render_dom.specs.Forest.{Forest}
-use Rattle.html_render_parts.specs.Decoration.{Decoration}
+use Rattle.html_render_dom.specs.Forest.{Forest, none, node}
+use Rattle.html_render_parts.specs.Decoration.{Decoration, Round}
 use Rattle.html_render_lines.specs.declared.character.TextStyle.{TextStyle}
-use Rattle.html_render_layout.specs.declared.tree.NodeKind.{NodeKind}
-use Rattle.html_render_layout.specs.declared.tree.NodeKind.TheVariants.{Text, Container, Break, Block, Div, Emphasis}
-use Rattle.html_render_layout.specs.declared.tree.RenderNode.{RenderNode}
-use Rattle.html_render_layout.specs.declared.layout.Desk.{Desk}
-use Rattle.html_render_layout.specs.Pass.{run}
-use Rattle.html_render_layout.specs.laws.Runs.{MatchOption-then, IfSome-then, IfSome-weaken, run-keeps, run-returns}
-use Rattle.html_render_layout.specs.Operations.{Operations}
-use Rattle.html_render_layout.specs.laws.Operations.{Keeps, Succeeds}
-use Rattle.html_render_layout.specs.Layout.{on_block, add_text, text_style, under, emphasis_decoration, entered, left, meaning}
+use Rattle.html_render_nodes.specs.declared.tree.Estimate.{Estimate}
+use Rattle.html_render_nodes.specs.declared.tree.NodeKind.{NodeKind}
+use Rattle.html_render_nodes.specs.declared.tree.NodeKind.TheVariants.{Text, Container, Break, Block, Div, Emphasis}
+use Rattle.html_render_nodes.specs.declared.tree.NodeKind.TheVariants.{Header, BlockQuote, Ul, Ol, ListItem, Dl, Dt, Dd}
+use Rattle.html_render_nodes.specs.declared.tree.RenderNode.{RenderNode}
+use Rattle.html_render_nodes.specs.Pass.{run}
+use Rattle.html_render_nodes.specs.laws.Runs.{MatchOption-then, IfSome-then, IfSome-weaken, NodesKeep, run-keeps}
+use Rattle.html_render_estimates.specs.Estimates.{prefix_columns}
+use Rattle.html_render_blocks.specs.Operations.{Operations}
+use Rattle.html_render_blocks.specs.laws.Operations.{Keeps, Succeeds}
+use Rattle.html_render_blocks.specs.laws.Cases.{any}
+use Rattle.html_render_layout.specs.declared.layout.state.Around.{Around}
+use Rattle.html_render_layout.specs.declared.layout.state.Around.TheVariants.{Plain, Bullets, Numbers}
+use Rattle.html_render_layout.specs.declared.layout.state.LayoutState.{LayoutState}
+use Rattle.html_render_layout.specs.declared.layout.state.TextContext.{TextContext}
+use Rattle.html_render_layout.specs.Layout.{on_block, add_text, text_style, under, emphasis_decoration, begun, decorated, restored, placed}
+use Rattle.html_render_layout.specs.Layout.{inner_least, spaces, padded, next_number, nested, indented, quoted, standing, numbers}
+use Rattle.html_render_layout.specs.Layout.{kind_steps, steps}
 
--- each operation keeps what P says of a block; N is what holds where it has no answer
-record Each {B S : Type 0} (o : Operations B S) (N : Type 0) (P : B → Type 0) : Type 0 where
-  pub add_inline_text : (b : B) (t : S) (cs : List ℕ) → P b → MatchOption (o.add_inline_text b t cs) N P
-  pub new_line : (b : B) → P b → MatchOption (o.new_line b) N P
-  pub new_line_hard : (b : B) → P b → MatchOption (o.new_line_hard b) N P
-  pub start_block : (b : B) → P b → MatchOption (o.start_block b) N P
-  pub end_block : (b : B) → P b → P (o.end_block b)
+-- each operation keeps what P i says of a block; N is what holds where it has no answer
+record Each {B T I : Type 0} (o : Operations B T) (N : Type 0) (P : I → B → Type 0) : Type 0 where
+  pub add_inline_text : (i : I) (b : B) (s : TextStyle T) (cs : List ℕ) → P i b → MatchOption (o.add_inline_text b s cs) N (P i)
+  pub new_line : (i : I) (b : B) → P i b → MatchOption (o.new_line b) N (P i)
+  pub new_line_hard : (i : I) (b : B) → P i b → MatchOption (o.new_line_hard b) N (P i)
+  pub start_block : (i : I) (b : B) → P i b → MatchOption (o.start_block b) N (P i)
+  pub end_block : (i : I) (b : B) → P i b → P i (o.end_block b)
+  pub sub_block : (i : I) (b : B) (prefix inner : ℕ) → P i b → MatchOption (o.sub_block b prefix inner) N (λ c. (j : I) × P j c)
+  pub append : (i j : I) (b c : B) (t : T) (first later : List ℕ) → P i b → P j c → MatchOption (o.append b c t first later) N (P i)
 
-module _ {S A K T B : Type 0} (d : Decoration S A) (push : K → T → A → K × T) (o : Operations B (TextStyle T)) where
-  module _ (N : Type 0) (P : B → Type 0) (h : Each o N P) where
-    abbrev OfDesk : Desk S K T B → Type 0
-    OfDesk s = P s.block
+if_match : {X : Type 0} (Q : X → Type 0) (a : Option X) → IfSome a Q → MatchOption a (Unit {0}) Q
+if_match Q None h = tt
+if_match Q (Some x) h = h
 
-    on_block-keeps : (f : B → Option B) (s : Desk S K T B) → MatchOption (f s.block) N P → MatchOption (on_block f s) N OfDesk
-    on_block-keeps f s k = MatchOption-then N P OfDesk (f s.block) _ k (λ b p. p)
+match_if : {X : Type 0} (Q : X → Type 0) (a : Option X) → MatchOption a (Unit {0}) Q → IfSome a Q
+match_if Q None h = tt
+match_if Q (Some x) h = h
 
-    text-keeps : (t : List ℕ) (s : Desk S K T B) → OfDesk s → MatchOption (add_text o t s) N OfDesk
-    text-keeps t s p = on_block-keeps (λ b. o.add_inline_text b (text_style s.tag) (chars t)) s
-        (h.add_inline_text s.block (text_style s.tag) (chars t) p)
+and_match : {X : Type 0} (Q : X → Type 0) (a : Option X) → IsSomeAnd a Q → MatchOption a ⊥ Q
+and_match Q None h = h
+and_match Q (Some x) h = h
 
-    entered-keeps : (k : NodeKind) (s : Desk S K T B) → OfDesk s → MatchOption (entered d push o k s) N OfDesk
-    entered-keeps (Text t) s p = text-keeps t s p
-    entered-keeps Container s p = p
-    entered-keeps Break s p = on_block-keeps o.new_line_hard s (h.new_line_hard s.block p)
-    entered-keeps Block s p = on_block-keeps o.start_block s (h.start_block s.block p)
-    entered-keeps Div s p = on_block-keeps o.new_line s (h.new_line s.block p)
-    entered-keeps (Emphasis e) s p = text-keeps _ (under (push s.stacks s.tag ((emphasis_decoration d e).start s.decorator).annotation) s) p
+match_and : {X : Type 0} (Q : X → Type 0) (a : Option X) → MatchOption a ⊥ Q → IsSomeAnd a Q
+match_and Q None h = h
+match_and Q (Some x) h = h
 
-    left-keeps : (k : NodeKind) (s r : Desk S K T B) → OfDesk s → OfDesk r → MatchOption (left d push o k s r) N OfDesk
-    left-keeps (Text t) s r p q = q
-    left-keeps Container s r p q = q
-    left-keeps Break s r p q = q
-    left-keeps Block s r p q = h.end_block r.block q
-    left-keeps Div s r p q = on_block-keeps o.new_line r (h.new_line r.block q)
-    left-keeps (Emphasis e) s r p q =
-        MatchOption-then N OfDesk OfDesk (add_text o ((emphasis_decoration d e).end r.decorator) r) _ (text-keeps _ r q) (λ u k. k)
+-- ---- what the nodes behind others stand in
 
-    each-keeps : (t : Forest RenderNode) (s : Desk S K T B) → P s.block → MatchOption (run (meaning d push o) t s) N OfDesk
-    each-keeps t s p = run-keeps (meaning d push o) N OfDesk (λ n. entered-keeps n.kind) (λ n. left-keeps n.kind) t s p
+-- behind one node: in an ordered list the number is the next
+abbrev pub behind_node : Around → Around
+behind_node Plain = Plain
+behind_node (Bullets least) = Bullets least
+behind_node (Numbers least number columns) = Numbers least (next_number number) columns
 
-  module _ (P : B → Type 0) where
-    if_match : {X : Type 0} (Q : X → Type 0) (a : Option X) → IfSome a Q → MatchOption a (Unit {0}) Q
-    if_match Q None h = tt
-    if_match Q (Some x) h = h
+abbrev pub behind_nodes : Forest RenderNode → Around → Around
+behind_nodes none a = a
+behind_nodes (node n children beside) a = behind_nodes beside (behind_node a)
 
-    match_if : {X : Type 0} (Q : X → Type 0) (a : Option X) → MatchOption a (Unit {0}) Q → IfSome a Q
-    match_if Q None h = tt
-    match_if Q (Some x) h = h
+pub behind-plain : (t : Forest RenderNode) → behind_nodes t Plain ≡ Plain
+behind-plain none = refl
+behind-plain (node n children beside) = behind-plain beside
 
-    and_match : {X : Type 0} (Q : X → Type 0) (a : Option X) → IsSomeAnd a Q → MatchOption a ⊥ Q
-    and_match Q None h = h
-    and_match Q (Some x) h = h
+module _ {S A K T B : Type 0} (d : Decoration S A) (push : K → T → A → K × T) (o : Operations B T) where
+  abbrev State : Type 0
+  State = LayoutState S K T B
 
-    match_and : {X : Type 0} (Q : X → Type 0) (a : Option X) → MatchOption a ⊥ Q → IsSomeAnd a Q
-    match_and Q None h = h
-    match_and Q (Some x) h = h
+  module _ {I : Type 0} (N : Type 0) (P : I → B → Type 0) (h : Each o N P) where
+    abbrev OfState : I → State → Type 0
+    OfState i s = P i s.block
+
+    on_block-keeps : (f : B → Option B) (i : I) (s : State) → MatchOption (f s.block) N (P i) →
+        MatchOption (on_block f s) N (OfState i)
+    on_block-keeps f i s k = MatchOption-then N (P i) (OfState i) (f s.block) _ k (λ b p. p)
+
+    new_line-keeps : (i : I) (s : State) → OfState i s → MatchOption (on_block o.new_line s) N (OfState i)
+    new_line-keeps i s p = on_block-keeps o.new_line i s (h.new_line i s.block p)
+
+    start_block-keeps : (i : I) (s : State) → OfState i s → MatchOption (on_block o.start_block s) N (OfState i)
+    start_block-keeps i s p = on_block-keeps o.start_block i s (h.start_block i s.block p)
+
+    text-keeps : (t : List ℕ) (i : I) (s : State) → OfState i s → MatchOption (add_text o t s) N (OfState i)
+    text-keeps t i s p = on_block-keeps (λ b. o.add_inline_text b (text_style s.text) (chars t)) i s
+        (h.add_inline_text i s.block (text_style s.text) (chars t) p)
+
+    begun-keeps : (round : Round S A) (i : I) (s : State) → OfState i s → MatchOption (begun d push o round s) N (OfState i)
+    begun-keeps round i s p =
+        text-keeps (round.start s.decorator).text i (under (push s.stacks s.text.tag (round.start s.decorator).annotation) s) p
+
+    -- one step after another
+    then_keeps : (i : I) (l : Option State) (f : State → Option State) → MatchOption l N (OfState i) →
+        ((q : State) → OfState i q → MatchOption (f q) N (OfState i)) → MatchOption (option_and_then f l) N (OfState i)
+    then_keeps i l f k next = MatchOption-then N (OfState i) (OfState i) l f k next
+
+    -- in a block inside the state's, that has an i of its own
+    inner_keeps : (prefix least : ℕ) (i : I) (s : State) (f : State → Option State) → OfState i s →
+        ((j : I) (q : State) → OfState j q → MatchOption (f q) N (OfState i)) →
+        MatchOption (option_and_then f (nested d o prefix least s)) N (OfState i)
+    inner_keeps prefix least i s f p next =
+        MatchOption-then N (λ (q : State). (j : I) × OfState j q) (OfState i) (nested d o prefix least s) f
+        (MatchOption-then N (λ b. (j : I) × P j b) (λ (q : State). (j : I) × OfState j q) (o.sub_block s.block prefix least) _
+        (h.sub_block i s.block prefix least p) (λ b k. k)) (λ q k. next k.0 q k.1)
+
+    module _ (layout : State → Option State) (below : (i : I) (q : State) → OfState i q → MatchOption (layout q) N (OfState i)) where
+      block-keeps : (e : Estimate) (i : I) (s : State) → OfState i s → MatchOption (kind_steps d push o Block e layout s) N (OfState i)
+      block-keeps e i s p =
+          then_keeps i (on_block o.start_block s) _ (start_block-keeps i s p) (λ q a.
+          then_keeps i (layout q) _ (below i q a) (λ r b. h.end_block i r.block b))
+
+      decorated-keeps : (round : Round S A) (i : I) (s : State) → OfState i s →
+          MatchOption (decorated d push o round layout s) N (OfState i)
+      decorated-keeps round i s p =
+          then_keeps i (begun d push o round s) _ (begun-keeps round i s p) (λ q a.
+          then_keeps i (layout q) _ (below i q a) (λ r b. text-keeps (round.end r.decorator) i r b))
+
+      indented-keeps : (prefix : List ℕ) (columns least : ℕ) (behind : Around) (i : I) (s : State) → OfState i s →
+          MatchOption (indented d o prefix columns least behind layout s) N (OfState i)
+      indented-keeps prefix columns least behind i s p =
+          inner_keeps columns least i s _ p (λ j q a.
+          MatchOption-then N (OfState j) (OfState i) (layout q) _ (below j q a) (λ r b.
+          MatchOption-then N (P i) (OfState i) (o.append s.block r.block s.text.tag (chars prefix) (spaces columns)) _
+          (h.append i j s.block r.block s.text.tag (chars prefix) (spaces columns) p b) (λ c k. k)))
+
+      quoted-keeps : (prefix : List ℕ) (least : ℕ) (i : I) (s : State) → OfState i s →
+          MatchOption (quoted d o prefix least layout s) N (OfState i)
+      quoted-keeps prefix least i s p =
+          inner_keeps (prefix_columns prefix) least i s _ p (λ j q a.
+          MatchOption-then N (OfState j) (OfState i) (layout q) _ (below j q a) (λ r b.
+          MatchOption-then N (P i) (OfState i) (o.start_block s.block) _ (h.start_block i s.block p) (λ e k.
+          MatchOption-then N (P i) (OfState i) (o.append e r.block s.text.tag (chars prefix) (chars prefix)) _
+          (h.append i j e r.block s.text.tag (chars prefix) (chars prefix) k b) (λ c m. h.end_block i c m))))
+
+      standing-keeps : (around : Around) (i : I) (s : State) → OfState i s → MatchOption (standing around layout s) N (OfState i)
+      standing-keeps around i s p = then_keeps i (layout (record s { around = around })) _ (below i _ p) (λ r b. b)
+
+      kind-keeps : (k : NodeKind) (e : Estimate) (i : I) (s : State) → OfState i s →
+          MatchOption (kind_steps d push o k e layout s) N (OfState i)
+      kind-keeps (Text t) e i s p = text-keeps t i s p
+      kind-keeps Container e i s p = below i s p
+      kind-keeps Break e i s p = on_block-keeps o.new_line_hard i s (h.new_line_hard i s.block p)
+      kind-keeps Block e i s p = block-keeps e i s p
+      kind-keeps Div e i s p =
+          then_keeps i (on_block o.new_line s) _ (new_line-keeps i s p) (λ q a.
+          then_keeps i (layout q) _ (below i q a) (λ r b. new_line-keeps i r b))
+      kind-keeps (Emphasis m) e i s p = decorated-keeps (emphasis_decoration d m) i s p
+      kind-keeps (Header level) e i s p = quoted-keeps (d.header_prefix s.decorator level) (inner_least e) i s p
+      kind-keeps BlockQuote e i s p = quoted-keeps (d.quote_prefix s.decorator) (inner_least e) i s p
+      kind-keeps Ul e i s p = standing-keeps (Bullets (inner_least e)) i s p
+      kind-keeps (Ol first) e i s p = standing-keeps (numbers d push o e first s.decorator) i s p
+      kind-keeps ListItem e i s p = block-keeps e i s p
+      kind-keeps Dl e i s p = then_keeps i (on_block o.start_block s) _ (start_block-keeps i s p) (λ q a. below i q a)
+      kind-keeps Dt e i s p =
+          then_keeps i (on_block o.new_line s) _ (new_line-keeps i s p) (λ q a. decorated-keeps d.em i q a)
+      kind-keeps Dd e i s p = indented-keeps (spaces 2) 2 (inner_least e) s.around i s p
+
+      restored-keeps : (k : NodeKind) (e : Estimate) (i : I) (s : State) → OfState i s →
+          MatchOption (restored (kind_steps d push o k e layout) s) N (OfState i)
+      restored-keeps k e i s p = then_keeps i (kind_steps d push o k e layout s) _ (kind-keeps k e i s p) (λ r b. b)
+
+      placed-keeps : (a : Around) (i : I) (s : State) → OfState i s → MatchOption (placed d o layout s a) N (OfState i)
+      placed-keeps Plain i s p = below i s p
+      placed-keeps (Bullets least) i s p =
+          let bullet = d.unordered_item_prefix s.decorator in
+          indented-keeps bullet (prefix_columns bullet) least (Bullets least) i s p
+      placed-keeps (Numbers least number columns) i s p =
+          indented-keeps (padded columns (d.ordered_item_prefix s.decorator number)) columns least
+          (Numbers least (next_number number) columns) i s p
+
+    steps-keep : NodesKeep N OfState (steps d push o)
+    steps-keep n trees children below i s p =
+        placed-keeps (λ q. restored (kind_steps d push o n.kind n.estimate children) q)
+        (λ j q a. restored-keeps children below n.kind n.estimate j q a) s.around i s p
+
+    each-keeps : (t : Forest RenderNode) (i : I) (s : State) → P i s.block → MatchOption (run (steps d push o) t s) N (OfState i)
+    each-keeps t i s p = run-keeps N OfState (steps d push o) steps-keep t i s p
+
+  module _ {I : Type 0} (P : I → B → Type 0) where
+    abbrev Inner : B → Type 0
+    Inner c = (j : I) × P j c
 
     -- a layout keeps what each operation keeps, where it has an answer
-    pub layout-keeps : Keeps o P → (t : Forest RenderNode) (s : Desk S K T B) → P s.block →
-        IfSome (run (meaning d push o) t s) (λ r. P r.block)
-    layout-keeps h t s p = match_if (λ (r : Desk S K T B). P r.block) (run (meaning d push o) t s) (each-keeps (Unit {0}) P (record {
-      add_inline_text = λ b x cs k. if_match P (o.add_inline_text b x cs) (h.add_inline_text b x cs k);
-      new_line = λ b k. if_match P (o.new_line b) (h.new_line b k);
-      new_line_hard = λ b k. if_match P (o.new_line_hard b) (h.new_line_hard b k);
-      start_block = λ b k. if_match P (o.start_block b) (h.start_block b k);
+    pub layout-keeps : Keeps o P → (t : Forest RenderNode) (i : I) (s : State) → P i s.block →
+        IfSome (run (steps d push o) t s) (λ r. P i r.block)
+    layout-keeps h t i s p = match_if (λ (r : State). P i r.block) (run (steps d push o) t s) (each-keeps (Unit {0}) P (record {
+      add_inline_text = λ i b x cs k. if_match (P i) (o.add_inline_text b x cs) (h.add_inline_text i b x cs k);
+      new_line = λ i b k. if_match (P i) (o.new_line b) (h.new_line i b k);
+      new_line_hard = λ i b k. if_match (P i) (o.new_line_hard b) (h.new_line_hard i b k);
+      start_block = λ i b k. if_match (P i) (o.start_block b) (h.start_block i b k);
       end_block = h.end_block;
-    }) t s p)
+      sub_block = λ i b n m k. if_match Inner (o.sub_block b n m) (h.sub_block i b n m k);
+      append = λ i j b c x cs ds k l. if_match (P i) (o.append b c x cs ds) (h.append i j b c x cs ds k l);
+    }) t i s p)
 
     -- a layout has an answer, if each operation has
-    pub layout-succeeds : Succeeds o P → (t : Forest RenderNode) (s : Desk S K T B) → P s.block →
-        IsSomeAnd (run (meaning d push o) t s) (λ r. P r.block)
-    layout-succeeds h t s p = match_and (λ (r : Desk S K T B). P r.block) (run (meaning d push o) t s) (each-keeps ⊥ P (record {
-      add_inline_text = λ b x cs k. and_match P (o.add_inline_text b x cs) (h.add_inline_text b x cs k);
-      new_line = λ b k. and_match P (o.new_line b) (h.new_line b k);
-      new_line_hard = λ b k. and_match P (o.new_line_hard b) (h.new_line_hard b k);
-      start_block = λ b k. and_match P (o.start_block b) (h.start_block b k);
+    pub layout-succeeds : Succeeds o P → (t : Forest RenderNode) (i : I) (s : State) → P i s.block →
+        IsSomeAnd (run (steps d push o) t s) (λ r. P i r.block)
+    layout-succeeds h t i s p = match_and (λ (r : State). P i r.block) (run (steps d push o) t s) (each-keeps ⊥ P (record {
+      add_inline_text = λ i b x cs k. and_match (P i) (o.add_inline_text b x cs) (h.add_inline_text i b x cs k);
+      new_line = λ i b k. and_match (P i) (o.new_line b) (h.new_line i b k);
+      new_line_hard = λ i b k. and_match (P i) (o.new_line_hard b) (h.new_line_hard i b k);
+      start_block = λ i b k. and_match (P i) (o.start_block b) (h.start_block i b k);
       end_block = h.end_block;
-    }) t s p)
+      sub_block = λ i b n m k. and_match Inner (o.sub_block b n m) (h.sub_block i b n m k);
+      append = λ i j b c x cs ds k l. and_match (P i) (o.append b c x cs ds) (h.append i j b c x cs ds k l);
+    }) t i s p)
 
   -- ---- what is given back
 
-  -- the desk has the annotations and the decorator that it had
-  abbrev pub Same : Desk S K T B → Desk S K T B → Type 0
-  Same s r = (r.tag ≡ s.tag) × (r.decorator ≡ s.decorator)
+  -- the decorator is the one that it was, and what the nodes behind stand in, where it is nothing that matters
+  abbrev SamePlace : State → State → Type 0
+  SamePlace s r = (r.decorator ≡ s.decorator) × (s.around ≡ Plain → r.around ≡ Plain)
 
-  on_block-same : (f : B → Option B) (s : Desk S K T B) → IfSome (on_block f s) (λ q. (q.tag ≡ s.tag) × (q.decorator ≡ s.decorator))
+  -- and texts are treated as they were
+  abbrev Same : State → State → Type 0
+  Same s r = (r.text ≡ s.text) × (r.decorator ≡ s.decorator) × (s.around ≡ Plain → r.around ≡ Plain)
+
+  on_block-same : (f : B → Option B) (s : State) → IfSome (on_block f s) (SamePlace s)
   on_block-same f s = by (f s.block)
     where
-      by : (b : Option B) → IfSome (option_and_then (λ c. Some (record s { block = c })) b)
-          (λ q. (q.tag ≡ s.tag) × (q.decorator ≡ s.decorator))
+      by : (b : Option B) → IfSome (option_and_then (λ c. Some (record s { block = c })) b) (λ (q : State). SamePlace s q)
       by None = tt
-      by (Some b) = (refl, refl)
+      by (Some b) = (refl, λ e. e)
 
-  text-same : (t : List ℕ) (s : Desk S K T B) → IfSome (add_text o t s) (λ q. (q.tag ≡ s.tag) × (q.decorator ≡ s.decorator))
-  text-same t s = on_block-same (λ b. o.add_inline_text b (text_style s.tag) (chars t)) s
+  -- one step after another
+  then_same : (s : State) (l : Option State) (f : State → Option State) → IfSome l (SamePlace s) →
+      ((q : State) → IfSome (f q) (SamePlace q)) → IfSome (option_and_then f l) (SamePlace s)
+  then_same s l f h next = IfSome-then (SamePlace s) (SamePlace s) l f h (λ q a.
+      IfSome-weaken (SamePlace q) (SamePlace s) (f q) (next q) (λ r b. (b.0 ∙ a.0, λ e. b.1 (a.1 e))))
 
-  and_same : (s q r : Desk S K T B) → Same s q → Same q r → Same s r
-  and_same s q r a b = (b.0 ∙ a.0, b.1 ∙ a.1)
+  text-same : (t : List ℕ) (s : State) → IfSome (add_text o t s) (SamePlace s)
+  text-same t s = on_block-same (λ b. o.add_inline_text b (text_style s.text) (chars t)) s
 
-  then_same : (s : Desk S K T B) (f g : B → Option B) →
-      IfSome (on_block f s) (λ q. (r : Desk S K T B) → Same q r → IfSome (on_block g r) (Same s))
-  then_same s f g = IfSome-weaken _ _ (on_block f s) (on_block-same f s)
-      (λ q a. λ r b. IfSome-weaken _ _ (on_block g r) (on_block-same g r) (λ u c. and_same s r u (and_same s q r a b) c))
+  begun-same : (round : Round S A) (s : State) → IfSome (begun d push o round s) (SamePlace s)
+  begun-same round s =
+      text-same (round.start s.decorator).text (under (push s.stacks s.text.tag (round.start s.decorator).annotation) s)
 
-  then_nothing : (s : Desk S K T B) (f : B → Option B) → IfSome (on_block f s) (λ q. (r : Desk S K T B) → Same q r → Same s r)
-  then_nothing s f = IfSome-weaken _ _ (on_block f s) (on_block-same f s) (λ q a. λ r b. and_same s q r a b)
+  -- what comes back from a block inside the state's
+  inner-same : (Q : State → Type 0) (prefix least : ℕ) (s : State) (f : State → Option State) →
+      ((q : State) → q.text ≡ s.text → IfSome (f q) Q) → IfSome (option_and_then f (nested d o prefix least s)) Q
+  inner-same Q prefix least s f next =
+      IfSome-then (λ (q : State). q.text ≡ s.text) Q (nested d o prefix least s) f
+      (IfSome-then (λ b. Unit {0}) (λ (q : State). q.text ≡ s.text) (o.sub_block s.block prefix least) _
+      (any (o.sub_block s.block prefix least)) (λ b k. refl)) next
 
-  node-returns : (k : NodeKind) (s : Desk S K T B) →
-      IfSome (entered d push o k s) (λ q. (r : Desk S K T B) → Same q r → IfSome (left d push o k s r) (Same s))
-  node-returns (Text t) s = then_nothing s (λ b. o.add_inline_text b (text_style s.tag) (chars t))
-  node-returns Container s = λ r h. h
-  node-returns Break s = then_nothing s o.new_line_hard
-  node-returns Block s = then_nothing s o.start_block
-  node-returns Div s = then_same s o.new_line o.new_line
-  node-returns (Emphasis e) s =
-      let u = under (push s.stacks s.tag ((emphasis_decoration d e).start s.decorator).annotation) s in
-      IfSome-weaken (Same u) (λ q. (r : Desk S K T B) → Same q r → IfSome (left d push o (Emphasis e) s r) (Same s))
-      (add_text o ((emphasis_decoration d e).start s.decorator).text u)
-      (text-same ((emphasis_decoration d e).start s.decorator).text u) (λ q a. λ r b.
-      IfSome-then (λ u. (u.tag ≡ r.tag) × (u.decorator ≡ r.decorator)) (Same s)
-      (add_text o ((emphasis_decoration d e).end r.decorator) r) _ (text-same ((emphasis_decoration d e).end r.decorator) r)
-      (λ u c. (refl, c.1 ∙ b.1 ∙ a.1)))
+  -- X is what the layout in that block says of the texts
+  indented-same : (X : TextContext T → Type 0) (layout : State → Option State) (prefix : List ℕ) (columns least : ℕ)
+      (behind : Around) (s : State) → ((q : State) → q.text ≡ s.text → IfSome (layout q) (λ r. X r.text)) →
+      IfSome (indented d o prefix columns least behind layout s)
+      (λ r. X r.text × (r.decorator ≡ s.decorator) × (r.around ≡ behind))
+  indented-same X layout prefix columns least behind s below =
+      inner-same (λ (r : State). X r.text × (r.decorator ≡ s.decorator) × (r.around ≡ behind)) columns least s _ (λ q e.
+      IfSome-then (λ (r : State). X r.text) (λ (r : State). X r.text × (r.decorator ≡ s.decorator) × (r.around ≡ behind)) (layout q) _
+      (below q e) (λ r k.
+      IfSome-then (λ b. Unit {0}) (λ (r : State). X r.text × (r.decorator ≡ s.decorator) × (r.around ≡ behind))
+      (o.append s.block r.block s.text.tag (chars prefix) (spaces columns)) _
+      (any (o.append s.block r.block s.text.tag (chars prefix) (spaces columns))) (λ b n. (k, refl, refl))))
 
-  -- THE LAW: a tree that is laid out leaves the annotations and the decorator as they were
-  pub layout-returns : (t : Forest RenderNode) (s : Desk S K T B) → IfSome (run (meaning d push o) t s) (Same s)
-  layout-returns t s = run-returns (meaning d push o) Same (λ s. (refl, refl)) and_same (λ n. node-returns n.kind) t s
+  quoted-same : (layout : State → Option State) (prefix : List ℕ) (least : ℕ) (s : State) →
+      IfSome (quoted d o prefix least layout s) (SamePlace s)
+  quoted-same layout prefix least s =
+      inner-same (SamePlace s) (prefix_columns prefix) least s _ (λ q e.
+      IfSome-then (λ r. Unit {0}) (SamePlace s) (layout q) _ (any (layout q)) (λ r k.
+      IfSome-then (λ b. Unit {0}) (SamePlace s) (o.start_block s.block) _ (any (o.start_block s.block)) (λ b m.
+      IfSome-then (λ c. Unit {0}) (SamePlace s) (o.append b r.block s.text.tag (chars prefix) (chars prefix)) _
+      (any (o.append b r.block s.text.tag (chars prefix) (chars prefix))) (λ c n. (refl, λ e. e)))))
+
+  module _ (children : State → Option State) (below : (q : State) → IfSome (children q) (Same q)) where
+    below-same : (q : State) → IfSome (children q) (SamePlace q)
+    below-same q = IfSome-weaken (Same q) (SamePlace q) (children q) (below q) (λ r a. (a.1, a.2))
+
+    block-same : (e : Estimate) (s : State) → IfSome (kind_steps d push o Block e children s) (SamePlace s)
+    block-same e s =
+        then_same s (on_block o.start_block s) _ (on_block-same o.start_block s) (λ q.
+        then_same q (children q) _ (below-same q) (λ r. (refl, λ e. e)))
+
+    decorated-same : (round : Round S A) (s : State) → IfSome (decorated d push o round children s) (SamePlace s)
+    decorated-same round s =
+        then_same s (begun d push o round s) _ (begun-same round s) (λ q.
+        then_same q (children q) _ (below-same q) (λ r. text-same (round.end r.decorator) r))
+
+    standing-same : (around : Around) (s : State) → IfSome (standing around children s) (SamePlace s)
+    standing-same around s =
+        let u : State = record s { around = around } in
+        IfSome-then (SamePlace u) (SamePlace s) (children u) _ (below-same u) (λ r a. (a.0, λ e. e))
+
+    kind-same : (k : NodeKind) (e : Estimate) (s : State) → IfSome (kind_steps d push o k e children s) (SamePlace s)
+    kind-same (Text t) e s = text-same t s
+    kind-same Container e s = below-same s
+    kind-same Break e s = on_block-same o.new_line_hard s
+    kind-same Block e s = block-same e s
+    kind-same Div e s =
+        then_same s (on_block o.new_line s) _ (on_block-same o.new_line s) (λ q.
+        then_same q (children q) _ (below-same q) (λ r. on_block-same o.new_line r))
+    kind-same (Emphasis m) e s = decorated-same (emphasis_decoration d m) s
+    kind-same (Header level) e s = quoted-same children (d.header_prefix s.decorator level) (inner_least e) s
+    kind-same BlockQuote e s = quoted-same children (d.quote_prefix s.decorator) (inner_least e) s
+    kind-same Ul e s = standing-same (Bullets (inner_least e)) s
+    kind-same (Ol first) e s = standing-same (numbers d push o e first s.decorator) s
+    kind-same ListItem e s = block-same e s
+    kind-same Dl e s = then_same s (on_block o.start_block s) _ (on_block-same o.start_block s) below-same
+    kind-same Dt e s = then_same s (on_block o.new_line s) _ (on_block-same o.new_line s) (decorated-same d.em)
+    kind-same Dd e s =
+        IfSome-weaken (λ (r : State). Unit {0} × (r.decorator ≡ s.decorator) × (r.around ≡ s.around)) (SamePlace s)
+        (indented d o (spaces 2) 2 (inner_least e) s.around children s)
+        (indented-same (λ x. Unit {0}) children (spaces 2) 2 (inner_least e) s.around s (λ q k. any (children q)))
+        (λ r a. (a.1, λ e. a.2 ∙ e))
+
+    restored-same : (k : NodeKind) (e : Estimate) (s : State) → IfSome (restored (kind_steps d push o k e children) s) (Same s)
+    restored-same k e s =
+        IfSome-then (SamePlace s) (Same s) (kind_steps d push o k e children s) _ (kind-same k e s) (λ r a. (refl, a.0, a.1))
+
+  -- behind a node
+  abbrev Behind : State → State → Type 0
+  Behind s r = (r.text ≡ s.text) × (r.decorator ≡ s.decorator) × (r.around ≡ behind_node s.around)
+
+  module _ (layout : State → Option State) (each : (q : State) → IfSome (layout q) (Same q)) where
+    item-behind : (prefix : List ℕ) (columns least : ℕ) (behind : Around) (s : State) → behind ≡ behind_node s.around →
+        IfSome (indented d o prefix columns least behind layout s) (Behind s)
+    item-behind prefix columns least behind s is =
+        IfSome-weaken (λ (r : State). (r.text ≡ s.text) × (r.decorator ≡ s.decorator) × (r.around ≡ behind)) (Behind s)
+        (indented d o prefix columns least behind layout s)
+        (indented-same (λ x. x ≡ s.text) layout prefix columns least behind s (λ q e.
+        IfSome-weaken (Same q) (λ (r : State). r.text ≡ s.text) (layout q) (each q) (λ r a. a.0 ∙ e))) (λ r a. (a.0, a.1, a.2 ∙ is))
+
+    placed-behind : (s : State) (a : Around) → s.around ≡ a → IfSome (placed d o layout s a) (Behind s)
+    placed-behind s Plain e =
+        IfSome-weaken (Same s) (Behind s) (layout s) (each s) (λ r a. (a.0, a.1, a.2 e ∙ ap behind_node (sym e)))
+    placed-behind s (Bullets least) e =
+        let bullet = d.unordered_item_prefix s.decorator in
+        item-behind bullet (prefix_columns bullet) least (Bullets least) s (ap behind_node (sym e))
+    placed-behind s (Numbers least number columns) e =
+        item-behind (padded columns (d.ordered_item_prefix s.decorator number)) columns least
+        (Numbers least (next_number number) columns) s (ap behind_node (sym e))
+
+  -- behind trees
+  abbrev Returned : Forest RenderNode → State → State → Type 0
+  Returned t s r = (r.text ≡ s.text) × (r.decorator ≡ s.decorator) × (r.around ≡ behind_nodes t s.around)
+
+  -- THE LAW: trees that are laid out leave the texts that follow, with their annotations, and the decorator as they were, and
+  -- the nodes that follow stand in what these stood in, where each item counted one number on
+  pub layout-stands : (t : Forest RenderNode) (s : State) →
+      IfSome (run (steps d push o) t s)
+      (λ r. (r.text ≡ s.text) × (r.decorator ≡ s.decorator) × (r.around ≡ behind_nodes t s.around))
+  layout-stands none s = (refl, refl, refl)
+  layout-stands (node n children beside) s =
+      let below : State → Option State = λ q. run (steps d push o) children q in
+      IfSome-then (Behind s) (Returned (node n children beside) s) (steps d push o n children below s) _
+      (placed-behind (λ q. restored (kind_steps d push o n.kind n.estimate below) q)
+      (restored-same below (λ q.
+      IfSome-weaken (Returned children q) (Same q) (below q) (layout-stands children q) (λ r a.
+      (a.0, a.1, λ e. a.2 ∙ ap (behind_nodes children) e ∙ behind-plain children))) n.kind n.estimate) s s.around refl) (λ q a.
+      IfSome-weaken (Returned beside q) (Returned (node n children beside) s) (run (steps d push o) beside q) (layout-stands beside q)
+      (λ r b. (b.0 ∙ a.0, b.1 ∙ a.1, b.2 ∙ ap (behind_nodes beside) a.2)))
+
+  -- texts and decorator alone
+  pub layout-returns : (t : Forest RenderNode) (s : State) →
+      IfSome (run (steps d push o) t s) (λ r. (r.text ≡ s.text) × (r.decorator ≡ s.decorator))
+  layout-returns t s =
+      IfSome-weaken (Returned t s) (λ (r : State). (r.text ≡ s.text) × (r.decorator ≡ s.decorator)) (run (steps d push o) t s)
+      (layout-stands t s) (λ r a. (a.0, a.1))

@@ -13,13 +13,15 @@ use Rattle.html_render_parts.specs.Decoration.{Decoration}
 use Rattle.html_render_lines.specs.Line.{Line, columns, AllWithinWidth}
 use Rattle.html_render_lines.specs.Tags.{line_with, lines_with}
 use Rattle.html_render_lines.specs.laws.Tags.{columns-with}
-use Rattle.html_render_layout.specs.declared.tree.RenderNode.{RenderNode}
-use Rattle.html_render_layout.specs.Pass.{run}
-use Rattle.html_render_layout.specs.laws.Runs.{IfSome-then}
-use Rattle.html_render_layout.specs.Block as definition
-use Rattle.html_render_layout.specs.Block.{DefinedBlock}
-use Rattle.html_render_layout.specs.laws.BlockLaws.{IsWithin, Overflows, operations_within, operations_succeed}
-use Rattle.html_render_layout.specs.Layout.{on_block, onto, shown_after, Defined, defined, empty_desk, layout_lines, no_tag, untagged_lines}
+use Rattle.html_render_nodes.specs.declared.tree.RenderNode.{RenderNode}
+use Rattle.html_render_nodes.specs.Pass.{run}
+use Rattle.html_render_nodes.specs.laws.Runs.{IfSome-then}
+use Rattle.html_render_blocks.specs.declared.block.BlockSetting.{BlockSetting}
+use Rattle.html_render_blocks.specs.Block as definition
+use Rattle.html_render_blocks.specs.Block.{DefinedBlock}
+use Rattle.html_render_blocks.specs.laws.BlockLaws.{IsWithin, Overflows, empty_within, operations_within, operations_succeed}
+use Rattle.html_render_layout.specs.Layout.{on_block, onto, shown_after, Defined, defined, empty_state, estimated, layout_lines, no_tag}
+use Rattle.html_render_layout.specs.Layout.{untagged_lines}
 use Rattle.html_render_layout.specs.laws.LayoutKeeps.{layout-keeps, layout-succeeds}
 
 then_some : {X Y : Type 0} (P : X → Type 0) (o : Option X) (f : X → Option Y) → IsSomeAnd o P → ((x : X) → P x → IsSome (f x)) →
@@ -37,61 +39,69 @@ within-with {T} {U} {M} f w (l ∷ ls) h =
     (within-with f w ls (All-tail (λ (l : Line T M). columns l ≤ w) l ls h))
 
 module _ {S A : Type 0} (d : Decoration S A) where
-  abbrev lines_from : Forest RenderNode → Defined S A → Option (List (Line (List A) (Unit {0})))
+  abbrev lines_from : Forest RenderNode → Defined S A → Option (List (Line (List A) ℕ))
   lines_from t s = shown_after d onto definition.operations (λ (r : Defined S A). r.block.lines) t s
+
+  abbrev setting : ℕ → Bool → BlockSetting
+  setting w o = record { width = w; max_wrap_width = None; overflow = o }
+
+  lines-within : (t : Forest RenderNode) (decorator : S) (w : ℕ) →
+      IfSome (lines_from t (empty_state d decorator w false)) (λ lines. AllWithinWidth w lines)
+  lines-within t decorator w =
+      IfSome-then (λ (r : Defined S A). IsWithin w r.block) (λ lines. AllWithinWidth w lines)
+      (run (defined d) t (empty_state d decorator w false)) _
+      (layout-keeps d onto definition.operations IsWithin operations_within t w (empty_state d decorator w false)
+      (empty_within (setting w false) refl)) (λ r h.
+      IfSome-then (λ (q : Defined S A). IsWithin w q.block) (λ lines. AllWithinWidth w lines)
+      (on_block definition.operations.new_line r) _
+      (IfSome-then (IsWithin w) (λ (q : Defined S A). IsWithin w q.block) (definition.operations.new_line r.block) _
+      (operations_within.new_line w r.block h) (λ b k. k)) (λ q k. k.lines))
 
   -- with overflow off no line passes the width
   pub layout_within : (t : Forest RenderNode) (decorator : S) (w : ℕ) →
       IfSome (layout_lines d t decorator w false) (λ lines. AllWithinWidth w lines)
   layout_within t decorator w = by (w == 0)
     where
-      lines : IfSome (lines_from t (empty_desk d decorator w false)) (λ lines. AllWithinWidth w lines)
-      lines =
-          IfSome-then (λ (r : Defined S A). IsWithin w r.block) (λ lines. AllWithinWidth w lines)
-          (run (defined d) t (empty_desk d decorator w false)) _
-          (layout-keeps d onto definition.operations (IsWithin w) (operations_within w) t (empty_desk d decorator w false)
-          (record { setting = refl; lines = All-nil (λ (l : Line (List A) (Unit {0})). columns l ≤ w) })) (λ r h.
-          IfSome-then (λ (q : Defined S A). IsWithin w q.block) (λ lines. AllWithinWidth w lines)
-          (on_block definition.operations.new_line r) _
-          (IfSome-then (IsWithin w) (λ (q : Defined S A). IsWithin w q.block) (definition.operations.new_line r.block) _
-          ((operations_within w).new_line r.block h) (λ b k. k)) (λ q k. k.lines))
-
-      by : (z : Bool) → IfSome (cond z None (lines_from t (empty_desk d decorator w false))) (λ lines. AllWithinWidth w lines)
+      by : (z : Bool) →
+          IfSome (cond z None (lines_from (estimated d decorator t) (empty_state d decorator w false))) (λ lines. AllWithinWidth w lines)
       by true = tt
-      by false = lines
+      by false = lines-within (estimated d decorator t) decorator w
+
+  flushes : (w : ℕ) (r : Defined S A) → Overflows w r.block →
+      IsSomeAnd (on_block definition.operations.new_line r) (λ q. Overflows w q.block)
+  flushes w r k = at (definition.operations.new_line r.block) (operations_succeed.new_line w r.block k)
+    where
+      at : (o : Option (DefinedBlock (List A) ℕ)) → IsSomeAnd o (Overflows w) →
+          IsSomeAnd (option_and_then (λ b. Some (record r { block = b })) o) (λ q. Overflows w q.block)
+      at None n = n
+      at (Some b) n = n
+
+  lines-succeed : (t : Forest RenderNode) (decorator : S) (w : ℕ) → IsSome (lines_from t (empty_state d decorator w true))
+  lines-succeed t decorator w =
+      then_some (λ (r : Defined S A). Overflows w r.block) (run (defined d) t (empty_state d decorator w true)) _
+      (layout-succeeds d onto definition.operations Overflows operations_succeed t w (empty_state d decorator w true)
+      (record { width = refl; overflow = refl })) (λ r k.
+      then_some (λ (q : Defined S A). Overflows w q.block) (on_block definition.operations.new_line r) _ (flushes w r k) (λ q n. refl))
 
   -- with overflow on it is never too narrow, but at width 0
   pub layout_succeeds : (t : Forest RenderNode) (decorator : S) (w : ℕ) → 0 < w → IsSome (layout_lines d t decorator w true)
   layout_succeeds t decorator w h = by (w == 0) refl
     where
-      flushes : (r : Defined S A) → Overflows w r.block → IsSomeAnd (on_block definition.operations.new_line r) (λ q. Overflows w q.block)
-      flushes r k = at (definition.operations.new_line r.block) ((operations_succeed w).new_line r.block k)
-        where
-          at : (o : Option (DefinedBlock (List A) (Unit {0}))) → IsSomeAnd o (Overflows w) →
-              IsSomeAnd (option_and_then (λ b. Some (record r { block = b })) o) (λ q. Overflows w q.block)
-          at None n = n
-          at (Some b) n = n
-
-      lines : IsSome (lines_from t (empty_desk d decorator w true))
-      lines =
-          then_some (λ (r : Defined S A). Overflows w r.block) (run (defined d) t (empty_desk d decorator w true)) _
-          (layout-succeeds d onto definition.operations (Overflows w) (operations_succeed w) t (empty_desk d decorator w true) refl) (λ r k.
-          then_some (λ (q : Defined S A). Overflows w q.block) (on_block definition.operations.new_line r) _ (flushes r k) (λ q n. refl))
-
-      by : (z : Bool) → (w == 0) ≡ z → IsSome (cond z None (lines_from t (empty_desk d decorator w true)))
+      by : (z : Bool) → (w == 0) ≡ z →
+          IsSome (cond z None (lines_from (estimated d decorator t) (empty_state d decorator w true)))
       by true e = absurd (let zero = eqb-true w 0 e in omega arith)
-      by false e = lines
+      by false e = lines-succeed (estimated d decorator t) decorator w
 
   -- ---- the laws, of what a call answers
 
   pub within-answered : {X : Type 0} (t : Forest RenderNode) (decorator : S) (w : ℕ) (o : Bool) (lines : X →
-      List (Line (List A) (Unit {0}))) (r : Result X Error) →
+      List (Line (List A) ℕ)) (r : Result X Error) →
       IfOk r (λ v. layout_lines d t decorator w o ≡ Some (lines v)) → IfOk r (λ v. o ≡ false → AllWithinWidth w (lines v))
   within-answered t decorator w o lines (Err e) h = tt
   within-answered t decorator w o lines (Ok v) h =
       λ off. by (layout_lines d t decorator w false) (layout_within t decorator w) (ap (λ b. layout_lines d t decorator w b) (sym off) ∙ h)
     where
-      by : (q : Option (List (Line (List A) (Unit {0})))) → IfSome q (λ ls. AllWithinWidth w ls) → q ≡ Some (lines v) →
+      by : (q : Option (List (Line (List A) ℕ))) → IfSome q (λ ls. AllWithinWidth w ls) → q ≡ Some (lines v) →
           AllWithinWidth w (lines v)
       by None k e = cc
       by (Some ls) k e = subst (λ x. AllWithinWidth w x) (same_Some ls (lines v) e) k
@@ -106,7 +116,7 @@ module _ {S A : Type 0} (d : Decoration S A) where
       same_error : (x : Error) → ◌≡◌ {A = Result X Error} (Err x) (Err TooNarrow) → x ≡ TooNarrow
       same_error x e = cc
 
-      by : (q : Option (List (Line (List A) (Unit {0})))) → IsSome q → q ≡ None → ⊥
+      by : (q : Option (List (Line (List A) ℕ))) → IsSome q → q ≡ None → ⊥
       by None k e = cc
       by (Some p) k e = cc
 
@@ -115,20 +125,20 @@ module _ {S A : Type 0} (d : Decoration S A) where
       IfSome (untagged_lines d t decorator w false) (λ lines. AllWithinWidth w lines)
   untagged_within t decorator w = by (layout_lines d t decorator w false) (layout_within t decorator w)
     where
-      by : (o : Option (List (Line (List A) (Unit {0})))) → IfSome o (λ ls. AllWithinWidth w ls) →
+      by : (o : Option (List (Line (List A) ℕ))) → IfSome o (λ ls. AllWithinWidth w ls) →
           IfSome (option_map (lines_with (λ (s : List A). no_tag s)) o) (λ ls. AllWithinWidth w ls)
       by None h = tt
       by (Some ls) h = within-with (λ (s : List A). no_tag s) w ls h
 
   pub untagged_within-answered : {X : Type 0} (t : Forest RenderNode) (decorator : S) (w : ℕ) (o : Bool) (lines : X →
-      List (Line (Unit {0}) (Unit {0}))) (r : Result X Error) →
+      List (Line (Unit {0}) ℕ)) (r : Result X Error) →
       IfOk r (λ v. untagged_lines d t decorator w o ≡ Some (lines v)) → IfOk r (λ v. o ≡ false → AllWithinWidth w (lines v))
   untagged_within-answered t decorator w o lines (Err e) h = tt
   untagged_within-answered t decorator w o lines (Ok v) h =
       λ off. by (untagged_lines d t decorator w false) (untagged_within t decorator w)
       (ap (λ b. untagged_lines d t decorator w b) (sym off) ∙ h)
     where
-      by : (q : Option (List (Line (Unit {0}) (Unit {0})))) → IfSome q (λ ls. AllWithinWidth w ls) → q ≡ Some (lines v) →
+      by : (q : Option (List (Line (Unit {0}) ℕ))) → IfSome q (λ ls. AllWithinWidth w ls) → q ≡ Some (lines v) →
           AllWithinWidth w (lines v)
       by None k e = cc
       by (Some ls) k e = subst (λ x. AllWithinWidth w x) (same_Some ls (lines v) e) k
@@ -138,7 +148,7 @@ module _ {S A : Type 0} (d : Decoration S A) where
       Refuses e (untagged_lines d t decorator w o) → Refuses e (layout_lines d t decorator w o)
   refuses-untagged t decorator w o e h = by e (layout_lines d t decorator w o) h
     where
-      by : (e : Error) (q : Option (List (Line (List A) (Unit {0})))) → Refuses e (option_map (lines_with (λ (s : List A). no_tag s)) q) →
+      by : (e : Error) (q : Option (List (Line (List A) ℕ))) → Refuses e (option_map (lines_with (λ (s : List A). no_tag s)) q) →
           Refuses e q
       by TooNarrow None h = refl
       by TooNarrow (Some ls) h = cc

@@ -1,22 +1,30 @@
 -- THE THEOREM: what the code does, on blocks that are fed character by character, is what is defined, on whole lists and
 -- stacks: with tags that are numbers, and without any.
-use Rattle.std.proofs.Common.{◌≡◌, ◌≢◌, ◌==◌, ℕ, Bool, true, false, cond, [], ◌∷◌, ◌++◌, length, List, Option, Some, None, refl, sym, ap, ◌∙◌}
-use Rattle.std.proofs.Common.{append_assoc, append-nil, option_map}
+use Rattle.std.proofs.Common.{◌≡◌, ◌≢◌, ◌==◌, ℕ, Bool, true, false, cond, [], ◌∷◌, ◌++◌, length, List, Option, Some, None, Result}
+use Rattle.std.proofs.Common.{refl, sym, ap, ◌∙◌, subst, append_assoc, append-nil, option_map}
 use Rattle.std.proofs.lemmas.Bool.{eqb-true}
 use Rattle.std.proofs.Math.Seq.{get_or-append_seam}
+use Rattle.html_render_dom.specs.declared.errors.Error.{Error}
 use Rattle.html_render_dom.specs.Forest.{Forest}
 use Rattle.html_render_parts.specs.Decoration.{Decoration}
+use Rattle.html_render_parts.specs.declared.widths.Meter.{Meter}
 use Rattle.html_render_lines.specs.declared.line.Element.{Element}
 use Rattle.html_render_lines.specs.declared.line.Element.TheVariants.{Character, Mark}
 use Rattle.html_render_lines.specs.Line.{Line}
 use Rattle.html_render_lines.specs.Tags.{element_with, line_with, lines_with}
-use Rattle.html_render_layout.specs.declared.tree.RenderNode.{RenderNode}
-use Rattle.html_render_layout.specs.Block as definition
-use Rattle.html_render_layout.specs.BlockMachine as machine
+use Rattle.html_render_nodes.specs.declared.tree.RenderNode.{RenderNode}
+use Rattle.html_render_blocks.specs.Block as definition
+use Rattle.html_render_blocks.specs.BlockMachine as machine
 use Rattle.html_render_layout.specs.Stacks.{stack_at}
-use Rattle.html_render_layout.specs.Layout.{onto, shown_after, Defined, empty_desk, layout_lines, untagged_lines}
+use Rattle.html_render_nodes.specs.Counts.{CountsNodes}
+use Rattle.html_render_nodes.specs.Pass.{visited, inside_of}
+use Rattle.html_render_nodes.specs.laws.Counts.{counts-same}
+use Rattle.html_render_layout.specs.Layout.{onto, steps, shown_after, Defined, defined, defined_inside, begin_with, empty_state}
+use Rattle.html_render_layout.specs.Layout.{estimated, layout_lines, untagged_lines}
+use Rattle.html_render_layout.specs.Opening.{opened}
+use Rattle.html_render_layout.specs.laws.Opening.{layout-asks}
 use Rattle.html_render_layout.specs.Working.{Worked, tabled, work_lines, Untagged, untagged, untagged_work}
-use Rattle.html_render_layout.specs.laws.Representation.{lines-represented}
+use Rattle.html_render_layout.specs.laws.Representation.{Represents, visited-represented, lines-represented}
 
 -- ---- a map of tags that changes none
 
@@ -38,15 +46,16 @@ module _ {T M : Type 0} (f : T → T) (same : (t : T) → f t ≡ t) where
   mapped-same (Some ls) = ap Some (lines-same ls)
 
 module _ {S A : Type 0} (d : Decoration S A) where
-  -- what is defined, from an empty desk
-  abbrev wanted : Forest RenderNode → S → ℕ → Bool → Option (List (Line (List A) (Unit {0})))
-  wanted t decorator w o = shown_after d onto definition.operations (λ (r : Defined S A). r.block.lines) t (empty_desk d decorator w o)
+  -- what is defined of measured trees, from an empty block
+  abbrev wanted : Forest RenderNode → S → ℕ → Bool → Option (List (Line (List A) ℕ))
+  wanted t decorator w o = shown_after d onto definition.operations (λ (r : Defined S A). r.block.lines) t (empty_state d decorator w o)
 
   wanted-lines : (t : Forest RenderNode) (decorator : S) (w : ℕ) (o : Bool) → w ≢ 0 →
-      wanted t decorator w o ≡ layout_lines d t decorator w o
+      wanted (estimated d decorator t) decorator w o ≡ layout_lines d t decorator w o
   wanted-lines t decorator w o wide = by (w == 0) refl
     where
-      by : (z : Bool) → (w == 0) ≡ z → wanted t decorator w o ≡ cond z None (wanted t decorator w o)
+      by : (z : Bool) → (w == 0) ≡ z →
+          wanted (estimated d decorator t) decorator w o ≡ cond z None (wanted (estimated d decorator t) decorator w o)
       by true z = absurd (wide (eqb-true w 0 z))
       by false z = refl
 
@@ -69,12 +78,19 @@ module _ {S A : Type 0} (d : Decoration S A) where
 
   abbrev pub empty_worked : S → (width : ℕ) → (overflow : Bool) → Worked S A
   empty_worked decorator w o =
-      record {
-        decorator = d.subblock decorator;
-        stacks = [] ∷ [];
-        tag = 0;
-        block = machine.empty_block (record { width = w; overflow = o });
-      }
+      begin_with (d.subblock decorator) ([] ∷ []) 0 (machine.empty_block (record { width = w; max_wrap_width = None; overflow = o }))
+
+  begins : (decorator : S) (w : ℕ) (o : Bool) →
+      Represents d tabled stack_at (λ (s : List A). s) Pushed (λ k. ([], sym (append-nil k))) Pushed-goes
+      (λ k t a. ((stack_at k t ++ a ∷ []) ∷ [], refl)) tag_pushed (empty_worked decorator w o) (empty_state d decorator w o)
+  begins decorator w o = record {
+    decorator = refl;
+    text = record { tag = λ i. ap (λ x. stack_at x 0) i.1.1; mode = refl; preformat = refl; strikeout = refl };
+    block = λ i. refl;
+    around = refl;
+    targets = refl;
+    names = refl;
+  }
 
   work_lines-wanted : (t : Forest RenderNode) (decorator : S) (w : ℕ) (o : Bool) →
       work_lines d t (empty_worked decorator w o) ≡ wanted t decorator w o
@@ -82,32 +98,68 @@ module _ {S A : Type 0} (d : Decoration S A) where
       lines-represented d tabled stack_at (λ (s : List A). s) Pushed (λ k. ([], sym (append-nil k))) Pushed-goes
       (λ k t a. ((stack_at k t ++ a ∷ []) ∷ [], refl)) tag_pushed
       (λ (r : Worked S A). lines_with (stack_at r.stacks) r.block.lines) (λ r. refl) t (empty_worked decorator w o)
-      (empty_desk d decorator w o)
-      (record { decorator = refl; tag = λ i. ap (λ x. stack_at x 0) i.1.1; block = λ i. refl })
+      (empty_state d decorator w o)
+      (begins decorator w o)
       ∙ mapped-same (λ (s : List A). s) (λ s. refl) (wanted t decorator w o)
 
-  -- from an empty desk of a width that isn't 0, what the code does makes the lines of the tree
-  pub layout_lines-works : (t : Forest RenderNode) (decorator : S) (w : ℕ) (o : Bool) (s : Worked S A) → w ≢ 0 →
-      s ≡ empty_worked decorator w o →
-      work_lines d t s ≡ layout_lines d t decorator w o
-  layout_lines-works t decorator w o s wide e = ap (λ x. work_lines d t x) e ∙ work_lines-wanted t decorator w o
-      ∙ wanted-lines t decorator w o wide
+  -- from an empty block of a width that isn't 0, what the code does with the measured trees makes the lines of the tree
+  pub layout_lines-works : (t measured : Forest RenderNode) (decorator : S) (w : ℕ) (o : Bool) (s : Worked S A) → w ≢ 0 →
+      measured ≡ estimated d decorator t → s ≡ empty_worked decorator w o → work_lines d measured s ≡ layout_lines d t decorator w o
+  layout_lines-works t measured decorator w o s wide m e =
+      ap (λ x. work_lines d measured x) e ∙ ap (λ x. work_lines d x (empty_worked decorator w o)) m
+      ∙ work_lines-wanted (estimated d decorator t) decorator w o ∙ wanted-lines t decorator w o wide
+
+  -- of any trees it visits what the definition visits
+  counts-wanted : {X : Type 0} (r : Result X Error) (t : Forest RenderNode) (decorator : S) (w : ℕ) (o : Bool) (s : Worked S A)
+      (old other new : Meter) → s ≡ empty_worked decorator w o → other.probes ≡ old.probes →
+      CountsNodes r (steps d tabled machine.operations) (inside_of (opened d tabled machine.operations)) t s other new →
+      CountsNodes r (defined d) (defined_inside d) t (empty_state d decorator w o) old new
+  counts-wanted r t decorator w o s old other new e probes c =
+      counts-same r (steps d tabled machine.operations) (inside_of (opened d tabled machine.operations)) (defined d) (defined_inside d) t s
+      (empty_state d decorator w o) old other new
+      (ap (λ x. visited (steps d tabled machine.operations) (inside_of (opened d tabled machine.operations)) t x) e
+      ∙ visited-represented d tabled stack_at (λ (s : List A). s) Pushed (λ k. ([], sym (append-nil k))) Pushed-goes
+      (λ k t a. ((stack_at k t ++ a ∷ []) ∷ [], refl)) tag_pushed t (empty_worked decorator w o) (empty_state d decorator w o)
+      (begins decorator w o))
+      (layout-asks d onto definition.operations) probes c
+
+  -- and it counts what the definition visits
+  pub counts-work : {X : Type 0} (r : Result X Error) (t measured : Forest RenderNode) (decorator : S) (w : ℕ) (o : Bool)
+      (s : Worked S A) (old other new : Meter) → measured ≡ estimated d decorator t → s ≡ empty_worked decorator w o →
+      other.probes ≡ old.probes →
+      CountsNodes r (steps d tabled machine.operations) (inside_of (opened d tabled machine.operations)) measured s other new →
+      CountsNodes r (defined d) (defined_inside d) (estimated d decorator t) (empty_state d decorator w o) old new
+  counts-work r t measured decorator w o s old other new m e probes c =
+      counts-wanted r (estimated d decorator t) decorator w o s old other new e probes
+      (subst (λ x. CountsNodes r (steps d tabled machine.operations) (inside_of (opened d tabled machine.operations)) x s other new) m c)
 
   -- ---- no tags
 
   abbrev pub empty_untagged : {K : Type 0} → K → S → (width : ℕ) → (overflow : Bool) → Untagged S K
   empty_untagged k decorator w o =
-      record { decorator = d.subblock decorator; stacks = k; tag = tt; block = machine.empty_block (record { width = w; overflow = o }) }
+      begin_with (d.subblock decorator) k tt (machine.empty_block (record { width = w; max_wrap_width = None; overflow = o }))
 
-  -- the same, without what the characters are annotated with
-  pub untagged_lines-works : {K : Type 0} (t : Forest RenderNode) (decorator : S) (w : ℕ) (o : Bool) (k : K) (s : Untagged S K) → w ≢ 0 →
-      s ≡ empty_untagged k decorator w o →
-      untagged_work d t s ≡ untagged_lines d t decorator w o
-  untagged_lines-works {K} t decorator w o k s wide e =
-      ap (λ x. untagged_work d t x) e
-      ∙ lines-represented d untagged (λ k t. tt) (λ (s : List A). tt) (λ k l. Unit {0}) (λ k. tt) (λ k l m a b. tt) (λ k t a. tt)
+  untagged_work-wanted : {K : Type 0} (t : Forest RenderNode) (decorator : S) (w : ℕ) (o : Bool) (k : K) →
+      untagged_work d t (empty_untagged k decorator w o) ≡ option_map (lines_with (λ (s : List A). tt)) (wanted t decorator w o)
+  untagged_work-wanted {K} t decorator w o k =
+      lines-represented d untagged (λ k t. tt) (λ (s : List A). tt) (λ k l. Unit {0}) (λ k. tt) (λ k l m a b. tt) (λ k t a. tt)
       (λ k t a s h l g. refl)
       (λ (r : Untagged S K). r.block.lines) (λ r. sym (lines-same (λ (t : Unit {0}). tt) (λ t. refl) r.block.lines)) t
-      (empty_untagged k decorator w o) (empty_desk d decorator w o)
-      (record { decorator = refl; tag = λ i. refl; block = λ i. refl })
+      (empty_untagged k decorator w o) (empty_state d decorator w o)
+      (record {
+        decorator = refl;
+        text = record { tag = λ i. refl; mode = refl; preformat = refl; strikeout = refl };
+        block = λ i. refl;
+        around = refl;
+        targets = refl;
+        names = refl;
+      })
+
+  -- the same, without what the characters are annotated with
+  pub untagged_lines-works : {K : Type 0} (t measured : Forest RenderNode) (decorator : S) (w : ℕ) (o : Bool) (k : K)
+      (s : Untagged S K) → w ≢ 0 → measured ≡ estimated d decorator t → s ≡ empty_untagged k decorator w o →
+      untagged_work d measured s ≡ untagged_lines d t decorator w o
+  untagged_lines-works t measured decorator w o k s wide m e =
+      ap (λ x. untagged_work d measured x) e ∙ ap (λ x. untagged_work d x (empty_untagged k decorator w o)) m
+      ∙ untagged_work-wanted (estimated d decorator t) decorator w o k
       ∙ ap (option_map (lines_with (λ (s : List A). tt))) (wanted-lines t decorator w o wide)

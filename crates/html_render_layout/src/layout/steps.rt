@@ -1,168 +1,310 @@
-//! What a layout does as it enters and leaves a node.
+//! What a layout does as it opens and closes a node.
 
 ghost use Rattle.std.specs.Prelude.{◌≡◌, Some, OnOk, IfOk, IfErr, string_bytes};
 ghost use Rattle.html_render_dom.specs.Outcome.{Refuses};
-ghost use Rattle.html_render_layout.specs.BlockMachine as machine;
-ghost use Rattle.html_render_layout.specs.declared.layout.Leaving.TheVariants.{EndEmphasis};
-ghost use Rattle.html_render_layout.specs.declared.tree.NodeKind.TheVariants.{Emphasis as AnEmphasis};
-ghost use Rattle.html_render_layout.specs.Layout.{emphasis_decoration, add_text, entered};
-ghost use Rattle.html_render_layout.specs.Leaving.{leaving, leave};
+ghost use Rattle.html_render_blocks.specs.BlockMachine as machine;
+ghost use Rattle.html_render_nodes.specs.Pass.{way};
+ghost use Rattle.html_render_estimates.specs.Estimates.{prefix_of};
+ghost use Rattle.html_render_layout.specs.Layout.{inner_least};
+ghost use Rattle.html_render_layout.specs.Opening.{quote_opened, kind_opened, kind_closed, node_opened, item_opened, placed_opened, closed};
 
-use super::{Desk, Leaving};
-use crate::block::Block;
+use super::emphasis::{add_text, begin_emphasis, end_of};
+use super::items::{Place, place_of};
+use super::nesting::{close_indent, close_quote, nest};
+use super::state::{Around, Closing, Indent, KindClosing, LayoutState, TextContext};
 use crate::tagging::Tagging;
-use crate::tree::{Emphasis, NodeKind};
+use html_render_blocks::block::Block;
 use html_render_dom::Error;
-use html_render_dom::style::WhiteSpace;
-use html_render_lines::character::TextStyle;
+use html_render_dom::text::Text;
+use html_render_estimates::estimate::number_columns;
+use html_render_estimates::text::columns;
+use html_render_nodes::tree::{Emphasis, Estimate, NodeKind};
 use html_render_parts::decorate::TextDecorator;
 use std::alloc::Global;
+use std::mem;
 
-/// Adds a text under the tag of what comes.
-fn add_text<D: TextDecorator, G: Tagging<D::Annotation>>(
-    text: &str,
-    desk: &mut Desk<D, G, G::Tag, Block<G::Tag, ()>>,
-) -> Result<(), Error>
-    ensures ok { OnOk result (add_text machine.operations text.now desk.old ≡ Some desk.new) }
-    ensures err { IfErr result (λ e. Refuses e (add_text machine.operations text.now desk.old)) }
+/// The columns that a node needs behind its prefix.
+fn inner_least(estimate: Estimate) -> usize
+    ensures { result ≡ inner_least estimate }
 {
-    let style = TextStyle {
-        mode: WhiteSpace::Normal,
-        tag: desk.tag,
-        continuation_tag: desk.tag,
-    };
-    desk.block.add_inline_text(text, style)
+    estimate.least.saturating_sub(estimate.prefix)
 }
 
-/// What is written before an emphasis, and its annotation.
-fn start_of<D: TextDecorator>(
+/// A heading or a quote begins in a block of its own, each of whose lines stands behind this prefix.
+#[tactic(auto, using(html_render_dom::specs::laws::Outcome::refusals))]
+fn open_quote<D: TextDecorator, G: Tagging<D::Annotation>>(
+    alloc: Global,
+    prefix: String,
+    estimate: Estimate,
+    state: &mut LayoutState<D, G, G::Tag, Block<G::Tag, usize>>,
+) -> Result<Option<KindClosing<D, Block<G::Tag, usize>>>, Error>
+    ensures ok { IfOk result (λ c. quote_opened D.decoration G.annotated machine.operations (string_bytes prefix) estimate state.old ≡ Some (way state.new c)) }
+    ensures err { IfErr result (λ e. Refuses e (quote_opened D.decoration G.annotated machine.operations (string_bytes prefix) estimate state.old)) }
+{
+    let columns = columns(prefix.as_str());
+    let prefix = Text::new(prefix);
+    let outer = nest(
+        alloc,
+        prefix,
+        columns,
+        inner_least(estimate),
+        state.around,
+        state,
+    )?;
+    Ok(Some(KindClosing::EndQuote(outer)))
+}
+
+/// What the items of an ordered list stand in.
+fn numbers<D: TextDecorator>(
     alloc: Global,
     decorator: &D,
-    emphasis: Emphasis,
-) -> Result<(String, D::Annotation), Error>
-    ensures text { IfOk result (λ r. string_bytes r.0 ≡ ((emphasis_decoration D.decoration emphasis).start decorator.now).text) }
-    ensures annotation { IfOk result (λ r. r.1 ≡ ((emphasis_decoration D.decoration emphasis).start decorator.now).annotation) }
+    first: i64,
+    estimate: Estimate,
+) -> Result<Around, Error>
+    ensures ok { IfOk result (λ around. around ≡ Around.Numbers (inner_least estimate) first
+        (prefix_of D.decoration decorator.now (NodeKind.Ol first) estimate.children)) }
     ensures err { IfErr result (λ e. e ≡ Error.OutOfMemory) }
 {
-    match emphasis {
-        Emphasis::Em => decorator.decorate_em_start(alloc),
-        Emphasis::Strong => decorator.decorate_strong_start(alloc),
-        Emphasis::Code => decorator.decorate_code_start(alloc),
-    }
+    let columns = number_columns(alloc, decorator, first, estimate.children)?;
+    Ok(Around::Numbers {
+        least: inner_least(estimate),
+        number: first,
+        columns,
+    })
 }
 
-/// What is written behind an emphasis.
-fn end_of<D: TextDecorator>(
-    alloc: Global,
-    decorator: &D,
-    emphasis: Emphasis,
-) -> Result<String, Error>
-    ensures ok { IfOk result (λ text. string_bytes text ≡ (emphasis_decoration D.decoration emphasis).end decorator.now) }
-    ensures err { IfErr result (λ e. e ≡ Error.OutOfMemory) }
-{
-    match emphasis {
-        Emphasis::Em => decorator.decorate_em_end(alloc),
-        Emphasis::Strong => decorator.decorate_strong_end(alloc),
-        Emphasis::Code => decorator.decorate_code_end(alloc),
-    }
-}
-
-/// An emphasis begins.
+/// A term of a description list begins on a line of its own, stressed.
 #[tactic(auto, using(html_render_dom::specs::laws::Outcome::refusals))]
-fn enter_emphasis<D: TextDecorator, G: Tagging<D::Annotation>>(
+fn open_term<D: TextDecorator, G: Tagging<D::Annotation>>(
     alloc: Global,
-    emphasis: Emphasis,
-    desk: &mut Desk<D, G, G::Tag, Block<G::Tag, ()>>,
-) -> Result<(), Error>
-    ensures ok { OnOk result (entered D.decoration G.annotated machine.operations (AnEmphasis emphasis) desk.old ≡ Some desk.new) }
-    ensures err { IfErr result (λ e. Refuses e (entered D.decoration G.annotated machine.operations (AnEmphasis emphasis) desk.old)) }
+    estimate: Estimate,
+    state: &mut LayoutState<D, G, G::Tag, Block<G::Tag, usize>>,
+) -> Result<Option<KindClosing<D, Block<G::Tag, usize>>>, Error>
+    ensures ok { IfOk result (λ c. kind_opened D.decoration G.annotated machine.operations NodeKind.Dt estimate state.old ≡ Some (way state.new c)) }
+    ensures err { IfErr result (λ e. Refuses e (kind_opened D.decoration G.annotated machine.operations NodeKind.Dt estimate state.old)) }
 {
-    let (text, annotation) = start_of(alloc, &desk.decorator, emphasis)?;
-    desk.tag = desk.stacks.annotate(desk.tag, annotation)?;
-    add_text(text.as_str(), desk)
+    state.block.new_line()?;
+    begin_emphasis(alloc, Emphasis::Em, state)?;
+    Ok(Some(KindClosing::EndEmphasis(Emphasis::Em)))
 }
 
-/// An emphasis ends, and the tag becomes the one that was before it.
+/// A description begins in a block of its own, behind two spaces.
 #[tactic(auto, using(html_render_dom::specs::laws::Outcome::refusals))]
-fn leave_emphasis<D: TextDecorator, G: Tagging<D::Annotation>>(
+fn open_description<D: TextDecorator, G: Tagging<D::Annotation>>(
     alloc: Global,
-    emphasis: Emphasis,
-    tag: G::Tag,
-    desk: &mut Desk<D, G, G::Tag, Block<G::Tag, ()>>,
-) -> Result<(), Error>
-    ensures ok { OnOk result (leave D.decoration G.annotated machine.operations (EndEmphasis emphasis tag) desk.old ≡ Some desk.new) }
-    ensures err { IfErr result (λ e. Refuses e (leave D.decoration G.annotated machine.operations (EndEmphasis emphasis tag) desk.old)) }
+    estimate: Estimate,
+    state: &mut LayoutState<D, G, G::Tag, Block<G::Tag, usize>>,
+) -> Result<Option<KindClosing<D, Block<G::Tag, usize>>>, Error>
+    ensures ok { IfOk result (λ c. kind_opened D.decoration G.annotated machine.operations NodeKind.Dd estimate state.old ≡ Some (way state.new c)) }
+    ensures err { IfErr result (λ e. Refuses e (kind_opened D.decoration G.annotated machine.operations NodeKind.Dd estimate state.old)) }
 {
-    let text = end_of(alloc, &desk.decorator, emphasis)?;
-    add_text(text.as_str(), desk)?;
-    desk.tag = tag;
-    Ok(())
+    let prefix = Text::new(String::from_str(alloc, "  ")?);
+    let outer = nest(alloc, prefix, 2, inner_least(estimate), state.around, state)?;
+    Ok(Some(KindClosing::EndIndent(Indent { outer, columns: 2 })))
 }
 
-/// The desk becomes that of the node's children.
-///
-/// # Errors
-///
-/// `TooNarrow`, where a block is flushed for which a character is too wide. `OutOfMemory`.
-pub fn enter<D: TextDecorator, G: Tagging<D::Annotation>>(
+/// Opens a node of a kind. With nothing kept the state becomes the one behind it.
+#[tactic(auto, using(html_render_dom::specs::laws::Outcome::refusals))]
+fn open_kind<D: TextDecorator, G: Tagging<D::Annotation>>(
     alloc: Global,
     kind: &NodeKind,
-    desk: &mut Desk<D, G, G::Tag, Block<G::Tag, ()>>,
-) -> Result<Leaving<G::Tag>, Error>
-    ensures ok { OnOk result (entered D.decoration G.annotated machine.operations kind.now desk.old ≡ Some desk.new) }
-    ensures kept { IfOk result (λ l. l ≡ leaving kind.now desk.old) }
-    ensures err { IfErr result (λ e. Refuses e (entered D.decoration G.annotated machine.operations kind.now desk.old)) }
+    estimate: Estimate,
+    state: &mut LayoutState<D, G, G::Tag, Block<G::Tag, usize>>,
+) -> Result<Option<KindClosing<D, Block<G::Tag, usize>>>, Error>
+    ensures ok { IfOk result (λ c. kind_opened D.decoration G.annotated machine.operations kind.now estimate state.old ≡ Some (way state.new c)) }
+    ensures err { IfErr result (λ e. Refuses e (kind_opened D.decoration G.annotated machine.operations kind.now estimate state.old)) }
 {
     match kind {
         NodeKind::Text(text) => {
-            add_text(text.as_str(), desk)?;
-            Ok(Leaving::Nothing)
+            add_text(text.as_str(), state)?;
+            Ok(None)
         }
-        NodeKind::Container => Ok(Leaving::Nothing),
+        NodeKind::Container => Ok(Some(KindClosing::Nothing)),
         NodeKind::Break => {
-            desk.block.new_line_hard()?;
-            Ok(Leaving::Nothing)
+            state.block.new_line_hard()?;
+            Ok(None)
         }
-        NodeKind::Block => {
-            desk.block.start_block()?;
-            Ok(Leaving::EndBlock)
+        NodeKind::Block | NodeKind::ListItem => {
+            state.block.start_block()?;
+            Ok(Some(KindClosing::EndBlock))
         }
         NodeKind::Div => {
-            desk.block.new_line()?;
-            Ok(Leaving::NewLine)
+            state.block.new_line()?;
+            Ok(Some(KindClosing::NewLine))
         }
         NodeKind::Emphasis(emphasis) => {
-            let tag = desk.tag;
-            enter_emphasis(alloc, *emphasis, desk)?;
-            Ok(Leaving::EndEmphasis(*emphasis, tag))
+            begin_emphasis(alloc, *emphasis, state)?;
+            Ok(Some(KindClosing::EndEmphasis(*emphasis)))
+        }
+        NodeKind::Header(level) => {
+            let prefix = state.decorator.header_prefix(alloc, *level)?;
+            open_quote(alloc, prefix, estimate, state)
+        }
+        NodeKind::BlockQuote => {
+            let prefix = state.decorator.quote_prefix(alloc)?;
+            open_quote(alloc, prefix, estimate, state)
+        }
+        NodeKind::Ul => {
+            let bullets = Around::Bullets {
+                least: inner_least(estimate),
+            };
+            let around = mem::replace(&mut state.around, bullets);
+            Ok(Some(KindClosing::EndList(around)))
+        }
+        NodeKind::Ol(first) => {
+            let numbers = numbers(alloc, &state.decorator, *first, estimate)?;
+            let around = mem::replace(&mut state.around, numbers);
+            Ok(Some(KindClosing::EndList(around)))
+        }
+        NodeKind::Dl => {
+            state.block.start_block()?;
+            Ok(Some(KindClosing::Nothing))
+        }
+        NodeKind::Dt => open_term(alloc, estimate, state),
+        NodeKind::Dd => open_description(alloc, estimate, state),
+    }
+}
+
+/// Does what is left of a node of a kind. Texts were treated so before the node.
+#[tactic(auto, using(html_render_dom::specs::laws::Outcome::refusals))]
+fn close_kind<D: TextDecorator, G: Tagging<D::Annotation>>(
+    alloc: Global,
+    text: TextContext<G::Tag>,
+    closing: KindClosing<D, Block<G::Tag, usize>>,
+    state: &mut LayoutState<D, G, G::Tag, Block<G::Tag, usize>>,
+) -> Result<(), Error>
+    ensures ok { OnOk result (kind_closed D.decoration G.annotated machine.operations text closing state.old ≡ Some state.new) }
+    ensures err { IfErr result (λ e. Refuses e (kind_closed D.decoration G.annotated machine.operations text closing state.old)) }
+{
+    match closing {
+        KindClosing::Nothing => Ok(()),
+        KindClosing::EndBlock => {
+            state.block.end_block();
+            Ok(())
+        }
+        KindClosing::NewLine => {
+            state.block.new_line()?;
+            Ok(())
+        }
+        KindClosing::EndEmphasis(emphasis) => {
+            let text = end_of(alloc, &state.decorator, emphasis)?;
+            add_text(text.as_str(), state)
+        }
+        KindClosing::EndList(around) => {
+            state.around = around;
+            Ok(())
+        }
+        KindClosing::EndQuote(outer) => close_quote(text, outer, state),
+        KindClosing::EndIndent(indent) => close_indent(alloc, text, indent, state),
+    }
+}
+
+/// Opens a node in itself, and keeps how texts were treated before it.
+#[tactic(auto, using(html_render_dom::specs::laws::Outcome::refusals))]
+fn open_node<D: TextDecorator, G: Tagging<D::Annotation>>(
+    alloc: Global,
+    kind: &NodeKind,
+    estimate: Estimate,
+    state: &mut LayoutState<D, G, G::Tag, Block<G::Tag, usize>>,
+) -> Result<Option<Closing<D, G::Tag, Block<G::Tag, usize>>>, Error>
+    ensures ok { IfOk result (λ c. node_opened D.decoration G.annotated machine.operations kind.now estimate state.old ≡ Some (way state.new c)) }
+    ensures err { IfErr result (λ e. Refuses e (node_opened D.decoration G.annotated machine.operations kind.now estimate state.old)) }
+{
+    let text = state.text;
+    match open_kind(alloc, kind, estimate, state)? {
+        Some(kind) => Ok(Some(Closing {
+            item: None,
+            text,
+            kind,
+        })),
+        None => {
+            state.text = text;
+            Ok(None)
         }
     }
 }
 
-/// The desk becomes the one behind the node.
+/// Opens an item in a block of its own.
+#[tactic(auto, using(html_render_dom::specs::laws::Outcome::refusals))]
+fn open_item<D: TextDecorator, G: Tagging<D::Annotation>>(
+    alloc: Global,
+    kind: &NodeKind,
+    estimate: Estimate,
+    place: Place,
+    state: &mut LayoutState<D, G, G::Tag, Block<G::Tag, usize>>,
+) -> Result<Option<Closing<D, G::Tag, Block<G::Tag, usize>>>, Error>
+    ensures ok { IfOk result (λ c. item_opened D.decoration G.annotated machine.operations kind.now estimate
+        place.prefix place.columns place.least place.behind state.old ≡ Some (way state.new c)) }
+    ensures err { IfErr result (λ e. Refuses e (item_opened D.decoration G.annotated machine.operations kind.now estimate
+        place.prefix place.columns place.least place.behind state.old)) }
+{
+    let columns = place.columns;
+    let outer = nest(
+        alloc,
+        place.prefix,
+        columns,
+        place.least,
+        place.behind,
+        state,
+    )?;
+    let indent = Indent { outer, columns };
+    match open_node(alloc, kind, estimate, state)? {
+        Some(closing) => Ok(Some(Closing {
+            item: Some(indent),
+            text: closing.text,
+            kind: closing.kind,
+        })),
+        None => {
+            close_indent(alloc, state.text, indent, state)?;
+            Ok(None)
+        }
+    }
+}
+
+/// Opens a node, as what it stands in says: the state becomes that of its children, or, with nothing kept, the one
+/// behind it.
 ///
 /// # Errors
 ///
-/// `TooNarrow`, where a block is flushed for which a character is too wide. `OutOfMemory`.
-#[tactic(auto, using(html_render_dom::specs::laws::Outcome::refusals))]
-pub fn leave<D: TextDecorator, G: Tagging<D::Annotation>>(
+/// `TooNarrow`, where a block is flushed for which a character is too wide, or there is no room behind a prefix.
+/// `OutOfMemory`.
+#[tactic(auto, using(html_render_dom::specs::laws::Outcome::refusals, crate::proofs::Items::placed))]
+pub fn open<D: TextDecorator, G: Tagging<D::Annotation>>(
     alloc: Global,
-    leaving: Leaving<G::Tag>,
-    desk: &mut Desk<D, G, G::Tag, Block<G::Tag, ()>>,
-) -> Result<(), Error>
-    ensures ok { OnOk result (leave D.decoration G.annotated machine.operations leaving desk.old ≡ Some desk.new) }
-    ensures err { IfErr result (λ e. Refuses e (leave D.decoration G.annotated machine.operations leaving desk.old)) }
+    kind: &NodeKind,
+    estimate: Estimate,
+    state: &mut LayoutState<D, G, G::Tag, Block<G::Tag, usize>>,
+) -> Result<Option<Closing<D, G::Tag, Block<G::Tag, usize>>>, Error>
+    ensures ok { IfOk result (λ c. placed_opened D.decoration G.annotated machine.operations kind.now estimate
+        state.old state.old.around ≡ Some (way state.new c)) }
+    ensures err { IfErr result (λ e. Refuses e (placed_opened D.decoration G.annotated machine.operations kind.now estimate state.old state.old.around)) }
 {
-    match leaving {
-        Leaving::Nothing => Ok(()),
-        Leaving::EndBlock => {
-            desk.block.end_block();
-            Ok(())
-        }
-        Leaving::NewLine => {
-            desk.block.new_line()?;
-            Ok(())
-        }
-        Leaving::EndEmphasis(emphasis, tag) => leave_emphasis(alloc, emphasis, tag, desk),
+    match place_of(alloc, &state.decorator, &state.around)? {
+        None => open_node(alloc, kind, estimate, state),
+        Some(place) => open_item(alloc, kind, estimate, place, state),
+    }
+}
+
+/// Closes a node: the state becomes the one behind it.
+///
+/// # Errors
+///
+/// `TooNarrow`, where a block is flushed for which a character is too wide, or a line is too wide behind its prefix.
+/// `OutOfMemory`.
+#[tactic(auto, using(html_render_dom::specs::laws::Outcome::refusals))]
+pub fn close<D: TextDecorator, G: Tagging<D::Annotation>>(
+    alloc: Global,
+    closing: Closing<D, G::Tag, Block<G::Tag, usize>>,
+    state: &mut LayoutState<D, G, G::Tag, Block<G::Tag, usize>>,
+) -> Result<(), Error>
+    ensures ok { OnOk result (closed D.decoration G.annotated machine.operations closing state.old ≡ Some state.new) }
+    ensures err { IfErr result (λ e. Refuses e (closed D.decoration G.annotated machine.operations closing state.old)) }
+{
+    let text = closing.text;
+    close_kind(alloc, text, closing.kind, state)?;
+    state.text = text;
+    match closing.item {
+        Some(item) => close_indent(alloc, text, item, state),
+        None => Ok(()),
     }
 }

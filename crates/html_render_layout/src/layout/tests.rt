@@ -1,15 +1,16 @@
 ghost use Rattle.std.specs.Prelude.{codes, refl};
+ghost use Rattle.html_render_parts.specs.Decoration.{hashes, number_and_dot};
 
 use super::*;
-use crate::tree::{Builder, NodeKind};
 use html_render_dom::text::Text;
 use html_render_lines::line::Run;
 use html_render_lines::tag::Tag;
+use html_render_nodes::tree::{Builder, Emphasis, NodeKind};
 use html_render_parts::decorate::PlainDecorator;
 use std::test::Fail;
 
 /// What lines say, each with a bar behind it.
-fn shown<T: Tag>(alloc: Global, lines: &[Line<T, ()>]) -> Result<String, Fail> {
+fn shown<T: Tag>(alloc: Global, lines: &[Line<T, usize>]) -> Result<String, Fail> {
     let mut text = String::new(alloc);
     for line in lines {
         line.write_to(&mut text)?;
@@ -56,7 +57,7 @@ fn shown_at(alloc: Global, width: usize, overflow: bool) -> Result<String, Fail>
     let laid_out = lay_out(
         alloc,
         &PlainDecorator::new(),
-        &tree,
+        tree,
         width,
         overflow,
         &mut meter,
@@ -78,33 +79,38 @@ fn counts_its_walk(rt: HostRuntime) -> Result<(), Fail> {
     let alloc = rt.alloc();
     let tree = sample(alloc)?;
     let mut meter = meter();
-    let _laid_out = lay_out(alloc, &PlainDecorator::new(), &tree, 5, false, &mut meter)?;
+    let _laid_out = lay_out(alloc, &PlainDecorator::new(), tree, 5, false, &mut meter)?;
     let counted = Meter {
         probes: 7,
         entered: 8,
         left: 8,
-        frames: 3,
+        frames: 2,
     };
     assert_eq!(rt; meter, counted);
     Ok(())
 }
 
+/// A text with a character of two columns.
+fn wide(alloc: Global) -> Result<RenderTree, Error> {
+    let mut builder = Builder::new(alloc);
+    builder.put(text(alloc, "a世b")?)?;
+    Ok(RenderTree::from(builder))
+}
+
 #[test]
 fn refuses_what_is_too_narrow(rt: HostRuntime) -> Result<(), Fail> {
     let alloc = rt.alloc();
-    let mut builder = Builder::new(alloc);
-    builder.put(text(alloc, "a世b")?)?;
-    let tree = RenderTree::from(builder);
+    let plain = PlainDecorator::new();
     let mut meter = meter();
     assert_eq!(rt;
-        lay_out(alloc, &PlainDecorator::new(), &tree, 0, true, &mut meter).err(),
+        lay_out(alloc, &plain, wide(alloc)?, 0, true, &mut meter).err(),
         Some(Error::TooNarrow)
     );
     assert_eq!(rt;
-        lay_out(alloc, &PlainDecorator::new(), &tree, 1, false, &mut meter).err(),
+        lay_out(alloc, &plain, wide(alloc)?, 1, false, &mut meter).err(),
         Some(Error::TooNarrow)
     );
-    let laid_out = lay_out(alloc, &PlainDecorator::new(), &tree, 1, true, &mut meter)?;
+    let laid_out = lay_out(alloc, &plain, wide(alloc)?, 1, true, &mut meter)?;
     assert_eq!(rt; shown(alloc, &laid_out.lines)?.as_str(), "a|世|b|");
     Ok(())
 }
@@ -113,13 +119,13 @@ fn refuses_what_is_too_narrow(rt: HostRuntime) -> Result<(), Fail> {
 fn lines_without_annotations_are_the_same(rt: HostRuntime) -> Result<(), Fail> {
     let alloc = rt.alloc();
     let tree = sample(alloc)?;
-    let lines = lay_out_untagged(alloc, &Signs, &tree, 5, false)?;
+    let lines = lay_out_untagged(alloc, &Signs, tree, 5, false)?;
     assert_eq!(rt; shown(alloc, &lines)?.as_str(), "ab cd||e|f g|");
     let tree = emphases(alloc)?;
-    let lines = lay_out_untagged(alloc, &Signs, &tree, 4, false)?;
+    let lines = lay_out_untagged(alloc, &Signs, tree, 4, false)?;
     assert_eq!(rt; shown(alloc, &lines)?.as_str(), "a[b<|(c)>|]|");
     assert_eq!(rt;
-        lay_out_untagged(alloc, &Signs, &tree, 0, true).err(),
+        lay_out_untagged(alloc, &Signs, emphases(alloc)?, 0, true).err(),
         Some(Error::TooNarrow)
     );
     Ok(())
@@ -136,6 +142,10 @@ impl TextDecorator for Signs {
       em = record { start = λ s. record { text = codes "<"; annotation = 6 }; end = λ s. codes ">" };
       strong = record { start = λ s. record { text = codes "["; annotation = 7 }; end = λ s. codes "]" };
       code = record { start = λ s. record { text = codes "("; annotation = 8 }; end = λ s. codes ")" };
+      header_prefix = λ s level. hashes level;
+      quote_prefix = λ s. codes "> ";
+      unordered_item_prefix = λ s. codes "* ";
+      ordered_item_prefix = λ s number. number_and_dot number;
       subblock = λ s. s;
     } };
 
@@ -165,13 +175,29 @@ impl TextDecorator for Signs {
         Ok(String::from_str(alloc, ")")?)
     }
 
+    fn header_prefix(&self, alloc: Global, level: usize) -> Result<String, Error> {
+        PlainDecorator::new().header_prefix(alloc, level)
+    }
+
+    fn quote_prefix(&self, alloc: Global) -> Result<String, Error> {
+        PlainDecorator::new().quote_prefix(alloc)
+    }
+
+    fn unordered_item_prefix(&self, alloc: Global) -> Result<String, Error> {
+        PlainDecorator::new().unordered_item_prefix(alloc)
+    }
+
+    fn ordered_item_prefix(&self, alloc: Global, number: i64) -> Result<String, Error> {
+        PlainDecorator::new().ordered_item_prefix(alloc, number)
+    }
+
     fn make_subblock_decorator(&self, _alloc: Global) -> Result<Signs, Error> {
         Ok(*self)
     }
 }
 
 /// The tags of all characters, as digits: each character has one byte.
-fn tags(alloc: Global, lines: &[Line<usize, ()>]) -> Result<String, Fail> {
+fn tags(alloc: Global, lines: &[Line<usize, usize>]) -> Result<String, Fail> {
     let mut text = String::new(alloc);
     for line in lines {
         let parts = line.parts().text;
@@ -208,8 +234,155 @@ fn emphasis_is_annotated_and_written_round(rt: HostRuntime) -> Result<(), Fail> 
     let alloc = rt.alloc();
     let tree = emphases(alloc)?;
     let mut meter = meter();
-    let laid_out = lay_out(alloc, &Signs, &tree, 20, false, &mut meter)?;
+    let laid_out = lay_out(alloc, &Signs, tree, 20, false, &mut meter)?;
     assert_eq!(rt; shown(alloc, &laid_out.lines)?.as_str(), "a[b<(c)>]|");
     assert_eq!(rt; tags(alloc, &laid_out.lines)?.as_str(), "011233321");
+    Ok(())
+}
+
+/// Puts a node of a kind over one text in front.
+fn put_over(
+    builder: &mut Builder<RenderNode>,
+    kind: NodeKind,
+    text: RenderNode,
+) -> Result<(), Error> {
+    let mark = builder.len();
+    builder.put(text)?;
+    builder.enclose(RenderNode::from(kind), mark)?;
+    Ok(())
+}
+
+/// A quote of `ab cd`, and a text.
+fn quote(alloc: Global, kind: NodeKind) -> Result<RenderTree, Error> {
+    let mut builder = Builder::new(alloc);
+    builder.put(text(alloc, "e")?)?;
+    put_over(&mut builder, kind, text(alloc, "ab cd")?)?;
+    Ok(RenderTree::from(builder))
+}
+
+/// A list whose item is `ab` and a list of `cd`.
+fn nested_lists(alloc: Global) -> Result<RenderTree, Error> {
+    let mut builder = Builder::new(alloc);
+    put_over(&mut builder, NodeKind::ListItem, text(alloc, "cd")?)?;
+    builder.enclose(RenderNode::from(NodeKind::Ul), 0)?;
+    builder.put(text(alloc, "ab")?)?;
+    builder.enclose(RenderNode::from(NodeKind::ListItem), 0)?;
+    builder.enclose(RenderNode::from(NodeKind::Ul), 0)?;
+    Ok(RenderTree::from(builder))
+}
+
+/// An ordered list of `ab` and `cd`.
+fn numbered(alloc: Global, first: i64) -> Result<RenderTree, Error> {
+    let mut builder = Builder::new(alloc);
+    put_over(&mut builder, NodeKind::ListItem, text(alloc, "cd")?)?;
+    put_over(&mut builder, NodeKind::ListItem, text(alloc, "ab")?)?;
+    builder.enclose(RenderNode::from(NodeKind::Ol(first)), 0)?;
+    Ok(RenderTree::from(builder))
+}
+
+/// The term `ab` with the description `cd ef`.
+fn described(alloc: Global) -> Result<RenderTree, Error> {
+    let mut builder = Builder::new(alloc);
+    put_over(&mut builder, NodeKind::Dd, text(alloc, "cd ef")?)?;
+    put_over(&mut builder, NodeKind::Dt, text(alloc, "ab")?)?;
+    builder.enclose(RenderNode::from(NodeKind::Dl), 0)?;
+    Ok(RenderTree::from(builder))
+}
+
+/// What the lines of a tree say, with signs round each emphasis.
+fn shown_lines(
+    alloc: Global,
+    tree: RenderTree,
+    width: usize,
+    overflow: bool,
+) -> Result<String, Fail> {
+    let lines = lay_out_untagged(alloc, &Signs, tree, width, overflow)?;
+    shown(alloc, &lines)
+}
+
+/// Whether there is no room for a tree.
+fn is_too_narrow(alloc: Global, tree: RenderTree, width: usize) -> bool {
+    lay_out_untagged(alloc, &Signs, tree, width, false).err() == Some(Error::TooNarrow)
+}
+
+#[test]
+fn lines_of_quotes_and_headings_stand_behind_prefixes(rt: HostRuntime) -> Result<(), Fail> {
+    let alloc = rt.alloc();
+    for (width, overflow, lines) in [
+        (9, false, "> ab cd||e|"),
+        (5, false, "> ab|> cd||e|"),
+        (4, true, "> ab|> cd||e|"),
+        (1, true, "> ab|> cd||e|"),
+    ] {
+        let tree = quote(alloc, NodeKind::BlockQuote)?;
+        assert_eq!(rt; shown_lines(alloc, tree, width, overflow)?.as_str(), lines);
+    }
+    assert!(rt; is_too_narrow(alloc, quote(alloc, NodeKind::BlockQuote)?, 4));
+    for (width, overflow, lines) in [
+        (9, false, "## ab cd||e|"),
+        (6, false, "## ab|## cd||e|"),
+        (5, true, "## ab|## cd||e|"),
+    ] {
+        let tree = quote(alloc, NodeKind::Header(2))?;
+        assert_eq!(rt; shown_lines(alloc, tree, width, overflow)?.as_str(), lines);
+    }
+    assert!(rt; is_too_narrow(alloc, quote(alloc, NodeKind::Header(2))?, 5));
+    Ok(())
+}
+
+#[test]
+fn items_stand_behind_bullets(rt: HostRuntime) -> Result<(), Fail> {
+    let alloc = rt.alloc();
+    for (width, overflow) in [(9, false), (6, false), (5, true)] {
+        let tree = nested_lists(alloc)?;
+        assert_eq!(rt;
+            shown_lines(alloc, tree, width, overflow)?.as_str(),
+            "* ab|  * cd|"
+        );
+    }
+    assert!(rt; is_too_narrow(alloc, nested_lists(alloc)?, 5));
+    Ok(())
+}
+
+#[test]
+fn numbers_are_as_wide_as_the_widest(rt: HostRuntime) -> Result<(), Fail> {
+    let alloc = rt.alloc();
+    for (width, overflow) in [(9, false), (6, false), (5, true)] {
+        let tree = numbered(alloc, 9)?;
+        assert_eq!(rt;
+            shown_lines(alloc, tree, width, overflow)?.as_str(),
+            "9.  ab|10. cd|"
+        );
+    }
+    assert!(rt; is_too_narrow(alloc, numbered(alloc, 9)?, 5));
+    let tree = numbered(alloc, i64::MAX)?;
+    assert_eq!(rt;
+        shown_lines(alloc, tree, 30, false)?.as_str(),
+        "9223372036854775807. ab|9223372036854775807. cd|"
+    );
+    Ok(())
+}
+
+#[test]
+fn descriptions_are_indented(rt: HostRuntime) -> Result<(), Fail> {
+    let alloc = rt.alloc();
+    for (width, overflow, lines) in [
+        (9, false, "<ab>|  cd ef|"),
+        (5, false, "<ab>|  cd|  ef|"),
+        (4, true, "<ab>|  cd|  ef|"),
+    ] {
+        let tree = described(alloc)?;
+        assert_eq!(rt; shown_lines(alloc, tree, width, overflow)?.as_str(), lines);
+    }
+    assert!(rt; is_too_narrow(alloc, described(alloc)?, 4));
+    Ok(())
+}
+
+#[test]
+fn spaces_are_as_many_as_asked_for(rt: HostRuntime) -> Result<(), Fail> {
+    let alloc = rt.alloc();
+    assert_eq!(rt; spaces::few_spaces(3), "   ");
+    assert_eq!(rt; spaces::few_spaces(spaces::FEW).len(), spaces::FEW);
+    assert_eq!(rt; spaces::many_spaces(alloc, 65)?.len(), 65);
     Ok(())
 }

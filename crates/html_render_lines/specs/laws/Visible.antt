@@ -27,19 +27,19 @@ append_nil : {A : Type 0} (a : List A) → a ++ [] ≡ a
 append_nil [] = refl
 append_nil (x ∷ xs) = ap (λ r. x ∷ r) (append_nil xs)
 
-visible_in_line-append : {T M : Type 0} (a b : Line T M) → visible_in_line (a ++ b) ≡ visible_in_line a ++ visible_in_line b
+pub visible_in_line-append : {T M : Type 0} (a b : Line T M) → visible_in_line (a ++ b) ≡ visible_in_line a ++ visible_in_line b
 visible_in_line-append [] b = refl
 visible_in_line-append (element.Character c tag ∷ a) b = ap (λ r. if_visible c ++ r) (visible_in_line-append a b)
     ∙ sym (append_assoc (if_visible c) (visible_in_line a) (visible_in_line b))
 visible_in_line-append (element.Mark m ∷ a) b = visible_in_line-append a b
 
-visible_in_lines-push : {T M : Type 0} (ls : List (Line T M)) (l : Line T M) →
+pub visible_in_lines-push : {T M : Type 0} (ls : List (Line T M)) (l : Line T M) →
     visible_in_lines (ls ++ l ∷ []) ≡ visible_in_lines ls ++ visible_in_line l
 visible_in_lines-push [] l = append_nil (visible_in_line l)
 visible_in_lines-push (x ∷ ls) l = ap (λ r. visible_in_line x ++ r) (visible_in_lines-push ls l)
     ∙ sym (append_assoc (visible_in_line x) (visible_in_lines ls) (visible_in_line l))
 
-visible_in_line-marks : (T : Type 0) {M : Type 0} (ms : List M) → visible_in_line (marks_line {T = T} ms) ≡ []
+pub visible_in_line-marks : (T : Type 0) {M : Type 0} (ms : List M) → visible_in_line (marks_line {T = T} ms) ≡ []
 visible_in_line-marks T [] = refl
 visible_in_line-marks T (m ∷ ms) = visible_in_line-marks T ms
 

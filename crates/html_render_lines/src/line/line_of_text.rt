@@ -242,8 +242,12 @@ impl<T: Tag, M: Copy> Line<T, M> {
     }
 
     /// Puts an element at the front.
+    ///
+    /// # Errors
+    ///
+    /// `OutOfMemory`. The line is then as it was.
     #[tactic(auto, using(crate::proofs::LineColumns::prefixes))]
-    fn push_front(&mut self, element: Element<T, M>) -> Result<(), AllocError>
+    pub fn push_front(&mut self, element: Element<T, M>) -> Result<(), AllocError>
         ensures { OnOk result (self.new ≡ element ∷ self.old) }
     {
         self.front.push(element)?;
@@ -263,6 +267,35 @@ impl<T: Tag, M: Copy> Line<T, M> {
             self.push_front(*element)?;
         }
         Ok(())
+    }
+
+    /// Puts a text at the front, in time of the text. Its columns are counted before, where a machine word holds them.
+    ///
+    /// # Errors
+    ///
+    /// `OutOfMemory`. The line is then empty.
+    #[tactic(auto, using(crate::proofs::LineColumns::prefixes))]
+    pub fn put_front_str(
+        &mut self,
+        text: &str,
+        width: Option<usize>,
+        tag: T,
+    ) -> Result<(), AllocError>
+        requires { width ≡ counted (text_columns (chars text.now)) }
+        ensures { OnOk result (self.new ≡ under tag (chars text.now) ++ self.old) }
+    {
+        let count = counted_together(width, self.count);
+        let put = push_reversed(&mut self.front, text, tag);
+        match put {
+            Ok(()) => self.count = count,
+            // Memory ran out.
+            Err(_) => {
+                self.front.clear();
+                self.text.clear();
+                self.count = Some(0);
+            }
+        }
+        put
     }
 
     /// Adds its characters to a string.
@@ -309,6 +342,32 @@ fn counted_together(count: Option<usize>, more: Option<usize>) -> Option<usize>
     ensures { (n m : ℕ) → count ≡ counted n → more ≡ counted m → result ≡ counted (n + m) }
 {
     count?.checked_add(more?)
+}
+
+/// The columns of a text, where a machine word holds them.
+pub fn text_columns(text: &str) -> Option<usize>
+    ensures { result ≡ counted (text_columns (chars text.now)) }
+{
+    let mut count = Some(0);
+    for c in text.chars() {
+        count = counted_on(count, width_of(c));
+    }
+    count
+}
+
+/// Puts the characters of a text behind elements, the last one first.
+fn push_reversed<T: Copy, M: Copy>(
+    elements: &mut Vec<Element<T, M>>,
+    text: &str,
+    tag: T,
+) -> Result<(), AllocError>
+    ensures { OnOk result (elements.new.items ≡ elements.old.items ++ reverse (under tag (chars text.now))) }
+{
+    elements.reserve(text.len())?;
+    for c in text.chars().rev() {
+        elements.push(Element::Character(c, tag))?;
+    }
+    Ok(())
 }
 
 /// How many columns elements end past a multiple of 8, which begin so many columns past one.

@@ -8,7 +8,8 @@ ghost use Rattle.html_render_dom.specs.Outcome.{Refuses};
 ghost use Rattle.html_render_dom.specs.declared.style.WhiteSpace.TheVariants.{Normal};
 ghost use Rattle.html_render_lines.specs.Character.{kind, width_of, is_plain};
 ghost use Rattle.html_render_lines.specs.Feeding.{AreLetters, IsFront, HasRoom, placed_text_and_space, with_words};
-ghost use Rattle.html_render_lines.specs.Stream.{after, step, letter_step, letters_step, then_single, character_step, with_pending, joins, character_of, styled};
+ghost use Rattle.html_render_lines.specs.Stream.{after, step, letter_step, letters_step, then_single, character_step};
+ghost use Rattle.html_render_lines.specs.Stream.{with_pending, joins, character_of, styled};
 ghost use Rattle.html_render_lines.specs.TaggedText.{text_columns};
 
 use crate::character::{Character, Class, Item, Kind, TextStyle, class_of};

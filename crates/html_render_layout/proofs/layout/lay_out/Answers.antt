@@ -1,54 +1,92 @@
-use Rattle.std.proofs.Common.{◌≡◌, Some, IfOk, IfErr, subst}
+use Rattle.std.proofs.Common.{◌≡◌, Some, IfOk, IfErr, refl, subst}
 use Rattle.html_render_dom.specs.Outcome.{Refuses}
-use Rattle.html_render_layout.specs.Block as definition
-use Rattle.html_render_layout.specs.Layout.{onto, layout_lines}
+use Rattle.html_render_nodes.specs.laws.Counts.{none-counted}
+use Rattle.html_render_blocks.specs.Block as definition
+use Rattle.html_render_layout.specs.Layout.{onto, defined, defined_inside, empty_state, estimated, layout_lines}
+use Rattle.html_render_layout.specs.laws.Opening.{layout-asks}
 use Rattle.html_render_layout.specs.laws.LayoutKeeps.{layout-returns}
-use Rattle.html_render_layout.specs.laws.LayoutWorks.{empty_worked, layout_lines-works}
+use Rattle.html_render_layout.specs.laws.LayoutWorks.{empty_worked, layout_lines-works, counts-work}
 use Rattle.html_render_layout.specs.laws.LayoutLaws.{within-answered, succeeds-answered}
-use Rattle.html_render_layout.specs.Working.{Worked, work_lines, laid_out}
+use Rattle.html_render_layout.specs.Working.{work_lines, laid_out}
 use Rattle.html_render_layout.proofs.layout.lay_out.Goals as goal
 use Rattle.html_render_layout.proofs.layout.lay_out.Given.{Over}
 
+-- the state in which the layout begins
+empty : (g : Over) (c : goal.After-drop-tree-inside-2 g) →
+    c.begin_with-state.result ≡ empty_worked g.D.TextDecorator.decoration c.args.decorator.now c.args.width c.args.overflow
+empty g c = cc (c.begin_with-state.ensures, c.in_ok-inner.ensures.ok, c.new.ensures, c.outermost-block.ensures)
+
+-- the tree that is laid out is the measured one
+measured : (g : Over) (c : goal.After-drop-tree-inside-2 g) →
+    c.in_ok-tree.tree ≡ estimated g.D.TextDecorator.decoration c.args.decorator.now c.args.tree
+measured g c = cc (c.in_ok-tree.ensures.ok, c.in_ok-inner.ensures.ok)
+
 -- what the code does is what is defined
-works : (g : Over) (c : goal.After-lines_on g) →
-    work_lines g.D.TextDecorator.decoration c.args.tree.now
-    (record { decorator = c.in_ok-make_subblock_decorator.field-0; stacks = c.new.result; tag = 0; block = c.new-2.result })
-    ≡ layout_lines g.D.TextDecorator.decoration c.args.tree.now c.args.decorator.now c.args.width c.args.overflow
+works : (g : Over) (c : goal.After-drop-tree-inside-2 g) →
+    work_lines g.D.TextDecorator.decoration c.in_ok-tree.tree c.begin_with-state.result
+    ≡ layout_lines g.D.TextDecorator.decoration c.args.tree c.args.decorator.now c.args.width c.args.overflow
 works g c =
-    let desk : Worked _ _ = record {
-      decorator = c.in_ok-make_subblock_decorator.field-0;
-      stacks = c.new.result;
-      tag = 0;
-      block = c.new-2.result;
-    } in
-    let empty : desk ≡ empty_worked g.D.TextDecorator.decoration c.args.decorator.now c.args.width c.args.overflow =
-    cc (c.in_ok-make_subblock_decorator.ensures.ok, c.new.ensures, c.new-2.ensures) in
-    layout_lines-works g.D.TextDecorator.decoration c.args.tree.now c.args.decorator.now c.args.width c.args.overflow desk
-    c.if-width-eq0.false empty
+    layout_lines-works g.D.TextDecorator.decoration c.args.tree _ c.args.decorator.now c.args.width c.args.overflow
+    c.begin_with-state.result c.if-width-eq0.false (measured g c) (empty g c)
 
 pub returns-clause-ok : goal.returns-clause-ok
-returns-clause-ok g c = subst (λ o. IfOk c.lines_on.result (λ lines. o ≡ Some (laid_out lines))) (works g c) c.lines_on.ensures.ok
+returns-clause-ok g c = subst (λ o. IfOk c.lines_from.result (λ lines. o ≡ Some (laid_out lines))) (works g c) c.lines_from.ensures.ok
 
 pub returns-clause-err : goal.returns-clause-err
-returns-clause-err g c = subst (λ o. IfErr c.lines_on.result (λ e. Refuses e o)) (works g c) c.lines_on.ensures.err
+returns-clause-err g c = subst (λ o. IfErr c.lines_from.result (λ e. Refuses e o)) (works g c) c.lines_from.ensures.err
 
 pub returns-clause-within : goal.returns-clause-within
 returns-clause-within g c =
-    within-answered g.D.TextDecorator.decoration c.args.tree.now c.args.decorator.now c.args.width c.args.overflow
-    (λ l. laid_out l) c.lines_on.result (returns-clause-ok g c)
+    within-answered g.D.TextDecorator.decoration c.args.tree c.args.decorator.now c.args.width c.args.overflow
+    (λ l. laid_out l) c.lines_from.result (returns-clause-ok g c)
 
 pub returns-clause-answered : goal.returns-clause-answered
 returns-clause-answered g c =
-    succeeds-answered g.D.TextDecorator.decoration c.args.tree.now c.args.decorator.now c.args.width c.args.overflow c.lines_on.result
+    succeeds-answered g.D.TextDecorator.decoration c.args.tree c.args.decorator.now c.args.width c.args.overflow c.lines_from.result
     (returns-clause-err g c)
 
 -- annotations and decorator, wherever the call ends
 pub returns-clause-stacks : goal.returns-clause-stacks
-returns-clause-stacks g c = layout-returns g.D.TextDecorator.decoration onto definition.operations c.args.tree.now
+returns-clause-stacks g c = layout-returns g.D.TextDecorator.decoration onto definition.operations
+    (estimated g.D.TextDecorator.decoration c.args.decorator.now c.args.tree)
 
 pub returns-then-width-eq0-clause-stacks : goal.returns-then-width-eq0-clause-stacks
-returns-then-width-eq0-clause-stacks g c = layout-returns g.D.TextDecorator.decoration onto definition.operations c.args.tree.now
+returns-then-width-eq0-clause-stacks g c = layout-returns g.D.TextDecorator.decoration onto definition.operations
+    (estimated g.D.TextDecorator.decoration c.args.decorator.now c.args.tree)
 
-pub returns-in_err-make_subblock_decorator-clause-stacks : goal.returns-in_err-make_subblock_decorator-clause-stacks
-returns-in_err-make_subblock_decorator-clause-stacks g c =
-    layout-returns g.D.TextDecorator.decoration onto definition.operations c.args.tree.now
+pub returns-in_err-inner-clause-stacks : goal.returns-in_err-inner-clause-stacks
+returns-in_err-inner-clause-stacks g c =
+    layout-returns g.D.TextDecorator.decoration onto definition.operations
+    (estimated g.D.TextDecorator.decoration c.args.decorator.now c.args.tree)
+
+pub returns-in_err-tree-clause-stacks : goal.returns-in_err-tree-clause-stacks
+returns-in_err-tree-clause-stacks g c =
+    layout-returns g.D.TextDecorator.decoration onto definition.operations
+    (estimated g.D.TextDecorator.decoration c.args.decorator.now c.args.tree)
+
+-- what was counted
+pub returns-clause-counts : goal.returns-clause-counts
+returns-clause-counts g c =
+    counts-work g.D.TextDecorator.decoration c.lines_from.result c.args.tree _ c.args.decorator.now c.args.width c.args.overflow
+    c.begin_with-state.result _ _ _ (measured g c) (empty g c) refl c.lines_from.ensures.counts
+
+pub returns-then-width-eq0-clause-counts : goal.returns-then-width-eq0-clause-counts
+returns-then-width-eq0-clause-counts g c =
+    none-counted _ (λ e. Unit {0}) tt (defined g.D.TextDecorator.decoration) (defined_inside g.D.TextDecorator.decoration)
+    (estimated g.D.TextDecorator.decoration c.args.decorator.now c.args.tree)
+    (empty_state g.D.TextDecorator.decoration c.args.decorator.now c.args.width c.args.overflow) _ _
+    (layout-asks g.D.TextDecorator.decoration onto definition.operations) refl refl refl refl
+
+pub returns-in_err-inner-clause-counts : goal.returns-in_err-inner-clause-counts
+returns-in_err-inner-clause-counts g c =
+    none-counted _ _ c.from_residual.ensures.1 (defined g.D.TextDecorator.decoration) (defined_inside g.D.TextDecorator.decoration)
+    (estimated g.D.TextDecorator.decoration c.args.decorator.now c.args.tree)
+    (empty_state g.D.TextDecorator.decoration c.args.decorator.now c.args.width c.args.overflow) _ _
+    (layout-asks g.D.TextDecorator.decoration onto definition.operations) refl refl refl refl
+
+pub returns-in_err-tree-clause-counts : goal.returns-in_err-tree-clause-counts
+returns-in_err-tree-clause-counts g c =
+    none-counted _ _ c.from_residual-in_err-tree.ensures.1 (defined g.D.TextDecorator.decoration) (defined_inside g.D.TextDecorator.decoration)
+    (estimated g.D.TextDecorator.decoration c.args.decorator.now c.args.tree)
+    (empty_state g.D.TextDecorator.decoration c.args.decorator.now c.args.width c.args.overflow) _ _
+    (layout-asks g.D.TextDecorator.decoration onto definition.operations) refl refl refl refl

@@ -1,9 +1,9 @@
 use Rattle.std.proofs.Common.{◌≡◌, ◌<◌, suc, [], ◌∷◌, ◌++◌, length, arith, sym, ap, subst, ◌∙◌, map}
 use Rattle.html_render_dom.specs.Dom.{content_at, children_at}
 use Rattle.html_render_dom.specs.Rules.{rule_of}
-use Rattle.html_render_tree.specs.Converting.{Progress, NextChild, outline_of, open_node}
+use Rattle.html_render_tree.specs.Converting.{Progress, NextChild, outline_of, open_node, close_element}
 use Rattle.html_render_tree.proofs.Conversions.{Converting, Opening, Opening-start, Opening-open_node, Converting-top, Converting-child}
-use Rattle.html_render_tree.proofs.Conversions.{Closed, Converting-close, Converting-done, work, work-close, work-child}
+use Rattle.html_render_tree.proofs.Conversions.{Closed, Converting-close, Converting-done, work, work-close, work-result, work-child}
 use Rattle.html_render_tree.proofs.convert.dom_to_render_tree.Goals as goal
 use Rattle.html_render_tree.proofs.convert.dom_to_render_tree.Goals.{In-Some, In-Some-pop}
 
@@ -95,12 +95,23 @@ close_element-requires c = (closed (goal.at.close_element-requires c).In-Some-po
 pub converting-preserved : goal.converting-preserved
 converting-preserved c =
     let done = closed (goal.at.converting-preserved c).In-Some-pop in
-    subst (λ t. Converting (map rule_of c.args.rules.now) c.args.dom.now c.pop.new.self.items t)
+    subst (λ (q : Progress). Converting (map rule_of c.args.rules.now) c.args.dom.now q.open_elements q.made_nodes)
     (sym (c.in_ok-close_element.ensures.ok done.0)) done.1
 
 pub converting-smaller : goal.converting-smaller
 converting-smaller c =
-    rw (opened-are (goal.at.converting-smaller c).In-Some-pop) (work-close c.args.dom.now c.pop.new.self.items c.in-Some-pop.element)
+    let dom = c.args.dom.now in
+    let element = c.in-Some-pop.element in
+    let s = (closed (goal.at.converting-smaller c).In-Some-pop).0 in
+    let p : Progress = record { open_elements = c.pop.new.self.items; made_nodes = s.beside } in
+    let r = close_element element s.after s.children in
+    omega (
+      arith,
+      ap (λ (q : Progress). work dom q.open_elements) (c.in_ok-close_element.ensures.ok s),
+      work-result dom r p,
+      work-close dom c.pop.new.self.items element,
+      ap (work dom) (opened-are (goal.at.converting-smaller c).In-Some-pop),
+    )
 
 -- no element is open
 pub returns-in_default-pop-clause-ok : goal.returns-in_default-pop-clause-ok

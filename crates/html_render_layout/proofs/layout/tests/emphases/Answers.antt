@@ -1,4 +1,4 @@
-use Rattle.html_render_layout.specs.laws.Splits.{SplitAt-none}
+use Rattle.html_render_nodes.specs.laws.Splits.{SplitAt-none}
 use Rattle.html_render_layout.proofs.layout.tests.emphases.Goals as goal
 
 pub enclose-requires : goal.enclose-requires

@@ -1,5 +1,5 @@
 use Rattle.html_render_dom.specs.Forest.{none, node}
-use Rattle.html_render_layout.specs.laws.Splits.{SplitAt-none}
+use Rattle.html_render_nodes.specs.laws.Splits.{SplitAt-none}
 use Rattle.html_render_layout.proofs.layout.tests.sample.Goals as goal
 
 pub enclose-requires : goal.enclose-requires

@@ -1,0 +1,123 @@
+-- THE MACHINE: a block whose open paragraph is fed character by character, which is what the code's block is. Its
+-- operations have the names of those of the definition on whole lists, in Block.
+use Rattle.std.specs.Prelude.{ℕ, Bool, true, false, not, List, [], ◌∷◌, ◌++◌, length, ◌==◌}
+use Rattle.std.specs.Prelude.{Option, Some, None, option_map, option_and_then, if◌then◌else◌}
+use Rattle.html_render_dom.specs.Outcome.{◌>>=◌}
+use Rattle.html_render_lines.specs.declared.character.TextStyle.{TextStyle}
+use Rattle.html_render_lines.specs.Line.{Line, marks_line}
+use Rattle.html_render_lines.specs.Paragraph.{Page, all_lines}
+use Rattle.html_render_lines.specs.Stream.{State, start, after, finished, styled}
+use Rattle.html_render_lines.specs.TaggedText.{under}
+use Rattle.html_render_blocks.specs.declared.block.BlockSetting.{BlockSetting}
+use Rattle.html_render_blocks.specs.Operations.{Operations}
+use Rattle.html_render_blocks.specs.Joined.{joined}
+use Rattle.html_render_blocks.specs.Block.{is_blank, paragraph_setting, inner_width, mark_items}
+
+-- a block of the machine; the open paragraph is none once a character was too wide for it
+pub record MachineBlock (T M : Type 0) : Type 0 where
+  pub setting : BlockSetting
+  pub lines : List (Line T M)
+  pub paragraph : Option (State T M)
+  pub at_block_end : Bool
+
+-- a block without lines
+abbrev pub empty_block : {T M : Type 0} → BlockSetting → MachineBlock T M
+empty_block s = record { setting = s; lines = []; paragraph = Some (start (paragraph_setting s) []); at_block_end = false }
+
+-- the lines of the open paragraph are added to those of the block, and the marks that wait begin another
+abbrev pub add_page : {T M : Type 0} → MachineBlock T M → State T M → Page T M → MachineBlock T M
+add_page b q p = record b { lines = b.lines ++ all_lines p; paragraph = Some (start q.setting p.waiting) }
+
+-- the lines of this paragraph are finished; none where it is too narrow
+abbrev pub flush_paragraph : {T M : Type 0} → MachineBlock T M → Option (State T M) → Option (MachineBlock T M)
+flush_paragraph b None = None
+flush_paragraph {T} {M} b (Some q) = option_map (λ (p : Page T M). add_page b q p) (finished q)
+
+abbrev pub flush : {T M : Type 0} → MachineBlock T M → Option (MachineBlock T M)
+flush b = flush_paragraph b b.paragraph
+
+abbrev pub new_line : {T M : Type 0} → MachineBlock T M → Option (MachineBlock T M)
+new_line b = flush b
+
+-- the marks that wait in a paragraph
+abbrev pub waiting : {T M : Type 0} → Option (State T M) → List M
+waiting None = []
+waiting (Some q) = q.page.waiting
+
+-- a paragraph without the marks that wait in it
+abbrev pub take_waiting : {T M : Type 0} → Option (State T M) → Option (State T M)
+take_waiting {T} {M} o = option_map (λ (q : State T M). record q { page = record q.page { waiting = [] } }) o
+
+-- a line that is empty but for the marks that wait
+abbrev pub add_empty_line : {T M : Type 0} → MachineBlock T M → MachineBlock T M
+add_empty_line b = record b { lines = b.lines ++ marks_line (waiting b.paragraph) ∷ []; paragraph = take_waiting b.paragraph }
+
+-- an empty line behind these lines, if there are any
+abbrev pub separate_behind : {T M : Type 0} → MachineBlock T M → List (Line T M) → MachineBlock T M
+separate_behind b [] = b
+separate_behind b (l ∷ ls) = add_empty_line b
+
+abbrev pub separate : {T M : Type 0} → MachineBlock T M → MachineBlock T M
+separate b = separate_behind b b.lines
+
+-- the start of a block: flushed, with an empty line behind the lines
+abbrev pub start_block : {T M : Type 0} → MachineBlock T M → Option (MachineBlock T M)
+start_block {T} {M} b = option_map (λ (c : MachineBlock T M). record (separate c) { at_block_end = false }) (flush b)
+
+-- what is added next starts another block
+abbrev pub end_block : {T M : Type 0} → MachineBlock T M → MachineBlock T M
+end_block b = record b { at_block_end = true }
+
+-- flushed, with an empty line where that added none
+abbrev pub new_line_hard : {T M : Type 0} → MachineBlock T M → Option (MachineBlock T M)
+new_line_hard {T} {M} b = option_map
+    (λ (c : MachineBlock T M). record (if length c.lines == length b.lines then add_empty_line c else c) { at_block_end = false }) (flush b)
+
+-- a text is fed to the open paragraph
+abbrev pub feed : {T M : Type 0} → MachineBlock T M → TextStyle T → List ℕ → MachineBlock T M
+feed {T} {M} b style cs = record b { paragraph = option_and_then (λ (q : State T M). after q (styled style cs)) b.paragraph }
+
+-- a text: where a block ended, a blank one does nothing and another starts a block
+abbrev pub add_inline_text : {T M : Type 0} → MachineBlock T M → TextStyle T → List ℕ → Option (MachineBlock T M)
+add_inline_text {T} {M} b style cs =
+    if length cs == 0 then Some b
+    else if not b.at_block_end then Some (feed b style cs)
+    else if is_blank style.mode cs then Some b
+    else option_map (λ (c : MachineBlock T M). feed c style cs) (start_block b)
+
+-- ---- blocks in blocks
+
+-- an empty block inside a block, behind a prefix of so many columns
+abbrev pub sub_block : {T M : Type 0} → MachineBlock T M → ℕ → ℕ → Option (MachineBlock T M)
+sub_block {T} {M} b prefix inner = option_map (λ (w : ℕ). empty_block (record b.setting { width = w })) (inner_width b.setting prefix inner)
+
+-- marks are fed to the open paragraph
+abbrev pub add_marks : {T M : Type 0} → MachineBlock T M → List M → MachineBlock T M
+add_marks {T} {M} b ms = record b { paragraph = option_and_then (λ (q : State T M). after q (mark_items ms)) b.paragraph }
+
+-- the lines of another block, and the marks that wait in it, to a block that is flushed. Where it has no line, its marks
+-- wait on
+abbrev pub append_lines : {T M : Type 0} → MachineBlock T M → Line T M → Line T M → List (Line T M) → List M → Option (MachineBlock T M)
+append_lines b first later [] ms = Some (add_marks b ms)
+append_lines {T} {M} b first later (l ∷ ls) ms =
+    option_map (λ (all : List (Line T M)). record b { lines = b.lines ++ all; paragraph = take_waiting b.paragraph })
+    (joined b.setting.width b.setting.overflow (waiting b.paragraph) first later (l ∷ ls) ms)
+
+-- both blocks are flushed, and each line of the other stands behind its prefix
+abbrev pub append : {T M : Type 0} → MachineBlock T M → MachineBlock T M → T → List ℕ → List ℕ → Option (MachineBlock T M)
+append b other tag first later = do
+  b ← flush b
+  other ← flush other
+  append_lines b (under tag first) (under tag later) other.lines (waiting other.paragraph)
+
+-- the operations that a layout is made of
+abbrev pub operations : {T M : Type 0} → Operations (MachineBlock T M) T
+operations = record {
+  add_inline_text = add_inline_text;
+  new_line = new_line;
+  new_line_hard = new_line_hard;
+  start_block = start_block;
+  end_block = end_block;
+  sub_block = sub_block;
+  append = append;
+}

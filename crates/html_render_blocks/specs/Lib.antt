@@ -1,0 +1,9 @@
+-- the block: the definition on whole lists, and the machine that is fed character by character
+pub mod Operations
+pub mod Joined
+pub mod Block
+pub mod BlockMachine
+-- its visible characters
+pub mod Visible
+-- laws of the definitions
+pub mod laws

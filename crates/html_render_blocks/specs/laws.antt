@@ -1,0 +1,14 @@
+-- what is said of all operations on blocks
+pub mod Operations
+-- facts on values that may be missing, and on choices
+pub mod Cases
+-- the operations don't depend on the tags
+pub mod BlockTags
+-- a block that was fed is the definition's
+pub mod BlockFed
+-- without overflow no line passes the width, and with it no operation refuses
+pub mod BlockLaws
+-- overflow gives the same lines
+pub mod BlockOverflow
+-- no visible character is lost
+pub mod BlockVisible

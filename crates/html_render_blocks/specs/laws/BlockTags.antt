@@ -1,0 +1,204 @@
+-- Whatever the tags are, the operations on a block are the same: each commutes with a map of tags.
+use Rattle.std.proofs.Common.{◌≡◌, ℕ, Bool, false, not, cond, eqb, leb, ◌||◌, ◌&&◌, List, [], ◌∷◌, ◌++◌, map, length, Option, Some, None}
+use Rattle.std.proofs.Common.{refl, sym, ap, ◌∙◌, option_map}
+use Rattle.std.proofs.lemmas.List.{map-append, length-map}
+use Rattle.html_render_lines.specs.declared.character.TextStyle.{TextStyle}
+use Rattle.html_render_lines.specs.declared.character.Item.TheVariants.{Mark}
+use Rattle.html_render_lines.specs.declared.line.Element.TheVariants.{Character}
+use Rattle.html_render_lines.specs.Line.{Line, columns, marks_line}
+use Rattle.html_render_lines.specs.Paragraph.{Page, all_lines}
+use Rattle.html_render_lines.specs.Stream.{State, start, after, finished, styled}
+use Rattle.html_render_lines.specs.TaggedText.{under}
+use Rattle.html_render_lines.specs.laws.Tags.{if_with, then_with, map_with, page_with, state_with, style_with, item_with, marks-with}
+use Rattle.html_render_lines.specs.Tags.{element_with, line_with, lines_with}
+use Rattle.html_render_lines.specs.laws.Tags.{after-with, finished-with, styled-with, all_lines-with, columns-with}
+use Rattle.html_render_blocks.specs.laws.Operations.{Commutes}
+use Rattle.html_render_blocks.specs.Joined.{behind, prefixed, marked_behind, are_within, fitting, joined}
+use Rattle.html_render_blocks.specs.Block.{is_blank, inner_width, mark_items}
+use Rattle.html_render_blocks.specs.BlockMachine.{MachineBlock, flush, flush_paragraph, add_page, add_empty_line, separate_behind}
+use Rattle.html_render_blocks.specs.BlockMachine.{start_block, new_line_hard, add_inline_text, feed, waiting, take_waiting, operations}
+use Rattle.html_render_blocks.specs.BlockMachine.{empty_block, sub_block, add_marks, append_lines, append}
+
+module _ {T U M : Type 0} (f : T → U) where
+  abbrev pub block_with : MachineBlock T M → MachineBlock U M
+  block_with b = record {
+    setting = b.setting;
+    lines = lines_with f b.lines;
+    paragraph = option_map (state_with f) b.paragraph;
+    at_block_end = b.at_block_end;
+  }
+
+  add_page-with : (b : MachineBlock T M) (q : State T M) (p : Page T M) →
+      add_page (block_with b) (state_with f q) (page_with f p) ≡ block_with (add_page b q p)
+  add_page-with b q p = ap (λ ls. record (block_with b) { lines = ls; paragraph = Some (start q.setting p.waiting) })
+      (ap (λ ls. lines_with f b.lines ++ ls) (all_lines-with f p) ∙ sym (map-append (line_with f) b.lines (all_lines p)))
+
+  flush_paragraph-with : (b : MachineBlock T M) (o : Option (State T M)) →
+      flush_paragraph (block_with b) (option_map (state_with f) o) ≡ option_map block_with (flush_paragraph b o)
+  flush_paragraph-with b None = refl
+  flush_paragraph-with b (Some q) =
+      map_with (page_with f) block_with (λ p. add_page b q p) (λ p. add_page (block_with b) (state_with f q) p) (finished q) _
+      (finished-with f q) (add_page-with b q)
+
+  flush-with : (b : MachineBlock T M) → flush (block_with b) ≡ option_map block_with (flush b)
+  flush-with b = flush_paragraph-with b b.paragraph
+
+  waiting-with : (o : Option (State T M)) → waiting (option_map (state_with f) o) ≡ waiting o
+  waiting-with None = refl
+  waiting-with (Some q) = refl
+
+  take_waiting-with : (o : Option (State T M)) → take_waiting (option_map (state_with f) o) ≡ option_map (state_with f) (take_waiting o)
+  take_waiting-with None = refl
+  take_waiting-with (Some q) = refl
+
+  add_empty_line-with : (b : MachineBlock T M) → add_empty_line (block_with b) ≡ block_with (add_empty_line b)
+  add_empty_line-with b =
+      ap (λ ms. record (block_with b) {
+        lines = lines_with f b.lines ++ marks_line ms ∷ [];
+        paragraph = take_waiting (option_map (state_with f) b.paragraph);
+      }) (waiting-with b.paragraph)
+      ∙ ap (λ l. record (block_with b) {
+        lines = lines_with f b.lines ++ l ∷ [];
+        paragraph = take_waiting (option_map (state_with f) b.paragraph);
+      }) (sym (marks-with f (waiting b.paragraph)))
+      ∙ ap (λ ls. record (block_with b) { lines = ls; paragraph = take_waiting (option_map (state_with f) b.paragraph) })
+      (sym (map-append (line_with f) b.lines (marks_line (waiting b.paragraph) ∷ [])))
+      ∙ ap (λ o. record (block_with (add_empty_line b)) { paragraph = o }) (take_waiting-with b.paragraph)
+
+  separate_behind-with : (b : MachineBlock T M) (ls : List (Line T M)) →
+      separate_behind (block_with b) (lines_with f ls) ≡ block_with (separate_behind b ls)
+  separate_behind-with b [] = refl
+  separate_behind-with b (l ∷ ls) = add_empty_line-with b
+
+  start_block-with : (b : MachineBlock T M) → start_block (block_with b) ≡ option_map block_with (start_block b)
+  start_block-with b = map_with block_with block_with (λ c. record (separate_behind c c.lines) { at_block_end = false })
+      (λ c. record (separate_behind c c.lines) { at_block_end = false }) (flush b) _ (flush-with b)
+      (λ c. ap (λ (d : MachineBlock U M). record d { at_block_end = false }) (separate_behind-with c c.lines))
+
+  new_line_hard-with : (b : MachineBlock T M) → new_line_hard (block_with b) ≡ option_map block_with (new_line_hard b)
+  new_line_hard-with b = map_with block_with block_with
+      (λ c. record (cond (eqb (length c.lines) (length b.lines)) (add_empty_line c) c) { at_block_end = false })
+      (λ c. record (cond (eqb (length c.lines) (length (lines_with f b.lines))) (add_empty_line c) c) { at_block_end = false }) (flush b) _
+      (flush-with b)
+      (λ c. ap (λ (d : MachineBlock U M). record d { at_block_end = false })
+      (if_with block_with (eqb (length c.lines) (length b.lines)) _ (add_empty_line c) c _ _
+      (ap (λ n. eqb n (length (lines_with f b.lines))) (length-map c.lines (line_with f))
+      ∙ ap (eqb (length c.lines)) (length-map b.lines (line_with f)))
+      (add_empty_line-with c) refl))
+
+  feed-with : (b : MachineBlock T M) (style : TextStyle T) (cs : List ℕ) →
+      feed (block_with b) (style_with f style) cs ≡ block_with (feed b style cs)
+  feed-with b style cs = ap (λ o. record (block_with b) { paragraph = o })
+      (then_with (state_with f) (state_with f) (λ q. after q (styled style cs))
+      (λ q. after q (styled (style_with f style) cs)) b.paragraph _ refl
+      (λ q. ap (after (state_with f q)) (sym (styled-with f style cs)) ∙ after-with f q (styled style cs)))
+
+  add_inline_text-with : (b : MachineBlock T M) (style : TextStyle T) (cs : List ℕ) →
+      add_inline_text (block_with b) (style_with f style) cs ≡ option_map block_with (add_inline_text b style cs)
+  add_inline_text-with b style cs =
+      if_with (option_map block_with) (eqb (length cs) 0) _ _ _ _ _ refl refl
+      (if_with (option_map block_with) (not b.at_block_end) _ _ _ _ _ refl (ap Some (feed-with b style cs))
+      (if_with (option_map block_with) (is_blank style.mode cs) _ _ _ _ _ refl refl
+      (map_with block_with block_with (λ c. feed c style cs) (λ c. feed c (style_with f style) cs) (start_block b) _ (start_block-with b)
+      (λ c. feed-with c style cs))))
+
+  -- ---- blocks in blocks
+
+  under-with : (t : T) (cs : List ℕ) → line_with f (under {M = M} t cs) ≡ under (f t) cs
+  under-with t [] = refl
+  under-with t (c ∷ cs) = ap (λ l. Character c (f t) ∷ l) (under-with t cs)
+
+  behind-with : (p : Line T M) (ls : List (Line T M)) → lines_with f (behind p ls) ≡ behind (line_with f p) (lines_with f ls)
+  behind-with p [] = refl
+  behind-with p (l ∷ ls) = ap (λ x. x ∷ lines_with f (behind p ls)) (map-append (element_with f) p l)
+      ∙ ap (λ xs. (line_with f p ++ line_with f l) ∷ xs) (behind-with p ls)
+
+  prefixed-with : (p q : Line T M) (ls : List (Line T M)) →
+      lines_with f (prefixed p q ls) ≡ prefixed (line_with f p) (line_with f q) (lines_with f ls)
+  prefixed-with p q [] = refl
+  prefixed-with p q (l ∷ ls) = ap (λ x. x ∷ lines_with f (behind q ls)) (map-append (element_with f) p l)
+      ∙ ap (λ xs. (line_with f p ++ line_with f l) ∷ xs) (behind-with q ls)
+
+  marked_behind-with : (ms : List M) (ls : List (Line T M)) → lines_with f (marked_behind ms ls) ≡ marked_behind ms (lines_with f ls)
+  marked_behind-with ms [] = refl
+  marked_behind-with ms (l ∷ []) =
+      ap (λ x. x ∷ []) (map-append (element_with f) l (marks_line ms) ∙ ap (λ x. line_with f l ++ x) (marks-with f ms))
+  marked_behind-with ms (l ∷ k ∷ ls) = ap (λ xs. line_with f l ∷ xs) (marked_behind-with ms (k ∷ ls))
+
+  are_within-with : (w : ℕ) (ls : List (Line T M)) → are_within w (lines_with f ls) ≡ are_within w ls
+  are_within-with w [] = refl
+  are_within-with w (l ∷ ls) = ap (λ n. leb n w && are_within w (lines_with f ls)) (columns-with f l)
+      ∙ ap (λ b. leb (columns l) w && b) (are_within-with w ls)
+
+  fitting-with : (w : ℕ) (o : Bool) (ls : List (Line T M)) → fitting w o (lines_with f ls) ≡ option_map (lines_with f) (fitting w o ls)
+  fitting-with w o ls =
+      if_with (option_map (lines_with f)) (o || are_within w ls) _ _ _ _ _ (ap (λ b. o || b) (are_within-with w ls)) refl refl
+
+  joined-with : (w : ℕ) (o : Bool) (ms : List M) (p q : Line T M) (ls : List (Line T M)) (ns : List M) →
+      joined w o ms (line_with f p) (line_with f q) (lines_with f ls) ns ≡ option_map (lines_with f) (joined w o ms p q ls ns)
+  joined-with w o ms p q ls ns =
+      ap (λ x. fitting w o (prefixed x (line_with f q) (marked_behind ns (lines_with f ls))))
+      (ap (λ x. x ++ line_with f p) (sym (marks-with f ms)) ∙ sym (map-append (element_with f) (marks_line ms) p))
+      ∙ ap (λ x. fitting w o (prefixed (line_with f (marks_line ms ++ p)) (line_with f q) x)) (sym (marked_behind-with ns ls))
+      ∙ ap (fitting w o) (sym (prefixed-with (marks_line ms ++ p) q (marked_behind ns ls)))
+      ∙ fitting-with w o (prefixed (marks_line ms ++ p) q (marked_behind ns ls))
+
+  sub_block-with : (b : MachineBlock T M) (prefix inner : ℕ) →
+      sub_block (block_with b) prefix inner ≡ option_map block_with (sub_block b prefix inner)
+  sub_block-with b prefix inner =
+      map_with (λ w. w) block_with (λ w. empty_block (record b.setting { width = w })) (λ w. empty_block (record b.setting { width = w }))
+      (inner_width b.setting prefix inner) _ (sym (same_map (inner_width b.setting prefix inner))) (λ w. refl)
+    where
+      same_map : {X : Type 0} (o : Option X) → option_map (λ x. x) o ≡ o
+      same_map None = refl
+      same_map (Some x) = refl
+
+  mark_items-with : (ms : List M) → map (item_with f) (mark_items {T = T} ms) ≡ mark_items ms
+  mark_items-with [] = refl
+  mark_items-with (m ∷ ms) = ap (λ xs. Mark m ∷ xs) (mark_items-with ms)
+
+  add_marks-with : (b : MachineBlock T M) (ms : List M) → add_marks (block_with b) ms ≡ block_with (add_marks b ms)
+  add_marks-with b ms = ap (λ o. record (block_with b) { paragraph = o })
+      (then_with (state_with f) (state_with f) (λ q. after q (mark_items ms)) (λ q. after q (mark_items ms))
+      b.paragraph _ refl
+      (λ q. ap (after (state_with f q)) (sym (mark_items-with ms)) ∙ after-with f q (mark_items ms)))
+
+  append_lines-with : (b : MachineBlock T M) (p q : Line T M) (ls : List (Line T M)) (ms : List M) →
+      append_lines (block_with b) (line_with f p) (line_with f q) (lines_with f ls) ms ≡ option_map block_with (append_lines b p q ls ms)
+  append_lines-with b p q [] ms = ap Some (add_marks-with b ms)
+  append_lines-with b p q (l ∷ ls) ms =
+      map_with (lines_with f) block_with (λ all. record b { lines = b.lines ++ all; paragraph = take_waiting b.paragraph })
+      (λ all. record (block_with b) { lines = lines_with f b.lines ++ all; paragraph = take_waiting (option_map (state_with f) b.paragraph) })
+      (joined b.setting.width b.setting.overflow (waiting b.paragraph) p q (l ∷ ls) ms) _
+      (ap (λ ns. joined b.setting.width b.setting.overflow ns (line_with f p) (line_with f q) (lines_with f (l ∷ ls)) ms)
+      (waiting-with b.paragraph)
+      ∙ joined-with b.setting.width b.setting.overflow (waiting b.paragraph) p q (l ∷ ls) ms)
+      (λ all. ap (λ xs. record (block_with b) { lines = xs; paragraph = take_waiting (option_map (state_with f) b.paragraph) })
+      (sym (map-append (line_with f) b.lines all))
+      ∙ ap (λ o. record (block_with b) { lines = lines_with f (b.lines ++ all); paragraph = o }) (take_waiting-with b.paragraph))
+
+  append-with : (b c : MachineBlock T M) (t : T) (first later : List ℕ) →
+      append (block_with b) (block_with c) (f t) first later ≡ option_map block_with (append b c t first later)
+  append-with b c t first later =
+      then_with block_with block_with _ _ (flush b) _ (flush-with b) (λ b.
+      then_with block_with block_with (λ c. append_lines b (under t first) (under t later) c.lines (waiting c.paragraph))
+      (λ c. append_lines (block_with b) (under (f t) first) (under (f t) later) c.lines (waiting c.paragraph)) (flush c) _ (flush-with c)
+      (λ c. ap (λ x. append_lines (block_with b) x (under (f t) later) (lines_with f c.lines) (waiting (option_map (state_with f) c.paragraph)))
+      (sym (under-with t first))
+      ∙ ap (λ x. append_lines (block_with b) (line_with f (under t first)) x (lines_with f c.lines)
+      (waiting (option_map (state_with f) c.paragraph))) (sym (under-with t later))
+      ∙ ap (append_lines (block_with b) (line_with f (under t first)) (line_with f (under t later)) (lines_with f c.lines))
+      (waiting-with c.paragraph)
+      ∙ append_lines-with b (under t first) (under t later) c.lines (waiting c.paragraph)))
+
+  -- THE LAW: each operation commutes with a map of tags
+  pub block_with-commutes : Commutes block_with f (operations {T = T} {M = M}) operations
+  block_with-commutes = record {
+    add_inline_text = add_inline_text-with;
+    new_line = flush-with;
+    new_line_hard = new_line_hard-with;
+    start_block = start_block-with;
+    end_block = λ b. refl;
+    sub_block = sub_block-with;
+    append = append-with;
+  }

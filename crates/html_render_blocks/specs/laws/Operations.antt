@@ -1,0 +1,81 @@
+-- What is said of all operations on blocks.
+use Rattle.std.specs.Prelude.{◌≡◌, ℕ, ◌+◌, ◌≤◌, List, Option, Some, None, option_map, IfSome, IsSomeAnd}
+use Rattle.std.proofs.Common.{refl, ap, ◌∙◌}
+use Rattle.html_render_lines.specs.declared.character.TextStyle.{TextStyle}
+use Rattle.html_render_lines.specs.laws.Tags.{style_with}
+use Rattle.html_render_blocks.specs.Operations.{Operations}
+
+-- each operation keeps what P i says of a block, where it has an answer; a block inside it has an i of its own
+pub record Keeps {B T I : Type 0} (o : Operations B T) (P : I → B → Type 0) : Type 0 where
+  pub add_inline_text : (i : I) (b : B) (s : TextStyle T) (cs : List ℕ) → P i b → IfSome (o.add_inline_text b s cs) (P i)
+  pub new_line : (i : I) (b : B) → P i b → IfSome (o.new_line b) (P i)
+  pub new_line_hard : (i : I) (b : B) → P i b → IfSome (o.new_line_hard b) (P i)
+  pub start_block : (i : I) (b : B) → P i b → IfSome (o.start_block b) (P i)
+  pub end_block : (i : I) (b : B) → P i b → P i (o.end_block b)
+  pub sub_block : (i : I) (b : B) (prefix inner : ℕ) → P i b → IfSome (o.sub_block b prefix inner) (λ c. (j : I) × P j c)
+  pub append : (i j : I) (b c : B) (t : T) (first later : List ℕ) → P i b → P j c → IfSome (o.append b c t first later) (P i)
+
+-- each operation has an answer, and keeps what P i says of a block
+pub record Succeeds {B T I : Type 0} (o : Operations B T) (P : I → B → Type 0) : Type 0 where
+  pub add_inline_text : (i : I) (b : B) (s : TextStyle T) (cs : List ℕ) → P i b → IsSomeAnd (o.add_inline_text b s cs) (P i)
+  pub new_line : (i : I) (b : B) → P i b → IsSomeAnd (o.new_line b) (P i)
+  pub new_line_hard : (i : I) (b : B) → P i b → IsSomeAnd (o.new_line_hard b) (P i)
+  pub start_block : (i : I) (b : B) → P i b → IsSomeAnd (o.start_block b) (P i)
+  pub end_block : (i : I) (b : B) → P i b → P i (o.end_block b)
+  pub sub_block : (i : I) (b : B) (prefix inner : ℕ) → P i b → IsSomeAnd (o.sub_block b prefix inner) (λ c. (j : I) × P j c)
+  pub append : (i j : I) (b c : B) (t : T) (first later : List ℕ) → P i b → P j c → IsSomeAnd (o.append b c t first later) (P i)
+
+-- each operation is the same before and after the maps f of blocks and g of tags
+pub record Commutes {A B T U : Type 0} (f : A → B) (g : T → U) (o : Operations A T) (p : Operations B U) : Type 0 where
+  pub add_inline_text : (a : A) (s : TextStyle T) (cs : List ℕ) →
+      p.add_inline_text (f a) (style_with g s) cs ≡ option_map f (o.add_inline_text a s cs)
+  pub new_line : (a : A) → p.new_line (f a) ≡ option_map f (o.new_line a)
+  pub new_line_hard : (a : A) → p.new_line_hard (f a) ≡ option_map f (o.new_line_hard a)
+  pub start_block : (a : A) → p.start_block (f a) ≡ option_map f (o.start_block a)
+  pub end_block : (a : A) → p.end_block (f a) ≡ f (o.end_block a)
+  pub sub_block : (a : A) (prefix inner : ℕ) → p.sub_block (f a) prefix inner ≡ option_map f (o.sub_block a prefix inner)
+  pub append : (a b : A) (t : T) (first later : List ℕ) →
+      p.append (f a) (f b) (g t) first later ≡ option_map f (o.append a b t first later)
+
+-- where an operation has an answer, it has the same after the map f
+pub record Refines {B T : Type 0} (f : B → B) (o : Operations B T) : Type 0 where
+  pub add_inline_text : (b : B) (s : TextStyle T) (cs : List ℕ) →
+      IfSome (o.add_inline_text b s cs) (λ c. o.add_inline_text (f b) s cs ≡ Some (f c))
+  pub new_line : (b : B) → IfSome (o.new_line b) (λ c. o.new_line (f b) ≡ Some (f c))
+  pub new_line_hard : (b : B) → IfSome (o.new_line_hard b) (λ c. o.new_line_hard (f b) ≡ Some (f c))
+  pub start_block : (b : B) → IfSome (o.start_block b) (λ c. o.start_block (f b) ≡ Some (f c))
+  pub end_block : (b : B) → o.end_block (f b) ≡ f (o.end_block b)
+  pub sub_block : (b : B) (prefix inner : ℕ) → IfSome (o.sub_block b prefix inner) (λ c. o.sub_block (f b) prefix inner ≡ Some (f c))
+  pub append : (b c : B) (t : T) (first later : List ℕ) →
+      IfSome (o.append b c t first later) (λ d. o.append (f b) (f c) t first later ≡ Some (f d))
+
+-- what v counts in a block grows by what w counts in a text, and isn't less once blocks are joined
+pub record Counts {B T : Type 0} (v : B → ℕ) (w : List ℕ → ℕ) (o : Operations B T) : Type 0 where
+  pub add_inline_text : (b : B) (s : TextStyle T) (cs : List ℕ) → IfSome (o.add_inline_text b s cs) (λ c. v c ≡ v b + w cs)
+  pub new_line : (b : B) → IfSome (o.new_line b) (λ c. v c ≡ v b)
+  pub new_line_hard : (b : B) → IfSome (o.new_line_hard b) (λ c. v c ≡ v b)
+  pub start_block : (b : B) → IfSome (o.start_block b) (λ c. v c ≡ v b)
+  pub end_block : (b : B) → v (o.end_block b) ≡ v b
+  pub sub_block : (b : B) (prefix inner : ℕ) → IfSome (o.sub_block b prefix inner) (λ c. v c ≡ 0)
+  pub append : (b c : B) (t : T) (first later : List ℕ) → IfSome (o.append b c t first later) (λ d. v b + v c ≤ v d)
+
+-- one map after another
+pub map_map : {X Y Z : Type 0} (f : X → Y) (g : Y → Z) (o : Option X) → option_map g (option_map f o) ≡ option_map (λ x. g (f x)) o
+map_map f g None = refl
+map_map f g (Some x) = refl
+
+-- one pair of maps after another
+pub Commutes-then : {A B C T U V : Type 0} (f : A → B) (g : T → U) (h : B → C) (k : U → V) (o : Operations A T) (p : Operations B U)
+    (q : Operations C V) →
+    Commutes f g o p → Commutes h k p q → Commutes (λ a. h (f a)) (λ t. k (g t)) o q
+Commutes-then f g h k o p q c d = record {
+  add_inline_text = λ a s cs. d.add_inline_text (f a) (style_with g s) cs ∙ ap (option_map h) (c.add_inline_text a s cs)
+      ∙ map_map f h (o.add_inline_text a s cs);
+  new_line = λ a. d.new_line (f a) ∙ ap (option_map h) (c.new_line a) ∙ map_map f h (o.new_line a);
+  new_line_hard = λ a. d.new_line_hard (f a) ∙ ap (option_map h) (c.new_line_hard a) ∙ map_map f h (o.new_line_hard a);
+  start_block = λ a. d.start_block (f a) ∙ ap (option_map h) (c.start_block a) ∙ map_map f h (o.start_block a);
+  end_block = λ a. d.end_block (f a) ∙ ap h (c.end_block a);
+  sub_block = λ a n k. d.sub_block (f a) n k ∙ ap (option_map h) (c.sub_block a n k) ∙ map_map f h (o.sub_block a n k);
+  append = λ a b t cs ds. d.append (f a) (f b) (g t) cs ds ∙ ap (option_map h) (c.append a b t cs ds)
+      ∙ map_map f h (o.append a b t cs ds);
+}

@@ -1,0 +1,567 @@
+//! A block: finished lines, and an open paragraph that texts are added to.
+//!
+//! `block.add_inline_text("a", style)?`, `block.new_line_hard()?` and `block.add_inline_text("b", style)?` make the
+//! lines `a` and `b`, once the block is flushed.
+
+ghost use Rattle.std.specs.Prelude.{◌≡◌, ◌==◌, ◌||◌, cond, length, nat_le, [], ◌++◌, ◌∷◌, Some, None, map, option_map};
+ghost use Rattle.std.specs.Prelude.{OnOk, IfOk, IfErr, IsTrue};
+ghost use Rattle.std.specs.List.{list_all};
+ghost use Rattle.std.specs.Str.{chars};
+ghost use Rattle.html_render_dom.specs.Outcome.{Refuses};
+ghost use Rattle.html_render_lines.specs.Character.{is_collapsible};
+ghost use Rattle.html_render_lines.specs.Line.{columns, marks_line};
+ghost use Rattle.html_render_lines.specs.TaggedText.{counted, text_columns, under};
+ghost use Rattle.html_render_blocks.specs.Joined.{marked_behind, moved};
+ghost use Rattle.html_render_blocks.specs.Block.{is_blank, wrap_width, inner_width};
+ghost use Rattle.html_render_blocks.specs.BlockMachine as machine;
+
+use html_render_dom::Error;
+use html_render_dom::style::WhiteSpace;
+use html_render_lines::character::{TextStyle, is_collapsible};
+use html_render_lines::line::{Element, Line, text_columns};
+use html_render_lines::paragraph::Paragraph;
+use html_render_lines::tag::Tag;
+use std::alloc::{AllocError, Global};
+use std::marker::Model;
+
+/// How wide a block is, and whether what is wider is laid out nevertheless.
+#[derive(Clone, Copy, Debug)]
+pub struct BlockSetting {
+    /// The columns of a line.
+    pub width: usize,
+    /// The columns of a paragraph's lines, where they are fewer.
+    pub max_wrap_width: Option<usize>,
+    /// Whether a character that is wider than a line stands alone on one, and whether a line may be wider behind its
+    /// prefix.
+    pub overflow: bool,
+}
+
+/// A block: its finished lines, and the paragraph that is open, unless a character was too wide for it.
+#[derive(Drop)]
+pub struct Block<T, M> {
+    /// Where its memory comes from.
+    alloc: Global,
+    /// How wide it is.
+    setting: BlockSetting,
+    /// The finished lines.
+    lines: Vec<Line<T, M>>,
+    /// The open paragraph, unless a character was too wide for it.
+    paragraph: Option<Paragraph<T, M>>,
+    /// Whether a block ended here.
+    at_block_end: bool,
+}
+
+impl<T, M> Model for Block<T, M> {
+    ghost use Rattle.html_render_blocks.specs.BlockMachine.{MachineBlock};
+
+    ghost Value = { MachineBlock T M };
+
+    ghost view = { λ b. record {
+      setting = b.setting;
+      lines = b.lines.items;
+      paragraph = b.paragraph;
+      at_block_end = b.at_block_end;
+    } };
+}
+
+/// Whether a text is empty.
+fn has_no_character(text: &str) -> bool
+    ensures { result ≡ (length (chars text.now) == 0) }
+{
+    text.is_empty()
+}
+
+/// Whether a text shows nothing where a block ended: collapsible white space alone.
+fn is_blank(mode: WhiteSpace, text: &str) -> bool
+    ensures { result ≡ is_blank mode (chars text.now) }
+{
+    match mode {
+        WhiteSpace::Normal => is_collapsible_alone(text),
+        WhiteSpace::Pre | WhiteSpace::PreWrap => false,
+    }
+}
+
+/// Whether a text is collapsible white space alone.
+fn is_collapsible_alone(text: &str) -> bool
+    ensures { result ≡ list_all is_collapsible (chars text.now) }
+{
+    for c in text.chars() {
+        if !is_collapsible(c) {
+            return false;
+        }
+    }
+    true
+}
+
+/// The columns of a paragraph's lines: those of its block, or fewer.
+fn wrap_width(width: usize, most: Option<usize>) -> usize
+    ensures { result ≡ wrap_width width most }
+{
+    match most {
+        Some(most) => width.min(most),
+        None => width,
+    }
+}
+
+/// The columns behind a prefix of so many columns, at least `inner`; none where they aren't there, with overflow off.
+fn inner_width(setting: BlockSetting, prefix: usize, inner: usize) -> Option<usize>
+    ensures { result ≡ inner_width setting prefix inner }
+{
+    let left = setting.width.saturating_sub(prefix);
+    if setting.overflow || inner <= left {
+        Some(left.max(inner))
+    } else {
+        None
+    }
+}
+
+/// A text under one tag that stands at the front of lines, and its columns.
+#[derive(Drop)]
+struct Prefix<'a, T> {
+    text: &'a str,
+    /// The columns of the text, where a machine word holds them.
+    columns: Option<usize>,
+    tag: T,
+    ghost columns_of_text: { columns ≡ counted (text_columns (chars text.now)) },
+}
+
+impl<'a, T: Copy> Prefix<'a, T> {
+    /// A text under a tag.
+    fn new(text: &'a str, tag: T) -> Prefix<'a, T>
+        ensures text { result.text.now ≡ text.now }
+        ensures tag { result.tag ≡ tag }
+    {
+        Prefix {
+            text,
+            columns: text_columns(text),
+            tag,
+        }
+    }
+}
+
+impl<T: Tag, M: Copy> Block<T, M> {
+    /// An empty block. Where a character is wider than a line, it stands alone on one with overflow; without, the block is
+    /// too narrow.
+    pub fn new(alloc: Global, setting: BlockSetting) -> Block<T, M>
+        ensures { result ≡ machine.empty_block setting }
+    {
+        let width = wrap_width(setting.width, setting.max_wrap_width);
+        let paragraph = Some(Paragraph::new(alloc, width, setting.overflow));
+        Block {
+            alloc,
+            setting,
+            lines: Vec::new(alloc),
+            paragraph,
+            at_block_end: false,
+        }
+    }
+
+    /// An empty block inside this one, behind a prefix of so many columns, with at least `inner` columns of its own.
+    ///
+    /// # Errors
+    ///
+    /// `TooNarrow`, where these columns aren't there, with overflow off.
+    pub fn sub_block(&self, prefix: usize, inner: usize) -> Result<Block<T, M>, Error>
+        ensures ok { IfOk result (λ sub. machine.sub_block self.now prefix inner ≡ Some sub) }
+        ensures err { IfErr result (λ e. Refuses e (machine.sub_block self.now prefix inner)) }
+    {
+        match inner_width(self.setting, prefix, inner) {
+            Some(width) => Ok(Block::new(
+                self.alloc,
+                BlockSetting {
+                    width,
+                    max_wrap_width: self.setting.max_wrap_width,
+                    overflow: self.setting.overflow,
+                },
+            )),
+            None => Err(Error::TooNarrow),
+        }
+    }
+
+    /// The columns of a line.
+    pub fn width(&self) -> usize
+        ensures { result ≡ self.now.setting.width }
+    {
+        self.setting.width
+    }
+
+    /// The finished lines.
+    pub fn into_lines(self) -> Vec<Line<T, M>>
+        ensures { result.items ≡ self.lines }
+    {
+        self.lines
+    }
+
+    /// Leaves no paragraph open.
+    #[inline(never)]
+    fn close_paragraph(&mut self)
+        ensures { self.new ≡ record self.old { paragraph = None } }
+    {
+        self.paragraph = None;
+    }
+
+    /// Takes a text. Where a character is too wide, the next flush says so.
+    fn feed(&mut self, text: &str, style: TextStyle<T>) -> Result<(), Error>
+        ensures ok { OnOk result (self.new ≡ machine.feed self.old style (chars text.now)) }
+        ensures err { IfErr result (λ e. e ≡ Error.OutOfMemory) }
+    {
+        let Some(paragraph) = &mut self.paragraph else {
+            return Ok(());
+        };
+        match paragraph.add_text(text, style) {
+            Ok(()) => Ok(()),
+            Err(Error::TooNarrow) => {
+                self.close_paragraph();
+                Ok(())
+            }
+            Err(_) => Err(Error::OutOfMemory),
+        }
+    }
+
+    /// Adds the lines of the open paragraph, and opens another for the marks that wait.
+    ///
+    /// # Errors
+    ///
+    /// `TooNarrow`, where a character of the paragraph is wider than a line, with overflow off. `OutOfMemory`.
+    #[tactic(auto, using(html_render_dom::specs::laws::Outcome::refusals))]
+    pub fn flush(&mut self) -> Result<(), Error>
+        ensures ok { OnOk result (machine.flush self.old ≡ Some self.new) }
+        ensures err { IfErr result (λ e. Refuses e (machine.flush self.old)) }
+    {
+        let Some(paragraph) = &mut self.paragraph else {
+            return Err(Error::TooNarrow);
+        };
+        paragraph.flush(&mut self.lines)
+    }
+
+    /// Takes out the marks that wait.
+    fn take_waiting(&mut self) -> Vec<M>
+        ensures marks { result.items ≡ machine.waiting self.old.paragraph }
+        ensures after { self.new ≡ record self.old { paragraph = machine.take_waiting self.old.paragraph } }
+    {
+        match &mut self.paragraph {
+            Some(paragraph) => paragraph.take_waiting(),
+            None => Vec::new(self.alloc),
+        }
+    }
+
+    /// Adds a finished line.
+    fn push_line(&mut self, line: Line<T, M>) -> Result<(), AllocError>
+        ensures { OnOk result (self.new ≡ record self.old { lines = self.old.lines ++ line ∷ [] }) }
+    {
+        self.lines.push(line)?;
+        Ok(())
+    }
+
+    /// Adds a line that is empty but for the marks that wait.
+    fn add_empty_line(&mut self) -> Result<(), AllocError>
+        ensures { OnOk result (self.new ≡ machine.add_empty_line self.old) }
+    {
+        let marks = self.take_waiting();
+        let line = marks_line(self.alloc, marks.as_slice())?;
+        self.push_line(line)
+    }
+
+    /// Adds an empty line behind the lines, if there are any.
+    fn separate(&mut self) -> Result<(), AllocError>
+        ensures { OnOk result (self.new ≡ machine.separate self.old) }
+    {
+        if self.lines.is_empty() {
+            return Ok(());
+        }
+        self.add_empty_line()
+    }
+
+    /// Says whether a block ended here.
+    fn set_at_block_end(&mut self, at_block_end: bool)
+        ensures { self.new ≡ record self.old { at_block_end = at_block_end } }
+    {
+        self.at_block_end = at_block_end;
+    }
+
+    /// Starts a block: adds the lines of the open paragraph, and an empty line behind the lines, if there are any,
+    /// with the marks that wait.
+    ///
+    /// # Errors
+    ///
+    /// `TooNarrow`, as in [`flush`](Block::flush). `OutOfMemory`.
+    #[tactic(auto, using(html_render_dom::specs::laws::Outcome::refusals))]
+    pub fn start_block(&mut self) -> Result<(), Error>
+        ensures ok { OnOk result (machine.start_block self.old ≡ Some self.new) }
+        ensures err { IfErr result (λ e. Refuses e (machine.start_block self.old)) }
+    {
+        self.flush()?;
+        self.separate()?;
+        self.set_at_block_end(false);
+        Ok(())
+    }
+
+    /// Ends a block: what is added next starts another.
+    pub fn end_block(&mut self)
+        ensures { self.new ≡ machine.end_block self.old }
+    {
+        self.at_block_end = true;
+    }
+
+    /// Begins a new line, as [`flush`](Block::flush) does.
+    ///
+    /// # Errors
+    ///
+    /// `TooNarrow`, as in [`flush`](Block::flush). `OutOfMemory`.
+    pub fn new_line(&mut self) -> Result<(), Error>
+        ensures ok { OnOk result (machine.new_line self.old ≡ Some self.new) }
+        ensures err { IfErr result (λ e. Refuses e (machine.new_line self.old)) }
+    {
+        self.flush()
+    }
+
+    /// Begins a new line, and adds an empty one with the marks that wait if the open paragraph had no line.
+    ///
+    /// # Errors
+    ///
+    /// `TooNarrow`, as in [`flush`](Block::flush). `OutOfMemory`.
+    #[tactic(auto, using(html_render_dom::specs::laws::Outcome::refusals))]
+    pub fn new_line_hard(&mut self) -> Result<(), Error>
+        ensures ok { OnOk result (machine.new_line_hard self.old ≡ Some self.new) }
+        ensures err { IfErr result (λ e. Refuses e (machine.new_line_hard self.old)) }
+    {
+        let before = self.lines.len();
+        self.flush()?;
+        if self.lines.len() == before {
+            self.add_empty_line()?;
+        }
+        self.set_at_block_end(false);
+        Ok(())
+    }
+
+    /// Adds a text to the open paragraph. At a block's end a text of collapsible white space alone does nothing under
+    /// [`WhiteSpace::Normal`], and another text starts a block first.
+    ///
+    /// # Errors
+    ///
+    /// `TooNarrow`, as in [`flush`](Block::flush), where the text starts a block. `OutOfMemory`.
+    #[tactic(auto, using(html_render_dom::specs::laws::Outcome::refusals))]
+    pub fn add_inline_text(&mut self, text: &str, style: TextStyle<T>) -> Result<(), Error>
+        ensures ok { OnOk result (machine.add_inline_text self.old style (chars text.now) ≡ Some self.new) }
+        ensures err { IfErr result (λ e. Refuses e (machine.add_inline_text self.old style (chars text.now))) }
+    {
+        if has_no_character(text) {
+            return Ok(());
+        }
+        if !self.at_block_end {
+            return self.feed(text, style);
+        }
+        if is_blank(style.mode, text) {
+            return Ok(());
+        }
+        self.start_block()?;
+        self.feed(text, style)
+    }
+
+    /// Adds marks to the open paragraph.
+    fn add_marks(&mut self, marks: &[M]) -> Result<(), Error>
+        ensures ok { OnOk result (self.new ≡ machine.add_marks self.old marks.now) }
+        ensures err { IfErr result (λ e. e ≡ Error.OutOfMemory) }
+    {
+        let Some(mut paragraph) = self.paragraph.take() else {
+            return Ok(());
+        };
+        for mark in marks {
+            paragraph.add_mark(*mark)?;
+        }
+        self.paragraph = Some(paragraph);
+        Ok(())
+    }
+
+    /// Moves lines behind its own, each behind its prefix. With overflow off none may pass the width.
+    fn move_lines(
+        &mut self,
+        lines: Vec<Line<T, M>>,
+        waiting: &[M],
+        first: &Prefix<'_, T>,
+        later: &Prefix<'_, T>,
+    ) -> Result<(), Error>
+        ensures ok { OnOk result (option_map (λ all. record self.old { lines = all }) (moved self.old.setting.width self.old.setting.overflow waiting.now
+            (under first.now.tag (chars first.now.text.now)) (under later.now.tag (chars later.now.text.now)) self.old.lines lines.items) ≡ Some self.new) }
+        ensures err { IfErr result (λ e. Refuses e (moved self.old.setting.width self.old.setting.overflow waiting.now
+            (under first.now.tag (chars first.now.text.now)) (under later.now.tag (chars later.now.text.now)) self.old.lines lines.items)) }
+    {
+        move_lines(&mut self.lines, lines, waiting, first, later, self.setting)
+    }
+
+    /// Adds the lines of a block and the marks that wait behind them, where both blocks are flushed.
+    #[tactic(auto, using(html_render_dom::specs::laws::Outcome::refusals))]
+    fn append_lines(
+        &mut self,
+        sub: Block<T, M>,
+        tag: T,
+        first: &str,
+        later: &str,
+    ) -> Result<(), Error>
+        ensures ok { OnOk result (machine.append_lines self.old (under tag (chars first.now)) (under tag (chars later.now))
+            sub.lines (machine.waiting sub.paragraph) ≡ Some self.new) }
+        ensures err { IfErr result (λ e. Refuses e (machine.append_lines self.old (under tag (chars first.now)) (under tag (chars later.now))
+            sub.lines (machine.waiting sub.paragraph))) }
+    {
+        let mut sub = sub;
+        let end = sub.take_waiting();
+        let mut lines = sub.into_lines();
+        if lines.is_empty() {
+            return self.add_marks(end.as_slice());
+        }
+        mark_behind(&mut lines, end.as_slice())?;
+        let waiting = self.take_waiting();
+        self.move_lines(
+            lines,
+            waiting.as_slice(),
+            &Prefix::new(first, tag),
+            &Prefix::new(later, tag),
+        )
+    }
+
+    /// Adds the lines of a block inside this one, each behind a prefix under a tag; both blocks are flushed first. Marks
+    /// that wait in this block stand before the first prefix, and those that wait in the other at the end of its last
+    /// line; where it has no line, they wait on here.
+    ///
+    /// # Errors
+    ///
+    /// `TooNarrow`, as in [`flush`](Block::flush) of either block, and where a line behind its prefix passes the width,
+    /// with overflow off. `OutOfMemory`.
+    #[tactic(auto, using(html_render_dom::specs::laws::Outcome::refusals))]
+    pub fn append(
+        &mut self,
+        sub: Block<T, M>,
+        tag: T,
+        first: &str,
+        later: &str,
+    ) -> Result<(), Error>
+        ensures ok { OnOk result (machine.append self.old sub tag (chars first.now) (chars later.now) ≡ Some self.new) }
+        ensures err { IfErr result (λ e. Refuses e (machine.append self.old sub tag (chars first.now) (chars later.now))) }
+    {
+        let mut sub = sub;
+        self.flush()?;
+        sub.flush()?;
+        self.append_lines(sub, tag, first, later)
+    }
+}
+
+/// Puts marks at the end of the last line.
+#[tactic(auto, using(crate::proofs::Moving::ends))]
+fn mark_behind<T: Tag, M: Copy>(lines: &mut Vec<Line<T, M>>, marks: &[M]) -> Result<(), AllocError>
+    ensures { OnOk result (lines.new.items ≡ marked_behind marks.now lines.old.items) }
+{
+    if marks.is_empty() {
+        return Ok(());
+    }
+    let Some(mut line) = lines.pop() else {
+        return Ok(());
+    };
+    push_marks(&mut line, marks)?;
+    lines.push(line)?;
+    Ok(())
+}
+
+/// Puts marks at the end of a line.
+fn push_marks<T: Tag, M: Copy>(line: &mut Line<T, M>, marks: &[M]) -> Result<(), AllocError>
+    ensures { OnOk result (line.new ≡ line.old ++ marks_line marks.now) }
+{
+    for mark in marks {
+        line.push_mark(*mark)?;
+    }
+    Ok(())
+}
+
+/// Puts marks at the front of a line.
+fn put_marks_front<T: Tag, M: Copy>(line: &mut Line<T, M>, marks: &[M]) -> Result<(), AllocError>
+    ensures { OnOk result (line.new ≡ marks_line marks.now ++ line.old) }
+{
+    for mark in marks.iter().rev() {
+        line.push_front(Element::Mark(*mark))?;
+    }
+    Ok(())
+}
+
+/// Puts a prefix at the front of a line, and marks before it.
+fn put_prefix<T: Tag, M: Copy>(
+    line: &mut Line<T, M>,
+    marks: &[M],
+    prefix: &Prefix<'_, T>,
+) -> Result<(), AllocError>
+    ensures { OnOk result (line.new ≡ (marks_line marks.now ++ under prefix.now.tag (chars prefix.now.text.now)) ++ line.old) }
+{
+    line.put_front_str(prefix.text, prefix.columns, prefix.tag)?;
+    put_marks_front(line, marks)
+}
+
+/// Puts the first line's marks and prefix at the front of a line, or those of a later line.
+fn put_front<T: Tag, M: Copy>(
+    line: &mut Line<T, M>,
+    is_first: bool,
+    marks: &[M],
+    first: &Prefix<'_, T>,
+    later: &Prefix<'_, T>,
+) -> Result<(), AllocError>
+    ensures { OnOk result (line.new ≡ cond is_first (marks_line marks.now ++ under first.now.tag (chars first.now.text.now))
+        (under later.now.tag (chars later.now.text.now)) ++ line.old) }
+{
+    if is_first {
+        put_prefix(line, marks, first)
+    } else {
+        line.put_front_str(later.text, later.columns, later.tag)
+    }
+}
+
+/// Whether a line is within the width, or may be wider.
+fn fits<T: Tag, M: Copy>(line: &Line<T, M>, setting: BlockSetting) -> bool
+    ensures { result ≡ (setting.overflow || nat_le (columns line.now) setting.width) }
+{
+    if setting.overflow {
+        return true;
+    }
+    match line.columns() {
+        Some(columns) => columns <= setting.width,
+        None => false,
+    }
+}
+
+/// Moves lines behind others, each behind its prefix, and the first one behind marks too. With overflow off none may
+/// pass the width.
+#[tactic(auto, using(html_render_dom::specs::laws::Outcome::refusals))]
+fn move_lines<T: Tag, M: Copy>(
+    to: &mut Vec<Line<T, M>>,
+    from: Vec<Line<T, M>>,
+    marks: &[M],
+    first: &Prefix<'_, T>,
+    later: &Prefix<'_, T>,
+    setting: BlockSetting,
+) -> Result<(), Error>
+    ensures ok { OnOk result (moved setting.width setting.overflow marks.now
+        (under first.now.tag (chars first.now.text.now)) (under later.now.tag (chars later.now.text.now)) to.old.items from.items ≡ Some to.new.items) }
+    ensures err { IfErr result (λ e. Refuses e (moved setting.width setting.overflow marks.now
+        (under first.now.tag (chars first.now.text.now)) (under later.now.tag (chars later.now.text.now)) to.old.items from.items)) }
+{
+    let mut is_first = true;
+    for mut line in from {
+        put_front(&mut line, is_first, marks, first, later)?;
+        if !fits(&line, setting) {
+            return Err(Error::TooNarrow);
+        }
+        to.push(line)?;
+        is_first = false;
+    }
+    Ok(())
+}
+
+/// A line of marks alone.
+fn marks_line<T: Tag, M: Copy>(alloc: Global, marks: &[M]) -> Result<Line<T, M>, AllocError>
+    ensures { IfOk result (λ line. line ≡ marks_line marks.now) }
+{
+    let mut line = Line::new(alloc);
+    for mark in marks {
+        line.push_mark(*mark)?;
+    }
+    Ok(line)
+}
+
+#[cfg(test)]
+mod tests;

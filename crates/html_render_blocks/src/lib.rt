@@ -1,0 +1,4 @@
+//! Blocks: finished lines, and an open paragraph that texts are added to.
+#![tactic(auto)]
+
+pub mod block;

@@ -1,0 +1,250 @@
+-- What measuring from the last node to the first keeps true.
+use Rattle.std.proofs.Common.{◌≡◌, ◌⊎◌, ltb, ℕ, ◌+◌, ◌-◌, ◌<◌, ◌≤◌, max, List, [], ◌∷◌, ◌++◌, length, take, drop, set, get_or}
+use Rattle.std.proofs.Common.{zero, suc, refl, sym, ap, ◌∙◌, subst, arith}
+use Rattle.std.proofs.Common.{append_assoc, length-append, length-drop, length-set, inl, inr}
+use Rattle.std.proofs.lemmas.List.{drop-append-le, drop-drop, drop-set, take-set-le, take-take, drop_more}
+use Rattle.std.proofs.lemmas.List.{get_or-take, get_or-drop, get_or_default}
+use Rattle.std.proofs.Math.Seq.{take-append_seam, drop-append_seam, drop-length}
+use Rattle.std.proofs.lemmas.Bool.{cases_Bool, ltb-true, ltb-false}
+use Rattle.html_render_dom.specs.Forest.{Forest, none, node, followed_by}
+use Rattle.html_render_parts.specs.Decoration.{Decoration}
+use Rattle.html_render_nodes.specs.declared.tree.Entry.{Entry}
+use Rattle.html_render_nodes.specs.declared.tree.Estimate.{Estimate}
+use Rattle.html_render_nodes.specs.declared.tree.RenderNode.{RenderNode}
+use Rattle.html_render_nodes.specs.Preorder.{flatten, forest_of}
+use Rattle.html_render_nodes.specs.laws.Preorder.{forest_of-flatten, flatten-followed_by, IsForest, IsForest-flatten}
+use Rattle.html_render_estimates.specs.Estimates.{trees, greatest_least, estimate_of, measured}
+
+-- ---- the trees beside each other, one after the other
+
+-- the trees from a place on, of which these many were counted before with this greatest least width
+pub record Counting (nodes : List (Entry RenderNode)) (all : Forest RenderNode) (at counted least : ℕ) : Type 0 where
+  pub rest : Forest RenderNode
+  pub ahead : drop at nodes ≡ flatten rest
+  pub count : counted + trees rest ≡ trees all
+  pub greatest : max least (greatest_least rest) ≡ greatest_least all
+  pub few : counted ≤ at
+
+-- the tree at a place is counted
+pub record Counted (nodes : List (Entry RenderNode)) (all : Forest RenderNode) (at counted least : ℕ) (e : Entry RenderNode) : Type 0 where
+  pub some : 1 ≤ e.size
+  pub within : at + e.size ≤ length nodes
+  pub next : Counting nodes all (at + e.size) (counted + 1) (max least e.node.estimate.least)
+
+pub Counting-start : (nodes : List (Entry RenderNode)) (all : Forest RenderNode) → nodes ≡ flatten all → Counting nodes all 0 0 0
+Counting-start nodes all e = record { rest = all; ahead = e; count = omega arith; greatest = omega arith; few = omega arith }
+
+pub Counting-done : (nodes : List (Entry RenderNode)) (all : Forest RenderNode) (at counted least : ℕ) → Counting nodes all at counted least →
+    length nodes ≤ at → (counted ≡ trees all) × (least ≡ greatest_least all)
+Counting-done nodes all at counted least w past = by w.rest w.ahead w.count w.greatest
+  where
+    by : (rest : Forest RenderNode) → drop at nodes ≡ flatten rest → counted + trees rest ≡ trees all →
+        max least (greatest_least rest) ≡ greatest_least all → (counted ≡ trees all) × (least ≡ greatest_least all)
+    by none ahead count greatest = (omega (arith, count), omega (arith, greatest))
+    by (node n children beside) ahead count greatest = absurd (omega (arith, ap length ahead, length-drop at nodes))
+
+pub Counting-next : (nodes : List (Entry RenderNode)) (all : Forest RenderNode) (at counted least : ℕ) (e : Entry RenderNode) →
+    Counting nodes all at counted least → at < length nodes → e ≡ get_or nodes at e → Counted nodes all at counted least e
+Counting-next nodes all at counted least e w in_nodes is = by w.rest w.ahead w.count w.greatest
+  where
+    by : (rest : Forest RenderNode) → drop at nodes ≡ flatten rest → counted + trees rest ≡ trees all →
+        max least (greatest_least rest) ≡ greatest_least all → Counted nodes all at counted least e
+    by none ahead count greatest = absurd (omega (arith, ap length ahead, length-drop at nodes))
+    by (node n children beside) ahead count greatest =
+        let first : Entry RenderNode = record { node = n; size = length (flatten children) + 1 } in
+        let heads : get_or nodes at e ∷ drop (at + 1) nodes ≡ first ∷ (flatten children ++ flatten beside) =
+        sym (drop_more nodes at e in_nodes) ∙ ahead in
+        let behind : drop (at + 1) nodes ≡ flatten children ++ flatten beside = cc heads in
+        let same : e ≡ first = is ∙ cc heads in
+        let size : e.size ≡ length (flatten children) + 1 = ap (λ (x : Entry RenderNode). x.size) same in
+        let its : e.node.estimate.least ≡ n.estimate.least = ap (λ (x : Entry RenderNode). x.node.estimate.least) same in
+        let on : at + 1 + length (flatten children) ≡ at + e.size = omega (arith, size) in
+        record {
+          some = omega (arith, size);
+          within = omega (arith, size, ap length behind, length-drop (at + 1) nodes, length-append (flatten children) (flatten beside));
+          next = record {
+            rest = beside;
+            ahead = ap (λ m. drop m nodes) (sym on) ∙ sym (drop-drop (length (flatten children)) (at + 1) nodes)
+                ∙ ap (drop (length (flatten children))) behind ∙ drop-append_seam (flatten children) (flatten beside);
+            count = omega (arith, count);
+            greatest = omega (arith, greatest, its);
+            few = omega (arith, w.few, size);
+          };
+        }
+
+-- ---- the tree at a place
+
+-- nodes in pre-order, of which the first is over these children
+pub record IsNodeOver {K : Type 0} (es : List (Entry K)) : Type 0 where
+  pub top : K
+  pub children : Forest K
+  pub beside : Forest K
+  pub is : es ≡ record { node = top; size = length (flatten children) + 1 } ∷ (flatten children ++ flatten beside)
+
+below_or_not : (a b : ℕ) → (a < b) ⊎ (b ≤ a)
+below_or_not a b = elim (cases_Bool (ltb a b)) [ inl e ↦ inl (ltb-true a b e) | inr e ↦ inr (ltb-false a b e) ]
+
+pub node_at : {K : Type 0} (t : Forest K) (i : ℕ) → i < length (flatten t) → IsNodeOver (drop i (flatten t))
+node_at none i h = absurd (omega arith)
+node_at (node k children beside) zero h = record { top = k; children = children; beside = beside; is = refl }
+node_at (node k children beside) (suc i) h =
+    elim (below_or_not i (length (flatten children))) [
+      | inl lt ↦ (let s = node_at children i lt in
+          let more = flatten beside in
+          record {
+            top = s.top;
+            children = s.children;
+            beside = followed_by s.beside beside;
+            is = drop-append-le i (flatten children) more (omega arith) ∙ ap (λ l. l ++ more) s.is
+                ∙ ap (λ l. record { node = s.top; size = length (flatten s.children) + 1 } ∷ l)
+                (append_assoc (flatten s.children) (flatten s.beside) more
+                ∙ ap (λ l. flatten s.children ++ l) (sym (flatten-followed_by s.beside beside)));
+          })
+      | inr ge ↦ (let n : ℕ = i - length (flatten children) in
+          let at : length (flatten children) + n ≡ i = omega arith in
+          let here : drop i (flatten children ++ flatten beside) ≡ drop n (flatten beside) =
+          ap (λ m. drop m (flatten children ++ flatten beside)) (sym at)
+          ∙ sym (drop-drop n (length (flatten children)) (flatten children ++ flatten beside))
+          ∙ ap (drop n) (drop-append_seam (flatten children) (flatten beside)) in
+          subst (λ es. IsNodeOver es) (sym here) (node_at beside n (omega (arith, length-append (flatten children) (flatten beside)))))
+    ]
+
+-- ---- nodes that are measured from the last to the first
+
+module _ {D A : Type 0} (decoration : Decoration D A) (decorator : D) (min_wrap_width : ℕ) where
+  abbrev pub after : Forest RenderNode → Forest RenderNode
+  after t = measured decoration decorator min_wrap_width t
+
+  after-followed_by : (t u : Forest RenderNode) → after (followed_by t u) ≡ followed_by (after t) (after u)
+  after-followed_by none u = refl
+  after-followed_by (node n children beside) u =
+      ap (λ f. node (record n { estimate = estimate_of decoration decorator min_wrap_width n.kind (after children) }) (after children) f)
+      (after-followed_by beside u)
+
+  length-after : (t : Forest RenderNode) → length (flatten (after t)) ≡ length (flatten t)
+  length-after none = refl
+  length-after (node n children beside) =
+      omega (
+        arith,
+        length-append (flatten (after children)) (flatten (after beside)),
+        length-append (flatten children) (flatten beside),
+        length-after children,
+        length-after beside,
+      )
+
+  -- the nodes from one place on are measured, those before are as they were
+  pub record Measuring (t : Forest RenderNode) (now : List (Entry RenderNode)) (at : ℕ) : Type 0 where
+    pub rest : Forest RenderNode
+    pub within : at ≤ length (flatten t)
+    pub many : length now ≡ length (flatten t)
+    pub before : take at now ≡ take at (flatten t)
+    pub behind : drop at (flatten t) ≡ flatten rest
+    pub filled : drop at now ≡ flatten (after rest)
+
+  -- a node that is about to be measured: its children are
+  pub record Found (t : Forest RenderNode) (now : List (Entry RenderNode)) (at : ℕ) (e : Entry RenderNode) : Type 0 where
+    pub children : Forest RenderNode
+    pub size : e.size ≡ length (flatten (after children)) + 1
+    pub end : at + e.size ≤ length now
+    pub under : take (e.size - 1) (drop (at + 1) now) ≡ flatten (after children)
+    pub next : (m : Estimate) → m ≡ estimate_of decoration decorator min_wrap_width e.node.kind (after children) →
+        Measuring t (set now at (record e { node = record e.node { estimate = m } })) at
+
+  pub Measuring-start : (t : Forest RenderNode) (now : List (Entry RenderNode)) (at : ℕ) → now ≡ flatten t →
+      at ≡ length now → Measuring t now at
+  Measuring-start t now at same all = record {
+    rest = none;
+    within = omega (arith, ap length same);
+    many = ap length same;
+    before = ap (take at) same;
+    behind = past (flatten t) at (omega (arith, ap length same));
+    filled = past now at (omega arith);
+  }
+    where
+      past : (es : List (Entry RenderNode)) (n : ℕ) → n ≡ length es → drop n es ≡ []
+      past es n e = ap (λ m. drop m es) e ∙ drop-length es
+
+  pub Measuring-done : (t : Forest RenderNode) (now : List (Entry RenderNode)) (at : ℕ) → Measuring t now at → at ≡ 0 →
+      IsForest now (after t)
+  Measuring-done t now at w zero_at =
+      let all : flatten t ≡ flatten w.rest = sym (ap (λ n. drop n (flatten t)) zero_at) ∙ w.behind in
+      let same : w.rest ≡ t = sym (forest_of-flatten w.rest) ∙ ap forest_of (sym all) ∙ forest_of-flatten t in
+      IsForest-flatten now (after t) (sym (ap (λ n. drop n now) zero_at) ∙ w.filled ∙ ap (λ u. flatten (after u)) same)
+
+  Measuring-find : (t : Forest RenderNode) (now : List (Entry RenderNode)) (at before : ℕ) (e : Entry RenderNode) →
+      Measuring t now at → before + 1 ≡ at → e ≡ get_or now before e → Found t now before e
+  Measuring-find t now at before e w one is =
+      let old : List (Entry RenderNode) = flatten t in
+      let s = node_at t before (omega (arith, w.within)) in
+      let first : Entry RenderNode = record { node = s.top; size = length (flatten s.children) + 1 } in
+      let heads : get_or old before first ∷ drop (before + 1) old ≡ first ∷ (flatten s.children ++ flatten s.beside) =
+      sym (drop_more old before first (omega (arith, w.within))) ∙ s.is in
+      let behind : drop (before + 1) old ≡ flatten s.children ++ flatten s.beside = cc heads in
+      let rest_all : flatten w.rest ≡ flatten (followed_by s.children s.beside) =
+      sym w.behind ∙ ap (λ n. drop n old) (sym one) ∙ behind ∙ sym (flatten-followed_by s.children s.beside) in
+      let rest : w.rest ≡ followed_by s.children s.beside =
+      sym (forest_of-flatten w.rest) ∙ ap forest_of rest_all ∙ forest_of-flatten (followed_by s.children s.beside) in
+      let lt : before < at = omega arith in
+      let there : get_or now before e ≡ get_or old before e =
+      sym (get_or-take at now before e lt) ∙ ap (λ l. get_or l before e) w.before ∙ get_or-take at old before e lt in
+      let here : get_or old before e ≡ first =
+      ap (λ n. get_or old n e) (omega arith) ∙ sym (get_or-drop before old 0 e) ∙ ap (λ l. get_or l 0 e) s.is in
+      let same : e ≡ first = is ∙ there ∙ here in
+      let filled : drop (before + 1) now ≡ flatten (after s.children) ++ flatten (after s.beside) =
+      ap (λ n. drop n now) one ∙ w.filled ∙ ap (λ u. flatten (after u)) rest ∙ ap flatten (after-followed_by s.children s.beside)
+      ∙ flatten-followed_by (after s.children) (after s.beside) in
+      let size : e.size ≡ length (flatten (after s.children)) + 1 =
+      omega (arith, ap (λ (x : Entry RenderNode). x.size) same, length-after s.children) in
+      let less : e.size - 1 ≡ length (flatten (after s.children)) = omega (arith, size) in
+      record {
+        children = s.children;
+        size = size;
+        end = omega (
+          arith,
+          w.within,
+          w.many,
+          size,
+          ap length filled,
+          length-drop (before + 1) now,
+          length-append (flatten (after s.children)) (flatten (after s.beside)),
+        );
+        under = ap (λ n. take n (drop (before + 1) now)) less ∙ ap (take (length (flatten (after s.children)))) filled
+            ∙ take-append_seam (flatten (after s.children)) (flatten (after s.beside));
+        next = λ m is_estimate. (let x : Entry RenderNode = record e { node = record e.node { estimate = m } } in
+            let its : Estimate = estimate_of decoration decorator min_wrap_width s.top.kind (after s.children) in
+            let node_is : x ≡ record { node = record s.top { estimate = its }; size = length (flatten (after s.children)) + 1 } =
+            cc (is_estimate, same, size) in
+            record {
+              rest = node s.top s.children s.beside;
+              within = omega (arith, w.within);
+              many = length-set now before x ∙ w.many;
+              before = take-set-le before now before x (omega arith) ∙ sym (take-take before at now (omega arith))
+                  ∙ ap (take before) w.before ∙ take-take before at old (omega arith);
+              behind = s.is;
+              filled = drop-set now before x (omega (arith, w.within, w.many)) ∙ cc (node_is, filled);
+            });
+      }
+
+  -- the node before those that are measured, where all nodes are at hand
+  pub Measuring-at : (t : Forest RenderNode) (now all : List (Entry RenderNode)) (at : ℕ) (e : Entry RenderNode) → Measuring t now at →
+      0 < at → all ≡ now → e ≡ get_or all (at - 1) e → Found t now (at - 1) e
+  Measuring-at t now all at e w some same is =
+      Measuring-find t now at (at - 1) e w (omega (arith, some)) (is ∙ ap (λ l. get_or l (at - 1) e) same)
+
+  -- the children's nodes, as a part of all nodes
+  pub Found-part : (t : Forest RenderNode) (now all : List (Entry RenderNode)) (at n : ℕ) (e : Entry RenderNode) (f : Found t now at e) →
+      all ≡ now → n ≡ e.size - 1 → IsForest (take n (drop (at + 1) all)) (after f.children)
+  Found-part t now all at n e f same less =
+      IsForest-flatten _ _ (ap (λ m. take m (drop (at + 1) all)) less ∙ ap (λ l. take (e.size - 1) (drop (at + 1) l)) same ∙ f.under)
+
+  -- the node x at the place, with the estimate of the node that was found there
+  pub Found-next : (t : Forest RenderNode) (now all : List (Entry RenderNode)) (at n : ℕ) (e x : Entry RenderNode) (m : Estimate)
+      (f : Found t now at e) → all ≡ now → n ≡ e.size - 1 →
+      m ≡ estimate_of decoration decorator min_wrap_width e.node.kind (forest_of (take n (drop (at + 1) all))) →
+      e ≡ get_or all at e → x ≡ get_or now at x → Measuring t (set now at (record x { node = record x.node { estimate = m } })) at
+  Found-next t now all at n e x m f same less is_estimate is_e is_x =
+      let there : e ≡ x =
+      is_e ∙ ap (λ l. get_or l at e) same ∙ get_or_default now at e x (omega (arith, f.end, f.size)) ∙ sym is_x in
+      subst (λ (y : Entry RenderNode). Measuring t (set now at (record y { node = record y.node { estimate = m } })) at) there
+      (f.next m (is_estimate
+      ∙ ap (estimate_of decoration decorator min_wrap_width e.node.kind) (Found-part t now all at n e f same less).is))

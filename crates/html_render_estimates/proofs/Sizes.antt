@@ -1,0 +1,138 @@
+-- The size of a text that is read from its front on.
+use Rattle.std.proofs.Common.{◌≡◌, ℕ, ◌+◌, ◌-◌, ◌^◌, ◌<◌, ◌≤◌, min, Bool, true, false, cond, List, [], ◌∷◌, length, drop}
+use Rattle.std.proofs.Common.{get_or, zero, suc, refl, sym, ap, ◌∙◌, arith}
+use Rattle.std.proofs.lemmas.List.{drop_more, drop_all}
+use Rattle.std.proofs.lemmas.Str.{chars-nil}
+use Rattle.std.proofs.lemmas.Grind.{common_steps}
+use Rattle.std.specs.Str.{chars}
+use Rattle.html_render_lines.specs.Character.{is_collapsible, width_of}
+use Rattle.html_render_lines.specs.laws.Characters.{plain_width}
+use Rattle.html_render_estimates.specs.TextSize.{saturated, columns_of, inner_columns, with_space, size_of}
+
+-- ---- characters
+
+pub letter-collapsible : (c : ℕ) → 33 ≤ c → c ≤ 126 → is_collapsible c ≡ false
+letter-collapsible c low high = grind (arith, common_steps)
+
+pub chars-ascii : (b : ℕ) (bs : List ℕ) → b < 128 → chars (b ∷ bs) ≡ b ∷ chars bs
+unfolding chars
+chars-ascii b [] h = grind (arith, common_steps)
+chars-ascii b (c ∷ bs) h = grind (arith, common_steps)
+
+-- ---- the size, where so many columns were counted and spaced says that white space stands behind them
+
+abbrev pub size_on : ℕ → Bool → List ℕ → ℕ
+size_on zero false cs = size_of cs
+size_on zero true cs = with_space (inner_columns cs)
+size_on (suc k) spaced cs = suc k + columns_of spaced cs
+
+pub size_on-none : (k : ℕ) (spaced : Bool) → size_on k spaced [] ≡ k
+size_on-none zero false = refl
+size_on-none zero true = refl
+size_on-none (suc k) false = omega arith
+size_on-none (suc k) true = omega arith
+
+pub size_on-least : (k : ℕ) (spaced : Bool) (cs : List ℕ) → k ≤ size_on k spaced cs
+size_on-least zero spaced cs = omega arith
+size_on-least (suc k) spaced cs = omega arith
+
+pub size_on-some : (k : ℕ) (spaced : Bool) (cs : List ℕ) → 1 ≤ k → size_on k spaced cs ≡ k + columns_of spaced cs
+size_on-some zero spaced cs h = absurd (omega (arith, h))
+size_on-some (suc k) spaced cs h = refl
+
+pub columns_of-space : (c : ℕ) (cs : List ℕ) (spaced : Bool) → is_collapsible c ≡ true → columns_of spaced (c ∷ cs) ≡ columns_of true cs
+columns_of-space c cs spaced e = rw e refl
+
+pub columns_of-other : (c : ℕ) (cs : List ℕ) (spaced : Bool) → is_collapsible c ≡ false →
+    columns_of spaced (c ∷ cs) ≡ cond spaced 1 0 + width_of c + columns_of false cs
+columns_of-other c cs spaced e = rw e refl
+
+pub inner_columns-space : (c : ℕ) (cs : List ℕ) → is_collapsible c ≡ true → inner_columns (c ∷ cs) ≡ inner_columns cs
+inner_columns-space c cs e = rw e refl
+
+pub inner_columns-other : (c : ℕ) (cs : List ℕ) → is_collapsible c ≡ false → inner_columns (c ∷ cs) ≡ columns_of false (c ∷ cs)
+inner_columns-other c cs e = rw e refl
+
+pub size_of-space : (c : ℕ) (cs : List ℕ) → is_collapsible c ≡ true → size_of (c ∷ cs) ≡ with_space (inner_columns cs)
+size_of-space c cs e = rw e refl
+
+pub size_of-other : (c : ℕ) (cs : List ℕ) → is_collapsible c ≡ false → size_of (c ∷ cs) ≡ columns_of false (c ∷ cs)
+size_of-other c cs e = rw e refl
+
+pub size_on-space : (k c : ℕ) (cs : List ℕ) (spaced : Bool) → is_collapsible c ≡ true → size_on k spaced (c ∷ cs) ≡ size_on k true cs
+size_on-space zero c cs false e = size_of-space c cs e
+size_on-space zero c cs true e = ap with_space (inner_columns-space c cs e)
+size_on-space (suc k) c cs spaced e = ap (λ n. suc k + n) (columns_of-space c cs spaced e)
+
+pub size_on-letter : (k c : ℕ) (cs : List ℕ) (spaced : Bool) → is_collapsible c ≡ false → width_of c ≡ 1 →
+    size_on k spaced (c ∷ cs) ≡ size_on (k + cond spaced 2 1) false cs
+size_on-letter zero c cs false e w = size_of-other c cs e ∙ columns_of-other c cs false e ∙ omega (arith, w)
+size_on-letter zero c cs true e w = omega (arith, inner_columns-other c cs e, columns_of-other c cs false e, w)
+size_on-letter (suc k) c cs false e w = omega (arith, columns_of-other c cs false e, w, size_on-some (suc k + 1) false cs (omega arith))
+size_on-letter (suc k) c cs true e w = omega (arith, columns_of-other c cs true e, w, size_on-some (suc k + 2) false cs (omega arith))
+
+-- ---- a text of ASCII characters, byte by byte
+
+-- the size of a text, where these columns were counted before a place
+pub record Sized (bs : List ℕ) (at k : ℕ) (spaced : Bool) : Type 0 where
+  pub within : at ≤ length bs
+  pub few : k + cond spaced 1 0 ≤ at
+  pub size : size_on k spaced (chars (drop at bs)) ≡ size_of (chars bs)
+
+next-chars : (bs : List ℕ) (at : ℕ) → at < length bs → get_or bs at 0 < 128 → chars (drop at bs) ≡ get_or bs at 0 ∷ chars (drop (at + 1) bs)
+next-chars bs at within small = ap chars (drop_more bs at 0 within) ∙ chars-ascii (get_or bs at 0) (drop (at + 1) bs) small
+
+pub Sized-start : (bs : List ℕ) → Sized bs 0 0 false
+Sized-start bs = record { within = omega arith; few = omega arith; size = refl }
+
+pub Sized-letter : (bs : List ℕ) (at k n : ℕ) (spaced s : Bool) → Sized bs at k spaced → at < length bs →
+    33 ≤ get_or bs at 0 → get_or bs at 0 ≤ 126 → n ≡ k + cond spaced 2 1 → s ≡ false → Sized bs (at + 1) n s
+Sized-letter bs at k n spaced s w within low high is_n is_s = rw (is_n, is_s) (record {
+  within = omega (arith, within);
+  few = few spaced w.few;
+  size = sym (size_on-letter k b (chars (drop (at + 1) bs)) spaced (letter-collapsible b low high) (plain_width b low high))
+      ∙ ap (size_on k spaced) (sym (next-chars bs at within (omega arith))) ∙ w.size;
+})
+  where
+    b : ℕ
+    b = get_or bs at 0
+
+    few : (spaced : Bool) → k + cond spaced 1 0 ≤ at → k + cond spaced 2 1 + cond false 1 0 ≤ at + 1
+    few true h = omega (arith, h)
+    few false h = omega (arith, h)
+
+pub Sized-space : (bs : List ℕ) (at k n : ℕ) (spaced s : Bool) → Sized bs at k spaced → at < length bs →
+    is_collapsible (get_or bs at 0) ≡ true → get_or bs at 0 < 128 → n ≡ k → s ≡ true → Sized bs (at + 1) n s
+Sized-space bs at k n spaced s w within space small is_n is_s = rw (is_n, is_s) (record {
+  within = omega (arith, within);
+  few = omega (arith, w.few);
+  size = sym (size_on-space k (get_or bs at 0) (chars (drop (at + 1) bs)) spaced space)
+      ∙ ap (size_on k spaced) (sym (next-chars bs at within small)) ∙ w.size;
+})
+
+-- at the end of the text, or where the limit is reached
+pub Sized-end : (bs : List ℕ) (at k limit : ℕ) (spaced : Bool) → Sized bs at k spaced → length bs ≤ at →
+    min k limit ≡ min (size_of (chars bs)) limit
+Sized-end bs at k limit spaced w end =
+    let none : chars (drop at bs) ≡ [] = ap chars (drop_all at bs end) ∙ chars-nil in
+    ap (λ n. min n limit) (sym (size_on-none k spaced) ∙ ap (size_on k spaced) (sym none) ∙ w.size)
+
+pub Sized-reached : (bs : List ℕ) (at k limit : ℕ) (spaced : Bool) → Sized bs at k spaced → limit ≤ k →
+    min k limit ≡ min (size_of (chars bs)) limit
+Sized-reached bs at k limit spaced w reached = omega (arith, size_on-least k spaced (chars (drop at bs)), w.size, reached)
+
+-- ---- columns up to a limit, where the text at hand is a character and others
+
+pub columns-after_space : (text cs : List ℕ) (k limit c : ℕ) (spaced : Bool) → chars text ≡ c ∷ cs → is_collapsible c ≡ true →
+    min (k + columns_of true cs) limit ≡ min (k + columns_of spaced (chars text)) limit
+columns-after_space text cs k limit c spaced e collapsible =
+    let front : columns_of spaced (chars text) ≡ columns_of true cs = ap (columns_of spaced) e ∙ columns_of-space c cs spaced collapsible in
+    omega (arith, front)
+
+pub columns-after_other : (text cs : List ℕ) (k limit c width sum : ℕ) (spaced : Bool) → chars text ≡ c ∷ cs → is_collapsible c ≡ false →
+    limit < 2 ^ 64 → width ≡ saturated (cond spaced 1 0 + width_of c) → sum ≡ min (k + width) (2 ^ 64 - 1) →
+    min (sum + columns_of false cs) limit ≡ min (k + columns_of spaced (chars text)) limit
+columns-after_other text cs k limit c width sum spaced e collapsible small is_width is_sum =
+    let front : columns_of spaced (chars text) ≡ cond spaced 1 0 + width_of c + columns_of false cs =
+    ap (columns_of spaced) e ∙ columns_of-other c cs spaced collapsible in
+    omega (arith, front, small, is_width, is_sum)

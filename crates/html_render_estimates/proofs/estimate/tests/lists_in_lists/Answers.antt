@@ -1,0 +1,14 @@
+use Rattle.html_render_nodes.specs.laws.Splits.{SplitAt-none}
+use Rattle.html_render_estimates.proofs.estimate.tests.lists_in_lists.Goals as goal
+
+pub enclose-requires : goal.enclose-requires
+enclose-requires g c = SplitAt-none _
+
+pub enclose-requires-2 : goal.enclose-requires-2
+enclose-requires-2 g c = SplitAt-none _
+
+pub enclose-requires-3 : goal.enclose-requires-3
+enclose-requires-3 g c = SplitAt-none _
+
+pub enclose-requires-4 : goal.enclose-requires-4
+enclose-requires-4 g c = SplitAt-none _

@@ -1,0 +1,166 @@
+//! Estimates of the nodes of a render tree.
+//!
+//! `measure(alloc, &decorator, 3, tree)?` is the tree with each node's estimate: the least width in which the node
+//! can be laid out well, the columns of the decorator's prefix and the number of children.
+
+ghost use Rattle.std.specs.Prelude.{◌≡◌, IfOk, IfErr};
+ghost use Rattle.html_render_nodes.specs.Preorder.{flatten, forest_of};
+ghost use Rattle.html_render_estimates.specs.Estimates.{trees, greatest_least, prefix_of, last_number, estimate_of, measured};
+
+use crate::text::{columns, size_within};
+use html_render_dom::Error;
+use html_render_nodes::tree::{Entry, Estimate, Flat, NodeKind, RenderNode, RenderTree};
+use html_render_parts::decorate::TextDecorator;
+use std::alloc::Global;
+
+/// Trees beside each other: how many there are, and the greatest of their least widths.
+#[derive(Clone, Copy)]
+struct Children {
+    count: usize,
+    least: usize,
+}
+
+/// The trees of measured nodes.
+#[inline]
+fn children_of(nodes: &[Entry<RenderNode>]) -> Children
+    requires { flatten (forest_of nodes.now) ≡ nodes.now }
+    ensures count { result.count ≡ trees (forest_of nodes.now) }
+    ensures least { result.least ≡ greatest_least (forest_of nodes.now) }
+{
+    let mut count = 0;
+    let mut least: usize = 0;
+    let mut at = 0;
+    while at < nodes.len() {
+        let entry = &nodes[at];
+        count += 1;
+        least = least.max(entry.node.estimate.least);
+        at += entry.size;
+    }
+    Children { count, least }
+}
+
+/// The number of the last of so many items.
+fn last_number(first: i64, items: usize) -> i64
+    ensures { result ≡ last_number first items }
+{
+    if items == 0 {
+        first.saturating_sub(1)
+    } else {
+        first.saturating_add_unsigned((items - 1) as u64)
+    }
+}
+
+/// The columns of the prefixes of a list's items, which are numbered from `first` on: those of the longer one of the
+/// first and the last.
+///
+/// # Errors
+///
+/// `OutOfMemory`.
+pub fn number_columns<D: TextDecorator>(
+    alloc: Global,
+    decorator: &D,
+    first: i64,
+    items: usize,
+) -> Result<usize, Error>
+    ensures ok { IfOk result (λ columns. columns ≡ prefix_of D.decoration decorator.now (NodeKind.Ol first) items) }
+    ensures err { IfErr result (λ e. e ≡ Error.OutOfMemory) }
+{
+    let first_prefix = decorator.ordered_item_prefix(alloc, first)?;
+    let last_prefix = decorator.ordered_item_prefix(alloc, last_number(first, items))?;
+    Ok(columns(first_prefix.as_str()).max(columns(last_prefix.as_str())))
+}
+
+/// The columns of what stands before the lines of a node with so many children.
+#[inline]
+fn prefix_of<D: TextDecorator>(
+    alloc: Global,
+    decorator: &D,
+    kind: &NodeKind,
+    children: usize,
+) -> Result<usize, Error>
+    ensures ok { IfOk result (λ columns. columns ≡ prefix_of D.decoration decorator.now kind.now children) }
+    ensures err { IfErr result (λ e. e ≡ Error.OutOfMemory) }
+{
+    match kind {
+        NodeKind::Header(level) => Ok(columns(decorator.header_prefix(alloc, *level)?.as_str())),
+        NodeKind::BlockQuote => Ok(columns(decorator.quote_prefix(alloc)?.as_str())),
+        NodeKind::Ul => Ok(columns(decorator.unordered_item_prefix(alloc)?.as_str())),
+        NodeKind::Ol(first) => number_columns(alloc, decorator, *first, children),
+        NodeKind::Dd => Ok(2),
+        NodeKind::Text(_)
+        | NodeKind::Container
+        | NodeKind::Break
+        | NodeKind::Block
+        | NodeKind::Div
+        | NodeKind::Emphasis(_)
+        | NodeKind::ListItem
+        | NodeKind::Dl
+        | NodeKind::Dt => Ok(0),
+    }
+}
+
+/// The estimate of a node over measured ones.
+#[inline]
+fn estimate_of<D: TextDecorator>(
+    alloc: Global,
+    decorator: &D,
+    min_wrap_width: usize,
+    kind: &NodeKind,
+    below: &[Entry<RenderNode>],
+) -> Result<Estimate, Error>
+    requires { flatten (forest_of below.now) ≡ below.now }
+    ensures ok { IfOk result (λ e. e ≡ estimate_of D.decoration decorator.now min_wrap_width kind.now (forest_of below.now)) }
+    ensures err { IfErr result (λ e. e ≡ Error.OutOfMemory) }
+{
+    match kind {
+        NodeKind::Text(text) => Ok(Estimate {
+            least: size_within(text.as_str(), min_wrap_width),
+            prefix: 0,
+            children: 0,
+        }),
+        NodeKind::Break => Ok(Estimate {
+            least: 1,
+            prefix: 0,
+            children: 0,
+        }),
+        _ => {
+            let children = children_of(below);
+            let prefix = prefix_of(alloc, decorator, kind, children.count)?;
+            Ok(Estimate {
+                least: children.least.saturating_add(prefix),
+                prefix,
+                children: children.count,
+            })
+        }
+    }
+}
+
+/// The tree with each node's estimate, from the last node to the first.
+///
+/// # Errors
+///
+/// `OutOfMemory`.
+pub fn measure<D: TextDecorator>(
+    alloc: Global,
+    decorator: &D,
+    min_wrap_width: usize,
+    tree: RenderTree,
+) -> Result<RenderTree, Error>
+    ensures ok { IfOk result (λ t. t ≡ measured D.decoration decorator.now min_wrap_width tree) }
+    ensures err { IfErr result (λ e. e ≡ Error.OutOfMemory) }
+{
+    let mut entries = tree.into_nodes().into_entries();
+    let mut at = entries.len();
+    while at > 0 {
+        at -= 1;
+        let all = entries.as_slice();
+        let entry = &all[at];
+        let below = &all[at + 1..at + entry.size];
+        let estimate = estimate_of(alloc, decorator, min_wrap_width, &entry.node.kind, below)?;
+        entries[at].node.estimate = estimate;
+    }
+    Ok(RenderTree::from(Flat::from_entries(entries)))
+}
+
+#[cfg(test)]
+mod tests;

@@ -1,0 +1,218 @@
+-- Where a layout has lines with overflow off, it has the same with overflow on.
+use Rattle.std.specs.Str.{chars}
+use Rattle.std.proofs.Common.{◌≡◌, ℕ, ◌==◌, Bool, true, false, cond, List, Option, Some, None, option_map, option_and_then}
+use Rattle.std.proofs.Common.{IfSome, IfOk, Result, Ok, Err, refl, ap, sym, ◌∙◌}
+use Rattle.html_render_dom.specs.declared.errors.Error.{Error}
+use Rattle.html_render_dom.specs.Forest.{Forest}
+use Rattle.html_render_parts.specs.Decoration.{Decoration, Round}
+use Rattle.html_render_lines.specs.Line.{Line}
+use Rattle.html_render_lines.specs.Tags.{lines_with}
+use Rattle.html_render_nodes.specs.declared.tree.Estimate.{Estimate}
+use Rattle.html_render_nodes.specs.declared.tree.NodeKind.{NodeKind}
+use Rattle.html_render_nodes.specs.declared.tree.NodeKind.TheVariants.{Text, Container, Break, Block, Div, Emphasis}
+use Rattle.html_render_nodes.specs.declared.tree.NodeKind.TheVariants.{Header, BlockQuote, Ul, Ol, ListItem, Dl, Dt, Dd}
+use Rattle.html_render_nodes.specs.declared.tree.RenderNode.{RenderNode}
+use Rattle.html_render_nodes.specs.Pass.{run}
+use Rattle.html_render_nodes.specs.laws.Images.{Image, image-then, NodesImage, run-image}
+use Rattle.html_render_blocks.specs.Operations.{Operations}
+use Rattle.html_render_blocks.specs.Block as definition
+use Rattle.html_render_blocks.specs.Block.{DefinedBlock}
+use Rattle.html_render_blocks.specs.laws.Operations.{Refines}
+use Rattle.html_render_blocks.specs.laws.BlockOverflow.{overflowing, operations_refine}
+use Rattle.html_render_estimates.specs.Estimates.{prefix_columns}
+use Rattle.html_render_layout.specs.declared.layout.state.Around.{Around}
+use Rattle.html_render_layout.specs.declared.layout.state.Around.TheVariants.{Plain, Bullets, Numbers}
+use Rattle.html_render_layout.specs.declared.layout.state.LayoutState.{LayoutState}
+use Rattle.html_render_layout.specs.Layout.{on_block, add_text, text_style, under, restored, inner_least, spaces, padded, next_number}
+use Rattle.html_render_layout.specs.Layout.{nested, resumed, indented, quoted, standing, placed, emphasis_decoration, begun, decorated}
+use Rattle.html_render_layout.specs.Layout.{numbers, kind_steps, steps}
+use Rattle.html_render_layout.specs.Layout.{shown_after, onto, Defined, empty_state, estimated, layout_lines, no_tag, untagged_lines}
+
+module _ {S A K T B : Type 0} (d : Decoration S A) (push : K → T → A → K × T) (o : Operations B T) (f : B → B) (h : Refines f o) where
+  abbrev State : Type 0
+  State = LayoutState S K T B
+
+  -- the state with the image of its block
+  abbrev mapped : State → State
+  mapped s = record s { block = f s.block }
+
+  -- what is done to a state is done to its image
+  abbrev Stays : (State → Option State) → (State → Option State) → Type 0
+  Stays l m = (s : State) → Image mapped (l s) (m (mapped s))
+
+  -- one step after another
+  both : (s : Option State) (q : Option State) (l m : State → Option State) → Image mapped s q → Stays l m →
+      Image mapped (option_and_then l s) (option_and_then m q)
+  both s q l m e next = image-then mapped mapped l m s q e next
+
+  on_block-stays : (g : B → Option B) (s : State) → IfSome (g s.block) (λ c. g (f s.block) ≡ Some (f c)) →
+      Image mapped (on_block g s) (on_block g (mapped s))
+  on_block-stays g s e =
+      image-then f mapped (λ b. Some (record s { block = b })) (λ b. Some (record (mapped s) { block = b })) (g s.block) (g (f s.block)) e
+      (λ b. refl)
+
+  text-stays : (t : List ℕ) → Stays (add_text o t) (add_text o t)
+  text-stays t s = on_block-stays (λ b. o.add_inline_text b (text_style s.text) (chars t)) s
+      (h.add_inline_text s.block (text_style s.text) (chars t))
+
+  nested-stays : (prefix least : ℕ) → Stays (nested d o prefix least) (nested d o prefix least)
+  nested-stays prefix least s =
+      image-then f mapped (λ b. Some (record s { decorator = d.subblock s.decorator; block = b; around = Plain }))
+      (λ b. Some (record (mapped s) { decorator = d.subblock s.decorator; block = b; around = Plain }))
+      (o.sub_block s.block prefix least) (o.sub_block (f s.block) prefix least) (h.sub_block s.block prefix least) (λ b. refl)
+
+  begun-stays : (round : Round S A) → Stays (begun d push o round) (begun d push o round)
+  begun-stays round s =
+      text-stays (round.start s.decorator).text (under (push s.stacks s.text.tag (round.start s.decorator).annotation) s)
+
+  module _ (l m : State → Option State) (below : Stays l m) where
+    restored-stays : Stays (restored l) (restored m)
+    restored-stays s =
+        both (l s) (m (mapped s)) (λ r. Some (record r { text = s.text })) (λ r. Some (record r { text = s.text })) (below s) (λ r. refl)
+
+    indented-stays : (prefix : List ℕ) (columns least : ℕ) (behind : Around) →
+        Stays (indented d o prefix columns least behind l) (indented d o prefix columns least behind m)
+    indented-stays prefix columns least behind s =
+        both (nested d o columns least s) (nested d o columns least (mapped s)) _ _ (nested-stays columns least s) (λ q.
+        both (l q) (m (mapped q)) _ _ (below q) (λ r.
+        image-then f mapped (λ b. Some (resumed s b behind r)) (λ b. Some (resumed (mapped s) b behind (mapped r)))
+        (o.append s.block r.block s.text.tag (chars prefix) (spaces columns))
+        (o.append (f s.block) (f r.block) s.text.tag (chars prefix) (spaces columns))
+        (h.append s.block r.block s.text.tag (chars prefix) (spaces columns)) (λ b. refl)))
+
+    quoted-stays : (prefix : List ℕ) (least : ℕ) → Stays (quoted d o prefix least l) (quoted d o prefix least m)
+    quoted-stays prefix least s =
+        both (nested d o (prefix_columns prefix) least s) (nested d o (prefix_columns prefix) least (mapped s)) _ _
+        (nested-stays (prefix_columns prefix) least s) (λ q.
+        both (l q) (m (mapped q)) _ _ (below q) (λ r.
+        image-then f mapped _ _ (o.start_block s.block) (o.start_block (f s.block)) (h.start_block s.block) (λ b.
+        image-then f mapped (λ c. Some (resumed s (o.end_block c) s.around r))
+        (λ c. Some (resumed (mapped s) (o.end_block c) s.around (mapped r)))
+        (o.append b r.block s.text.tag (chars prefix) (chars prefix)) (o.append (f b) (f r.block) s.text.tag (chars prefix) (chars prefix))
+        (h.append b r.block s.text.tag (chars prefix) (chars prefix))
+        (λ c. ap (λ e. Some (resumed s e s.around r)) (h.end_block c)))))
+
+    standing-stays : (around : Around) → Stays (standing around l) (standing around m)
+    standing-stays around s =
+        both (l (record s { around = around })) (m (record (mapped s) { around = around })) (λ r. Some (record r { around = s.around }))
+        (λ r. Some (record r { around = s.around })) (below (record s { around = around })) (λ r. refl)
+
+    decorated-stays : (round : Round S A) → Stays (decorated d push o round l) (decorated d push o round m)
+    decorated-stays round s =
+        both (begun d push o round s) (begun d push o round (mapped s)) _ _ (begun-stays round s) (λ q.
+        both (l q) (m (mapped q)) _ _ (below q) (λ r. text-stays (round.end r.decorator) r))
+
+    -- nodes between the start and the end of a block
+    block-stays : (e : Estimate) → Stays (kind_steps d push o Block e l) (kind_steps d push o Block e m)
+    block-stays e s =
+        both (on_block o.start_block s) (on_block o.start_block (mapped s)) _ _
+        (on_block-stays o.start_block s (h.start_block s.block)) (λ q.
+        both (l q) (m (mapped q)) (λ r. Some (record r { block = o.end_block r.block }))
+        (λ r. Some (record r { block = o.end_block r.block }))
+        (below q) (λ r. ap (λ e. Some (record r { block = e })) (h.end_block r.block)))
+
+    kind-stays : (k : NodeKind) (e : Estimate) → Stays (kind_steps d push o k e l) (kind_steps d push o k e m)
+    kind-stays (Text t) e s = text-stays t s
+    kind-stays Container e s = below s
+    kind-stays Break e s = on_block-stays o.new_line_hard s (h.new_line_hard s.block)
+    kind-stays Block e s = block-stays e s
+    kind-stays Div e s =
+        both (on_block o.new_line s) (on_block o.new_line (mapped s)) _ _ (on_block-stays o.new_line s (h.new_line s.block)) (λ q.
+        both (l q) (m (mapped q)) _ _ (below q) (λ r. on_block-stays o.new_line r (h.new_line r.block)))
+    kind-stays (Emphasis x) e s = decorated-stays (emphasis_decoration d x) s
+    kind-stays (Header level) e s = quoted-stays (d.header_prefix s.decorator level) (inner_least e) s
+    kind-stays BlockQuote e s = quoted-stays (d.quote_prefix s.decorator) (inner_least e) s
+    kind-stays Ul e s = standing-stays (Bullets (inner_least e)) s
+    kind-stays (Ol first) e s = standing-stays (numbers d push o e first s.decorator) s
+    kind-stays ListItem e s = block-stays e s
+    kind-stays Dl e s =
+        both (on_block o.start_block s) (on_block o.start_block (mapped s)) l m
+        (on_block-stays o.start_block s (h.start_block s.block)) below
+    kind-stays Dt e s =
+        both (on_block o.new_line s) (on_block o.new_line (mapped s)) (decorated d push o d.em l) (decorated d push o d.em m)
+        (on_block-stays o.new_line s (h.new_line s.block)) (decorated-stays d.em)
+    kind-stays Dd e s = indented-stays (spaces 2) 2 (inner_least e) s.around s
+
+    placed-stays : (a : Around) (s : State) → Image mapped (placed d o l s a) (placed d o m (mapped s) a)
+    placed-stays Plain s = below s
+    placed-stays (Bullets least) s =
+        let bullet = d.unordered_item_prefix s.decorator in
+        indented-stays bullet (prefix_columns bullet) least (Bullets least) s
+    placed-stays (Numbers least number columns) s =
+        indented-stays (padded columns (d.ordered_item_prefix s.decorator number)) columns least
+        (Numbers least (next_number number) columns) s
+
+  steps-stay : NodesImage mapped (steps d push o) (steps d push o)
+  steps-stay n trees l m below s =
+      placed-stays (λ q. restored (kind_steps d push o n.kind n.estimate l) q) (λ q. restored (kind_steps d push o n.kind n.estimate m) q)
+      (restored-stays (kind_steps d push o n.kind n.estimate l) (kind_steps d push o n.kind n.estimate m)
+      (kind-stays l m below n.kind n.estimate))
+      s.around s
+
+  -- a layout gives the image of what it gives, from the image of a state
+  pub layout-image : (t : Forest RenderNode) (s : State) → IfSome (run (steps d push o) t s)
+      (λ r. run (steps d push o) t (record s { block = f s.block }) ≡ Some (record r { block = f r.block }))
+  layout-image t s = run-image mapped (steps d push o) (steps d push o) steps-stay t s
+
+  -- and so does what is shown of it, which may not tell them apart
+  pub shown-image : {L : Type 0} (shown : State → L) → ((r : State) → shown (record r { block = f r.block }) ≡ shown r) →
+      (t : Forest RenderNode) (s : State) → IfSome (shown_after d push o shown t s)
+      (λ lines. shown_after d push o shown t (record s { block = f s.block }) ≡ Some lines)
+  shown-image {L} shown same t s =
+      image-then mapped (λ (x : L). x) _ _ (run (steps d push o) t s) (run (steps d push o) t (mapped s)) (layout-image t s) (λ r.
+      image-then mapped (λ (x : L). x) (λ q. Some (shown q)) (λ q. Some (shown q)) (on_block o.new_line r) (on_block o.new_line (mapped r))
+      (on_block-stays o.new_line r (h.new_line r.block)) (λ q. ap Some (same q)))
+
+-- an answer that another has too
+also : {L : Type 0} (p q : Option L) (lines : L) → IfSome p (λ ls. q ≡ Some ls) → p ≡ Some lines → q ≡ Some lines
+also None q lines h e = cc
+also (Some ls) q lines h e = h ∙ e
+
+module _ {S A : Type 0} (d : Decoration S A) where
+  abbrev lines_from : Forest RenderNode → Defined S A → Option (List (Line (List A) ℕ))
+  lines_from t s = shown_after d onto definition.operations (λ (r : Defined S A). r.block.lines) t s
+
+  abbrev bare : List (Line (List A) ℕ) → List (Line (Unit {0}) ℕ)
+  bare lines = lines_with (λ (stack : List A). no_tag stack) lines
+
+  -- THE LAW: where there are lines with overflow off, they are the lines with overflow on
+  pub layout_same : (t : Forest RenderNode) (decorator : S) (w : ℕ) →
+      IfSome (layout_lines d t decorator w false) (λ lines. layout_lines d t decorator w true ≡ Some lines)
+  layout_same t decorator w = by (w == 0)
+    where
+      by : (z : Bool) → IfSome (cond z None (lines_from (estimated d decorator t) (empty_state d decorator w false)))
+          (λ lines. cond z None (lines_from (estimated d decorator t) (empty_state d decorator w true)) ≡ Some lines)
+      by true = tt
+      by false =
+          shown-image d onto definition.operations overflowing operations_refine (λ (s : Defined S A). s.block.lines) (λ r. refl)
+          (estimated d decorator t) (empty_state d decorator w false)
+
+  -- the same of the lines without annotations
+  pub untagged_same : (t : Forest RenderNode) (decorator : S) (w : ℕ) →
+      IfSome (untagged_lines d t decorator w false) (λ lines. untagged_lines d t decorator w true ≡ Some lines)
+  untagged_same t decorator w = by (layout_lines d t decorator w false) (layout_lines d t decorator w true) (layout_same t decorator w)
+    where
+      by : (p q : Option (List (Line (List A) ℕ))) → IfSome p (λ lines. q ≡ Some lines) →
+          IfSome (option_map bare p) (λ lines. option_map bare q ≡ Some lines)
+      by None q e = tt
+      by (Some lines) q e = ap (option_map bare) e
+
+  -- ---- the laws, of what a call answers
+
+  pub same-answered : {X : Type 0} (t : Forest RenderNode) (decorator : S) (w : ℕ) (o : Bool) (lines : X → List (Line (List A) ℕ))
+      (r : Result X Error) →
+      IfOk r (λ v. layout_lines d t decorator w o ≡ Some (lines v)) →
+      IfOk r (λ v. o ≡ false → layout_lines d t decorator w true ≡ Some (lines v))
+  same-answered t decorator w o lines (Err e) h = tt
+  same-answered t decorator w o lines (Ok v) h =
+      λ off. also (layout_lines d t decorator w false) (layout_lines d t decorator w true) (lines v) (layout_same t decorator w)
+      (ap (λ b. layout_lines d t decorator w b) (sym off) ∙ h)
+
+  pub untagged_same-answered : {X : Type 0} (t : Forest RenderNode) (decorator : S) (w : ℕ) (o : Bool)
+      (lines : X → List (Line (Unit {0}) ℕ)) (r : Result X Error) →
+      IfOk r (λ v. untagged_lines d t decorator w o ≡ Some (lines v)) →
+      IfOk r (λ v. o ≡ false → untagged_lines d t decorator w true ≡ Some (lines v))
+  untagged_same-answered t decorator w o lines (Err e) h = tt
+  untagged_same-answered t decorator w o lines (Ok v) h =
+      λ off. also (untagged_lines d t decorator w false) (untagged_lines d t decorator w true) (lines v) (untagged_same t decorator w)
+      (ap (λ b. untagged_lines d t decorator w b) (sym off) ∙ h)

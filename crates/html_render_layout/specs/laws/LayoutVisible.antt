@@ -1,0 +1,358 @@
+-- A layout loses no visible character of the texts that it visits.
+use Rattle.std.specs.Str.{chars}
+use Rattle.std.proofs.Common.{◌≡◌, ℕ, ◌+◌, ◌≤◌, ◌==◌, Bool, true, false, cond, List, [], ◌∷◌, ◌++◌, Option, Some, None}
+use Rattle.std.proofs.Common.{option_map, option_and_then, IfSome, IfOk, Result, Ok, Err, refl, ap, sym, ◌∙◌, subst, arith, append_assoc}
+use Rattle.std.specs.Prelude.{sum_by}
+use Rattle.std.proofs.lemmas.Option.{same_Some}
+use Rattle.std.proofs.lemmas.List.Sums.{sum_by-cons, sum_by-append}
+use Rattle.html_render_dom.specs.declared.errors.Error.{Error}
+use Rattle.html_render_dom.specs.Forest.{Forest}
+use Rattle.html_render_parts.specs.Decoration.{Decoration, Round}
+use Rattle.html_render_lines.specs.Line.{Line}
+use Rattle.html_render_lines.specs.Tags.{line_with, lines_with}
+use Rattle.html_render_lines.specs.Visible.{if_visible, visible_in_line, visible_in_lines}
+use Rattle.html_render_lines.specs.declared.line.Element.TheVariants as element
+use Rattle.html_render_nodes.specs.declared.tree.Estimate.{Estimate}
+use Rattle.html_render_nodes.specs.declared.tree.NodeKind.{NodeKind}
+use Rattle.html_render_nodes.specs.declared.tree.NodeKind.TheVariants.{Text, Container, Break, Block, Div, Emphasis}
+use Rattle.html_render_nodes.specs.declared.tree.NodeKind.TheVariants.{Header, BlockQuote, Ul, Ol, ListItem, Dl, Dt, Dd}
+use Rattle.html_render_nodes.specs.declared.tree.RenderNode.{RenderNode}
+use Rattle.html_render_nodes.specs.Pass.{run, visited}
+use Rattle.html_render_nodes.specs.laws.Runs.{IfSome-then, IfSome-weaken}
+use Rattle.html_render_nodes.specs.laws.Growth.{count_from, NodesGrow, run-grows}
+use Rattle.html_render_blocks.specs.Operations.{Operations}
+use Rattle.html_render_blocks.specs.Block as definition
+use Rattle.html_render_blocks.specs.Block.{DefinedBlock}
+use Rattle.html_render_blocks.specs.Visible.{visible_in_text, count, text_count, visible_count}
+use Rattle.html_render_blocks.specs.laws.Operations.{Counts}
+use Rattle.html_render_blocks.specs.laws.BlockVisible.{operations_keep_visible, flushed_count}
+use Rattle.html_render_estimates.specs.Estimates.{prefix_columns}
+use Rattle.html_render_layout.specs.declared.layout.state.Around.{Around}
+use Rattle.html_render_layout.specs.declared.layout.state.Around.TheVariants.{Plain, Bullets, Numbers}
+use Rattle.html_render_layout.specs.declared.layout.state.LayoutState.{LayoutState}
+use Rattle.html_render_layout.specs.Kept.{visited_nodes, node_characters, text_characters, KeepsTexts}
+use Rattle.html_render_layout.specs.Layout.{on_block, add_text, text_style, under, restored, inner_least, spaces, padded, next_number}
+use Rattle.html_render_layout.specs.Layout.{nested, resumed, indented, quoted, standing, placed, emphasis_decoration, begun, decorated}
+use Rattle.html_render_layout.specs.Layout.{numbers, kind_steps, steps}
+use Rattle.html_render_layout.specs.Layout.{kind_inside, placed_inside, inside, shown_after, onto, Defined, defined, empty_state}
+use Rattle.html_render_layout.specs.Layout.{estimated, layout_lines, no_tag, untagged_lines}
+
+-- what v counts in a block grows by what w counts in a text, and nothing counts less
+module _ {S A K T B : Type 0} (d : Decoration S A) (push : K → T → A → K × T) (o : Operations B T) (v : B → ℕ) (w : List ℕ → ℕ)
+    (h : Counts v w o) (empty : w [] ≡ 0) where
+  abbrev State : Type 0
+  State = LayoutState S K T B
+
+  -- what is counted in a state, and in a node
+  abbrev pub counted : State → ℕ
+  counted s = v s.block
+
+  abbrev pub node_count : RenderNode → ℕ
+  node_count n = w (node_characters n.kind)
+
+  -- no less than n is counted
+  abbrev AtLeast : ℕ → State → Type 0
+  AtLeast n r = n ≤ counted r
+
+  on_block-counts : (n : ℕ) (g : B → Option B) (s : State) → IfSome (g s.block) (λ b. n ≤ v b) → IfSome (on_block g s) (AtLeast n)
+  on_block-counts n g s k = IfSome-then (λ b. n ≤ v b) (AtLeast n) (g s.block) (λ b. Some (record s { block = b })) k (λ b a. a)
+
+  -- an operation that counts nothing
+  keeps-counts : (g : B → Option B) (s : State) → IfSome (g s.block) (λ b. v b ≡ v s.block) → IfSome (on_block g s) (AtLeast (counted s))
+  keeps-counts g s k =
+      on_block-counts (counted s) g s (IfSome-weaken (λ b. v b ≡ v s.block) (λ b. counted s ≤ v b) (g s.block) k (λ b e. omega arith))
+
+  text-counts : (t : List ℕ) (s : State) → IfSome (add_text o t s) (AtLeast (counted s + w (chars t)))
+  text-counts t s =
+      on_block-counts (counted s + w (chars t)) (λ b. o.add_inline_text b (text_style s.text) (chars t)) s
+      (IfSome-weaken (λ b. v b ≡ v s.block + w (chars t)) (λ b. counted s + w (chars t) ≤ v b)
+      (o.add_inline_text s.block (text_style s.text) (chars t)) (h.add_inline_text s.block (text_style s.text) (chars t))
+      (λ b e. omega arith))
+
+  -- a text of the decoration
+  round-counts : (t : List ℕ) (s : State) → IfSome (add_text o t s) (AtLeast (counted s))
+  round-counts t s =
+      IfSome-weaken (AtLeast (counted s + w (chars t))) (AtLeast (counted s)) (add_text o t s) (text-counts t s) (λ r a. omega arith)
+
+  begun-counts : (round : Round S A) (s : State) → IfSome (begun d push o round s) (AtLeast (counted s))
+  begun-counts round s = round-counts (round.start s.decorator).text
+      (under (push s.stacks s.text.tag (round.start s.decorator).annotation) s)
+
+  -- nothing is counted in a block that begins
+  nested-counts : (prefix least : ℕ) (s : State) → IfSome (nested d o prefix least s) (λ q. counted q ≡ 0)
+  nested-counts prefix least s =
+      IfSome-then (λ b. v b ≡ 0) (λ q. counted q ≡ 0) (o.sub_block s.block prefix least) _ (h.sub_block s.block prefix least) (λ b e. e)
+
+  append-counts : (s r : State) (b : B) (first later : List ℕ) (finish : B → State) → ((c : B) → counted (finish c) ≡ v c) →
+      IfSome (option_and_then (λ c. Some (finish c)) (o.append b r.block s.text.tag first later)) (AtLeast (v b + counted r))
+  append-counts s r b first later finish same =
+      IfSome-then (λ c. v b + v r.block ≤ v c) (AtLeast (v b + counted r)) (o.append b r.block s.text.tag first later) _
+      (h.append b r.block s.text.tag first later) (λ c a. let e = same c in omega arith)
+
+  -- what follows in a state that there may be, from what is counted there
+  asked : (added : State → ℕ) (P : State → Type 0) (Q : ℕ → State → Type 0) (s : Option State) (l : State → Option State) →
+      IfSome s P → ((q : State) → P q → IfSome (l q) (Q (added q))) → IfSome (option_and_then l s) (Q (count_from added s))
+  asked added P Q None l k next = tt
+  asked added P Q (Some q) l k next = next q k
+
+  module _ (children : State → Option State) (added : State → ℕ)
+      (below : (q : State) → IfSome (children q) (AtLeast (counted q + added q))) where
+    -- children, and something behind them that counts no less
+    then-counts : (n : ℕ) (q : State) (l : State → Option State) → n ≤ counted q → ((r : State) → IfSome (l r) (AtLeast (counted r))) →
+        IfSome (option_and_then l (children q)) (AtLeast (n + added q))
+    then-counts n q l a next =
+        IfSome-then (AtLeast (counted q + added q)) (AtLeast (n + added q)) (children q) l (below q) (λ r b.
+        IfSome-weaken (AtLeast (counted r)) (AtLeast (n + added q)) (l r) (next r) (λ t c. omega arith))
+
+    -- children in a state that there may be
+    between-counts : (n : ℕ) (s : Option State) (l : State → Option State) → IfSome s (AtLeast n) →
+        ((r : State) → IfSome (l r) (AtLeast (counted r))) →
+        IfSome (option_and_then (λ q. option_and_then l (children q)) s) (AtLeast (n + count_from added s))
+    between-counts n s l k next =
+        asked added (AtLeast n) (λ m. AtLeast (n + m)) s (λ q. option_and_then l (children q)) k (λ q a. then-counts n q l a next)
+
+    end-counts : (r : State) → IfSome (Some (record r { block = o.end_block r.block })) (AtLeast (counted r))
+    end-counts r = let e = h.end_block r.block in omega arith
+
+    decorated-counts : (round : Round S A) (s : State) →
+        IfSome (decorated d push o round children s) (AtLeast (counted s + count_from added (begun d push o round s)))
+    decorated-counts round s =
+        between-counts (counted s) (begun d push o round s) (λ r. add_text o (round.end r.decorator) r) (begun-counts round s)
+        (λ r. round-counts (round.end r.decorator) r)
+
+    quoted-counts : (prefix : List ℕ) (least : ℕ) (s : State) → IfSome (quoted d o prefix least children s)
+        (AtLeast (counted s + count_from added (nested d o (prefix_columns prefix) least s)))
+    quoted-counts prefix least s =
+        asked added (λ q. counted q ≡ 0) (λ m. AtLeast (counted s + m)) (nested d o (prefix_columns prefix) least s) _
+        (nested-counts (prefix_columns prefix) least s) (λ q zero.
+        IfSome-then (AtLeast (counted q + added q)) (AtLeast (counted s + added q)) (children q) _ (below q) (λ r a.
+        IfSome-then (λ b. v b ≡ v s.block) (AtLeast (counted s + added q)) (o.start_block s.block) _ (h.start_block s.block) (λ b e.
+        IfSome-weaken (AtLeast (v b + counted r)) (AtLeast (counted s + added q))
+        (option_and_then (λ c. Some (resumed s (o.end_block c) s.around r))
+        (o.append b r.block s.text.tag (chars prefix) (chars prefix)))
+        (append-counts s r b (chars prefix) (chars prefix) (λ c. resumed s (o.end_block c) s.around r) (λ c. h.end_block c))
+        (λ t x. omega arith))))
+
+    indented-counts : (prefix : List ℕ) (columns least : ℕ) (behind : Around) (s : State) →
+        IfSome (indented d o prefix columns least behind children s) (AtLeast (counted s + count_from added (nested d o columns least s)))
+    indented-counts prefix columns least behind s =
+        asked added (λ q. counted q ≡ 0) (λ m. AtLeast (counted s + m)) (nested d o columns least s) _
+        (nested-counts columns least s) (λ q zero.
+        IfSome-then (AtLeast (counted q + added q)) (AtLeast (counted s + added q)) (children q) _ (below q) (λ r a.
+        IfSome-weaken (AtLeast (v s.block + counted r)) (AtLeast (counted s + added q))
+        (option_and_then (λ c. Some (resumed s c behind r)) (o.append s.block r.block s.text.tag (chars prefix) (spaces columns)))
+        (append-counts s r s.block (chars prefix) (spaces columns) (λ c. resumed s c behind r) (λ c. refl))
+        (λ t x. omega arith)))
+
+    standing-counts : (around : Around) (s : State) →
+        IfSome (standing around children s) (AtLeast (counted s + added (record s { around = around })))
+    standing-counts around s =
+        let n = counted s + added (record s { around = around }) in
+        IfSome-then (AtLeast n) (AtLeast n) (children (record s { around = around })) _ (below (record s { around = around })) (λ r a. a)
+
+    -- what a kind without a text adds
+    abbrev Adds : NodeKind → Estimate → State → Type 0
+    Adds k e s = IfSome (kind_steps d push o k e children s) (AtLeast (counted s + count_from added (kind_inside d push o k e s)))
+
+    -- what a node adds: its text, and what its children do
+    abbrev Grows : NodeKind → Estimate → State → Type 0
+    Grows k e s =
+        IfSome (kind_steps d push o k e children s)
+        (AtLeast (counted s + (w (node_characters k) + count_from added (kind_inside d push o k e s))))
+
+    grows : (k : NodeKind) (e : Estimate) (s : State) → node_characters k ≡ [] → Adds k e s → Grows k e s
+    grows k e s none a =
+        let zero : w (node_characters k) ≡ 0 = ap w none ∙ empty in
+        IfSome-weaken (AtLeast (counted s + count_from added (kind_inside d push o k e s)))
+        (AtLeast (counted s + (w (node_characters k) + count_from added (kind_inside d push o k e s))))
+        (kind_steps d push o k e children s) a (λ r b. omega arith)
+
+    block-counts : (e : Estimate) (s : State) → Adds Block e s
+    block-counts e s =
+        between-counts (counted s) (on_block o.start_block s) (λ r. Some (record r { block = o.end_block r.block }))
+        (keeps-counts o.start_block s (h.start_block s.block)) end-counts
+
+    kind-counts : (k : NodeKind) (e : Estimate) (s : State) → Grows k e s
+    kind-counts (Text t) e s =
+        IfSome-weaken (AtLeast (counted s + w (chars t))) (AtLeast (counted s + (w (chars t) + 0))) (add_text o t s) (text-counts t s)
+        (λ r a. omega arith)
+    kind-counts Container e s = grows Container e s refl (below s)
+    kind-counts Break e s =
+        grows Break e s refl (IfSome-weaken (AtLeast (counted s)) (AtLeast (counted s + 0)) (on_block o.new_line_hard s)
+        (keeps-counts o.new_line_hard s (h.new_line_hard s.block)) (λ r a. omega arith))
+    kind-counts Block e s = grows Block e s refl (block-counts e s)
+    kind-counts Div e s =
+        grows Div e s refl (between-counts (counted s) (on_block o.new_line s) (λ r. on_block o.new_line r)
+        (keeps-counts o.new_line s (h.new_line s.block)) (λ r. keeps-counts o.new_line r (h.new_line r.block)))
+    kind-counts (Emphasis m) e s = grows (Emphasis m) e s refl (decorated-counts (emphasis_decoration d m) s)
+    kind-counts (Header level) e s = grows (Header level) e s refl (quoted-counts (d.header_prefix s.decorator level) (inner_least e) s)
+    kind-counts BlockQuote e s = grows BlockQuote e s refl (quoted-counts (d.quote_prefix s.decorator) (inner_least e) s)
+    kind-counts Ul e s = grows Ul e s refl (standing-counts (Bullets (inner_least e)) s)
+    kind-counts (Ol first) e s = grows (Ol first) e s refl (standing-counts (numbers d push o e first s.decorator) s)
+    kind-counts ListItem e s = grows ListItem e s refl (block-counts e s)
+    kind-counts Dl e s =
+        grows Dl e s refl (asked added (AtLeast (counted s)) (λ m. AtLeast (counted s + m)) (on_block o.start_block s) children
+        (keeps-counts o.start_block s (h.start_block s.block)) (λ q a.
+        IfSome-weaken (AtLeast (counted q + added q)) (AtLeast (counted s + added q)) (children q) (below q) (λ r b. omega arith)))
+    kind-counts Dt e s =
+        grows Dt e s refl (by (on_block o.new_line s) (keeps-counts o.new_line s (h.new_line s.block)))
+      where
+        by : (q : Option State) → IfSome q (AtLeast (counted s)) →
+            IfSome (option_and_then (λ p. decorated d push o d.em children p) q)
+            (AtLeast (counted s + count_from added (option_and_then (λ p. begun d push o d.em p) q)))
+        by None a = tt
+        by (Some p) a =
+            IfSome-weaken (AtLeast (counted p + count_from added (begun d push o d.em p)))
+            (AtLeast (counted s + count_from added (begun d push o d.em p))) (decorated d push o d.em children p)
+            (decorated-counts d.em p) (λ r b. omega arith)
+    kind-counts Dd e s = grows Dd e s refl (indented-counts (spaces 2) 2 (inner_least e) s.around s)
+
+    restored-counts : (k : NodeKind) (e : Estimate) (s : State) →
+        IfSome (restored (kind_steps d push o k e children) s)
+        (AtLeast (counted s + (w (node_characters k) + count_from added (kind_inside d push o k e s))))
+    restored-counts k e s =
+        let least = counted s + (w (node_characters k) + count_from added (kind_inside d push o k e s)) in
+        IfSome-then (AtLeast least) (AtLeast least) (kind_steps d push o k e children s) _ (kind-counts k e s) (λ r a. a)
+
+    -- an item of a list
+    item-counts : (k : NodeKind) (e : Estimate) (prefix : List ℕ) (columns least : ℕ) (behind : Around) (s : State) →
+        IfSome (indented d o prefix columns least behind (λ q. restored (kind_steps d push o k e children) q) s)
+        (AtLeast (counted s + (w (node_characters k)
+        + count_from added (option_and_then (λ q. kind_inside d push o k e q) (nested d o columns least s)))))
+    item-counts k e prefix columns least behind s = by (nested d o columns least s) (nested-counts columns least s)
+      where
+        by : (n : Option State) → IfSome n (λ q. counted q ≡ 0) →
+            IfSome (option_and_then (λ q. option_and_then (λ r. option_and_then (λ b. Some (resumed s b behind r))
+            (o.append s.block r.block s.text.tag (chars prefix) (spaces columns))) (restored (kind_steps d push o k e children) q)) n)
+            (AtLeast (counted s + (w (node_characters k) + count_from added (option_and_then (λ q. kind_inside d push o k e q) n))))
+        by None a = tt
+        by (Some q) a =
+            let inner = w (node_characters k) + count_from added (kind_inside d push o k e q) in
+            IfSome-then (AtLeast (counted q + inner)) (AtLeast (counted s + inner)) (restored (kind_steps d push o k e children) q) _
+            (restored-counts k e q) (λ r b.
+            IfSome-weaken (AtLeast (v s.block + counted r)) (AtLeast (counted s + inner))
+            (option_and_then (λ c. Some (resumed s c behind r)) (o.append s.block r.block s.text.tag (chars prefix) (spaces columns)))
+            (append-counts s r s.block (chars prefix) (spaces columns) (λ c. resumed s c behind r) (λ c. refl))
+            (λ t x. omega arith))
+
+    placed-counts : (k : NodeKind) (e : Estimate) (s : State) (a : Around) →
+        IfSome (placed d o (λ q. restored (kind_steps d push o k e children) q) s a)
+        (AtLeast (counted s + (w (node_characters k) + count_from added (placed_inside d push o k e s a))))
+    placed-counts k e s Plain = restored-counts k e s
+    placed-counts k e s (Bullets least) =
+        let bullet = d.unordered_item_prefix s.decorator in
+        item-counts k e bullet (prefix_columns bullet) least (Bullets least) s
+    placed-counts k e s (Numbers least number columns) =
+        item-counts k e (padded columns (d.ordered_item_prefix s.decorator number)) columns least
+        (Numbers least (next_number number) columns) s
+
+  steps-grow : NodesGrow counted node_count (steps d push o) (inside d push o)
+  steps-grow n trees children added below s = placed-counts children added below n.kind n.estimate s s.around
+
+  -- what is counted grows by what is counted in the texts that are visited
+  pub layout-grows : (t : Forest RenderNode) (s : State) → IfSome (run (steps d push o) t s)
+      (λ r. v s.block
+      + sum_by (λ (n : RenderNode). w (node_characters n.kind)) (visited (steps d push o) (inside d push o) t s) ≤ v r.block)
+  layout-grows t s = run-grows counted node_count (steps d push o) (inside d push o) steps-grow t s
+
+-- ---- how often a character stands in texts
+
+visible-append : (xs ys : List ℕ) → visible_in_text (xs ++ ys) ≡ visible_in_text xs ++ visible_in_text ys
+visible-append [] ys = refl
+visible-append (x ∷ xs) ys =
+    ap (λ r. if_visible x ++ r) (visible-append xs ys) ∙ sym (append_assoc (if_visible x) (visible_in_text xs) (visible_in_text ys))
+
+texts_count : (c : ℕ) (ns : List RenderNode) →
+    text_count c (text_characters ns) ≡ sum_by (λ (n : RenderNode). text_count c (node_characters n.kind)) ns
+texts_count c [] = refl
+texts_count c (n ∷ ns) =
+    let f : RenderNode → ℕ = λ n. text_count c (node_characters n.kind) in
+    ap (count c) (visible-append (node_characters n.kind) (text_characters ns))
+    ∙ sum_by-append (λ x. cond (x == c) 1 0) (visible_in_text (node_characters n.kind)) (visible_in_text (text_characters ns))
+    ∙ ap (λ m. text_count c (node_characters n.kind) + m) (texts_count c ns) ∙ sym (sum_by-cons f n ns)
+
+-- a law for each character
+for_each : {X : Type 0} (P : ℕ → X → Type 0) (o : Option X) → ((c : ℕ) → IfSome o (P c)) → IfSome o (λ x. (c : ℕ) → P c x)
+for_each P None h = tt
+for_each P (Some x) h = h
+
+line-with : {T U M : Type 0} (f : T → U) (l : Line T M) → visible_in_line (line_with f l) ≡ visible_in_line l
+line-with f [] = refl
+line-with f (element.Character c tag ∷ es) = ap (λ r. if_visible c ++ r) (line-with f es)
+line-with f (element.Mark m ∷ es) = line-with f es
+
+-- a map of tags keeps the characters
+lines-with : {T U M : Type 0} (f : T → U) (ls : List (Line T M)) → visible_in_lines (lines_with f ls) ≡ visible_in_lines ls
+lines-with f [] = refl
+lines-with f (l ∷ ls) =
+    ap (λ r. r ++ visible_in_lines (lines_with f ls)) (line-with f l) ∙ ap (λ r. visible_in_line l ++ r) (lines-with f ls)
+
+-- what is known of an answer
+of_lines : {L : Type 0} (P : L → Type 0) (p : Option L) (lines : L) → IfSome p P → p ≡ Some lines → P lines
+of_lines P None lines h e = cc
+of_lines P (Some ls) lines h e = subst P (same_Some ls lines e) h
+
+module _ {S A : Type 0} (d : Decoration S A) where
+  abbrev lines_from : Forest RenderNode → Defined S A → Option (List (Line (List A) ℕ))
+  lines_from t s = shown_after d onto definition.operations (λ (r : Defined S A). r.block.lines) t s
+
+  -- THE LAW: each visible character of the texts that are visited stands in the lines as often, or more often
+  pub layout_keeps_texts : (t : Forest RenderNode) (decorator : S) (w : ℕ) (o : Bool) → IfSome (layout_lines d t decorator w o)
+      (KeepsTexts (visited_nodes d t decorator w o))
+  layout_keeps_texts t decorator w o =
+      for_each (λ c lines. text_count c (text_characters (visited_nodes d t decorator w o)) ≤ count c (visible_in_lines lines))
+      (layout_lines d t decorator w o) (λ c. by c (w == 0))
+    where
+      lines : (c : ℕ) → IfSome (lines_from (estimated d decorator t) (empty_state d decorator w o))
+          (λ lines. text_count c (text_characters (visited_nodes d t decorator w o)) ≤ count c (visible_in_lines lines))
+      lines c =
+          let start = empty_state d decorator w o in
+          let f : RenderNode → ℕ = λ n. text_count c (node_characters n.kind) in
+          let wanted : List (Line (List A) ℕ) → Type 0 =
+          λ lines. text_count c (text_characters (visited_nodes d t decorator w o)) ≤ count c (visible_in_lines lines) in
+          let had = visible_count c start.block + sum_by f (visited_nodes d t decorator w o) in
+          IfSome-then (λ (r : Defined S A). had ≤ visible_count c r.block) wanted
+          (run (defined d) (estimated d decorator t) start) _
+          (layout-grows d onto definition.operations (visible_count c) (text_count c) (operations_keep_visible c) refl
+          (estimated d decorator t) start) (λ r a.
+          IfSome-then (λ (q : Defined S A). count c (visible_in_lines q.block.lines) ≡ visible_count c r.block) wanted
+          (on_block definition.operations.new_line r) _
+          (IfSome-then (λ (b : DefinedBlock (List A) ℕ). count c (visible_in_lines b.lines) ≡ visible_count c r.block)
+          (λ (q : Defined S A). count c (visible_in_lines q.block.lines) ≡ visible_count c r.block) (definition.flush r.block) _
+          (flushed_count c r.block) (λ b e. e)) (λ q e. omega (arith, a, e, texts_count c (visited_nodes d t decorator w o))))
+
+      by : (c : ℕ) (z : Bool) → IfSome (cond z None (lines_from (estimated d decorator t) (empty_state d decorator w o)))
+          (λ lines. text_count c (text_characters (visited_nodes d t decorator w o)) ≤ count c (visible_in_lines lines))
+      by c true = tt
+      by c false = lines c
+
+  -- the same of the lines without annotations
+  pub untagged_keeps_texts : (t : Forest RenderNode) (decorator : S) (w : ℕ) (o : Bool) → IfSome (untagged_lines d t decorator w o)
+      (KeepsTexts (visited_nodes d t decorator w o))
+  untagged_keeps_texts t decorator w o = by (layout_lines d t decorator w o) (layout_keeps_texts t decorator w o)
+    where
+      by : (p : Option (List (Line (List A) ℕ))) → IfSome p (KeepsTexts (visited_nodes d t decorator w o)) →
+          IfSome (option_map (lines_with (λ (s : List A). no_tag s)) p) (KeepsTexts (visited_nodes d t decorator w o))
+      by None h = tt
+      by (Some ls) h = λ c. subst (λ cs. text_count c (text_characters (visited_nodes d t decorator w o)) ≤ count c cs)
+          (sym (lines-with (λ (s : List A). no_tag s) ls)) (h c)
+
+  -- ---- the laws, of what a call answers
+
+  pub keeps-answered : {X : Type 0} (t : Forest RenderNode) (decorator : S) (w : ℕ) (o : Bool) (lines : X → List (Line (List A) ℕ))
+      (r : Result X Error) →
+      IfOk r (λ v. layout_lines d t decorator w o ≡ Some (lines v)) →
+      IfOk r (λ v. KeepsTexts (visited_nodes d t decorator w o) (lines v))
+  keeps-answered t decorator w o lines (Err e) h = tt
+  keeps-answered t decorator w o lines (Ok v) h =
+      of_lines (KeepsTexts (visited_nodes d t decorator w o)) (layout_lines d t decorator w o) (lines v)
+      (layout_keeps_texts t decorator w o) h
+
+  pub untagged_keeps-answered : {X : Type 0} (t : Forest RenderNode) (decorator : S) (w : ℕ) (o : Bool)
+      (lines : X → List (Line (Unit {0}) ℕ)) (r : Result X Error) →
+      IfOk r (λ v. untagged_lines d t decorator w o ≡ Some (lines v)) →
+      IfOk r (λ v. KeepsTexts (visited_nodes d t decorator w o) (lines v))
+  untagged_keeps-answered t decorator w o lines (Err e) h = tt
+  untagged_keeps-answered t decorator w o lines (Ok v) h =
+      of_lines (KeepsTexts (visited_nodes d t decorator w o)) (untagged_lines d t decorator w o) (lines v)
+      (untagged_keeps_texts t decorator w o) h

@@ -1,0 +1,223 @@
+-- What the walk does at a node is what is defined.
+use Rattle.std.specs.Prelude.{◌≡◌, ℕ, List, Option, Some, None, option_and_then, refl}
+use Rattle.std.proofs.Common.{ap, ◌∙◌, sym}
+use Rattle.std.specs.Str.{chars}
+use Rattle.html_render_dom.specs.Forest.{Forest}
+use Rattle.html_render_parts.specs.Decoration.{Decoration}
+use Rattle.html_render_estimates.specs.Estimates.{prefix_columns}
+use Rattle.html_render_nodes.specs.declared.tree.Estimate.{Estimate}
+use Rattle.html_render_nodes.specs.declared.tree.NodeKind.{NodeKind}
+use Rattle.html_render_nodes.specs.declared.tree.NodeKind.TheVariants.{Text, Container, Break, Block, Div, Emphasis}
+use Rattle.html_render_nodes.specs.declared.tree.NodeKind.TheVariants.{Header, BlockQuote, Ul, Ol, ListItem, Dl, Dt, Dd}
+use Rattle.html_render_nodes.specs.declared.tree.RenderNode.{RenderNode}
+use Rattle.html_render_nodes.specs.Pass.{Way, Into, Past, AsksIn, past, through, into, inside_of}
+use Rattle.html_render_nodes.specs.laws.Visits.{opened-asks, asks-same}
+use Rattle.html_render_blocks.specs.Operations.{Operations}
+use Rattle.html_render_layout.specs.declared.layout.state.Around.{Around}
+use Rattle.html_render_layout.specs.declared.layout.state.Around.TheVariants.{Plain, Bullets, Numbers}
+use Rattle.html_render_layout.specs.declared.layout.state.Closing.{Closing}
+use Rattle.html_render_layout.specs.declared.layout.state.Indent.{Indent}
+use Rattle.html_render_layout.specs.declared.layout.state.KindClosing.{KindClosing}
+use Rattle.html_render_layout.specs.declared.layout.state.LayoutState.{LayoutState}
+use Rattle.html_render_layout.specs.declared.layout.state.TextContext.{TextContext}
+use Rattle.html_render_layout.specs.Layout.{on_block, add_text, begun, decorated, emphasis_decoration, nested, indented, resumed, spaces, padded, next_number}
+use Rattle.html_render_layout.specs.Layout.{inner_least, restored, placed, kind_steps, steps, kind_inside, placed_inside, inside}
+use Rattle.html_render_layout.specs.Opening.{interrupted, item_closed, keeping, as_item, quote_opened, kind_opened, kind_closed, node_opened}
+use Rattle.html_render_layout.specs.Opening.{item_opened, placed_opened, opened, closed}
+
+and_then_some : {A : Type 0} (o : Option A) → o ≡ option_and_then (λ x. Some x) o
+and_then_some None = refl
+and_then_some (Some x) = refl
+
+and_then_assoc : {A B C : Type 0} (o : Option A) (f : A → Option B) (h : B → Option C) →
+    option_and_then (λ x. option_and_then h (f x)) o ≡ option_and_then h (option_and_then f o)
+and_then_assoc None f h = refl
+and_then_assoc (Some x) f h = refl
+
+-- two that go on alike
+and_then_same : {A B : Type 0} (o : Option A) (f h : A → Option B) → ((x : A) → f x ≡ h x) → option_and_then f o ≡ option_and_then h o
+and_then_same None f h e = refl
+and_then_same (Some x) f h e = e x
+
+-- a node that is passed does the same whatever its children do
+past-told : {S T : Type 0} (closed : T → S → Option S) (children : S → Option S) (o : Option S) →
+    o ≡ option_and_then (through closed children) (past o)
+past-told closed children None = refl
+past-told closed children (Some t) = refl
+
+past-inside : {S : Type 0} (T : Type 0) (o : Option S) → option_and_then (λ (w : Way S T). into w) (past o) ≡ None
+past-inside T None = refl
+past-inside T (Some t) = refl
+
+-- the state in which the children of a node are laid out that is opened in this one
+into-inside : {S : Type 0} (T : Type 0) (o : Option S) (kept : S → T) → option_and_then (λ (w : Way S T). into w)
+    (option_and_then (λ q. Some (Into q (kept q))) o) ≡ o
+into-inside T None kept = refl
+into-inside T (Some q) kept = refl
+
+module _ {S A K T B : Type 0} (d : Decoration S A) (push : K → T → A → K × T) (o : Operations B T) where
+  abbrev State : Type 0
+  State = LayoutState S K T B
+
+  kind-told : (k : NodeKind) (e : Estimate) (children : State → Option State) (s : State) →
+      kind_steps d push o k e children s
+      ≡ option_and_then (through (kind_closed d push o s.text) children) (kind_opened d push o k e s)
+  kind-told (Text t) e children s = past-told (kind_closed d push o s.text) children (add_text o t s)
+  kind-told Container e children s = and_then_some (children s)
+  kind-told Break e children s = past-told (kind_closed d push o s.text) children (on_block o.new_line_hard s)
+  kind-told Block e children s = and_then_assoc (on_block o.start_block s) _ _
+  kind-told Div e children s = and_then_assoc (on_block o.new_line s) _ _
+  kind-told (Emphasis m) e children s = and_then_assoc (begun d push o (emphasis_decoration d m) s) _ _
+  kind-told (Header level) e children s =
+      and_then_assoc (nested d o (prefix_columns (d.header_prefix s.decorator level)) (inner_least e) s) _ _
+  kind-told BlockQuote e children s = and_then_assoc (nested d o (prefix_columns (d.quote_prefix s.decorator)) (inner_least e) s) _ _
+  kind-told Ul e children s = refl
+  kind-told (Ol first) e children s = refl
+  kind-told ListItem e children s = and_then_assoc (on_block o.start_block s) _ _
+  kind-told Dl e children s =
+      and_then_same (on_block o.start_block s) _ _ (λ q. and_then_some (children q)) ∙ and_then_assoc (on_block o.start_block s) _ _
+  kind-told Dt e children s =
+      and_then_same (on_block o.new_line s) _ _ (λ q. and_then_assoc (begun d push o d.em q) _ _)
+      ∙ and_then_assoc (on_block o.new_line s) _ _
+  kind-told Dd e children s = and_then_assoc (nested d o 2 (inner_least e) s) _ _
+
+  -- texts are treated so again
+  abbrev back : TextContext T → State → Option State
+  back text r = Some (record r { text = text })
+
+  keeping-told : (children : State → Option State) (text : TextContext T) (w : Option (Way State (KindClosing S B))) →
+      option_and_then (back text) (option_and_then (through (kind_closed d push o text) children) w)
+      ≡ option_and_then (through (closed d push o) children) (option_and_then (λ v. Some (keeping text v)) w)
+  keeping-told children text None = refl
+  keeping-told children text (Some (Into q k)) = sym (and_then_assoc (children q) (kind_closed d push o text k) _)
+  keeping-told children text (Some (Past r)) = refl
+
+  node-told : (k : NodeKind) (e : Estimate) (children : State → Option State) (s : State) →
+      restored (kind_steps d push o k e children) s
+      ≡ option_and_then (through (closed d push o) children) (node_opened d push o k e s)
+  node-told k e children s =
+      ap (option_and_then (back s.text)) (kind-told k e children s)
+      ∙ keeping-told children s.text (kind_opened d push o k e s)
+
+  -- an item in a block of its own, from what is opened there
+  as_item-told : (children : State → Option State) (i : Indent S B) (text : TextContext T) (w : Option (Way State (KindClosing S B))) →
+      option_and_then (item_closed o (Some i))
+      (option_and_then (through (closed d push o) children) (option_and_then (λ v. Some (keeping text v)) w))
+      ≡ option_and_then (through (closed d push o) children)
+      (option_and_then (as_item o i) (option_and_then (λ v. Some (keeping text v)) w))
+  as_item-told children i text None = refl
+  as_item-told children i text (Some (Into q k)) =
+      sym (and_then_assoc (children q) _ _)
+      ∙ and_then_same (children q) _ _ (λ r. sym (and_then_assoc (kind_closed d push o text k r) _ _))
+  as_item-told children i text (Some (Past r)) = past-told (closed d push o) children _
+
+  item-told : (k : NodeKind) (e : Estimate) (prefix : List ℕ) (columns least : ℕ) (behind : Around) (children : State → Option State)
+      (s : State) →
+      indented d o prefix columns least behind (restored (kind_steps d push o k e children)) s
+      ≡ option_and_then (through (closed d push o) children) (item_opened d push o k e prefix columns least behind s)
+  item-told k e prefix columns least behind children s = by (o.sub_block s.block columns least)
+    where
+      -- the item's block is put into the state's
+      put : State → Option State
+      put r = option_and_then (λ b. Some (resumed s b behind r)) (o.append s.block r.block s.text.tag (chars prefix) (spaces columns))
+
+      item : Indent S B
+      item = record { outer = interrupted s behind prefix; columns = columns }
+
+      same : (text : TextContext T) → text ≡ s.text → (r : Option State) →
+          option_and_then put (option_and_then (back text) r)
+          ≡ option_and_then (item_closed o (Some item)) (option_and_then (back text) r)
+      same text e None = refl
+      same text e (Some r) = ap (λ (x : TextContext T). option_and_then (λ b. Some (resumed s b behind (record r { text = text })))
+          (o.append s.block r.block x.tag (chars prefix) (spaces columns))) (sym e)
+
+      by : (b : Option B) →
+          option_and_then (λ (q : State). option_and_then put (restored (kind_steps d push o k e children) q))
+          (option_and_then (λ c. Some (record s { decorator = d.subblock s.decorator; block = c; around = Plain })) b)
+          ≡ option_and_then (through (closed d push o) children)
+          (option_and_then (λ (q : State). option_and_then (as_item o item) (node_opened d push o k e q))
+          (option_and_then (λ c. Some (record s { decorator = d.subblock s.decorator; block = c; around = Plain })) b))
+      by None = refl
+      by (Some c) =
+          let q : State = record s { decorator = d.subblock s.decorator; block = c; around = Plain } in
+          same s.text refl (kind_steps d push o k e children q)
+          ∙ ap (option_and_then (item_closed o (Some item))) (node-told k e children q)
+          ∙ as_item-told children item s.text (kind_opened d push o k e q)
+
+  -- THE LAW: a node's steps are that it is opened, its children come, and it is closed
+  pub steps-told : (n : RenderNode) (trees : Forest RenderNode) (children : State → Option State) (s : State) →
+      steps d push o n trees children s ≡ option_and_then (through (closed d push o) children) (opened d push o n trees s)
+  steps-told n trees children s = by s.around
+    where
+      by : (a : Around) → placed d o (λ q. restored (kind_steps d push o n.kind n.estimate children) q) s a
+          ≡ option_and_then (through (closed d push o) children) (placed_opened d push o n.kind n.estimate s a)
+      by Plain = node-told n.kind n.estimate children s
+      by (Bullets least) =
+          let bullet = d.unordered_item_prefix s.decorator in
+          item-told n.kind n.estimate bullet (prefix_columns bullet) least (Bullets least) children s
+      by (Numbers least number columns) =
+          item-told n.kind n.estimate (padded columns (d.ordered_item_prefix s.decorator number)) columns least
+          (Numbers least (next_number number) columns) children s
+
+  -- ---- where its children are laid out
+
+  kind-inside : (k : NodeKind) (e : Estimate) (s : State) →
+      option_and_then (λ w. into w) (kind_opened d push o k e s) ≡ kind_inside d push o k e s
+  kind-inside (Text t) e s = past-inside (KindClosing S B) (add_text o t s)
+  kind-inside Container e s = refl
+  kind-inside Break e s = past-inside (KindClosing S B) (on_block o.new_line_hard s)
+  kind-inside Block e s = into-inside (KindClosing S B) (on_block o.start_block s) _
+  kind-inside Div e s = into-inside (KindClosing S B) (on_block o.new_line s) _
+  kind-inside (Emphasis m) e s = into-inside (KindClosing S B) (begun d push o (emphasis_decoration d m) s) _
+  kind-inside (Header level) e s =
+      into-inside (KindClosing S B) (nested d o (prefix_columns (d.header_prefix s.decorator level)) (inner_least e) s) _
+  kind-inside BlockQuote e s = into-inside (KindClosing S B) (nested d o (prefix_columns (d.quote_prefix s.decorator)) (inner_least e) s) _
+  kind-inside Ul e s = refl
+  kind-inside (Ol first) e s = refl
+  kind-inside ListItem e s = into-inside (KindClosing S B) (on_block o.start_block s) _
+  kind-inside Dl e s = into-inside (KindClosing S B) (on_block o.start_block s) _
+  kind-inside Dt e s =
+      sym (and_then_assoc (on_block o.new_line s) _ _)
+      ∙ and_then_same (on_block o.new_line s) _ _ (λ q. into-inside (KindClosing S B) (begun d push o d.em q) _)
+  kind-inside Dd e s = into-inside (KindClosing S B) (nested d o 2 (inner_least e) s) _
+
+  keeping-inside : (text : TextContext T) (w : Option (Way State (KindClosing S B))) →
+      option_and_then (λ v. into v) (option_and_then (λ v. Some (keeping text v)) w) ≡ option_and_then (λ v. into v) w
+  keeping-inside text None = refl
+  keeping-inside text (Some (Into q k)) = refl
+  keeping-inside text (Some (Past r)) = refl
+
+  as_item-inside : (i : Indent S B) (text : TextContext T) (w : Option (Way State (KindClosing S B))) →
+      option_and_then (λ v. into v) (option_and_then (as_item o i) (option_and_then (λ v. Some (keeping text v)) w))
+      ≡ option_and_then (λ v. into v) w
+  as_item-inside i text None = refl
+  as_item-inside i text (Some (Into q k)) = refl
+  as_item-inside i text (Some (Past r)) = past-inside (Closing S T B) _
+
+  item-inside : (k : NodeKind) (e : Estimate) (prefix : List ℕ) (columns least : ℕ) (behind : Around) (s : State) →
+      option_and_then (λ w. into w) (item_opened d push o k e prefix columns least behind s)
+      ≡ option_and_then (λ q. kind_inside d push o k e q) (nested d o columns least s)
+  item-inside k e prefix columns least behind s =
+      sym (and_then_assoc (nested d o columns least s) _ _)
+      ∙ and_then_same (nested d o columns least s) _ _ (λ q.
+      as_item-inside (record { outer = interrupted s behind prefix; columns = columns }) q.text (kind_opened d push o k e q)
+      ∙ kind-inside k e q)
+
+  pub opened-inside : (n : RenderNode) (trees : Forest RenderNode) (s : State) →
+      inside_of (opened d push o) n trees s ≡ inside d push o n trees s
+  opened-inside n trees s = by s.around
+    where
+      by : (a : Around) → option_and_then (λ w. into w) (placed_opened d push o n.kind n.estimate s a)
+          ≡ placed_inside d push o n.kind n.estimate s a
+      by Plain = keeping-inside s.text (kind_opened d push o n.kind n.estimate s) ∙ kind-inside n.kind n.estimate s
+      by (Bullets least) =
+          let bullet = d.unordered_item_prefix s.decorator in
+          item-inside n.kind n.estimate bullet (prefix_columns bullet) least (Bullets least) s
+      by (Numbers least number columns) =
+          item-inside n.kind n.estimate (padded columns (d.ordered_item_prefix s.decorator number)) columns least
+          (Numbers least (next_number number) columns) s
+
+  -- THE LAW: a node's steps ask for its children there
+  pub layout-asks : AsksIn (steps d push o) (inside d push o)
+  layout-asks = asks-same (steps d push o) (inside_of (opened d push o)) (inside d push o) opened-inside
+      (opened-asks (steps d push o) (opened d push o) (closed d push o) steps-told)

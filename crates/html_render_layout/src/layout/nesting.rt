@@ -1,0 +1,128 @@
+//! A block inside the one that is laid out into: how it begins, and how its lines go on in the other.
+
+ghost use Rattle.std.specs.Prelude.{◌≡◌, Some, OnOk, IfOk, IfErr};
+ghost use Rattle.std.specs.Str.{chars};
+ghost use Rattle.html_render_dom.specs.Outcome.{Refuses};
+ghost use Rattle.html_render_blocks.specs.BlockMachine as machine;
+ghost use Rattle.html_render_layout.specs.Layout.{nested, spaces};
+ghost use Rattle.html_render_layout.specs.Opening.{interrupted, indent_closed, quote_closed};
+
+use super::spaces::{FEW, few_spaces, many_spaces};
+use super::state::{Around, Indent, Interrupted, LayoutState, Outer, TextContext};
+use crate::tagging::Tagging;
+use html_render_blocks::block::Block;
+use html_render_dom::Error;
+use html_render_dom::text::Text;
+use html_render_lines::tag::Tag;
+use html_render_parts::decorate::TextDecorator;
+use std::alloc::Global;
+use std::mem;
+
+/// Begins an empty block inside the state's, behind a prefix of so many columns and with at least `least` of its own, and
+/// answers what it interrupts.
+///
+/// # Errors
+///
+/// `TooNarrow`, where these columns aren't there, with overflow off. `OutOfMemory`.
+#[tactic(auto, using(html_render_dom::specs::laws::Outcome::refusals))]
+pub fn nest<D: TextDecorator, G: Tagging<D::Annotation>>(
+    alloc: Global,
+    prefix: Text,
+    columns: usize,
+    least: usize,
+    behind: Around,
+    state: &mut LayoutState<D, G, G::Tag, Block<G::Tag, usize>>,
+) -> Result<Interrupted<D, Block<G::Tag, usize>>, Error>
+    ensures ok { OnOk result (nested D.decoration machine.operations columns least state.old ≡ Some state.new) }
+    ensures outer { IfOk result (λ outer. outer ≡ interrupted state.old behind prefix) }
+    ensures err { IfErr result (λ e. Refuses e (nested D.decoration machine.operations columns least state.old)) }
+{
+    let block = state.block.sub_block(columns, least)?;
+    let decorator = state.decorator.make_subblock_decorator(alloc)?;
+    let outer = Outer {
+        decorator: mem::replace(&mut state.decorator, decorator),
+        block: mem::replace(&mut state.block, block),
+        around: behind,
+        prefix,
+    };
+    state.around = Around::Plain;
+    Interrupted::new(alloc, outer)
+}
+
+/// Adds the lines of a block, the first behind a prefix and the later ones behind so many spaces.
+fn append_behind<T: Tag>(
+    alloc: Global,
+    block: &mut Block<T, usize>,
+    sub: Block<T, usize>,
+    tag: T,
+    prefix: &str,
+    columns: usize,
+) -> Result<(), Error>
+    ensures ok { OnOk result (machine.append block.old sub tag (chars prefix.now) (spaces columns) ≡ Some block.new) }
+    ensures err { IfErr result (λ e. Refuses e (machine.append block.old sub tag (chars prefix.now) (spaces columns))) }
+{
+    if columns <= FEW {
+        return block.append(sub, tag, prefix, few_spaces(columns));
+    }
+    let later = many_spaces(alloc, columns)?;
+    block.append(sub, tag, prefix, later.as_str())
+}
+
+/// What was indented is over: the block that it interrupted goes on, with its lines.
+///
+/// # Errors
+///
+/// `TooNarrow`, where a block is flushed for which a character is too wide, or a line is too wide behind its prefix.
+/// `OutOfMemory`.
+#[tactic(auto, using(html_render_dom::specs::laws::Outcome::refusals))]
+pub fn close_indent<D: TextDecorator, G: Tagging<D::Annotation>>(
+    alloc: Global,
+    text: TextContext<G::Tag>,
+    indent: Indent<D, Block<G::Tag, usize>>,
+    state: &mut LayoutState<D, G, G::Tag, Block<G::Tag, usize>>,
+) -> Result<(), Error>
+    ensures ok { OnOk result (indent_closed machine.operations text indent state.old ≡ Some state.new) }
+    ensures err { IfErr result (λ e. Refuses e (indent_closed machine.operations text indent state.old)) }
+{
+    let columns = indent.columns;
+    let outer = indent.outer.into_outer();
+    let sub = mem::replace(&mut state.block, outer.block);
+    append_behind(
+        alloc,
+        &mut state.block,
+        sub,
+        text.tag,
+        outer.prefix.as_str(),
+        columns,
+    )?;
+    state.decorator = outer.decorator;
+    state.around = outer.around;
+    Ok(())
+}
+
+/// A heading or a quote is over: the block that it interrupted goes on, with its lines as a block.
+///
+/// # Errors
+///
+/// As for what was indented.
+#[tactic(auto, using(html_render_dom::specs::laws::Outcome::refusals))]
+pub fn close_quote<D: TextDecorator, G: Tagging<D::Annotation>>(
+    text: TextContext<G::Tag>,
+    outer: Interrupted<D, Block<G::Tag, usize>>,
+    state: &mut LayoutState<D, G, G::Tag, Block<G::Tag, usize>>,
+) -> Result<(), Error>
+    ensures ok { OnOk result (quote_closed machine.operations text outer state.old ≡ Some state.new) }
+    ensures err { IfErr result (λ e. Refuses e (quote_closed machine.operations text outer state.old)) }
+{
+    let outer = outer.into_outer();
+    let prefix = outer.prefix;
+    let sub = mem::replace(&mut state.block, outer.block);
+    state.block.start_block()?;
+    state
+        .block
+        .append(sub, text.tag, prefix.as_str(), prefix.as_str())?;
+    state.block.end_block();
+    state.decorator = outer.decorator;
+    state.around = outer.around;
+    Ok(())
+}

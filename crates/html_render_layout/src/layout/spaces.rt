@@ -1,0 +1,62 @@
+//! Spaces that lines stand behind.
+
+ghost use Rattle.std.specs.Prelude.{◌≡◌, ◌≤◌, ◌-◌, ◌++◌, IfOk, OnOk, IfErr, string_bytes};
+ghost use Rattle.std.specs.Str.{chars};
+ghost use Rattle.html_render_layout.specs.Layout.{spaces, padded};
+
+use html_render_dom::Error;
+use html_render_estimates::text::columns;
+use std::alloc::{AllocError, Global};
+
+/// As many spaces as [`few_spaces`] has.
+const FEW_SPACES: &str = "                                                                ";
+
+/// How many these are.
+pub const FEW: usize = 64;
+
+/// So many spaces, without an allocation.
+pub fn few_spaces(count: usize) -> &'static str
+    requires { count ≤ FEW }
+    ensures { chars result.now ≡ spaces count }
+{
+    &FEW_SPACES[..count]
+}
+
+/// Writes so many spaces behind a text.
+fn push_spaces(text: &mut String, count: usize) -> Result<(), AllocError>
+    ensures { OnOk result (string_bytes text.new ≡ string_bytes text.old ++ spaces count) }
+{
+    for _ in 0..count {
+        text.push(' ')?;
+    }
+    Ok(())
+}
+
+/// So many spaces.
+///
+/// # Errors
+///
+/// `OutOfMemory`.
+pub fn many_spaces(alloc: Global, count: usize) -> Result<String, Error>
+    ensures ok { IfOk result (λ text. chars (string_bytes text) ≡ spaces count) }
+    ensures err { IfErr result (λ e. e ≡ Error.OutOfMemory) }
+{
+    let mut text = String::new(alloc);
+    push_spaces(&mut text, count)?;
+    Ok(text)
+}
+
+/// A prefix with spaces behind it up to so many columns.
+///
+/// # Errors
+///
+/// `OutOfMemory`.
+pub fn padded(prefix: String, count: usize) -> Result<String, Error>
+    ensures ok { IfOk result (λ text. string_bytes text ≡ padded count (string_bytes prefix)) }
+    ensures err { IfErr result (λ e. e ≡ Error.OutOfMemory) }
+{
+    let mut text = prefix;
+    let missing = count.saturating_sub(columns(text.as_str()));
+    push_spaces(&mut text, missing)?;
+    Ok(text)
+}

@@ -1,0 +1,439 @@
+-- What the walk keeps true.
+use Rattle.std.proofs.Common.{◌≡◌, ◌≢◌, ℕ, ◌+◌, ◌-◌, ◌<◌, ◌≤◌, List, [], ◌∷◌, ◌++◌, length, take, drop, max, Option, Some, None, Result, Ok, Err}
+use Rattle.std.proofs.Common.{refl, sym, ap, ◌∙◌, subst, arith, append_assoc, append-nil, length-append, length-drop, get_or, drop-cons, suc, add-one}
+use Rattle.std.proofs.lemmas.List.{same_from_push, drop-drop}
+use Rattle.std.proofs.Math.Seq.{take-append_seam, drop-append_seam}
+use Rattle.std.specs.Option.{option_and_then}
+use Rattle.std.specs.Result.{IsErrAnd}
+use Rattle.html_render_dom.specs.declared.errors.Error.{Error}
+use Rattle.html_render_dom.specs.Forest.{Forest, none, node, depth}
+use Rattle.html_render_dom.specs.Outcome.{Refuses}
+use Rattle.html_render_dom.specs.laws.Outcome.{Refuses-then, Refuses-same}
+use Rattle.html_render_parts.specs.declared.widths.Meter.{Meter}
+use Rattle.html_render_nodes.specs.Counts.{CountsNodes}
+use Rattle.html_render_nodes.specs.declared.tree.Entry.{Entry}
+use Rattle.html_render_nodes.specs.declared.walk.Frame.{Frame}
+use Rattle.html_render_nodes.specs.Pass.{Steps, Way, Into, Past, run, through, into, inside_of, from, visited}
+use Rattle.html_render_nodes.specs.Preorder.{flatten}
+use Rattle.html_render_nodes.specs.laws.Preorder.{IsForest, IsForest-flatten}
+use Rattle.html_render_nodes.specs.laws.Visits.{opened-asks, visited-at_most}
+
+-- ---- answers, and counts of what follows one
+
+-- one step after another groups either way
+and_then_assoc : {A B C : Type 0} (o : Option A) (f : A → Option B) (h : B → Option C) →
+    option_and_then h (option_and_then f o) ≡ option_and_then (λ x. option_and_then h (f x)) o
+and_then_assoc None f h = refl
+and_then_assoc (Some x) f h = refl
+
+and_then_some : {A : Type 0} (o : Option A) → option_and_then (λ x. Some x) o ≡ o
+and_then_some None = refl
+and_then_some (Some x) = refl
+
+-- how many follow an answer
+abbrev pub many : {A : Type 0} → (A → ℕ) → Option A → ℕ
+many f None = 0
+many f (Some x) = f x
+
+many-then : {A B : Type 0} (o : Option A) (g : A → Option B) (f : B → ℕ) → many f (option_and_then g o) ≡ many (λ x. many f (g x)) o
+many-then None g f = refl
+many-then (Some x) g f = refl
+
+many-sum : {A : Type 0} (o : Option A) (f g : A → ℕ) → many f o + many g o ≡ many (λ x. f x + g x) o
+many-sum None f g = omega arith
+many-sum (Some x) f g = refl
+
+length-from : {K S : Type 0} (f : S → List K) (o : Option S) → length (from f o) ≡ many (λ t. length (f t)) o
+length-from f None = refl
+length-from f (Some t) = refl
+
+-- ---- the open nodes
+
+-- what a walk does at each node
+pub record How (K S T : Type 0) : Type 0 where
+  pub steps : Steps K S
+  pub opened : K → Forest K → S → Option (Way S T)
+  pub closed : T → S → Option S
+  pub told : (k : K) (trees : Forest K) (children : S → Option S) (s : S) →
+      steps k trees children s ≡ option_and_then (through closed children) (opened k trees s)
+
+-- the open nodes, the innermost first, each with the trees beside it
+abbrev pub Path : Type 0 → Type 0 → Type 0
+Path K T = List (Frame T × Forest K)
+
+module _ {K T : Type 0} where
+  -- the stack, the innermost last
+  abbrev pub frames_of : Path K T → List (Frame T)
+  frames_of [] = []
+  frames_of (x ∷ path) = frames_of path ++ x.0 ∷ []
+
+  -- the nodes behind the innermost open node
+  abbrev pub tails : Path K T → List (Entry K)
+  tails [] = []
+  tails (x ∷ path) = flatten x.1 ++ tails path
+
+  -- each open node is over where its frame says
+  abbrev pub Ends : ℕ → ℕ → Path K T → Type 0
+  Ends n at [] = at ≡ n
+  Ends n at (x ∷ path) = (x.0.end ≡ at) × Ends n (x.0.end + length (flatten x.1)) path
+
+  -- the most levels that the trees beside the open nodes reach
+  abbrev pub levels : Path K T → ℕ
+  levels [] = 0
+  levels (x ∷ path) = max (length path + depth x.1) (levels path)
+
+  length-frames_of : (path : Path K T) → length (frames_of path) ≡ length path
+  length-frames_of [] = refl
+  length-frames_of (x ∷ path) = omega (arith, length-append (frames_of path) (x.0 ∷ []), length-frames_of path)
+
+  Ends-le : (n at : ℕ) (path : Path K T) → Ends n at path → at ≤ n
+  Ends-le n at [] h = omega arith
+  Ends-le n at (x ∷ path) h = omega (arith, h.0, Ends-le n (x.0.end + length (flatten x.1)) path h.1)
+
+module _ {K S T : Type 0} (d : How K S T) where
+  abbrev pub nodes_visited : Forest K → S → List K
+  nodes_visited t s = visited d.steps (inside_of d.opened) t s
+
+  -- the state once the open nodes are over
+  abbrev pub after : Path K T → S → Option S
+  after [] s = Some s
+  after (x ∷ path) s = option_and_then (λ t. option_and_then (after path) (run d.steps x.1 t)) (d.closed x.0.kept s)
+
+  -- how many nodes are visited once the innermost open node's children are over
+  abbrev pub later : Path K T → S → ℕ
+  later [] s = 0
+  later (x ∷ path) s = many (λ t. length (nodes_visited x.1 t) + many (later path) (run d.steps x.1 t)) (d.closed x.0.kept s)
+
+  -- how many in these trees, and after them
+  abbrev pub onward : Path K T → Forest K → S → ℕ
+  onward path rest s = length (nodes_visited rest s) + many (later path) (run d.steps rest s)
+
+  -- the state behind a node that is opened so
+  abbrev pub behind : Forest K → Option (Way S T) → Option S
+  behind children w = option_and_then (through d.closed (λ q. run d.steps children q)) w
+
+  -- and once the open nodes are over
+  abbrev pub beyond : Path K T → Forest K → Forest K → Option (Way S T) → Option S
+  beyond path children beside w = option_and_then (λ t. option_and_then (after path) (run d.steps beside t)) (behind children w)
+
+  -- how many nodes are visited below it and after it
+  abbrev pub further : Path K T → Forest K → Forest K → Option (Way S T) → ℕ
+  further path children beside w =
+      length (from (λ q. nodes_visited children q) (option_and_then into w)) + many (onward path beside) (behind children w)
+
+-- where the walk stands: at a place among the nodes, with these open, so many entered and so many open at most, in this
+-- state; wanted is what comes out, all how many are visited, and deep the most levels
+pub record Walking {K S T : Type 0} (d : How K S T) (nodes : List (Entry K)) (wanted : Option S) (all deep : ℕ) (frames : List (Frame T))
+    (entered most next : ℕ) (s : S) : Type 0 where
+  pub rest : Forest K
+  pub path : Path K T
+  pub stack : frames ≡ frames_of path
+  pub ahead : drop next nodes ≡ flatten rest ++ tails path
+  pub ends : Ends (length nodes) (next + length (flatten rest)) path
+  pub result : option_and_then (after d path) (run d.steps rest s) ≡ wanted
+  pub counted : entered + onward d path rest s ≡ all
+  pub within : most ≤ deep
+  pub here : length path + depth rest ≤ deep
+  pub there : levels path ≤ deep
+
+-- no open node is over here
+abbrev pub NotOver : {T : Type 0} → List (Frame T) → ℕ → Type 0
+NotOver {T} frames next = (below : List (Frame T)) (f : Frame T) → frames ≡ below ++ f ∷ [] → f.end ≢ next
+
+-- what holds where a node is about to be opened
+pub record Opening {K S T : Type 0} (d : How K S T) (nodes : List (Entry K)) (wanted : Option S) (all deep : ℕ) (frames : List (Frame T))
+    (entered most next : ℕ) (s : S) (e : Entry K) : Type 0 where
+  pub children : Forest K
+  pub beside : Forest K
+  pub path : Path K T
+  pub stack : frames ≡ frames_of path
+  pub ahead : drop (next + 1) nodes ≡ flatten children ++ (flatten beside ++ tails path)
+  pub size : e.size ≡ length (flatten children) + 1
+  pub ends : Ends (length nodes) (next + e.size + length (flatten beside)) path
+  pub result : beyond d path children beside (d.opened e.node children s) ≡ wanted
+  pub counted : entered + (1 + further d path children beside (d.opened e.node children s)) ≡ all
+  pub within : most ≤ deep
+  pub below : length path + 1 + depth children ≤ deep
+  pub here : length path + depth beside ≤ deep
+  pub there : levels path ≤ deep
+
+-- what holds where a node is about to be closed
+pub record Closing {K S T : Type 0} (d : How K S T) (nodes : List (Entry K)) (wanted : Option S) (all deep : ℕ) (frames : List (Frame T))
+    (entered most next : ℕ) (s : S) (l : T) : Type 0 where
+  pub rest : Forest K
+  pub path : Path K T
+  pub stack : frames ≡ frames_of path
+  pub ahead : drop next nodes ≡ flatten rest ++ tails path
+  pub ends : Ends (length nodes) (next + length (flatten rest)) path
+  pub result : option_and_then (λ t. option_and_then (after d path) (run d.steps rest t)) (d.closed l s) ≡ wanted
+  pub counted : entered + many (onward d path rest) (d.closed l s) ≡ all
+  pub within : most ≤ deep
+  pub here : length path + depth rest ≤ deep
+  pub there : levels path ≤ deep
+
+-- what holds once all nodes are closed
+pub record Done {S T : Type 0} (wanted : Option S) (all : ℕ) (frames : List (Frame T)) (entered : ℕ) (s : S) : Type 0 where
+  pub result : wanted ≡ Some s
+  pub empty : frames ≡ []
+  pub counted : entered ≡ all
+
+module _ {K S T : Type 0} (d : How K S T) where
+  pub Walking-start : (t : Forest K) (s : S) →
+      Walking d (flatten t) (run d.steps t s) (length (nodes_visited d t s)) (depth t) [] 0 0 0 s
+  Walking-start t s = record {
+    rest = t;
+    path = [];
+    stack = refl;
+    ahead = sym (append-nil (flatten t));
+    ends = omega arith;
+    result = and_then_some (run d.steps t s);
+    counted = none_later (run d.steps t s);
+    within = omega arith;
+    here = omega arith;
+    there = omega arith;
+  }
+    where
+      none_later : (o : Option S) → 0 + (length (nodes_visited d t s) + many (later d []) o) ≡ length (nodes_visited d t s)
+      none_later None = omega arith
+      none_later (Some r) = omega arith
+
+  -- a node's steps as its way
+  regroup : (path : Path K T) (k : K) (children beside : Forest K) (s : S) →
+      beyond d path children beside (d.opened k children s) ≡ option_and_then (after d path) (run d.steps (node k children beside) s)
+  regroup path k children beside s =
+      sym (and_then_assoc (behind d children (d.opened k children s)) (run d.steps beside) (after d path))
+      ∙ ap (λ o. option_and_then (after d path) (option_and_then (run d.steps beside) o))
+      (sym (d.told k children (λ q. run d.steps children q) s))
+
+  -- and what is visited on it
+  recount : (path : Path K T) (k : K) (children beside : Forest K) (s : S) →
+      onward d path (node k children beside) s ≡ 1 + further d path children beside (d.opened k children s)
+  recount path k children beside s =
+      let told = d.told k children (λ q. run d.steps children q) s in
+      let o = d.steps k children (λ q. run d.steps children q) s in
+      let below = from (λ q. nodes_visited d children q) (inside_of d.opened k children s) in
+      let next = from (λ t. nodes_visited d beside t) o in
+      let both : many (λ t. length (nodes_visited d beside t)) o + many (later d path) (option_and_then (run d.steps beside) o)
+      ≡ many (onward d path beside) o =
+      ap (λ n. many (λ t. length (nodes_visited d beside t)) o + n) (many-then o (run d.steps beside) (later d path))
+      ∙ many-sum o (λ t. length (nodes_visited d beside t)) (λ t. many (later d path) (run d.steps beside t)) in
+      omega (
+        arith,
+        length-append below next,
+        length-from (λ t. nodes_visited d beside t) o,
+        both,
+        ap (many (onward d path beside)) told,
+      )
+
+  module _ (nodes : List (Entry K)) (wanted : Option S) (all deep : ℕ) where
+    close_at : (fs : List (Frame T)) (f : Frame T) (entered most next : ℕ) (s : S) (rest : Forest K) (path : Path K T) →
+        frames_of path ≡ fs ++ f ∷ [] → f.end ≡ next → drop next nodes ≡ flatten rest ++ tails path →
+        Ends (length nodes) (next + length (flatten rest)) path → option_and_then (after d path) (run d.steps rest s) ≡ wanted →
+        entered + onward d path rest s ≡ all → most ≤ deep → levels path ≤ deep →
+        Closing d nodes wanted all deep fs entered most next s f.kept
+    close_at fs f entered most next s rest [] e over ahead ends result counted within there =
+        absurd (omega (arith, ap length e, length-append fs (f ∷ [])))
+    close_at fs f entered most next s (node k children beside) (x ∷ path) e over ahead ends result counted within there =
+        let same = same_from_push (frames_of path) fs x.0 f e in
+        absurd (omega (arith, ends.0, over, ap (λ g. g.end) same.1))
+    close_at fs f entered most next s none (x ∷ path) e over ahead ends result counted within there =
+        let same = same_from_push (frames_of path) fs x.0 f e in
+        let here : x.0.end ≡ next = ap (λ (g : Frame T). g.end) same.1 ∙ over in
+        record {
+          rest = x.1;
+          path = path;
+          stack = sym same.0;
+          ahead = ahead;
+          ends = subst (λ m. Ends (length nodes) (m + length (flatten x.1)) path) here ends.1;
+          result = ap (λ (g : Frame T). option_and_then (λ t. option_and_then (after d path) (run d.steps x.1 t)) (d.closed g.kept s))
+              (sym same.1) ∙ result;
+          counted = omega (arith, counted, ap (λ (g : Frame T). many (onward d path x.1) (d.closed g.kept s)) same.1);
+          within = within;
+          here = omega arith;
+          there = omega arith;
+        }
+
+    pub Walking-close : (frames fs : List (Frame T)) (f : Frame T) (entered most next : ℕ) (s : S) →
+        Walking d nodes wanted all deep frames entered most next s → frames ≡ fs ++ f ∷ [] → f.end ≡ next →
+        Closing d nodes wanted all deep fs entered most next s f.kept
+    Walking-close frames fs f entered most next s w e over =
+        close_at fs f entered most next s w.rest w.path (sym w.stack ∙ e) over w.ahead w.ends w.result w.counted w.within w.there
+
+    -- behind the node
+    pub Closing-done : (fs : List (Frame T)) (l : T) (entered most next : ℕ) (s r : S) →
+        Closing d nodes wanted all deep fs entered most next s l → d.closed l s ≡ Some r →
+        Walking d nodes wanted all deep fs entered most next r
+    Closing-done fs l entered most next s r w step =
+        record {
+          rest = w.rest;
+          path = w.path;
+          stack = w.stack;
+          ahead = w.ahead;
+          ends = w.ends;
+          result = ap (option_and_then (λ t. option_and_then (after d w.path) (run d.steps w.rest t))) (sym step) ∙ w.result;
+          counted = ap (λ o. entered + many (onward d w.path w.rest) o) (sym step) ∙ w.counted;
+          within = w.within;
+          here = w.here;
+          there = w.there;
+        }
+
+    -- where the node can't be closed, nothing comes out
+    pub Closing-refuses : (fs : List (Frame T)) (l : T) (entered most next : ℕ) (s : S) (why : Error) →
+        Closing d nodes wanted all deep fs entered most next s l → Refuses why (d.closed l s) → Refuses why wanted
+    Closing-refuses fs l entered most next s why w h =
+        Refuses-same why wanted _ (sym w.result) (Refuses-then why (d.closed l s) _ h)
+
+    done_at : (frames : List (Frame T)) (entered next : ℕ) (s : S) (rest : Forest K) (path : Path K T) →
+        frames ≡ frames_of path → NotOver frames next → next ≡ length nodes → drop next nodes ≡ flatten rest ++ tails path →
+        Ends (length nodes) (next + length (flatten rest)) path → option_and_then (after d path) (run d.steps rest s) ≡ wanted →
+        entered + onward d path rest s ≡ all → Done wanted all frames entered s
+    done_at frames entered next s none [] stack not_over over ahead ends result counted =
+        record { result = sym result; empty = stack; counted = omega arith }
+    done_at frames entered next s none (x ∷ path) stack not_over over ahead ends result counted =
+        absurd (not_over (frames_of path) x.0 stack (omega (arith, ends.0)))
+    done_at frames entered next s (node k children beside) path stack not_over over ahead ends result counted =
+        absurd (omega (arith, ap length ahead, length-drop next nodes, length-append (flatten children ++ flatten beside) (tails path)))
+
+    pub Walking-done : (frames : List (Frame T)) (entered most next : ℕ) (s : S) →
+        Walking d nodes wanted all deep frames entered most next s → NotOver frames next → next ≡ length nodes →
+        Done wanted all frames entered s
+    Walking-done frames entered most next s w not_over over =
+        done_at frames entered next s w.rest w.path w.stack not_over over w.ahead w.ends w.result w.counted
+
+    open_at : (frames : List (Frame T)) (entered most next : ℕ) (s : S) (e : Entry K) (rest : Forest K) (path : Path K T) →
+        frames ≡ frames_of path → NotOver frames next → next < length nodes → e ≡ get_or nodes next e →
+        drop next nodes ≡ flatten rest ++ tails path →
+        Ends (length nodes) (next + length (flatten rest)) path → option_and_then (after d path) (run d.steps rest s) ≡ wanted →
+        entered + onward d path rest s ≡ all → most ≤ deep → length path + depth rest ≤ deep → levels path ≤ deep →
+        Opening d nodes wanted all deep frames entered most next s e
+    open_at frames entered most next s e none [] stack not_over in_nodes is ahead ends result counted within here there =
+        absurd (omega arith)
+    open_at frames entered most next s e none (x ∷ path) stack not_over in_nodes is ahead ends result counted within here there =
+        absurd (not_over (frames_of path) x.0 stack (omega (arith, ends.0)))
+    open_at frames entered most next s e (node k children beside) path stack not_over in_nodes is ahead ends result counted within here
+        there =
+        let first : Entry K = record { node = k; size = length (flatten children) + 1 } in
+        let cut = drop-cons nodes next e in_nodes in
+        let heads : get_or nodes next e ∷ drop (suc next) nodes ≡ first ∷ ((flatten children ++ flatten beside) ++ tails path) = sym cut
+        ∙ ahead in
+        let same : e ≡ first = is ∙ cc heads in
+        subst (λ (x : Entry K). Opening d nodes wanted all deep frames entered most next s x) (sym same) record {
+          children = children;
+          beside = beside;
+          path = path;
+          stack = stack;
+          ahead = rw (add-one, ← append_assoc) (cc heads);
+          size = refl;
+          ends = subst (λ m. Ends (length nodes) m path) (omega (arith, length-append (flatten children) (flatten beside))) ends;
+          result = regroup path k children beside s ∙ result;
+          counted = omega (arith, counted, recount path k children beside s);
+          within = within;
+          below = omega arith;
+          here = omega arith;
+          there = there;
+        }
+
+    pub Walking-open : (frames : List (Frame T)) (entered most next : ℕ) (s : S) (e : Entry K) (here : List (Entry K)) → here ≡ nodes →
+        Walking d nodes wanted all deep frames entered most next s → NotOver frames next → next < length here →
+        e ≡ get_or here next e → Opening d nodes wanted all deep frames entered most next s e
+    Walking-open frames entered most next s e here same w not_over in_nodes is =
+        open_at frames entered most next s e w.rest w.path w.stack not_over (omega (arith, in_nodes, ap length same))
+        (is ∙ ap (λ l. get_or l next e) same) w.ahead w.ends w.result w.counted w.within w.here w.there
+
+    -- into the node
+    pub Opening-into : (frames : List (Frame T)) (entered most next : ℕ) (s q : S) (l : T) (e : Entry K) →
+        (w : Opening d nodes wanted all deep frames entered most next s e) (trees : Forest K) → trees ≡ w.children →
+        d.opened e.node trees s ≡ Some (Into q l) →
+        Walking d nodes wanted all deep (frames ++ record { end = next + e.size; kept = l } ∷ []) (entered + 1)
+        (max most (length frames + 1)) (next + 1) q
+    Opening-into frames entered most next s q l e w trees same at_trees =
+        let step : d.opened e.node w.children s ≡ Some (Into q l) = ap (λ f. d.opened e.node f s) (sym same) ∙ at_trees in
+        let f : Frame T = record { end = next + e.size; kept = l } in
+        let long : length frames ≡ length w.path = ap length w.stack ∙ length-frames_of w.path in
+        let way = ap (further d w.path w.children w.beside) step in
+        record {
+          rest = w.children;
+          path = (f, w.beside) ∷ w.path;
+          stack = ap (λ fs. fs ++ f ∷ []) w.stack;
+          ahead = w.ahead;
+          ends = (omega (arith, w.size), w.ends);
+          result = sym (and_then_assoc (run d.steps w.children q) (d.closed l)
+              (λ t. option_and_then (after d w.path) (run d.steps w.beside t)))
+              ∙ ap (beyond d w.path w.children w.beside) (sym step) ∙ w.result;
+          counted = omega (arith, w.counted, way, many-then (run d.steps w.children q) (d.closed l) (onward d w.path w.beside));
+          within = omega (arith, w.within, w.below);
+          here = omega (arith, w.below);
+          there = omega (arith, w.here, w.there);
+        }
+
+    -- past the node
+    pub Opening-past : (frames : List (Frame T)) (entered most next : ℕ) (s t : S) (e : Entry K) →
+        (w : Opening d nodes wanted all deep frames entered most next s e) (trees : Forest K) → trees ≡ w.children →
+        d.opened e.node trees s ≡ Some (Past t) →
+        Walking d nodes wanted all deep frames (entered + 1) most (next + e.size) t
+    Opening-past frames entered most next s t e w trees same at_trees =
+        let step : d.opened e.node w.children s ≡ Some (Past t) = ap (λ f. d.opened e.node f s) (sym same) ∙ at_trees in
+        let way = ap (further d w.path w.children w.beside) step in
+        let at : next + 1 + length (flatten w.children) ≡ next + e.size = omega (arith, w.size) in
+        record {
+          rest = w.beside;
+          path = w.path;
+          stack = w.stack;
+          ahead = sym (ap (λ n. drop n nodes) at) ∙ sym (drop-drop (length (flatten w.children)) (next + 1) nodes)
+              ∙ ap (drop (length (flatten w.children))) w.ahead
+              ∙ drop-append_seam (flatten w.children) (flatten w.beside ++ tails w.path);
+          ends = w.ends;
+          result = ap (beyond d w.path w.children w.beside) (sym step) ∙ w.result;
+          counted = omega (arith, w.counted, way);
+          within = w.within;
+          here = w.here;
+          there = w.there;
+        }
+
+    -- the node's last is within the nodes
+    pub Opening-end : (frames : List (Frame T)) (entered most next : ℕ) (s : S) (e : Entry K) →
+        Opening d nodes wanted all deep frames entered most next s e → next + e.size ≤ length nodes
+    Opening-end frames entered most next s e w = omega (arith, Ends-le (length nodes) _ w.path w.ends)
+
+    -- its children's entries, as a part of all
+    pub Opening-part : (frames : List (Frame T)) (entered most next : ℕ) (s : S) (e : Entry K) (here : List (Entry K)) (n : ℕ) →
+        here ≡ nodes → n ≡ e.size - 1 → (w : Opening d nodes wanted all deep frames entered most next s e) →
+        IsForest (take n (drop (next + 1) here)) w.children
+    Opening-part frames entered most next s e here n same less w =
+        let many : n ≡ length (flatten w.children) = omega (arith, w.size) in
+        IsForest-flatten _ _ (ap (λ m. take m (drop (next + 1) here)) many
+        ∙ ap (λ l. take (length (flatten w.children)) (drop (next + 1) l)) same
+        ∙ ap (take (length (flatten w.children))) w.ahead
+        ∙ take-append_seam (flatten w.children) (flatten w.beside ++ tails w.path))
+
+    -- where the node can't be opened, nothing comes out
+    pub Opening-refuses : (frames : List (Frame T)) (entered most next : ℕ) (s : S) (e : Entry K) (why : Error) →
+        (w : Opening d nodes wanted all deep frames entered most next s e) (trees : Forest K) → trees ≡ w.children →
+        Refuses why (d.opened e.node trees s) → Refuses why wanted
+    Opening-refuses frames entered most next s e why w trees same h =
+        Refuses-same why wanted _ (sym w.result)
+        (Refuses-then why _ _ (Refuses-then why _ _ (Refuses-same why _ _ (ap (λ f. d.opened e.node f s) (sym same)) h)))
+
+    -- no more were open at once than the forest is deep, and no more entered than are visited
+    pub Walking-within : (frames : List (Frame T)) (entered most next : ℕ) (s : S) →
+        Walking d nodes wanted all deep frames entered most next s → (most ≤ deep) × (entered ≤ all)
+    Walking-within frames entered most next s w = (w.within, omega (arith, w.counted))
+
+-- what is counted where the walk ends with an error
+pub counted-refused : {K S T X : Type 0} (d : How K S T) (r : Result X Error) (Q : Error → Type 0) → IsErrAnd r Q → (f : Forest K) (s now : S)
+    (nodes : List (Entry K)) (wanted : Option S) (frames : List (Frame T)) (next : ℕ) (old new : Meter) →
+    Walking d nodes wanted (length (nodes_visited d f s)) (depth f) frames new.entered new.frames next now →
+    new.left ≤ new.entered → new.probes ≡ old.probes → CountsNodes r d.steps (inside_of d.opened) f s old new
+counted-refused d (Ok x) Q h f s now nodes wanted frames next old new w left probes = absurd h
+counted-refused d (Err e) Q h f s now nodes wanted frames next old new w left probes =
+    let within = Walking-within d nodes wanted (length (nodes_visited d f s)) (depth f) frames new.entered new.frames next now w in
+    record {
+      asks = opened-asks d.steps d.opened d.closed d.told;
+      entered = tt;
+      left = tt;
+      entered_at_most = within.1;
+      left_at_most = left;
+      visited_at_most = visited-at_most d.steps (inside_of d.opened) f s;
+      frames_at_most = within.0;
+      probes = probes;
+    }

@@ -1,0 +1,25 @@
+use Rattle.std.proofs.Common.{◌≡◌, ◌+◌, ◌-◌, ◌*◌, ◌≤◌, length}
+use Rattle.html_render_dom.specs.Forest.{depth}
+use Rattle.html_render_nodes.specs.Pass.{run}
+use Rattle.html_render_nodes.specs.Preorder.{flatten}
+use Rattle.html_render_nodes.proofs.Walking.{Walking, How, nodes_visited}
+use Rattle.html_render_nodes.proofs.walk.walk.Given as goal
+
+-- the pass that is run
+abbrev pub how : (g : goal.Over) → How g.row.P-Node.Denot g.row.P-State.Denot g.row.P-Kept.Denot
+how g = record { steps = g.P.Pass.steps; opened = g.P.Pass.opened; closed = g.P.Pass.closed; told = g.met.P.Pass.told }
+
+abbrev pub invariant-walk : goal.invariant-walk
+invariant-walk g l =
+    record {
+      entries_are : l.entries ≡ flatten l.forest;
+      walking : Walking (how g) (flatten l.forest) (run g.P.Pass.steps l.forest l.fn.state)
+          (length (nodes_visited (how g) l.forest l.fn.state)) (depth l.forest) l.frames.items l.meter.entered l.meter.frames l.next l.state;
+      within : l.next ≤ length l.entries;
+      visits : l.meter.entered ≤ l.next;
+      left : l.meter.left + length l.frames.items ≡ l.meter.entered;
+      probes : l.meter.probes ≡ l.fn.meter.probes;
+    }
+
+abbrev pub decreases-walk : goal.decreases-walk
+decreases-walk g l = 2 * (length l.entries - l.next) + length l.frames.items

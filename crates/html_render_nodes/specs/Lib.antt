@@ -1,0 +1,9 @@
+-- the tree: its nodes in one vector, and where it is parted
+pub mod RenderNodes
+pub mod Preorder
+pub mod Splits
+-- the walk: what a pass computes, and what the walk counts
+pub mod Pass
+pub mod Counts
+-- laws of the definitions
+pub mod laws

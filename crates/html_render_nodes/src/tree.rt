@@ -1,0 +1,321 @@
+//! Render trees: trees beside each other, in one vector in pre-order.
+//!
+//! [`Builder`] makes them from the last node to the first: after `put(b)`, `put(a)` and `enclose(c, 0)` it holds
+//! one tree, the node `c` over `a` and `b`, and `finish` gives the [`Flat`] of it, whose nodes are `c`, `a`, `b`.
+
+ghost use Rattle.std.specs.Prelude.{◌≡◌, ◌↔◌, IsTrue, OnOk, OnErr, IfErr, ℕ};
+ghost use Rattle.html_render_dom.specs.Forest as forest;
+ghost use Rattle.html_render_dom.specs.Forest.{none, count};
+ghost use Rattle.html_render_nodes.specs.Preorder.{flatten, forest_of};
+ghost use Rattle.html_render_nodes.specs.Splits.{SplitAt};
+
+use html_render_dom::Error;
+use html_render_dom::style::{Colour, WhiteSpace};
+use html_render_dom::text::Text;
+use std::alloc::Global;
+use std::marker::Model;
+
+/// A node in pre-order.
+#[derive(Drop)]
+pub struct Entry<N> {
+    /// The node.
+    pub node: N,
+    /// How many nodes its tree has, itself included.
+    pub size: usize,
+}
+
+/// Trees beside each other. Dropping them goes along one vector, however deep they are.
+#[derive(Drop)]
+pub struct Flat<N> {
+    /// The entries in pre-order.
+    entries: Vec<Entry<N>>,
+}
+
+impl<N> Model for Flat<N> {
+    ghost use Rattle.std.specs.Prelude.{◌≡◌, List};
+    ghost use Rattle.std.specs.Coded.{codes, code_by, coded_list};
+    ghost use Rattle.html_render_dom.specs.Forest.{Forest};
+    ghost use Rattle.html_render_nodes.specs.declared.tree.Entry.{Entry};
+    ghost use Rattle.html_render_nodes.specs.Preorder.{forest_of, flatten};
+    ghost use Rattle.html_render_nodes.specs.laws.Preorder.{forest_of-flatten};
+
+    ghost Value = { Forest N };
+
+    ghost coded = { code_by (List (Entry N)) (coded_list (Prim.hlevel (codes, N.code))) flatten forest_of forest_of-flatten };
+
+    ghost view = { λ f. forest_of f.entries.items };
+
+    ghost invariant = { λ f. flatten (forest_of f.entries.items) ≡ f.entries.items };
+}
+
+impl<N> Flat<N> {
+    /// The nodes in pre-order, each with the size of its tree.
+    pub fn entries(&self) -> &[Entry<N>]
+        ensures { result.now ≡ flatten self.now }
+    {
+        self.entries.as_slice()
+    }
+
+    /// The nodes in pre-order, to be changed in place.
+    pub fn into_entries(self) -> Vec<Entry<N>>
+        ensures { result.items ≡ flatten self }
+    {
+        self.entries
+    }
+
+    /// The trees of nodes in pre-order.
+    pub fn from_entries(entries: Vec<Entry<N>>) -> Flat<N>
+        requires { flatten (forest_of entries.items) ≡ entries.items }
+        ensures { result ≡ forest_of entries.items }
+    {
+        Flat { entries }
+    }
+}
+
+/// Trees beside each other that grow at the front, from the last node to the first.
+#[derive(Drop)]
+pub struct Builder<N> {
+    /// The entries in reverse: the last node of the trees comes first.
+    entries: Vec<Entry<N>>,
+}
+
+impl<N> Model for Builder<N> {
+    ghost use Rattle.std.specs.Prelude.{◌≡◌, List, reverse};
+    ghost use Rattle.std.specs.Coded.{codes, code_by, coded_list};
+    ghost use Rattle.html_render_dom.specs.Forest.{Forest};
+    ghost use Rattle.html_render_nodes.specs.declared.tree.Entry.{Entry};
+    ghost use Rattle.html_render_nodes.specs.Preorder.{forest_of, flatten};
+    ghost use Rattle.html_render_nodes.specs.laws.Preorder.{forest_of-flatten};
+
+    ghost Value = { Forest N };
+
+    ghost coded = { code_by (List (Entry N)) (coded_list (Prim.hlevel (codes, N.code))) flatten forest_of forest_of-flatten };
+
+    ghost view = { λ b. forest_of (reverse b.entries.items) };
+
+    ghost invariant = { λ b. flatten (forest_of (reverse b.entries.items)) ≡ reverse b.entries.items };
+}
+
+impl<N: Drop> Builder<N> {
+    /// No tree.
+    pub fn new(alloc: Global) -> Builder<N>
+        ensures { result ≡ none }
+    {
+        Builder {
+            entries: Vec::new(alloc),
+        }
+    }
+
+    /// How many nodes there are: the mark for a later [`Builder::enclose`] or [`Builder::truncate`].
+    pub fn len(&self) -> usize
+        ensures { result ≡ count self.now }
+    {
+        self.entries.len()
+    }
+
+    /// Whether there is no node.
+    pub fn is_empty(&self) -> bool
+        ensures { IsTrue result ↔ (count self.now ≡ 0) }
+    {
+        self.entries.is_empty()
+    }
+
+    /// Puts a node without children in front of the trees.
+    ///
+    /// # Errors
+    ///
+    /// `OutOfMemory`. The trees are then as they were.
+    pub fn put(&mut self, node: N) -> Result<(), Error>
+        ensures ok { OnOk result (self.new ≡ forest.node node none self.old) }
+        ensures unchanged { OnErr result (self.new ≡ self.old) }
+        ensures err { IfErr result (λ e. e ≡ Error.OutOfMemory) }
+    {
+        self.entries.push(Entry { node, size: 1 })?;
+        Ok(())
+    }
+
+    /// Puts a node over all trees that came since there were `mark` nodes.
+    ///
+    /// # Errors
+    ///
+    /// `OutOfMemory`. The trees are then as they were.
+    pub fn enclose(&mut self, node: N, mark: usize) -> Result<(), Error>
+        requires { SplitAt self.old mark }
+        ensures ok { OnOk result ((s : SplitAt self.old mark) → self.new ≡ forest.node node s.children s.beside) }
+        ensures unchanged { OnErr result (self.new ≡ self.old) }
+        ensures err { IfErr result (λ e. e ≡ Error.OutOfMemory) }
+    {
+        let size = self.entries.len() - mark + 1;
+        self.entries.push(Entry { node, size })?;
+        Ok(())
+    }
+
+    /// Takes back all trees that came since there were `mark` nodes.
+    pub fn truncate(&mut self, mark: usize)
+        requires { SplitAt self.old mark }
+        ensures { (s : SplitAt self.old mark) → self.new ≡ s.beside }
+    {
+        self.entries.truncate(mark);
+    }
+
+    /// The trees, with their nodes from the first to the last. It takes no memory.
+    pub fn finish(self) -> Flat<N>
+        ensures { result ≡ self }
+    {
+        let mut entries = self.entries;
+        entries.reverse();
+        Flat { entries }
+    }
+}
+
+/// How a part of a line is emphasised.
+#[derive(Clone, Copy, Debug, PartialEq, Eq)]
+pub enum Emphasis {
+    /// Stressed: HTML's `em`, and what is shown like it.
+    Em,
+    /// Important: HTML's `strong`, and what is shown like it.
+    Strong,
+    /// A piece of a program: HTML's `code`.
+    Code,
+}
+
+/// What a node of a render tree is.
+#[derive(Drop)]
+pub enum NodeKind {
+    /// A text.
+    Text(Text),
+    /// Its children, one after the other.
+    Container,
+    /// A line break.
+    Break,
+    /// A block, with an empty line before it.
+    Block,
+    /// A part that begins a line and ends one.
+    Div,
+    /// A part of a line between what the decorator writes round it.
+    Emphasis(Emphasis),
+    /// A heading of this level.
+    Header(usize),
+    /// A quote.
+    BlockQuote,
+    /// A list without numbers: each child is an item.
+    Ul,
+    /// A list with numbers: each child is an item, and this is the first one's number.
+    Ol(i64),
+    /// What stands in an item of a list.
+    ListItem,
+    /// A list of descriptions.
+    Dl,
+    /// A term of such a list.
+    Dt,
+    /// What such a list says of a term.
+    Dd,
+}
+
+/// What the style of an element gives the node that it becomes. [`NodeStyle::default`] is the one of texts, and of what
+/// is inserted: it gives nothing.
+#[derive(Clone, Copy, Debug, Default, PartialEq, Eq)]
+pub struct NodeStyle {
+    /// The colour of the text.
+    pub colour: Option<Colour>,
+    /// The colour of the background.
+    pub background: Option<Colour>,
+    /// How white space is treated: under [`WhiteSpace::Normal`] as round the node.
+    pub white_space: WhiteSpace,
+}
+
+/// What the layout of a node is given room for. [`Estimate::default`] is that of a node that isn't measured.
+#[derive(Clone, Copy, Debug, Default, PartialEq, Eq)]
+pub struct Estimate {
+    /// The least width in which the node can be laid out well.
+    pub least: usize,
+    /// The columns of what stands before its lines.
+    pub prefix: usize,
+    /// How many children it has.
+    pub children: usize,
+}
+
+/// A node of a render tree.
+#[derive(Drop)]
+pub struct RenderNode {
+    /// What the node is.
+    pub kind: NodeKind,
+    /// What its element's style gives it.
+    pub style: NodeStyle,
+    /// The room that it asks for.
+    pub estimate: Estimate,
+}
+
+impl From<NodeKind> for RenderNode {
+    ghost use Rattle.html_render_nodes.specs.RenderNodes.{without_style};
+
+    ghost from_gives = { λ k n. n ≡ without_style k };
+
+    /// A node without a style, which isn't measured.
+    fn from(kind: NodeKind) -> RenderNode {
+        RenderNode {
+            kind,
+            style: NodeStyle::default(),
+            estimate: Estimate::default(),
+        }
+    }
+}
+
+/// A document that is ready to be laid out.
+#[derive(Drop)]
+pub struct RenderTree {
+    /// The nodes.
+    nodes: Flat<RenderNode>,
+}
+
+impl Model for RenderTree {
+    ghost use Rattle.std.specs.Prelude.{List};
+    ghost use Rattle.std.specs.Coded.{codes, code_by, coded_list};
+    ghost use Rattle.html_render_dom.specs.Forest.{Forest};
+    ghost use Rattle.html_render_nodes.specs.declared.tree.Entry.{Entry};
+    ghost use Rattle.html_render_nodes.specs.declared.tree.RenderNode.{RenderNode};
+    ghost use Rattle.html_render_nodes.specs.Preorder.{forest_of, flatten};
+    ghost use Rattle.html_render_nodes.specs.laws.Preorder.{forest_of-flatten};
+
+    ghost Value = { Forest RenderNode };
+
+    ghost coded = { code_by (List (Entry RenderNode)) (coded_list (Prim.hlevel codes)) flatten forest_of forest_of-flatten };
+
+    ghost view = { λ t. t.nodes };
+}
+
+impl From<Builder<RenderNode>> for RenderTree {
+    ghost from_gives = { λ b t. t ≡ b };
+
+    /// The document of the trees.
+    fn from(builder: Builder<RenderNode>) -> RenderTree {
+        RenderTree {
+            nodes: builder.finish(),
+        }
+    }
+}
+
+impl From<Flat<RenderNode>> for RenderTree {
+    ghost from_gives = { λ nodes t. t ≡ nodes };
+
+    /// The document of the trees.
+    fn from(nodes: Flat<RenderNode>) -> RenderTree {
+        RenderTree { nodes }
+    }
+}
+
+impl RenderTree {
+    /// The nodes.
+    pub fn nodes(&self) -> &Flat<RenderNode>
+        ensures { result.now ≡ self.now }
+    {
+        &self.nodes
+    }
+
+    /// The nodes, as they are kept.
+    pub fn into_nodes(self) -> Flat<RenderNode>
+        ensures { result ≡ self }
+    {
+        self.nodes
+    }
+}

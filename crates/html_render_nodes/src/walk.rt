@@ -1,0 +1,148 @@
+//! A walk over trees, for any pass.
+//!
+//! `walk::<P>(alloc, &forest, &mut state, &mut meter)` opens each node before its children and closes it after them, or
+//! goes past them, and counts what it did; `Ok(())`: the state is what the pass's steps make of the forest.
+
+ghost use Rattle.std.specs.Prelude.{◌≡◌, ◌≢◌, List, [], ◌∷◌, ◌++◌, Option, Some, option_and_then, OnOk, IfOk, IfErr, IfSome, IfNone};
+ghost use Rattle.html_render_dom.specs.Forest.{Forest};
+ghost use Rattle.html_render_dom.specs.Outcome.{Refuses};
+ghost use Rattle.html_render_nodes.specs.Counts.{CountsNodes};
+ghost use Rattle.html_render_nodes.specs.Pass.{Steps, Way, way, run, through, inside_of};
+ghost use Rattle.html_render_nodes.specs.Preorder.{flatten, forest_of};
+ghost use Rattle.html_render_nodes.specs.declared.walk.Frame.{Frame};
+
+use crate::tree::{Entry, Flat};
+use html_render_dom::Error;
+use html_render_parts::widths::Meter;
+use std::alloc::Global;
+
+/// What a walk does at each node.
+pub trait Pass {
+    /// What a node is.
+    type Node;
+    /// What the walk changes.
+    type State;
+    /// What an open node keeps until it is closed.
+    type Kept: Drop;
+
+    // what the pass computes, node by node
+    ghost steps: { Steps Self.Node Self.State };
+
+    // how a node over these trees is opened
+    ghost opened: { Self.Node → Forest Self.Node → Self.State → Option (Way Self.State Self.Kept) };
+
+    // the state behind an open node, from what it kept and the state behind its children
+    ghost closed: { Self.Kept → Self.State → Option Self.State };
+
+    /// Opens a node over the trees of these entries: the state becomes its children's, or, with nothing kept, the one
+    /// behind it and them.
+    ///
+    /// # Errors
+    ///
+    /// `TooNarrow`, where the pass can't be done. `OutOfMemory`.
+    fn open(
+        alloc: Global,
+        node: &Self::Node,
+        children: &[Entry<Self::Node>],
+        state: &mut Self::State,
+    ) -> Result<Option<Self::Kept>, Error>
+        requires { flatten (forest_of children.now) ≡ children.now }
+        ensures ok { IfOk result (λ kept. opened node.now (forest_of children.now) state.old ≡ Some (way state.new kept)) }
+        ensures err { IfErr result (λ e. Refuses e (opened node.now (forest_of children.now) state.old)) };
+
+    /// Closes a node: the state becomes that behind it.
+    ///
+    /// # Errors
+    ///
+    /// `TooNarrow`, where the pass can't be done. `OutOfMemory`.
+    fn close(alloc: Global, kept: Self::Kept, state: &mut Self::State) -> Result<(), Error>
+        ensures ok { OnOk result (closed kept state.old ≡ Some state.new) }
+        ensures err { IfErr result (λ e. Refuses e (closed kept state.old)) };
+
+    // a node's steps: it is opened, its children come, and it is closed
+    ghost told: { (k : Self.Node) (trees : Forest Self.Node) (children : Self.State → Option Self.State) (s : Self.State) →
+        steps k trees children s ≡ option_and_then (through closed children) (opened k trees s) };
+}
+
+/// An open node.
+#[derive(Drop)]
+struct Frame<T> {
+    /// The place behind its last node.
+    end: usize,
+    /// What the pass keeps of it.
+    kept: T,
+}
+
+/// Takes the innermost open node, if it is over at this place.
+fn pop_over<T: Drop>(frames: &mut Vec<Frame<T>>, at: usize) -> Option<T>
+    ensures over { IfSome result (λ l. frames.old.items ≡ frames.new.items ++ record { end = at; kept = l } ∷ []) }
+    ensures same { IfNone result (frames.new.items ≡ frames.old.items) }
+    ensures not_over { IfNone result ((below : List (Frame T)) (f : Frame T) → frames.old.items ≡ below ++ f ∷ [] → f.end ≢ at) }
+{
+    match frames.last() {
+        Some(frame) if frame.end == at => {}
+        _ => return None,
+    }
+    let frame = frames.pop()?;
+    Some(frame.kept)
+}
+
+/// Runs a pass over a forest, with a stack of the open nodes. What is skipped is jumped over, and a node whose children
+/// are skipped takes no place on the stack.
+///
+/// The meter's `entered`, `left` and `frames` count from 0, also where the pass refuses; `probes` stays.
+///
+/// # Errors
+///
+/// Those of the pass. `OutOfMemory`.
+pub fn walk<P: Pass>(
+    alloc: Global,
+    forest: &Flat<P::Node>,
+    state: &mut P::State,
+    meter: &mut Meter,
+) -> Result<(), Error>
+    ensures ok { OnOk result (run P.steps forest.now state.old ≡ Some state.new) }
+    ensures err { IfErr result (λ e. Refuses e (run P.steps forest.now state.old)) }
+
+    // what was counted, where the walk came to its end, and where it didn't
+    ensures counts { CountsNodes result P.steps (inside_of P.opened) forest.now state.old meter.old meter.new }
+{
+    meter.entered = 0;
+    meter.left = 0;
+    meter.frames = 0;
+    let entries = forest.entries();
+    let mut frames: Vec<Frame<P::Kept>> = Vec::new(alloc);
+    let mut next = 0;
+    'walk: loop {
+        match pop_over(&mut frames, next) {
+            Some(kept) => {
+                P::close(alloc, kept, state)?;
+                meter.left += 1;
+            }
+            None => {
+                if next == entries.len() {
+                    return Ok(());
+                }
+                let entry = &entries[next];
+                let end = next + entry.size;
+                let children = &entries[next + 1..end];
+                match P::open(alloc, &entry.node, children, state)? {
+                    Some(kept) => {
+                        frames.push(Frame { end, kept })?;
+                        meter.entered += 1;
+                        meter.frames = meter.frames.max(frames.len());
+                        next += 1;
+                    }
+                    None => {
+                        meter.entered += 1;
+                        meter.left += 1;
+                        next = end;
+                    }
+                }
+            }
+        }
+    }
+}
+
+#[cfg(test)]
+mod tests;
