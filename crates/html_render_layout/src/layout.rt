@@ -11,6 +11,7 @@ ghost use Rattle.html_render_nodes.specs.Pass.{run, inside_of};
 ghost use Rattle.html_render_estimates.specs.Estimates.{measured};
 ghost use Rattle.html_render_layout.specs.Layout.{steps, begin_with, shown_after, Defined, defined, defined_inside, empty_state};
 ghost use Rattle.html_render_layout.specs.Layout.{min_wrap_width, estimated, layout_lines, untagged_lines};
+ghost use Rattle.html_render_layout.specs.Kept.{visited_nodes, KeepsTexts};
 ghost use Rattle.html_render_layout.specs.Opening.{opened, closed};
 ghost use Rattle.html_render_layout.specs.laws.Opening.{steps-told};
 ghost use Rattle.html_render_layout.specs.Working.{tabled, work_lines, laid_out, untagged_work};
@@ -205,6 +206,13 @@ pub fn lay_out<D: TextDecorator>(
     ensures answered { 0 < width → overflow ≡ true → result ≢ Err Error.TooNarrow }
     ensures no_width { width ≡ 0 → result ≡ Err Error.TooNarrow }
 
+    // where overflow off gives lines, they are the answer with overflow on too
+    ensures same { IfOk result (λ answer.
+        IfSome (layout_lines D.decoration tree decorator.now width false) (λ lines. laid_out answer ≡ lines)) }
+
+    // no visible character of the texts that are visited is lost
+    ensures kept { IfOk result (λ lines. KeepsTexts (visited_nodes D.decoration tree decorator.now width overflow) (laid_out lines)) }
+
     // a tree that is laid out leaves the texts that follow, with their annotations, and the decorator of any state as they were
     ensures stacks { (s : Defined D D.Annotation) →
         IfSome (run (defined D.decoration) (estimated D.decoration decorator.now tree) s) (λ r. (r.text ≡ s.text) × (r.decorator ≡ s.decorator)) }
@@ -260,6 +268,9 @@ pub fn lay_out_untagged<D: TextDecorator>(
     ensures within { IfOk result (λ lines. overflow ≡ false → AllWithinWidth width lines.items) }
     ensures answered { 0 < width → overflow ≡ true → result ≢ Err Error.TooNarrow }
     ensures no_width { width ≡ 0 → result ≡ Err Error.TooNarrow }
+    ensures same { IfOk result (λ answer.
+        IfSome (untagged_lines D.decoration tree decorator.now width false) (λ lines. answer.items ≡ lines)) }
+    ensures kept { IfOk result (λ lines. KeepsTexts (visited_nodes D.decoration tree decorator.now width overflow) lines.items) }
 {
     if width == 0 {
         return Err(Error::TooNarrow);

@@ -1,7 +1,6 @@
 //! The layout of a render tree: what each node does to the block that it is laid out into.
 #![tactic(auto)]
 
-mod laws;
 pub mod layout;
 pub mod stacks;
 pub mod tagging;

@@ -2,6 +2,7 @@
 use Rattle.std.specs.Str.{chars}
 use Rattle.std.proofs.Common.{◌≡◌, ℕ, ◌==◌, Bool, true, false, cond, List, Option, Some, None, option_map, option_and_then}
 use Rattle.std.proofs.Common.{IfSome, IfOk, Result, Ok, Err, refl, ap, sym, ◌∙◌}
+use Rattle.std.proofs.lemmas.Option.{same_Some}
 use Rattle.html_render_dom.specs.declared.errors.Error.{Error}
 use Rattle.html_render_dom.specs.Forest.{Forest}
 use Rattle.html_render_parts.specs.Decoration.{Decoration, Round}
@@ -163,10 +164,20 @@ module _ {S A K T B : Type 0} (d : Decoration S A) (push : K → T → A → K �
       image-then mapped (λ (x : L). x) (λ q. Some (shown q)) (λ q. Some (shown q)) (on_block o.new_line r) (on_block o.new_line (mapped r))
       (on_block-stays o.new_line r (h.new_line r.block)) (λ q. ap Some (same q)))
 
--- an answer that another has too
-also : {L : Type 0} (p q : Option L) (lines : L) → IfSome p (λ ls. q ≡ Some ls) → p ≡ Some lines → q ≡ Some lines
-also None q lines h e = cc
-also (Some ls) q lines h e = h ∙ e
+-- what is there with overflow on is there with overflow on or off
+with_either : {L : Type 0} (f : Bool → Option L) → IfSome (f false) (λ lines. f true ≡ Some lines) →
+    (o : Bool) → IfSome (f false) (λ lines. f o ≡ Some lines)
+with_either f h true = h
+with_either {L} f h false = itself (f false)
+  where
+    itself : (p : Option L) → IfSome p (λ lines. p ≡ Some lines)
+    itself None = tt
+    itself (Some lines) = refl
+
+-- an answer is what is there with overflow off
+agrees : {L : Type 0} (p q : Option L) (lines : L) → IfSome p (λ ls. q ≡ Some ls) → q ≡ Some lines → IfSome p (λ ls. lines ≡ ls)
+agrees None q lines h e = tt
+agrees (Some ls) q lines h e = same_Some lines ls (sym e ∙ h)
 
 module _ {S A : Type 0} (d : Decoration S A) where
   abbrev lines_from : Forest RenderNode → Defined S A → Option (List (Line (List A) ℕ))
@@ -202,17 +213,17 @@ module _ {S A : Type 0} (d : Decoration S A) where
   pub same-answered : {X : Type 0} (t : Forest RenderNode) (decorator : S) (w : ℕ) (o : Bool) (lines : X → List (Line (List A) ℕ))
       (r : Result X Error) →
       IfOk r (λ v. layout_lines d t decorator w o ≡ Some (lines v)) →
-      IfOk r (λ v. o ≡ false → layout_lines d t decorator w true ≡ Some (lines v))
+      IfOk r (λ v. IfSome (layout_lines d t decorator w false) (λ ls. lines v ≡ ls))
   same-answered t decorator w o lines (Err e) h = tt
   same-answered t decorator w o lines (Ok v) h =
-      λ off. also (layout_lines d t decorator w false) (layout_lines d t decorator w true) (lines v) (layout_same t decorator w)
-      (ap (λ b. layout_lines d t decorator w b) (sym off) ∙ h)
+      agrees (layout_lines d t decorator w false) (layout_lines d t decorator w o) (lines v)
+      (with_either (λ b. layout_lines d t decorator w b) (layout_same t decorator w) o) h
 
   pub untagged_same-answered : {X : Type 0} (t : Forest RenderNode) (decorator : S) (w : ℕ) (o : Bool)
       (lines : X → List (Line (Unit {0}) ℕ)) (r : Result X Error) →
       IfOk r (λ v. untagged_lines d t decorator w o ≡ Some (lines v)) →
-      IfOk r (λ v. o ≡ false → untagged_lines d t decorator w true ≡ Some (lines v))
+      IfOk r (λ v. IfSome (untagged_lines d t decorator w false) (λ ls. lines v ≡ ls))
   untagged_same-answered t decorator w o lines (Err e) h = tt
   untagged_same-answered t decorator w o lines (Ok v) h =
-      λ off. also (untagged_lines d t decorator w false) (untagged_lines d t decorator w true) (lines v) (untagged_same t decorator w)
-      (ap (λ b. untagged_lines d t decorator w b) (sym off) ∙ h)
+      agrees (untagged_lines d t decorator w false) (untagged_lines d t decorator w o) (lines v)
+      (with_either (λ b. untagged_lines d t decorator w b) (untagged_same t decorator w) o) h

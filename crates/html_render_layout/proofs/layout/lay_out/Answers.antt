@@ -7,6 +7,8 @@ use Rattle.html_render_layout.specs.laws.Opening.{layout-asks}
 use Rattle.html_render_layout.specs.laws.LayoutKeeps.{layout-returns}
 use Rattle.html_render_layout.specs.laws.LayoutWorks.{empty_worked, layout_lines-works, counts-work}
 use Rattle.html_render_layout.specs.laws.LayoutLaws.{within-answered, succeeds-answered}
+use Rattle.html_render_layout.specs.laws.LayoutOverflow.{same-answered}
+use Rattle.html_render_layout.specs.laws.LayoutVisible.{keeps-answered}
 use Rattle.html_render_layout.specs.Working.{work_lines, laid_out}
 use Rattle.html_render_layout.proofs.layout.lay_out.Goals as goal
 use Rattle.html_render_layout.proofs.layout.lay_out.Given.{Over}
@@ -44,6 +46,16 @@ pub returns-clause-answered : goal.returns-clause-answered
 returns-clause-answered g c =
     succeeds-answered g.D.TextDecorator.decoration c.args.tree c.args.decorator.now c.args.width c.args.overflow c.lines_from.result
     (returns-clause-err g c)
+
+pub returns-clause-same : goal.returns-clause-same
+returns-clause-same g c =
+    same-answered g.D.TextDecorator.decoration c.args.tree c.args.decorator.now c.args.width c.args.overflow
+    (λ l. laid_out l) c.lines_from.result (returns-clause-ok g c)
+
+pub returns-clause-kept : goal.returns-clause-kept
+returns-clause-kept g c =
+    keeps-answered g.D.TextDecorator.decoration c.args.tree c.args.decorator.now c.args.width c.args.overflow
+    (λ l. laid_out l) c.lines_from.result (returns-clause-ok g c)
 
 -- annotations and decorator, wherever the call ends
 pub returns-clause-stacks : goal.returns-clause-stacks

@@ -5,6 +5,8 @@ use Rattle.html_render_layout.specs.declared.tagging.Untagged.{Untagged as Nothi
 use Rattle.html_render_layout.specs.Layout.{estimated, layout_lines, untagged_lines}
 use Rattle.html_render_layout.specs.laws.LayoutWorks.{empty_untagged, untagged_lines-works}
 use Rattle.html_render_layout.specs.laws.LayoutLaws.{untagged_within-answered, succeeds-answered, refuses-untagged}
+use Rattle.html_render_layout.specs.laws.LayoutOverflow.{untagged_same-answered}
+use Rattle.html_render_layout.specs.laws.LayoutVisible.{untagged_keeps-answered}
 use Rattle.html_render_layout.specs.Working.{untagged_work}
 use Rattle.html_render_layout.proofs.layout.lay_out_untagged.Goals as goal
 use Rattle.html_render_layout.proofs.layout.lay_out_untagged.Given.{Over}
@@ -46,3 +48,13 @@ returns-clause-answered g c =
         c.args.overflow))
     by (Ok v) h = h
     by (Err e) h = refuses-untagged g.D.TextDecorator.decoration c.args.tree c.args.decorator.now c.args.width c.args.overflow e h
+
+pub returns-clause-same : goal.returns-clause-same
+returns-clause-same g c =
+    untagged_same-answered g.D.TextDecorator.decoration c.args.tree c.args.decorator.now c.args.width c.args.overflow
+    (λ v. v.items) c.untagged_lines_from.result (returns-clause-ok g c)
+
+pub returns-clause-kept : goal.returns-clause-kept
+returns-clause-kept g c =
+    untagged_keeps-answered g.D.TextDecorator.decoration c.args.tree c.args.decorator.now c.args.width c.args.overflow
+    (λ v. v.items) c.untagged_lines_from.result (returns-clause-ok g c)
