@@ -3,12 +3,15 @@
 //! `plain(alloc)?.allow_width_overflow()` is a configuration; its `dom_to_render_tree(alloc, &dom)?` is a document's
 //! render tree, and `render_to_string(alloc, tree, 80)?` the text of that, in 80 columns.
 
-ghost use Rattle.std.specs.Prelude.{◌≡◌, ◌≢◌, ◌≤◌, ◌∷◌, ◌++◌, [], true, false, Some, Err, IfOk, IfErr, string_bytes};
+ghost use Rattle.std.specs.Prelude.{◌≡◌, ◌≢◌, ◌≤◌, ◌∷◌, ◌++◌, [], true, false, Some, Err, IfOk, IfErr, IfSome, option_map, string_bytes};
 ghost use Rattle.html_render_dom.specs.Outcome.{Refuses};
 ghost use Rattle.html_render_dom.specs.Rules.{rule_of};
+ghost use Rattle.html_render_lines.specs.Line.{AllWithinWidth};
+ghost use Rattle.html_render_layout.specs.Kept.{visited_nodes, KeepsTexts};
 ghost use Rattle.html_render_tree.specs.Conversion.{render_tree_of};
 ghost use Rattle.html_render_tree.specs.Decorations.{decorations};
-ghost use Rattle.html_render_tree.specs.Rendering.{rendered, initial_options, IsTextWithin};
+ghost use Rattle.html_render_tree.specs.Rendering.{rendered_lines, initial_options};
+ghost use Rattle.html_render_tree.specs.Texts.{text_of};
 
 use crate::convert;
 use crate::texts::string_of;
@@ -140,19 +143,28 @@ impl<D: TextDecorator> Config<D> {
     ///
     /// `TooNarrow` at width 0, and where a character is wider than a line and overflow isn't allowed; otherwise
     /// `OutOfMemory`.
+    #[tactic(auto, using(crate::specs::laws::Rendering::rendered_within, crate::specs::laws::Rendering::rendered_keeps))]
     pub fn render_to_string(
         &self,
         alloc: Global,
         tree: RenderTree,
         width: usize,
     ) -> Result<String, Error>
-        ensures ok { IfOk result (λ text. rendered D.decoration tree self.now.decorator width self.now.overflow ≡ Some (string_bytes text)) }
-        ensures err { IfErr result (λ e. Refuses e (rendered D.decoration tree self.now.decorator width self.now.overflow)) }
+        // the text is each line's characters and a newline, and it is too narrow only where there are no lines
+        ensures ok { IfOk result (λ text. option_map text_of (rendered_lines D.decoration self.now tree width) ≡ Some (string_bytes text)) }
+        ensures err { IfErr result (λ e. Refuses e (rendered_lines D.decoration self.now tree width)) }
         ensures no_width { width ≡ 0 → result ≡ Err Error.TooNarrow }
 
-        // With overflow off each line keeps to the width; with overflow on nothing is too narrow.
-        ensures within { self.now.overflow ≡ false → IfOk result (λ text. IsTextWithin width (string_bytes text)) }
+        // with overflow off no line passes the width; with overflow on nothing is too narrow, and where overflow off gives
+        // lines, the text is theirs
+        ensures within { self.now.overflow ≡ false → IfSome (rendered_lines D.decoration self.now tree width) (AllWithinWidth width) }
         ensures wide { self.now.overflow ≡ true → 1 ≤ width → result ≢ Err Error.TooNarrow }
+        ensures same { IfOk result (λ text. IfSome (rendered_lines D.decoration (record self.now { overflow = false }) tree width)
+            (λ lines. string_bytes text ≡ text_of lines)) }
+
+        // no visible character of the texts that are visited is lost
+        ensures kept { IfSome (rendered_lines D.decoration self.now tree width)
+            (KeepsTexts (visited_nodes D.decoration tree self.now.decorator width self.now.overflow)) }
     {
         if width == 0 {
             return Err(Error::TooNarrow);

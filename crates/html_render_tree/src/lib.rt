@@ -7,7 +7,6 @@
 pub mod config;
 mod convert;
 pub mod htree;
-mod laws;
 mod mapping;
 mod script;
 mod texts;
