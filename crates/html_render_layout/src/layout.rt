@@ -189,7 +189,8 @@ fn outermost<T: Tag>(alloc: Global, width: usize, overflow: bool) -> Block<T, us
 ///
 /// # Errors
 ///
-/// `TooNarrow`, at width 0, and, without `overflow`, where a character is wider than a line. `OutOfMemory`.
+/// `TooNarrow`, at width 0, and, without `overflow`, where a character is wider than a line or a prefix leaves too few
+/// columns. `OutOfMemory`.
 pub fn lay_out<D: TextDecorator>(
     alloc: Global,
     decorator: &D,
@@ -253,7 +254,8 @@ fn untagged_lines_from<D: TextDecorator>(
 ///
 /// # Errors
 ///
-/// `TooNarrow`, at width 0, and, without `overflow`, where a character is wider than a line. `OutOfMemory`.
+/// `TooNarrow`, at width 0, and, without `overflow`, where a character is wider than a line or a prefix leaves too few
+/// columns. `OutOfMemory`.
 pub fn lay_out_untagged<D: TextDecorator>(
     alloc: Global,
     decorator: &D,

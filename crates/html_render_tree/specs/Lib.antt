@@ -6,8 +6,6 @@ pub mod Converting
 pub mod Texts
 pub mod Decorations
 pub mod Rendering
--- laws of the definitions
-pub mod laws
 -- the calls of the program's scripts
 pub mod Scripts
 -- what a decorator answers, for callers that implement one

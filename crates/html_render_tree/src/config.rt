@@ -141,16 +141,16 @@ impl<D: TextDecorator> Config<D> {
     ///
     /// # Errors
     ///
-    /// `TooNarrow` at width 0, and where a character is wider than a line and overflow isn't allowed; otherwise
-    /// `OutOfMemory`.
-    #[tactic(auto, using(crate::specs::laws::Rendering::rendered_within, crate::specs::laws::Rendering::rendered_keeps))]
+    /// `TooNarrow` at width 0, and, where overflow isn't allowed, where a character is wider than a line or a prefix
+    /// leaves too few columns; otherwise `OutOfMemory`.
+    #[tactic(auto, using(html_render_layout::specs::laws::LayoutLaws::untagged_within, html_render_layout::specs::laws::LayoutVisible::untagged_keeps_texts))]
     pub fn render_to_string(
         &self,
         alloc: Global,
         tree: RenderTree,
         width: usize,
     ) -> Result<String, Error>
-        // the text is each line's characters and a newline, and it is too narrow only where there are no lines
+        // the text is each line's characters and a newline; want of memory aside, it is too narrow exactly where there are no lines
         ensures ok { IfOk result (λ text. option_map text_of (rendered_lines D.decoration self.now tree width) ≡ Some (string_bytes text)) }
         ensures err { IfErr result (λ e. Refuses e (rendered_lines D.decoration self.now tree width)) }
         ensures no_width { width ≡ 0 → result ≡ Err Error.TooNarrow }
