@@ -1,5 +1,5 @@
 -- THE DEFINITION of the layout, node kind by node kind.
-use Rattle.std.specs.Prelude.{ℕ, ℤ, pos, ◌+ℤ◌, ◌-◌, ◌==◌, max, Bool, List, [], ◌∷◌, ◌++◌, Option, Some, None, option_map, replicate, if◌then◌else◌}
+use Rattle.std.specs.Prelude.{ℕ, ℤ, pos, ◌+ℤ◌, ◌-◌, ◌==◌, Bool, false, List, [], ◌∷◌, ◌++◌, Option, Some, None, option_map, replicate, if◌then◌else◌}
 use Rattle.std.specs.Int.{saturate_signed, w64}
 use Rattle.std.specs.Str.{chars}
 use Rattle.html_render_dom.specs.Forest.{Forest}
@@ -20,7 +20,7 @@ use Rattle.html_render_nodes.specs.Pass.{Steps, Inside, run}
 use Rattle.html_render_blocks.specs.Operations.{Operations}
 use Rattle.html_render_blocks.specs.Block as definition
 use Rattle.html_render_blocks.specs.Block.{DefinedBlock}
-use Rattle.html_render_estimates.specs.Estimates.{prefix_columns, last_number, measured}
+use Rattle.html_render_estimates.specs.Estimates.{prefix_columns, prefix_of, measured}
 use Rattle.html_render_layout.specs.declared.layout.state.Around.{Around}
 use Rattle.html_render_layout.specs.declared.layout.state.Around.TheVariants.{Plain, Bullets, Numbers}
 use Rattle.html_render_layout.specs.declared.layout.state.LayoutState.{LayoutState}
@@ -106,9 +106,9 @@ quoted d o prefix least layout s = do
   Some (resumed s (o.end_block c) s.around r)
 
 -- nodes that stand in something else, and behind them what the state stands in
-abbrev pub standing : {S K T B : Type 0} → Around → (LayoutState S K T B → Option (LayoutState S K T B)) → LayoutState S K T B →
+abbrev pub among : {S K T B : Type 0} → Around → (LayoutState S K T B → Option (LayoutState S K T B)) → LayoutState S K T B →
     Option (LayoutState S K T B)
-standing around children s = do
+among around children s = do
   r ← children (record s { around = around })
   Some (record r { around = s.around })
 
@@ -124,6 +124,10 @@ placed d o layout s (Numbers least number columns) =
     indented d o (padded columns (d.ordered_item_prefix s.decorator number)) columns least
     (Numbers least (next_number number) columns) layout s
 
+-- what the items of an ordered list stand in
+abbrev pub numbers : {S A : Type 0} → Decoration S A → Estimate → (first : ℤ) → S → Around
+numbers d e first decorator = Numbers (inner_least e) first (prefix_of d decorator (Ol first) e.children)
+
 -- d is what the decorators S answer, with annotations A; push gives the tag T of one annotation more, in the stacks K;
 -- and o are the operations on blocks B
 module _ {S A K T B : Type 0} (d : Decoration S A) (push : K → T → A → K × T) (o : Operations B T) where
@@ -138,16 +142,6 @@ module _ {S A K T B : Type 0} (d : Decoration S A) (push : K → T → A → K �
     q ← begun round s
     r ← children q
     add_text o (round.end r.decorator) r
-
-  -- the columns of the prefixes of an ordered list: those of the first number's or of the last number's
-  abbrev pub number_columns : S → (first : ℤ) → (items : ℕ) → ℕ
-  number_columns decorator first items =
-      max (prefix_columns (d.ordered_item_prefix decorator first))
-      (prefix_columns (d.ordered_item_prefix decorator (last_number first items)))
-
-  -- what the items of a list stand in
-  abbrev pub numbers : Estimate → (first : ℤ) → S → Around
-  numbers e first decorator = Numbers (inner_least e) first (number_columns decorator first e.children)
 
   -- WHAT EACH KIND OF NODE DOES to a state, where this is what its children do to one; none where it is too narrow
   abbrev pub kind_steps : NodeKind → Estimate → (children : LayoutState S K T B → Option (LayoutState S K T B)) →
@@ -166,8 +160,8 @@ module _ {S A K T B : Type 0} (d : Decoration S A) (push : K → T → A → K �
   kind_steps (Emphasis m) e children s = decorated (emphasis_decoration d m) children s
   kind_steps (Header level) e children s = quoted d o (d.header_prefix s.decorator level) (inner_least e) children s
   kind_steps BlockQuote e children s = quoted d o (d.quote_prefix s.decorator) (inner_least e) children s
-  kind_steps Ul e children s = standing (Bullets (inner_least e)) children s
-  kind_steps (Ol first) e children s = standing (numbers e first s.decorator) children s
+  kind_steps Ul e children s = among (Bullets (inner_least e)) children s
+  kind_steps (Ol first) e children s = among (numbers d e first s.decorator) children s
   kind_steps ListItem e children s = do
     q ← on_block o.start_block s
     r ← children q
@@ -194,7 +188,7 @@ module _ {S A K T B : Type 0} (d : Decoration S A) (push : K → T → A → K �
   kind_inside (Header level) e s = nested d o (prefix_columns (d.header_prefix s.decorator level)) (inner_least e) s
   kind_inside BlockQuote e s = nested d o (prefix_columns (d.quote_prefix s.decorator)) (inner_least e) s
   kind_inside Ul e s = Some (record s { around = Bullets (inner_least e) })
-  kind_inside (Ol first) e s = Some (record s { around = numbers e first s.decorator })
+  kind_inside (Ol first) e s = Some (record s { around = numbers d e first s.decorator })
   kind_inside ListItem e s = on_block o.start_block s
   kind_inside Dl e s = on_block o.start_block s
   kind_inside Dt e s = do
@@ -238,7 +232,7 @@ defined_inside d = inside d onto definition.operations
 
 -- texts under a tag, that are wrapped
 abbrev pub plain_text : {T : Type 0} → T → TextContext T
-plain_text tag = record { tag = tag; mode = Normal; preformat = 0; strikeout = 0 }
+plain_text tag = record { tag = tag; mode = Normal; preformatted = false; struck_out = false }
 
 -- the state in which a layout begins
 abbrev pub begin_with : {S K T B : Type 0} → S → K → T → B → LayoutState S K T B

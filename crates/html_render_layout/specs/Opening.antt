@@ -1,5 +1,5 @@
 -- What the walk does as it opens a node and closes it.
-use Rattle.std.specs.Prelude.{ℕ, List, Option, Some, None}
+use Rattle.std.specs.Prelude.{ℕ, ℤ, List, Option, Some, None}
 use Rattle.std.specs.Str.{chars}
 use Rattle.html_render_dom.specs.Forest.{Forest}
 use Rattle.html_render_dom.specs.Outcome.{◌>>=◌}
@@ -17,7 +17,6 @@ use Rattle.html_render_layout.specs.declared.layout.items.Place.{Place}
 use Rattle.html_render_layout.specs.declared.layout.state.Around.{Around}
 use Rattle.html_render_layout.specs.declared.layout.state.Around.TheVariants.{Plain, Bullets, Numbers}
 use Rattle.html_render_layout.specs.declared.layout.state.Closing.{Closing}
-use Rattle.html_render_layout.specs.declared.layout.state.Indent.{Indent}
 use Rattle.html_render_layout.specs.declared.layout.state.KindClosing.{KindClosing}
 use Rattle.html_render_layout.specs.declared.layout.state.KindClosing.TheVariants.{Nothing, EndBlock, NewLine, EndEmphasis}
 use Rattle.html_render_layout.specs.declared.layout.state.KindClosing.TheVariants.{EndList, EndQuote, EndIndent}
@@ -27,19 +26,20 @@ use Rattle.html_render_layout.specs.declared.layout.state.TextContext.{TextConte
 use Rattle.html_render_layout.specs.Layout.{on_block, add_text, begun, emphasis_decoration, nested, spaces, padded, next_number, inner_least, numbers}
 
 -- what a block inside the state's interrupts, with what the nodes stand in behind it
-abbrev pub interrupted : {S K T B : Type 0} → LayoutState S K T B → Around → (prefix : List ℕ) → Outer S B
-interrupted s around prefix = record { decorator = s.decorator; block = s.block; around = around; prefix = prefix }
+abbrev pub interrupted : {S K T B : Type 0} → LayoutState S K T B → Around → (prefix : List ℕ) → (columns : ℕ) → Outer S B
+interrupted s around prefix columns =
+    record { decorator = s.decorator; block = s.block; around = around; prefix = prefix; columns = columns }
 
 -- an interrupted block goes on, with this in it
 abbrev pub outside : {S K T B : Type 0} → Outer S B → B → LayoutState S K T B → LayoutState S K T B
 outside u b r = record r { decorator = u.decorator; block = b; around = u.around }
 
 -- what was indented is over
-abbrev pub indent_closed : {S K T B : Type 0} → Operations B T → TextContext T → Indent S B → LayoutState S K T B →
+abbrev pub indent_closed : {S K T B : Type 0} → Operations B T → TextContext T → Outer S B → LayoutState S K T B →
     Option (LayoutState S K T B)
-indent_closed o text i r = do
-  b ← o.append i.outer.block r.block text.tag (chars i.outer.prefix) (spaces i.columns)
-  Some (outside i.outer b r)
+indent_closed o text u r = do
+  b ← o.append u.block r.block text.tag (chars u.prefix) (spaces u.columns)
+  Some (outside u b r)
 
 -- a heading or a quote is over
 abbrev pub quote_closed : {S K T B : Type 0} → Operations B T → TextContext T → Outer S B → LayoutState S K T B →
@@ -50,23 +50,30 @@ quote_closed o text u r = do
   Some (outside u (o.end_block c) r)
 
 -- an item is over, if the node is one
-abbrev pub item_closed : {S K T B : Type 0} → Operations B T → Option (Indent S B) → LayoutState S K T B → Option (LayoutState S K T B)
+abbrev pub item_closed : {S K T B : Type 0} → Operations B T → Option (Outer S B) → LayoutState S K T B → Option (LayoutState S K T B)
 item_closed o None r = Some r
-item_closed o (Some i) r = indent_closed o r.text i r
+item_closed o (Some u) r = indent_closed o r.text u r
+
+-- where an item stands behind a bullet
+abbrev pub bullet_place : {S A : Type 0} → Decoration S A → S → (least : ℕ) → Place
+bullet_place d decorator least =
+    let bullet = d.unordered_item_prefix decorator in
+    record { prefix = bullet; columns = prefix_columns bullet; least = least; behind = Bullets least }
+
+-- and behind its number
+abbrev pub number_place : {S A : Type 0} → Decoration S A → S → (least : ℕ) → (number : ℤ) → (columns : ℕ) → Place
+number_place d decorator least number columns = record {
+  prefix = padded columns (d.ordered_item_prefix decorator number);
+  columns = columns;
+  least = least;
+  behind = Numbers least (next_number number) columns;
+}
 
 -- where a node stands in what is round it, if it is an item
 abbrev pub place_of : {S A : Type 0} → Decoration S A → S → Around → Option Place
 place_of d decorator Plain = None
-place_of d decorator (Bullets least) =
-    let bullet = d.unordered_item_prefix decorator in
-    Some (record { prefix = bullet; columns = prefix_columns bullet; least = least; behind = Bullets least })
-place_of d decorator (Numbers least number columns) =
-    Some (record {
-      prefix = padded columns (d.ordered_item_prefix decorator number);
-      columns = columns;
-      least = least;
-      behind = Numbers least (next_number number) columns;
-    })
+place_of d decorator (Bullets least) = Some (bullet_place d decorator least)
+place_of d decorator (Numbers least number columns) = Some (number_place d decorator least number columns)
 
 -- the way of a node in itself, with what it restores
 abbrev pub keeping : {S K T B : Type 0} → TextContext T → Way (LayoutState S K T B) (KindClosing S B) →
@@ -75,16 +82,16 @@ keeping text (Into q k) = Into q (record { item = None; text = text; kind = k })
 keeping text (Past r) = Past (record r { text = text })
 
 -- the same of an item
-abbrev pub as_item : {S K T B : Type 0} → Operations B T → Indent S B → Way (LayoutState S K T B) (Closing S T B) →
+abbrev pub as_item : {S K T B : Type 0} → Operations B T → Outer S B → Way (LayoutState S K T B) (Closing S T B) →
     Option (Way (LayoutState S K T B) (Closing S T B))
-as_item o i (Into q c) = Some (Into q (record c { item = Some i }))
-as_item o i (Past r) = past (item_closed o (Some i) r)
+as_item o u (Into q c) = Some (Into q (record c { item = Some u }))
+as_item o u (Past r) = past (item_closed o (Some u) r)
 
 module _ {S A K T B : Type 0} (d : Decoration S A) (push : K → T → A → K × T) (o : Operations B T) where
   abbrev pub quote_opened : (prefix : List ℕ) → Estimate → LayoutState S K T B → Option (Way (LayoutState S K T B) (KindClosing S B))
   quote_opened prefix e s = do
     q ← nested d o (prefix_columns prefix) (inner_least e) s
-    Some (Into q (EndQuote (interrupted s s.around prefix)))
+    Some (Into q (EndQuote (interrupted s s.around prefix (prefix_columns prefix))))
 
   -- how each kind of node is opened
   abbrev pub kind_opened : NodeKind → Estimate → LayoutState S K T B → Option (Way (LayoutState S K T B) (KindClosing S B))
@@ -102,8 +109,8 @@ module _ {S A K T B : Type 0} (d : Decoration S A) (push : K → T → A → K �
     Some (Into q (EndEmphasis m))
   kind_opened (Header level) e s = quote_opened (d.header_prefix s.decorator level) e s
   kind_opened BlockQuote e s = quote_opened (d.quote_prefix s.decorator) e s
-  kind_opened Ul e s = Some (Into (record s { around = Bullets (inner_least e) }) (EndList s.around))
-  kind_opened (Ol first) e s = Some (Into (record s { around = numbers d push o e first s.decorator }) (EndList s.around))
+  kind_opened Ul e s = Some (Into (record s { around = Bullets (inner_least e) }) EndList)
+  kind_opened (Ol first) e s = Some (Into (record s { around = numbers d e first s.decorator }) EndList)
   kind_opened ListItem e s = do
     q ← on_block o.start_block s
     Some (Into q EndBlock)
@@ -116,7 +123,7 @@ module _ {S A K T B : Type 0} (d : Decoration S A) (push : K → T → A → K �
     Some (Into q (EndEmphasis Em))
   kind_opened Dd e s = do
     q ← nested d o 2 (inner_least e) s
-    Some (Into q (EndIndent (record { outer = interrupted s s.around (spaces 2); columns = 2 })))
+    Some (Into q (EndIndent (interrupted s s.around (spaces 2) 2)))
 
   -- what each does once its children are laid out
   abbrev pub kind_closed : TextContext T → KindClosing S B → LayoutState S K T B → Option (LayoutState S K T B)
@@ -124,9 +131,9 @@ module _ {S A K T B : Type 0} (d : Decoration S A) (push : K → T → A → K �
   kind_closed text EndBlock r = Some (record r { block = o.end_block r.block })
   kind_closed text NewLine r = on_block o.new_line r
   kind_closed text (EndEmphasis m) r = add_text o ((emphasis_decoration d m).end r.decorator) r
-  kind_closed text (EndList around) r = Some (record r { around = around })
+  kind_closed text EndList r = Some (record r { around = Plain })
   kind_closed text (EndQuote u) r = quote_closed o text u r
-  kind_closed text (EndIndent i) r = indent_closed o text i r
+  kind_closed text (EndIndent u) r = indent_closed o text u r
 
   abbrev pub node_opened : NodeKind → Estimate → LayoutState S K T B → Option (Way (LayoutState S K T B) (Closing S T B))
   node_opened k e s = do
@@ -134,25 +141,19 @@ module _ {S A K T B : Type 0} (d : Decoration S A) (push : K → T → A → K �
     Some (keeping s.text w)
 
   -- an item is opened in a block of its own
-  abbrev pub item_opened : NodeKind → Estimate → (prefix : List ℕ) → (columns least : ℕ) → (behind : Around) → LayoutState S K T B →
-      Option (Way (LayoutState S K T B) (Closing S T B))
-  item_opened k e prefix columns least behind s = do
-    q ← nested d o columns least s
+  abbrev pub item_opened : NodeKind → Estimate → Place → LayoutState S K T B → Option (Way (LayoutState S K T B) (Closing S T B))
+  item_opened k e p s = do
+    q ← nested d o p.columns p.least s
     w ← node_opened k e q
-    as_item o (record { outer = interrupted s behind prefix; columns = columns }) w
+    as_item o (interrupted s p.behind p.prefix p.columns) w
 
-  -- by what the node stands in
-  abbrev pub placed_opened : NodeKind → Estimate → LayoutState S K T B → Around → Option (Way (LayoutState S K T B) (Closing S T B))
-  placed_opened k e s Plain = node_opened k e s
-  placed_opened k e s (Bullets least) =
-      let bullet = d.unordered_item_prefix s.decorator in
-      item_opened k e bullet (prefix_columns bullet) least (Bullets least) s
-  placed_opened k e s (Numbers least number columns) =
-      item_opened k e (padded columns (d.ordered_item_prefix s.decorator number)) columns least
-      (Numbers least (next_number number) columns) s
+  -- by where the node stands, if it is an item
+  abbrev pub placed_opened : NodeKind → Estimate → Option Place → LayoutState S K T B → Option (Way (LayoutState S K T B) (Closing S T B))
+  placed_opened k e None s = node_opened k e s
+  placed_opened k e (Some p) s = item_opened k e p s
 
   abbrev pub opened : RenderNode → Forest RenderNode → LayoutState S K T B → Option (Way (LayoutState S K T B) (Closing S T B))
-  opened n trees s = placed_opened n.kind n.estimate s s.around
+  opened n trees s = placed_opened n.kind n.estimate (place_of d s.decorator s.around) s
 
   abbrev pub closed : Closing S T B → LayoutState S K T B → Option (LayoutState S K T B)
   closed c r = do

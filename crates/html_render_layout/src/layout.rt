@@ -108,8 +108,8 @@ fn begin_with<D: TextDecorator, G: Tagging<D::Annotation>>(
         text: TextContext {
             tag,
             mode: WhiteSpace::Normal,
-            preformat: 0,
-            strikeout: 0,
+            preformatted: false,
+            struck_out: false,
         },
         block,
         around: Around::Plain,

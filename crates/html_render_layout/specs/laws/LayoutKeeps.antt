@@ -21,7 +21,7 @@ use Rattle.html_render_layout.specs.declared.layout.state.Around.TheVariants.{Pl
 use Rattle.html_render_layout.specs.declared.layout.state.LayoutState.{LayoutState}
 use Rattle.html_render_layout.specs.declared.layout.state.TextContext.{TextContext}
 use Rattle.html_render_layout.specs.Layout.{on_block, add_text, text_style, under, emphasis_decoration, begun, decorated, restored, placed}
-use Rattle.html_render_layout.specs.Layout.{inner_least, spaces, padded, next_number, nested, indented, quoted, standing, numbers}
+use Rattle.html_render_layout.specs.Layout.{inner_least, spaces, padded, next_number, nested, indented, quoted, among, numbers}
 use Rattle.html_render_layout.specs.Layout.{kind_steps, steps}
 
 -- each operation keeps what P i says of a block; N is what holds where it has no answer
@@ -135,8 +135,8 @@ module _ {S A K T B : Type 0} (d : Decoration S A) (push : K → T → A → K �
           MatchOption-then N (P i) (OfState i) (o.append e r.block s.text.tag (chars prefix) (chars prefix)) _
           (h.append i j e r.block s.text.tag (chars prefix) (chars prefix) k b) (λ c m. h.end_block i c m))))
 
-      standing-keeps : (around : Around) (i : I) (s : State) → OfState i s → MatchOption (standing around layout s) N (OfState i)
-      standing-keeps around i s p = then_keeps i (layout (record s { around = around })) _ (below i _ p) (λ r b. b)
+      among-keeps : (around : Around) (i : I) (s : State) → OfState i s → MatchOption (among around layout s) N (OfState i)
+      among-keeps around i s p = then_keeps i (layout (record s { around = around })) _ (below i _ p) (λ r b. b)
 
       kind-keeps : (k : NodeKind) (e : Estimate) (i : I) (s : State) → OfState i s →
           MatchOption (kind_steps d push o k e layout s) N (OfState i)
@@ -150,8 +150,8 @@ module _ {S A K T B : Type 0} (d : Decoration S A) (push : K → T → A → K �
       kind-keeps (Emphasis m) e i s p = decorated-keeps (emphasis_decoration d m) i s p
       kind-keeps (Header level) e i s p = quoted-keeps (d.header_prefix s.decorator level) (inner_least e) i s p
       kind-keeps BlockQuote e i s p = quoted-keeps (d.quote_prefix s.decorator) (inner_least e) i s p
-      kind-keeps Ul e i s p = standing-keeps (Bullets (inner_least e)) i s p
-      kind-keeps (Ol first) e i s p = standing-keeps (numbers d push o e first s.decorator) i s p
+      kind-keeps Ul e i s p = among-keeps (Bullets (inner_least e)) i s p
+      kind-keeps (Ol first) e i s p = among-keeps (numbers d e first s.decorator) i s p
       kind-keeps ListItem e i s p = block-keeps e i s p
       kind-keeps Dl e i s p = then_keeps i (on_block o.start_block s) _ (start_block-keeps i s p) (λ q a. below i q a)
       kind-keeps Dt e i s p =
@@ -283,8 +283,8 @@ module _ {S A K T B : Type 0} (d : Decoration S A) (push : K → T → A → K �
         then_same s (begun d push o round s) _ (begun-same round s) (λ q.
         then_same q (children q) _ (below-same q) (λ r. text-same (round.end r.decorator) r))
 
-    standing-same : (around : Around) (s : State) → IfSome (standing around children s) (SamePlace s)
-    standing-same around s =
+    among-same : (around : Around) (s : State) → IfSome (among around children s) (SamePlace s)
+    among-same around s =
         let u : State = record s { around = around } in
         IfSome-then (SamePlace u) (SamePlace s) (children u) _ (below-same u) (λ r a. (a.0, λ e. e))
 
@@ -299,8 +299,8 @@ module _ {S A K T B : Type 0} (d : Decoration S A) (push : K → T → A → K �
     kind-same (Emphasis m) e s = decorated-same (emphasis_decoration d m) s
     kind-same (Header level) e s = quoted-same children (d.header_prefix s.decorator level) (inner_least e) s
     kind-same BlockQuote e s = quoted-same children (d.quote_prefix s.decorator) (inner_least e) s
-    kind-same Ul e s = standing-same (Bullets (inner_least e)) s
-    kind-same (Ol first) e s = standing-same (numbers d push o e first s.decorator) s
+    kind-same Ul e s = among-same (Bullets (inner_least e)) s
+    kind-same (Ol first) e s = among-same (numbers d e first s.decorator) s
     kind-same ListItem e s = block-same e s
     kind-same Dl e s = then_same s (on_block o.start_block s) _ (on_block-same o.start_block s) below-same
     kind-same Dt e s = then_same s (on_block o.new_line s) _ (on_block-same o.new_line s) (decorated-same d.em)

@@ -25,7 +25,7 @@ use Rattle.html_render_layout.specs.declared.layout.state.Around.{Around}
 use Rattle.html_render_layout.specs.declared.layout.state.Around.TheVariants.{Plain, Bullets, Numbers}
 use Rattle.html_render_layout.specs.declared.layout.state.LayoutState.{LayoutState}
 use Rattle.html_render_layout.specs.Layout.{on_block, add_text, text_style, under, restored, inner_least, spaces, padded, next_number}
-use Rattle.html_render_layout.specs.Layout.{nested, resumed, indented, quoted, standing, placed, emphasis_decoration, begun, decorated}
+use Rattle.html_render_layout.specs.Layout.{nested, resumed, indented, quoted, among, placed, emphasis_decoration, begun, decorated}
 use Rattle.html_render_layout.specs.Layout.{numbers, kind_steps, steps}
 use Rattle.html_render_layout.specs.Layout.{shown_after, onto, Defined, empty_state, estimated, layout_lines, no_tag, untagged_lines}
 
@@ -93,8 +93,8 @@ module _ {S A K T B : Type 0} (d : Decoration S A) (push : K → T → A → K �
         (h.append b r.block s.text.tag (chars prefix) (chars prefix))
         (λ c. ap (λ e. Some (resumed s e s.around r)) (h.end_block c)))))
 
-    standing-stays : (around : Around) → Stays (standing around l) (standing around m)
-    standing-stays around s =
+    among-stays : (around : Around) → Stays (among around l) (among around m)
+    among-stays around s =
         both (l (record s { around = around })) (m (record (mapped s) { around = around })) (λ r. Some (record r { around = s.around }))
         (λ r. Some (record r { around = s.around })) (below (record s { around = around })) (λ r. refl)
 
@@ -123,8 +123,8 @@ module _ {S A K T B : Type 0} (d : Decoration S A) (push : K → T → A → K �
     kind-stays (Emphasis x) e s = decorated-stays (emphasis_decoration d x) s
     kind-stays (Header level) e s = quoted-stays (d.header_prefix s.decorator level) (inner_least e) s
     kind-stays BlockQuote e s = quoted-stays (d.quote_prefix s.decorator) (inner_least e) s
-    kind-stays Ul e s = standing-stays (Bullets (inner_least e)) s
-    kind-stays (Ol first) e s = standing-stays (numbers d push o e first s.decorator) s
+    kind-stays Ul e s = among-stays (Bullets (inner_least e)) s
+    kind-stays (Ol first) e s = among-stays (numbers d e first s.decorator) s
     kind-stays ListItem e s = block-stays e s
     kind-stays Dl e s =
         both (on_block o.start_block s) (on_block o.start_block (mapped s)) l m

@@ -32,7 +32,7 @@ use Rattle.html_render_layout.specs.declared.layout.state.Around.TheVariants.{Pl
 use Rattle.html_render_layout.specs.declared.layout.state.LayoutState.{LayoutState}
 use Rattle.html_render_layout.specs.Kept.{visited_nodes, node_characters, text_characters, KeepsTexts}
 use Rattle.html_render_layout.specs.Layout.{on_block, add_text, text_style, under, restored, inner_least, spaces, padded, next_number}
-use Rattle.html_render_layout.specs.Layout.{nested, resumed, indented, quoted, standing, placed, emphasis_decoration, begun, decorated}
+use Rattle.html_render_layout.specs.Layout.{nested, resumed, indented, quoted, among, placed, emphasis_decoration, begun, decorated}
 use Rattle.html_render_layout.specs.Layout.{numbers, kind_steps, steps}
 use Rattle.html_render_layout.specs.Layout.{kind_inside, placed_inside, inside, shown_after, onto, Defined, defined, empty_state}
 use Rattle.html_render_layout.specs.Layout.{estimated, layout_lines, no_tag, untagged_lines}
@@ -144,9 +144,9 @@ module _ {S A K T B : Type 0} (d : Decoration S A) (push : K → T → A → K �
         (append-counts s r s.block (chars prefix) (spaces columns) (λ c. resumed s c behind r) (λ c. refl))
         (λ t x. omega arith)))
 
-    standing-counts : (around : Around) (s : State) →
-        IfSome (standing around children s) (AtLeast (counted s + added (record s { around = around })))
-    standing-counts around s =
+    among-counts : (around : Around) (s : State) →
+        IfSome (among around children s) (AtLeast (counted s + added (record s { around = around })))
+    among-counts around s =
         let n = counted s + added (record s { around = around }) in
         IfSome-then (AtLeast n) (AtLeast n) (children (record s { around = around })) _ (below (record s { around = around })) (λ r a. a)
 
@@ -187,8 +187,8 @@ module _ {S A K T B : Type 0} (d : Decoration S A) (push : K → T → A → K �
     kind-counts (Emphasis m) e s = grows (Emphasis m) e s refl (decorated-counts (emphasis_decoration d m) s)
     kind-counts (Header level) e s = grows (Header level) e s refl (quoted-counts (d.header_prefix s.decorator level) (inner_least e) s)
     kind-counts BlockQuote e s = grows BlockQuote e s refl (quoted-counts (d.quote_prefix s.decorator) (inner_least e) s)
-    kind-counts Ul e s = grows Ul e s refl (standing-counts (Bullets (inner_least e)) s)
-    kind-counts (Ol first) e s = grows (Ol first) e s refl (standing-counts (numbers d push o e first s.decorator) s)
+    kind-counts Ul e s = grows Ul e s refl (among-counts (Bullets (inner_least e)) s)
+    kind-counts (Ol first) e s = grows (Ol first) e s refl (among-counts (numbers d e first s.decorator) s)
     kind-counts ListItem e s = grows ListItem e s refl (block-counts e s)
     kind-counts Dl e s =
         grows Dl e s refl (asked added (AtLeast (counted s)) (λ m. AtLeast (counted s + m)) (on_block o.start_block s) children

@@ -85,7 +85,7 @@ module _ {S A : Type 0} (d : Decoration S A) where
       (λ k t a. ((stack_at k t ++ a ∷ []) ∷ [], refl)) tag_pushed (empty_worked decorator w o) (empty_state d decorator w o)
   begins decorator w o = record {
     decorator = refl;
-    text = record { tag = λ i. ap (λ x. stack_at x 0) i.1.1; mode = refl; preformat = refl; strikeout = refl };
+    text = record { tag = λ i. ap (λ x. stack_at x 0) i.1.1; mode = refl; preformatted = refl; struck_out = refl };
     block = λ i. refl;
     around = refl;
     targets = refl;
@@ -148,7 +148,7 @@ module _ {S A : Type 0} (d : Decoration S A) where
       (empty_untagged k decorator w o) (empty_state d decorator w o)
       (record {
         decorator = refl;
-        text = record { tag = λ i. refl; mode = refl; preformat = refl; strikeout = refl };
+        text = record { tag = λ i. refl; mode = refl; preformatted = refl; struck_out = refl };
         block = λ i. refl;
         around = refl;
         targets = refl;

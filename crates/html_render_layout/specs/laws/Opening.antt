@@ -13,17 +13,18 @@ use Rattle.html_render_nodes.specs.declared.tree.RenderNode.{RenderNode}
 use Rattle.html_render_nodes.specs.Pass.{Way, Into, Past, AsksIn, past, through, into, inside_of}
 use Rattle.html_render_nodes.specs.laws.Visits.{opened-asks, asks-same}
 use Rattle.html_render_blocks.specs.Operations.{Operations}
+use Rattle.html_render_layout.specs.declared.layout.items.Place.{Place}
 use Rattle.html_render_layout.specs.declared.layout.state.Around.{Around}
 use Rattle.html_render_layout.specs.declared.layout.state.Around.TheVariants.{Plain, Bullets, Numbers}
 use Rattle.html_render_layout.specs.declared.layout.state.Closing.{Closing}
-use Rattle.html_render_layout.specs.declared.layout.state.Indent.{Indent}
 use Rattle.html_render_layout.specs.declared.layout.state.KindClosing.{KindClosing}
 use Rattle.html_render_layout.specs.declared.layout.state.LayoutState.{LayoutState}
+use Rattle.html_render_layout.specs.declared.layout.state.Outer.{Outer}
 use Rattle.html_render_layout.specs.declared.layout.state.TextContext.{TextContext}
-use Rattle.html_render_layout.specs.Layout.{on_block, add_text, begun, decorated, emphasis_decoration, nested, indented, resumed, spaces, padded, next_number}
-use Rattle.html_render_layout.specs.Layout.{inner_least, restored, placed, kind_steps, steps, kind_inside, placed_inside, inside}
-use Rattle.html_render_layout.specs.Opening.{interrupted, item_closed, keeping, as_item, quote_opened, kind_opened, kind_closed, node_opened}
-use Rattle.html_render_layout.specs.Opening.{item_opened, placed_opened, opened, closed}
+use Rattle.html_render_layout.specs.Layout.{on_block, add_text, begun, emphasis_decoration, nested, indented, resumed, spaces}
+use Rattle.html_render_layout.specs.Layout.{inner_least, restored, among, numbers, placed, kind_steps, steps, kind_inside, placed_inside, inside}
+use Rattle.html_render_layout.specs.Opening.{interrupted, item_closed, bullet_place, number_place, place_of, keeping, as_item}
+use Rattle.html_render_layout.specs.Opening.{kind_opened, kind_closed, node_opened, item_opened, placed_opened, opened, closed}
 
 and_then_some : {A : Type 0} (o : Option A) → o ≡ option_and_then (λ x. Some x) o
 and_then_some None = refl
@@ -59,27 +60,33 @@ module _ {S A K T B : Type 0} (d : Decoration S A) (push : K → T → A → K �
   abbrev State : Type 0
   State = LayoutState S K T B
 
-  kind-told : (k : NodeKind) (e : Estimate) (children : State → Option State) (s : State) →
+  -- behind a list in a block of its own, nodes stand in nothing else again
+  among-told : (around : Around) (children : State → Option State) (s : State) → s.around ≡ Plain →
+      among around children s ≡ option_and_then (λ (r : State). Some (record r { around = Plain })) (children (record s { around = around }))
+  among-told around children s plain =
+      ap (λ a. option_and_then (λ (r : State). Some (record r { around = a })) (children (record s { around = around }))) plain
+
+  kind-told : (k : NodeKind) (e : Estimate) (children : State → Option State) (s : State) → s.around ≡ Plain →
       kind_steps d push o k e children s
       ≡ option_and_then (through (kind_closed d push o s.text) children) (kind_opened d push o k e s)
-  kind-told (Text t) e children s = past-told (kind_closed d push o s.text) children (add_text o t s)
-  kind-told Container e children s = and_then_some (children s)
-  kind-told Break e children s = past-told (kind_closed d push o s.text) children (on_block o.new_line_hard s)
-  kind-told Block e children s = and_then_assoc (on_block o.start_block s) _ _
-  kind-told Div e children s = and_then_assoc (on_block o.new_line s) _ _
-  kind-told (Emphasis m) e children s = and_then_assoc (begun d push o (emphasis_decoration d m) s) _ _
-  kind-told (Header level) e children s =
+  kind-told (Text t) e children s plain = past-told (kind_closed d push o s.text) children (add_text o t s)
+  kind-told Container e children s plain = and_then_some (children s)
+  kind-told Break e children s plain = past-told (kind_closed d push o s.text) children (on_block o.new_line_hard s)
+  kind-told Block e children s plain = and_then_assoc (on_block o.start_block s) _ _
+  kind-told Div e children s plain = and_then_assoc (on_block o.new_line s) _ _
+  kind-told (Emphasis m) e children s plain = and_then_assoc (begun d push o (emphasis_decoration d m) s) _ _
+  kind-told (Header level) e children s plain =
       and_then_assoc (nested d o (prefix_columns (d.header_prefix s.decorator level)) (inner_least e) s) _ _
-  kind-told BlockQuote e children s = and_then_assoc (nested d o (prefix_columns (d.quote_prefix s.decorator)) (inner_least e) s) _ _
-  kind-told Ul e children s = refl
-  kind-told (Ol first) e children s = refl
-  kind-told ListItem e children s = and_then_assoc (on_block o.start_block s) _ _
-  kind-told Dl e children s =
+  kind-told BlockQuote e children s plain = and_then_assoc (nested d o (prefix_columns (d.quote_prefix s.decorator)) (inner_least e) s) _ _
+  kind-told Ul e children s plain = among-told (Bullets (inner_least e)) children s plain
+  kind-told (Ol first) e children s plain = among-told (numbers d e first s.decorator) children s plain
+  kind-told ListItem e children s plain = and_then_assoc (on_block o.start_block s) _ _
+  kind-told Dl e children s plain =
       and_then_same (on_block o.start_block s) _ _ (λ q. and_then_some (children q)) ∙ and_then_assoc (on_block o.start_block s) _ _
-  kind-told Dt e children s =
+  kind-told Dt e children s plain =
       and_then_same (on_block o.new_line s) _ _ (λ q. and_then_assoc (begun d push o d.em q) _ _)
       ∙ and_then_assoc (on_block o.new_line s) _ _
-  kind-told Dd e children s = and_then_assoc (nested d o 2 (inner_least e) s) _ _
+  kind-told Dd e children s plain = and_then_assoc (nested d o 2 (inner_least e) s) _ _
 
   -- texts are treated so again
   abbrev back : TextContext T → State → Option State
@@ -92,44 +99,43 @@ module _ {S A K T B : Type 0} (d : Decoration S A) (push : K → T → A → K �
   keeping-told children text (Some (Into q k)) = sym (and_then_assoc (children q) (kind_closed d push o text k) _)
   keeping-told children text (Some (Past r)) = refl
 
-  node-told : (k : NodeKind) (e : Estimate) (children : State → Option State) (s : State) →
+  node-told : (k : NodeKind) (e : Estimate) (children : State → Option State) (s : State) → s.around ≡ Plain →
       restored (kind_steps d push o k e children) s
       ≡ option_and_then (through (closed d push o) children) (node_opened d push o k e s)
-  node-told k e children s =
-      ap (option_and_then (back s.text)) (kind-told k e children s)
+  node-told k e children s plain =
+      ap (option_and_then (back s.text)) (kind-told k e children s plain)
       ∙ keeping-told children s.text (kind_opened d push o k e s)
 
   -- an item in a block of its own, from what is opened there
-  as_item-told : (children : State → Option State) (i : Indent S B) (text : TextContext T) (w : Option (Way State (KindClosing S B))) →
-      option_and_then (item_closed o (Some i))
+  as_item-told : (children : State → Option State) (u : Outer S B) (text : TextContext T) (w : Option (Way State (KindClosing S B))) →
+      option_and_then (item_closed o (Some u))
       (option_and_then (through (closed d push o) children) (option_and_then (λ v. Some (keeping text v)) w))
       ≡ option_and_then (through (closed d push o) children)
-      (option_and_then (as_item o i) (option_and_then (λ v. Some (keeping text v)) w))
-  as_item-told children i text None = refl
-  as_item-told children i text (Some (Into q k)) =
+      (option_and_then (as_item o u) (option_and_then (λ v. Some (keeping text v)) w))
+  as_item-told children u text None = refl
+  as_item-told children u text (Some (Into q k)) =
       sym (and_then_assoc (children q) _ _)
       ∙ and_then_same (children q) _ _ (λ r. sym (and_then_assoc (kind_closed d push o text k r) _ _))
-  as_item-told children i text (Some (Past r)) = past-told (closed d push o) children _
+  as_item-told children u text (Some (Past r)) = past-told (closed d push o) children _
 
-  item-told : (k : NodeKind) (e : Estimate) (prefix : List ℕ) (columns least : ℕ) (behind : Around) (children : State → Option State)
-      (s : State) →
-      indented d o prefix columns least behind (restored (kind_steps d push o k e children)) s
-      ≡ option_and_then (through (closed d push o) children) (item_opened d push o k e prefix columns least behind s)
-  item-told k e prefix columns least behind children s = by (o.sub_block s.block columns least)
+  item-told : (k : NodeKind) (e : Estimate) (p : Place) (children : State → Option State) (s : State) →
+      indented d o p.prefix p.columns p.least p.behind (restored (kind_steps d push o k e children)) s
+      ≡ option_and_then (through (closed d push o) children) (item_opened d push o k e p s)
+  item-told k e p children s = by (o.sub_block s.block p.columns p.least)
     where
       -- the item's block is put into the state's
       put : State → Option State
-      put r = option_and_then (λ b. Some (resumed s b behind r)) (o.append s.block r.block s.text.tag (chars prefix) (spaces columns))
+      put r = option_and_then (λ b. Some (resumed s b p.behind r)) (o.append s.block r.block s.text.tag (chars p.prefix) (spaces p.columns))
 
-      item : Indent S B
-      item = record { outer = interrupted s behind prefix; columns = columns }
+      item : Outer S B
+      item = interrupted s p.behind p.prefix p.columns
 
       same : (text : TextContext T) → text ≡ s.text → (r : Option State) →
           option_and_then put (option_and_then (back text) r)
           ≡ option_and_then (item_closed o (Some item)) (option_and_then (back text) r)
       same text e None = refl
-      same text e (Some r) = ap (λ (x : TextContext T). option_and_then (λ b. Some (resumed s b behind (record r { text = text })))
-          (o.append s.block r.block x.tag (chars prefix) (spaces columns))) (sym e)
+      same text e (Some r) = ap (λ (x : TextContext T). option_and_then (λ b. Some (resumed s b p.behind (record r { text = text })))
+          (o.append s.block r.block x.tag (chars p.prefix) (spaces p.columns))) (sym e)
 
       by : (b : Option B) →
           option_and_then (λ (q : State). option_and_then put (restored (kind_steps d push o k e children) q))
@@ -141,23 +147,19 @@ module _ {S A K T B : Type 0} (d : Decoration S A) (push : K → T → A → K �
       by (Some c) =
           let q : State = record s { decorator = d.subblock s.decorator; block = c; around = Plain } in
           same s.text refl (kind_steps d push o k e children q)
-          ∙ ap (option_and_then (item_closed o (Some item))) (node-told k e children q)
+          ∙ ap (option_and_then (item_closed o (Some item))) (node-told k e children q refl)
           ∙ as_item-told children item s.text (kind_opened d push o k e q)
 
   -- THE LAW: a node's steps are that it is opened, its children come, and it is closed
   pub steps-told : (n : RenderNode) (trees : Forest RenderNode) (children : State → Option State) (s : State) →
       steps d push o n trees children s ≡ option_and_then (through (closed d push o) children) (opened d push o n trees s)
-  steps-told n trees children s = by s.around
+  steps-told n trees children s = by s.around refl
     where
-      by : (a : Around) → placed d o (λ q. restored (kind_steps d push o n.kind n.estimate children) q) s a
-          ≡ option_and_then (through (closed d push o) children) (placed_opened d push o n.kind n.estimate s a)
-      by Plain = node-told n.kind n.estimate children s
-      by (Bullets least) =
-          let bullet = d.unordered_item_prefix s.decorator in
-          item-told n.kind n.estimate bullet (prefix_columns bullet) least (Bullets least) children s
-      by (Numbers least number columns) =
-          item-told n.kind n.estimate (padded columns (d.ordered_item_prefix s.decorator number)) columns least
-          (Numbers least (next_number number) columns) children s
+      by : (a : Around) → s.around ≡ a → placed d o (λ q. restored (kind_steps d push o n.kind n.estimate children) q) s a
+          ≡ option_and_then (through (closed d push o) children) (placed_opened d push o n.kind n.estimate (place_of d s.decorator a) s)
+      by Plain h = node-told n.kind n.estimate children s h
+      by (Bullets least) h = item-told n.kind n.estimate (bullet_place d s.decorator least) children s
+      by (Numbers least number columns) h = item-told n.kind n.estimate (number_place d s.decorator least number columns) children s
 
   -- ---- where its children are laid out
 
@@ -187,35 +189,31 @@ module _ {S A K T B : Type 0} (d : Decoration S A) (push : K → T → A → K �
   keeping-inside text (Some (Into q k)) = refl
   keeping-inside text (Some (Past r)) = refl
 
-  as_item-inside : (i : Indent S B) (text : TextContext T) (w : Option (Way State (KindClosing S B))) →
-      option_and_then (λ v. into v) (option_and_then (as_item o i) (option_and_then (λ v. Some (keeping text v)) w))
+  as_item-inside : (u : Outer S B) (text : TextContext T) (w : Option (Way State (KindClosing S B))) →
+      option_and_then (λ v. into v) (option_and_then (as_item o u) (option_and_then (λ v. Some (keeping text v)) w))
       ≡ option_and_then (λ v. into v) w
-  as_item-inside i text None = refl
-  as_item-inside i text (Some (Into q k)) = refl
-  as_item-inside i text (Some (Past r)) = past-inside (Closing S T B) _
+  as_item-inside u text None = refl
+  as_item-inside u text (Some (Into q k)) = refl
+  as_item-inside u text (Some (Past r)) = past-inside (Closing S T B) _
 
-  item-inside : (k : NodeKind) (e : Estimate) (prefix : List ℕ) (columns least : ℕ) (behind : Around) (s : State) →
-      option_and_then (λ w. into w) (item_opened d push o k e prefix columns least behind s)
-      ≡ option_and_then (λ q. kind_inside d push o k e q) (nested d o columns least s)
-  item-inside k e prefix columns least behind s =
-      sym (and_then_assoc (nested d o columns least s) _ _)
-      ∙ and_then_same (nested d o columns least s) _ _ (λ q.
-      as_item-inside (record { outer = interrupted s behind prefix; columns = columns }) q.text (kind_opened d push o k e q)
+  item-inside : (k : NodeKind) (e : Estimate) (p : Place) (s : State) →
+      option_and_then (λ w. into w) (item_opened d push o k e p s)
+      ≡ option_and_then (λ q. kind_inside d push o k e q) (nested d o p.columns p.least s)
+  item-inside k e p s =
+      sym (and_then_assoc (nested d o p.columns p.least s) _ _)
+      ∙ and_then_same (nested d o p.columns p.least s) _ _ (λ q.
+      as_item-inside (interrupted s p.behind p.prefix p.columns) q.text (kind_opened d push o k e q)
       ∙ kind-inside k e q)
 
   pub opened-inside : (n : RenderNode) (trees : Forest RenderNode) (s : State) →
       inside_of (opened d push o) n trees s ≡ inside d push o n trees s
   opened-inside n trees s = by s.around
     where
-      by : (a : Around) → option_and_then (λ w. into w) (placed_opened d push o n.kind n.estimate s a)
+      by : (a : Around) → option_and_then (λ w. into w) (placed_opened d push o n.kind n.estimate (place_of d s.decorator a) s)
           ≡ placed_inside d push o n.kind n.estimate s a
       by Plain = keeping-inside s.text (kind_opened d push o n.kind n.estimate s) ∙ kind-inside n.kind n.estimate s
-      by (Bullets least) =
-          let bullet = d.unordered_item_prefix s.decorator in
-          item-inside n.kind n.estimate bullet (prefix_columns bullet) least (Bullets least) s
-      by (Numbers least number columns) =
-          item-inside n.kind n.estimate (padded columns (d.ordered_item_prefix s.decorator number)) columns least
-          (Numbers least (next_number number) columns) s
+      by (Bullets least) = item-inside n.kind n.estimate (bullet_place d s.decorator least) s
+      by (Numbers least number columns) = item-inside n.kind n.estimate (number_place d s.decorator least number columns) s
 
   -- THE LAW: a node's steps ask for its children there
   pub layout-asks : AsksIn (steps d push o) (inside d push o)

@@ -28,7 +28,7 @@ use Rattle.html_render_layout.specs.declared.layout.state.LayoutState.{LayoutSta
 use Rattle.html_render_layout.specs.declared.layout.state.TextContext.{TextContext}
 use Rattle.html_render_layout.specs.Layout.{on_block, add_text, text_style, under, emphasis_decoration, begun, decorated, restored, onto}
 use Rattle.html_render_layout.specs.Layout.{inner_least, spaces, padded, next_number, numbers, nested, resumed}
-use Rattle.html_render_layout.specs.Layout.{indented, quoted, standing, placed}
+use Rattle.html_render_layout.specs.Layout.{indented, quoted, among, placed}
 use Rattle.html_render_layout.specs.Layout.{kind_steps, steps, kind_inside, placed_inside, inside, shown_after, Defined, defined}
 use Rattle.html_render_layout.specs.Layout.{defined_inside}
 use Rattle.html_render_layout.specs.Opening.{opened}
@@ -139,8 +139,8 @@ module _ {S A K T V : Type 0} (d : Decoration S A) (push : K → T → A → K �
   pub record ShowsText (k : K) (x : TextContext T) (y : TextContext (List A)) : Type 0 where
     pub tag : (i : Since k) → shown i.0 x.tag ≡ seen y.tag
     pub mode : x.mode ≡ y.mode
-    pub preformat : x.preformat ≡ y.preformat
-    pub strikeout : x.strikeout ≡ y.strikeout
+    pub preformatted : x.preformatted ≡ y.preformatted
+    pub struck_out : x.struck_out ≡ y.struck_out
 
   -- the state of tags represents the state of stacks, and goes on doing so
   pub record Represents (s : Worked) (e : Defined S A) : Type 0 where
@@ -156,7 +156,7 @@ module _ {S A K T V : Type 0} (d : Decoration S A) (push : K → T → A → K �
 
   text-later : (k l : K) (x : TextContext T) (y : TextContext (List A)) → ShowsText k x y → Later k l → ShowsText l x y
   text-later k l x y h g =
-      record { tag = λ i. h.tag (i.0, goes k l i.0 g i.1); mode = h.mode; preformat = h.preformat; strikeout = h.strikeout }
+      record { tag = λ i. h.tag (i.0, goes k l i.0 g i.1); mode = h.mode; preformatted = h.preformatted; struck_out = h.struck_out }
 
   -- what is kept aside is shown when more is kept
   block-later : (k l : K) (b : MachineBlock T ℕ) (c : DefinedBlock (List A) ℕ) → ShowsBlock k b c → Later k l → ShowsBlock l b c
@@ -236,8 +236,8 @@ module _ {S A K T V : Type 0} (d : Decoration S A) (push : K → T → A → K �
             tag = λ i. tag_pushed s.stacks s.text.tag a e.text.tag (λ l g. h.text.tag (l, g)) i.0 i.1
                 ∙ ap (λ x. seen (e.text.tag ++ x ∷ [])) same;
             mode = h.text.mode;
-            preformat = h.text.preformat;
-            strikeout = h.text.strikeout;
+            preformatted = h.text.preformatted;
+            struck_out = h.text.struck_out;
           };
           block = λ i. h.block (i.0, goes s.stacks (push s.stacks s.text.tag a).0 i.0 grown i.1);
           around = h.around;
@@ -356,9 +356,9 @@ module _ {S A K T V : Type 0} (d : Decoration S A) (push : K → T → A → K �
           grown,
         )))))
 
-    standing-represents : (x y : Around) (s : Worked) (e : Defined S A) → x ≡ y → Represents s e →
-        Agree (Reached s) (standing x f s) (standing y g e)
-    standing-represents x y s e same h =
+    among-represents : (x y : Around) (s : Worked) (e : Defined S A) → x ≡ y → Represents s e →
+        Agree (Reached s) (among x f s) (among y g e)
+    among-represents x y s e same h =
         let q : Worked = record s { around = x } in
         let u : Defined S A = record e { around = y } in
         Agree-then (Reached q) (Reached s) _ _ (f q) (g u) (below q u (with_around s e x y same h)) (λ r v a.
@@ -386,9 +386,9 @@ module _ {S A K T V : Type 0} (d : Decoration S A) (push : K → T → A → K �
     kind-represents (Header level) m s e h =
         quoted-represents _ _ (inner_least m) s e (ap (λ x. d.header_prefix x level) h.decorator) h
     kind-represents BlockQuote m s e h = quoted-represents _ _ (inner_least m) s e (ap d.quote_prefix h.decorator) h
-    kind-represents Ul m s e h = standing-represents (Bullets (inner_least m)) (Bullets (inner_least m)) s e refl h
+    kind-represents Ul m s e h = among-represents (Bullets (inner_least m)) (Bullets (inner_least m)) s e refl h
     kind-represents (Ol first) m s e h =
-        standing-represents _ _ s e (ap (λ x. numbers d push (machine.operations {T = T} {M = ℕ}) m first x) h.decorator) h
+        among-represents _ _ s e (ap (λ x. numbers d m first x) h.decorator) h
     kind-represents ListItem m s e h =
         then-represents s _ _ _ _ (start_block-represents s e h) (λ q u a.
         then-represents q (f q) (g u) _ _ (below q u a) end_block-represents)
@@ -470,7 +470,7 @@ module _ {S A K T V : Type 0} (d : Decoration S A) (push : K → T → A → K �
       reached-represents s _ _ (nested-represents _ _ (inner_least m) s e (ap (λ x. prefix_columns (d.quote_prefix x)) h.decorator) h)
   kind_inside-represents Ul m s e h = with_around s e (Bullets (inner_least m)) (Bullets (inner_least m)) refl h
   kind_inside-represents (Ol first) m s e h =
-      with_around s e _ _ (ap (λ x. numbers d push (machine.operations {T = T} {M = ℕ}) m first x) h.decorator) h
+      with_around s e _ _ (ap (λ x. numbers d m first x) h.decorator) h
   kind_inside-represents ListItem m s e h = reached-represents s _ _ (start_block-represents s e h)
   kind_inside-represents Dl m s e h = reached-represents s _ _ (start_block-represents s e h)
   kind_inside-represents Dt m s e h =

@@ -1,9 +1,8 @@
 //! Where the items of a list stand.
 
 ghost use Rattle.std.specs.Prelude.{◌≡◌, IfOk, IfErr};
-ghost use Rattle.html_render_estimates.specs.Estimates.{prefix_columns};
-ghost use Rattle.html_render_layout.specs.Layout.{next_number, padded};
-ghost use Rattle.html_render_layout.specs.Opening.{place_of};
+ghost use Rattle.html_render_layout.specs.Layout.{next_number};
+ghost use Rattle.html_render_layout.specs.Opening.{bullet_place, number_place, place_of};
 
 use super::spaces::padded;
 use super::state::Around;
@@ -32,8 +31,7 @@ fn bullet_place<D: TextDecorator>(
     decorator: &D,
     least: usize,
 ) -> Result<Place, Error>
-    ensures ok { let bullet = D.decoration.unordered_item_prefix decorator.now in
-        IfOk result (λ p. p ≡ record { prefix = bullet; columns = prefix_columns bullet; least = least; behind = Around.Bullets least }) }
+    ensures ok { IfOk result (λ place. place ≡ bullet_place D.decoration decorator.now least) }
     ensures err { IfErr result (λ e. e ≡ Error.OutOfMemory) }
 {
     let bullet = decorator.unordered_item_prefix(alloc)?;
@@ -60,12 +58,7 @@ fn number_place<D: TextDecorator>(
     number: i64,
     columns: usize,
 ) -> Result<Place, Error>
-    ensures ok { IfOk result (λ p. p ≡ record {
-      prefix = padded columns (D.decoration.ordered_item_prefix decorator.now number);
-      columns = columns;
-      least = least;
-      behind = Around.Numbers least (next_number number) columns;
-    }) }
+    ensures ok { IfOk result (λ place. place ≡ number_place D.decoration decorator.now least number columns) }
     ensures err { IfErr result (λ e. e ≡ Error.OutOfMemory) }
 {
     let prefix = decorator.ordered_item_prefix(alloc, number)?;

@@ -8,7 +8,7 @@ ghost use Rattle.html_render_layout.specs.Layout.{nested, spaces};
 ghost use Rattle.html_render_layout.specs.Opening.{interrupted, indent_closed, quote_closed};
 
 use super::spaces::{FEW, few_spaces, many_spaces};
-use super::state::{Around, Indent, Interrupted, LayoutState, Outer, TextContext};
+use super::state::{Around, Interrupted, LayoutState, Outer, TextContext};
 use crate::tagging::Tagging;
 use html_render_blocks::block::Block;
 use html_render_dom::Error;
@@ -34,7 +34,7 @@ pub fn nest<D: TextDecorator, G: Tagging<D::Annotation>>(
     state: &mut LayoutState<D, G, G::Tag, Block<G::Tag, usize>>,
 ) -> Result<Interrupted<D, Block<G::Tag, usize>>, Error>
     ensures ok { OnOk result (nested D.decoration machine.operations columns least state.old ≡ Some state.new) }
-    ensures outer { IfOk result (λ outer. outer ≡ interrupted state.old behind prefix) }
+    ensures outer { IfOk result (λ outer. outer ≡ interrupted state.old behind prefix columns) }
     ensures err { IfErr result (λ e. Refuses e (nested D.decoration machine.operations columns least state.old)) }
 {
     let block = state.block.sub_block(columns, least)?;
@@ -44,6 +44,7 @@ pub fn nest<D: TextDecorator, G: Tagging<D::Annotation>>(
         block: mem::replace(&mut state.block, block),
         around: behind,
         prefix,
+        columns,
     };
     state.around = Around::Plain;
     Interrupted::new(alloc, outer)
@@ -78,14 +79,13 @@ fn append_behind<T: Tag>(
 pub fn close_indent<D: TextDecorator, G: Tagging<D::Annotation>>(
     alloc: Global,
     text: TextContext<G::Tag>,
-    indent: Indent<D, Block<G::Tag, usize>>,
+    outer: Interrupted<D, Block<G::Tag, usize>>,
     state: &mut LayoutState<D, G, G::Tag, Block<G::Tag, usize>>,
 ) -> Result<(), Error>
-    ensures ok { OnOk result (indent_closed machine.operations text indent state.old ≡ Some state.new) }
-    ensures err { IfErr result (λ e. Refuses e (indent_closed machine.operations text indent state.old)) }
+    ensures ok { OnOk result (indent_closed machine.operations text outer state.old ≡ Some state.new) }
+    ensures err { IfErr result (λ e. Refuses e (indent_closed machine.operations text outer state.old)) }
 {
-    let columns = indent.columns;
-    let outer = indent.outer.into_outer();
+    let outer = outer.into_outer();
     let sub = mem::replace(&mut state.block, outer.block);
     append_behind(
         alloc,
@@ -93,7 +93,7 @@ pub fn close_indent<D: TextDecorator, G: Tagging<D::Annotation>>(
         sub,
         text.tag,
         outer.prefix.as_str(),
-        columns,
+        outer.columns,
     )?;
     state.decorator = outer.decorator;
     state.around = outer.around;

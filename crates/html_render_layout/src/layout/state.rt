@@ -16,10 +16,10 @@ pub struct TextContext<T> {
     pub tag: T,
     /// How white space is treated.
     pub mode: WhiteSpace,
-    /// How many parts that keep white space they stand in.
-    pub preformat: usize,
-    /// How many parts that are struck out they stand in.
-    pub strikeout: usize,
+    /// Whether they stand in a part that keeps white space.
+    pub preformatted: bool,
+    /// Whether they stand in a part that is struck out.
+    pub struck_out: bool,
 }
 
 /// What the nodes that come stand in.
@@ -96,8 +96,10 @@ pub struct Outer<D, B> {
     pub block: B,
     /// What its nodes stand in then.
     pub around: Around,
-    /// What the lines of the block inside it stand behind.
+    /// What the lines of the block inside it stand behind: all of them, or the first one alone.
     pub prefix: Text,
+    /// The columns of that.
+    pub columns: usize,
 }
 
 /// The same, held so that it is moved in few bytes.
@@ -136,20 +138,11 @@ impl<D: Drop, B: Drop> Interrupted<D, B> {
     }
 }
 
-/// A block that is interrupted by one whose lines but the first stand behind so many spaces.
-#[derive(Drop)]
-pub struct Indent<D, B> {
-    /// The block.
-    pub outer: Interrupted<D, B>,
-    /// How many spaces.
-    pub columns: usize,
-}
-
 /// What is to be done once the children of an open node are laid out.
 #[derive(Drop)]
 pub struct Closing<D, T, B> {
     /// What the node interrupts, where it is an item of a list.
-    pub item: Option<Indent<D, B>>,
+    pub item: Option<Interrupted<D, B>>,
     /// How texts were treated before the node.
     pub text: TextContext<T>,
     /// What the node's kind does.
@@ -167,10 +160,10 @@ pub enum KindClosing<D, B> {
     NewLine,
     /// The emphasis ends.
     EndEmphasis(Emphasis),
-    /// The list ends: the nodes that come stand in this again.
-    EndList(Around),
+    /// The list ends: the nodes that come stand in nothing that matters to them, as the list did.
+    EndList,
     /// The heading or quote ends, and the block that it interrupted goes on.
     EndQuote(Interrupted<D, B>),
     /// The same, with what was indented.
-    EndIndent(Indent<D, B>),
+    EndIndent(Interrupted<D, B>),
 }

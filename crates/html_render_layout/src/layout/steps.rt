@@ -4,14 +4,14 @@ ghost use Rattle.std.specs.Prelude.{◌≡◌, Some, OnOk, IfOk, IfErr, string_b
 ghost use Rattle.html_render_dom.specs.Outcome.{Refuses};
 ghost use Rattle.html_render_blocks.specs.BlockMachine as machine;
 ghost use Rattle.html_render_nodes.specs.Pass.{way};
-ghost use Rattle.html_render_estimates.specs.Estimates.{prefix_of};
-ghost use Rattle.html_render_layout.specs.Layout.{inner_least};
-ghost use Rattle.html_render_layout.specs.Opening.{quote_opened, kind_opened, kind_closed, node_opened, item_opened, placed_opened, closed};
+ghost use Rattle.html_render_layout.specs.Layout.{inner_least, numbers};
+ghost use Rattle.html_render_layout.specs.Opening.{place_of, quote_opened, kind_opened, kind_closed, node_opened, item_opened};
+ghost use Rattle.html_render_layout.specs.Opening.{placed_opened, closed};
 
 use super::emphasis::{add_text, begin_emphasis, end_of};
 use super::items::{Place, place_of};
 use super::nesting::{close_indent, close_quote, nest};
-use super::state::{Around, Closing, Indent, KindClosing, LayoutState, TextContext};
+use super::state::{Around, Closing, KindClosing, LayoutState, TextContext};
 use crate::tagging::Tagging;
 use html_render_blocks::block::Block;
 use html_render_dom::Error;
@@ -21,7 +21,6 @@ use html_render_estimates::text::columns;
 use html_render_nodes::tree::{Emphasis, Estimate, NodeKind};
 use html_render_parts::decorate::TextDecorator;
 use std::alloc::Global;
-use std::mem;
 
 /// The columns that a node needs behind its prefix.
 fn inner_least(estimate: Estimate) -> usize
@@ -61,8 +60,7 @@ fn numbers<D: TextDecorator>(
     first: i64,
     estimate: Estimate,
 ) -> Result<Around, Error>
-    ensures ok { IfOk result (λ around. around ≡ Around.Numbers (inner_least estimate) first
-        (prefix_of D.decoration decorator.now (NodeKind.Ol first) estimate.children)) }
+    ensures ok { IfOk result (λ around. around ≡ numbers D.decoration estimate first decorator.now) }
     ensures err { IfErr result (λ e. e ≡ Error.OutOfMemory) }
 {
     let columns = number_columns(alloc, decorator, first, estimate.children)?;
@@ -100,7 +98,7 @@ fn open_description<D: TextDecorator, G: Tagging<D::Annotation>>(
 {
     let prefix = Text::new(String::from_str(alloc, "  ")?);
     let outer = nest(alloc, prefix, 2, inner_least(estimate), state.around, state)?;
-    Ok(Some(KindClosing::EndIndent(Indent { outer, columns: 2 })))
+    Ok(Some(KindClosing::EndIndent(outer)))
 }
 
 /// Opens a node of a kind. With nothing kept the state becomes the one behind it.
@@ -145,16 +143,14 @@ fn open_kind<D: TextDecorator, G: Tagging<D::Annotation>>(
             open_quote(alloc, prefix, estimate, state)
         }
         NodeKind::Ul => {
-            let bullets = Around::Bullets {
+            state.around = Around::Bullets {
                 least: inner_least(estimate),
             };
-            let around = mem::replace(&mut state.around, bullets);
-            Ok(Some(KindClosing::EndList(around)))
+            Ok(Some(KindClosing::EndList))
         }
         NodeKind::Ol(first) => {
-            let numbers = numbers(alloc, &state.decorator, *first, estimate)?;
-            let around = mem::replace(&mut state.around, numbers);
-            Ok(Some(KindClosing::EndList(around)))
+            state.around = numbers(alloc, &state.decorator, *first, estimate)?;
+            Ok(Some(KindClosing::EndList))
         }
         NodeKind::Dl => {
             state.block.start_block()?;
@@ -190,12 +186,12 @@ fn close_kind<D: TextDecorator, G: Tagging<D::Annotation>>(
             let text = end_of(alloc, &state.decorator, emphasis)?;
             add_text(text.as_str(), state)
         }
-        KindClosing::EndList(around) => {
-            state.around = around;
+        KindClosing::EndList => {
+            state.around = Around::Plain;
             Ok(())
         }
         KindClosing::EndQuote(outer) => close_quote(text, outer, state),
-        KindClosing::EndIndent(indent) => close_indent(alloc, text, indent, state),
+        KindClosing::EndIndent(outer) => close_indent(alloc, text, outer, state),
     }
 }
 
@@ -233,29 +229,26 @@ fn open_item<D: TextDecorator, G: Tagging<D::Annotation>>(
     place: Place,
     state: &mut LayoutState<D, G, G::Tag, Block<G::Tag, usize>>,
 ) -> Result<Option<Closing<D, G::Tag, Block<G::Tag, usize>>>, Error>
-    ensures ok { IfOk result (λ c. item_opened D.decoration G.annotated machine.operations kind.now estimate
-        place.prefix place.columns place.least place.behind state.old ≡ Some (way state.new c)) }
-    ensures err { IfErr result (λ e. Refuses e (item_opened D.decoration G.annotated machine.operations kind.now estimate
-        place.prefix place.columns place.least place.behind state.old)) }
+    ensures ok { IfOk result (λ c. item_opened D.decoration G.annotated machine.operations kind.now estimate place state.old
+        ≡ Some (way state.new c)) }
+    ensures err { IfErr result (λ e. Refuses e (item_opened D.decoration G.annotated machine.operations kind.now estimate place state.old)) }
 {
-    let columns = place.columns;
     let outer = nest(
         alloc,
         place.prefix,
-        columns,
+        place.columns,
         place.least,
         place.behind,
         state,
     )?;
-    let indent = Indent { outer, columns };
     match open_node(alloc, kind, estimate, state)? {
         Some(closing) => Ok(Some(Closing {
-            item: Some(indent),
+            item: Some(outer),
             text: closing.text,
             kind: closing.kind,
         })),
         None => {
-            close_indent(alloc, state.text, indent, state)?;
+            close_indent(alloc, state.text, outer, state)?;
             Ok(None)
         }
     }
@@ -268,7 +261,7 @@ fn open_item<D: TextDecorator, G: Tagging<D::Annotation>>(
 ///
 /// `TooNarrow`, where a block is flushed for which a character is too wide, or there is no room behind a prefix.
 /// `OutOfMemory`.
-#[tactic(auto, using(html_render_dom::specs::laws::Outcome::refusals, crate::proofs::Items::placed))]
+#[tactic(auto, using(html_render_dom::specs::laws::Outcome::refusals))]
 pub fn open<D: TextDecorator, G: Tagging<D::Annotation>>(
     alloc: Global,
     kind: &NodeKind,
@@ -276,8 +269,9 @@ pub fn open<D: TextDecorator, G: Tagging<D::Annotation>>(
     state: &mut LayoutState<D, G, G::Tag, Block<G::Tag, usize>>,
 ) -> Result<Option<Closing<D, G::Tag, Block<G::Tag, usize>>>, Error>
     ensures ok { IfOk result (λ c. placed_opened D.decoration G.annotated machine.operations kind.now estimate
-        state.old state.old.around ≡ Some (way state.new c)) }
-    ensures err { IfErr result (λ e. Refuses e (placed_opened D.decoration G.annotated machine.operations kind.now estimate state.old state.old.around)) }
+        (place_of D.decoration state.old.decorator state.old.around) state.old ≡ Some (way state.new c)) }
+    ensures err { IfErr result (λ e. Refuses e (placed_opened D.decoration G.annotated machine.operations kind.now estimate
+        (place_of D.decoration state.old.decorator state.old.around) state.old)) }
 {
     match place_of(alloc, &state.decorator, &state.around)? {
         None => open_node(alloc, kind, estimate, state),
@@ -304,7 +298,7 @@ pub fn close<D: TextDecorator, G: Tagging<D::Annotation>>(
     close_kind(alloc, text, closing.kind, state)?;
     state.text = text;
     match closing.item {
-        Some(item) => close_indent(alloc, text, item, state),
+        Some(outer) => close_indent(alloc, text, outer, state),
         None => Ok(()),
     }
 }
