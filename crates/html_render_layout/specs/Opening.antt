@@ -75,17 +75,22 @@ place_of d decorator Plain = None
 place_of d decorator (Bullets least) = Some (bullet_place d decorator least)
 place_of d decorator (Numbers least number columns) = Some (number_place d decorator least number columns)
 
--- the way of a node in itself, with what it restores
-abbrev pub keeping : {S K T B : Type 0} → TextContext T → Way (LayoutState S K T B) (KindClosing S B) →
-    Way (LayoutState S K T B) (Closing S T B)
-keeping text (Into q k) = Into q (record { item = None; text = text; kind = k })
-keeping text (Past r) = Past (record r { text = text })
+-- an item begins in a block of its own
+abbrev pub item_begun : {S A K T B : Type 0} → Decoration S A → Operations B T → Option Place → LayoutState S K T B →
+    Option (LayoutState S K T B)
+item_begun d o None s = Some s
+item_begun d o (Some p) s = nested d o p.columns p.least s
 
--- the same of an item
-abbrev pub as_item : {S K T B : Type 0} → Operations B T → Outer S B → Way (LayoutState S K T B) (Closing S T B) →
-    Option (Way (LayoutState S K T B) (Closing S T B))
-as_item o u (Into q c) = Some (Into q (record c { item = Some u }))
-as_item o u (Past r) = past (item_closed o (Some u) r)
+-- what it interrupts
+abbrev pub item_kept : {S K T B : Type 0} → Option Place → LayoutState S K T B → Option (Outer S B)
+item_kept None s = None
+item_kept (Some p) s = Some (interrupted s p.behind p.prefix p.columns)
+
+-- the way of a node, by that of its kind, with what it restores
+abbrev pub keeping : {S K T B : Type 0} → Operations B T → Option (Outer S B) → TextContext T →
+    Way (LayoutState S K T B) (KindClosing S B) → Option (Way (LayoutState S K T B) (Closing S T B))
+keeping o item text (Into q k) = Some (Into q (record { item = item; text = text; kind = k }))
+keeping o item text (Past r) = past (item_closed o item (record r { text = text }))
 
 module _ {S A K T B : Type 0} (d : Decoration S A) (push : K → T → A → K × T) (o : Operations B T) where
   abbrev pub quote_opened : (prefix : List ℕ) → Estimate → LayoutState S K T B → Option (Way (LayoutState S K T B) (KindClosing S B))
@@ -135,22 +140,12 @@ module _ {S A K T B : Type 0} (d : Decoration S A) (push : K → T → A → K �
   kind_closed text (EndQuote u) r = quote_closed o text u r
   kind_closed text (EndIndent u) r = indent_closed o text u r
 
-  abbrev pub node_opened : NodeKind → Estimate → LayoutState S K T B → Option (Way (LayoutState S K T B) (Closing S T B))
-  node_opened k e s = do
-    w ← kind_opened k e s
-    Some (keeping s.text w)
-
-  -- an item is opened in a block of its own
-  abbrev pub item_opened : NodeKind → Estimate → Place → LayoutState S K T B → Option (Way (LayoutState S K T B) (Closing S T B))
-  item_opened k e p s = do
-    q ← nested d o p.columns p.least s
-    w ← node_opened k e q
-    as_item o (interrupted s p.behind p.prefix p.columns) w
-
-  -- by where the node stands, if it is an item
+  -- a node is opened where it stands, if it is an item
   abbrev pub placed_opened : NodeKind → Estimate → Option Place → LayoutState S K T B → Option (Way (LayoutState S K T B) (Closing S T B))
-  placed_opened k e None s = node_opened k e s
-  placed_opened k e (Some p) s = item_opened k e p s
+  placed_opened k e p s = do
+    q ← item_begun d o p s
+    w ← kind_opened k e q
+    keeping o (item_kept p s) q.text w
 
   abbrev pub opened : RenderNode → Forest RenderNode → LayoutState S K T B → Option (Way (LayoutState S K T B) (Closing S T B))
   opened n trees s = placed_opened n.kind n.estimate (place_of d s.decorator s.around) s

@@ -79,7 +79,7 @@ impl<D: TextDecorator, G: Tagging<D::Annotation>> Pass for Layout<D, G> {
         _children: &[Entry<RenderNode>],
         state: &mut LayoutState<D, G, G::Tag, Block<G::Tag, usize>>,
     ) -> Result<Option<Closing<D, G::Tag, Block<G::Tag, usize>>>, Error> {
-        steps::open(alloc, &node.kind, node.estimate, state)
+        steps::open(alloc, &node.kind, &node.estimate, state)
     }
 
     /// Closes it.

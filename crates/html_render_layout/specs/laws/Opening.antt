@@ -23,8 +23,8 @@ use Rattle.html_render_layout.specs.declared.layout.state.Outer.{Outer}
 use Rattle.html_render_layout.specs.declared.layout.state.TextContext.{TextContext}
 use Rattle.html_render_layout.specs.Layout.{on_block, add_text, begun, emphasis_decoration, nested, indented, resumed, spaces}
 use Rattle.html_render_layout.specs.Layout.{inner_least, restored, among, numbers, placed, kind_steps, steps, kind_inside, placed_inside, inside}
-use Rattle.html_render_layout.specs.Opening.{interrupted, item_closed, bullet_place, number_place, place_of, keeping, as_item}
-use Rattle.html_render_layout.specs.Opening.{kind_opened, kind_closed, node_opened, item_opened, placed_opened, opened, closed}
+use Rattle.html_render_layout.specs.Opening.{interrupted, item_closed, bullet_place, number_place, place_of, keeping}
+use Rattle.html_render_layout.specs.Opening.{kind_opened, kind_closed, placed_opened, opened, closed}
 
 and_then_some : {A : Type 0} (o : Option A) → o ≡ option_and_then (λ x. Some x) o
 and_then_some None = refl
@@ -92,35 +92,30 @@ module _ {S A K T B : Type 0} (d : Decoration S A) (push : K → T → A → K �
   abbrev back : TextContext T → State → Option State
   back text r = Some (record r { text = text })
 
-  keeping-told : (children : State → Option State) (text : TextContext T) (w : Option (Way State (KindClosing S B))) →
-      option_and_then (back text) (option_and_then (through (kind_closed d push o text) children) w)
-      ≡ option_and_then (through (closed d push o) children) (option_and_then (λ v. Some (keeping text v)) w)
-  keeping-told children text None = refl
-  keeping-told children text (Some (Into q k)) = sym (and_then_assoc (children q) (kind_closed d push o text k) _)
-  keeping-told children text (Some (Past r)) = refl
+  -- from what the kind does to what the node does
+  keeping-told : (children : State → Option State) (item : Option (Outer S B)) (text : TextContext T)
+      (w : Option (Way State (KindClosing S B))) →
+      option_and_then (item_closed o item)
+      (option_and_then (back text) (option_and_then (through (kind_closed d push o text) children) w))
+      ≡ option_and_then (through (closed d push o) children) (option_and_then (keeping o item text) w)
+  keeping-told children item text None = refl
+  keeping-told children item text (Some (Into q k)) =
+      ap (option_and_then (item_closed o item)) (sym (and_then_assoc (children q) (kind_closed d push o text k) (back text)))
+      ∙ sym (and_then_assoc (children q) (λ r. option_and_then (back text) (kind_closed d push o text k r)) (item_closed o item))
+      ∙ and_then_same (children q) _ _ (λ r. sym (and_then_assoc (kind_closed d push o text k r) (back text) (item_closed o item)))
+  keeping-told children item text (Some (Past r)) = past-told (closed d push o) children (item_closed o item (record r { text = text }))
 
   node-told : (k : NodeKind) (e : Estimate) (children : State → Option State) (s : State) → s.around ≡ Plain →
       restored (kind_steps d push o k e children) s
-      ≡ option_and_then (through (closed d push o) children) (node_opened d push o k e s)
+      ≡ option_and_then (through (closed d push o) children) (placed_opened d push o k e None s)
   node-told k e children s plain =
-      ap (option_and_then (back s.text)) (kind-told k e children s plain)
-      ∙ keeping-told children s.text (kind_opened d push o k e s)
-
-  -- an item in a block of its own, from what is opened there
-  as_item-told : (children : State → Option State) (u : Outer S B) (text : TextContext T) (w : Option (Way State (KindClosing S B))) →
-      option_and_then (item_closed o (Some u))
-      (option_and_then (through (closed d push o) children) (option_and_then (λ v. Some (keeping text v)) w))
-      ≡ option_and_then (through (closed d push o) children)
-      (option_and_then (as_item o u) (option_and_then (λ v. Some (keeping text v)) w))
-  as_item-told children u text None = refl
-  as_item-told children u text (Some (Into q k)) =
-      sym (and_then_assoc (children q) _ _)
-      ∙ and_then_same (children q) _ _ (λ r. sym (and_then_assoc (kind_closed d push o text k r) _ _))
-  as_item-told children u text (Some (Past r)) = past-told (closed d push o) children _
+      and_then_some (restored (kind_steps d push o k e children) s)
+      ∙ ap (λ x. option_and_then (item_closed o None) (option_and_then (back s.text) x)) (kind-told k e children s plain)
+      ∙ keeping-told children None s.text (kind_opened d push o k e s)
 
   item-told : (k : NodeKind) (e : Estimate) (p : Place) (children : State → Option State) (s : State) →
       indented d o p.prefix p.columns p.least p.behind (restored (kind_steps d push o k e children)) s
-      ≡ option_and_then (through (closed d push o) children) (item_opened d push o k e p s)
+      ≡ option_and_then (through (closed d push o) children) (placed_opened d push o k e (Some p) s)
   item-told k e p children s = by (o.sub_block s.block p.columns p.least)
     where
       -- the item's block is put into the state's
@@ -141,14 +136,14 @@ module _ {S A K T B : Type 0} (d : Decoration S A) (push : K → T → A → K �
           option_and_then (λ (q : State). option_and_then put (restored (kind_steps d push o k e children) q))
           (option_and_then (λ c. Some (record s { decorator = d.subblock s.decorator; block = c; around = Plain })) b)
           ≡ option_and_then (through (closed d push o) children)
-          (option_and_then (λ (q : State). option_and_then (as_item o item) (node_opened d push o k e q))
+          (option_and_then (λ (q : State). option_and_then (keeping o (Some item) q.text) (kind_opened d push o k e q))
           (option_and_then (λ c. Some (record s { decorator = d.subblock s.decorator; block = c; around = Plain })) b))
       by None = refl
       by (Some c) =
           let q : State = record s { decorator = d.subblock s.decorator; block = c; around = Plain } in
           same s.text refl (kind_steps d push o k e children q)
-          ∙ ap (option_and_then (item_closed o (Some item))) (node-told k e children q refl)
-          ∙ as_item-told children item s.text (kind_opened d push o k e q)
+          ∙ ap (λ x. option_and_then (item_closed o (Some item)) (option_and_then (back s.text) x)) (kind-told k e children q refl)
+          ∙ keeping-told children (Some item) s.text (kind_opened d push o k e q)
 
   -- THE LAW: a node's steps are that it is opened, its children come, and it is closed
   pub steps-told : (n : RenderNode) (trees : Forest RenderNode) (children : State → Option State) (s : State) →
@@ -183,26 +178,19 @@ module _ {S A K T B : Type 0} (d : Decoration S A) (push : K → T → A → K �
       ∙ and_then_same (on_block o.new_line s) _ _ (λ q. into-inside (KindClosing S B) (begun d push o d.em q) _)
   kind-inside Dd e s = into-inside (KindClosing S B) (nested d o 2 (inner_least e) s) _
 
-  keeping-inside : (text : TextContext T) (w : Option (Way State (KindClosing S B))) →
-      option_and_then (λ v. into v) (option_and_then (λ v. Some (keeping text v)) w) ≡ option_and_then (λ v. into v) w
-  keeping-inside text None = refl
-  keeping-inside text (Some (Into q k)) = refl
-  keeping-inside text (Some (Past r)) = refl
-
-  as_item-inside : (u : Outer S B) (text : TextContext T) (w : Option (Way State (KindClosing S B))) →
-      option_and_then (λ v. into v) (option_and_then (as_item o u) (option_and_then (λ v. Some (keeping text v)) w))
-      ≡ option_and_then (λ v. into v) w
-  as_item-inside u text None = refl
-  as_item-inside u text (Some (Into q k)) = refl
-  as_item-inside u text (Some (Past r)) = past-inside (Closing S T B) _
+  keeping-inside : (item : Option (Outer S B)) (text : TextContext T) (w : Option (Way State (KindClosing S B))) →
+      option_and_then (λ v. into v) (option_and_then (keeping o item text) w) ≡ option_and_then (λ v. into v) w
+  keeping-inside item text None = refl
+  keeping-inside item text (Some (Into q k)) = refl
+  keeping-inside item text (Some (Past r)) = past-inside (Closing S T B) (item_closed o item (record r { text = text }))
 
   item-inside : (k : NodeKind) (e : Estimate) (p : Place) (s : State) →
-      option_and_then (λ w. into w) (item_opened d push o k e p s)
+      option_and_then (λ w. into w) (placed_opened d push o k e (Some p) s)
       ≡ option_and_then (λ q. kind_inside d push o k e q) (nested d o p.columns p.least s)
   item-inside k e p s =
       sym (and_then_assoc (nested d o p.columns p.least s) _ _)
       ∙ and_then_same (nested d o p.columns p.least s) _ _ (λ q.
-      as_item-inside (interrupted s p.behind p.prefix p.columns) q.text (kind_opened d push o k e q)
+      keeping-inside (Some (interrupted s p.behind p.prefix p.columns)) q.text (kind_opened d push o k e q)
       ∙ kind-inside k e q)
 
   pub opened-inside : (n : RenderNode) (trees : Forest RenderNode) (s : State) →
@@ -211,7 +199,7 @@ module _ {S A K T B : Type 0} (d : Decoration S A) (push : K → T → A → K �
     where
       by : (a : Around) → option_and_then (λ w. into w) (placed_opened d push o n.kind n.estimate (place_of d s.decorator a) s)
           ≡ placed_inside d push o n.kind n.estimate s a
-      by Plain = keeping-inside s.text (kind_opened d push o n.kind n.estimate s) ∙ kind-inside n.kind n.estimate s
+      by Plain = keeping-inside None s.text (kind_opened d push o n.kind n.estimate s) ∙ kind-inside n.kind n.estimate s
       by (Bullets least) = item-inside n.kind n.estimate (bullet_place d s.decorator least) s
       by (Numbers least number columns) = item-inside n.kind n.estimate (number_place d s.decorator least number columns) s
 

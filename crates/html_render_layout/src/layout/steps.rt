@@ -5,13 +5,13 @@ ghost use Rattle.html_render_dom.specs.Outcome.{Refuses};
 ghost use Rattle.html_render_blocks.specs.BlockMachine as machine;
 ghost use Rattle.html_render_nodes.specs.Pass.{way};
 ghost use Rattle.html_render_layout.specs.Layout.{inner_least, numbers};
-ghost use Rattle.html_render_layout.specs.Opening.{place_of, quote_opened, kind_opened, kind_closed, node_opened, item_opened};
+ghost use Rattle.html_render_layout.specs.Opening.{place_of, item_begun, item_kept, item_closed, quote_opened, kind_opened, kind_closed};
 ghost use Rattle.html_render_layout.specs.Opening.{placed_opened, closed};
 
 use super::emphasis::{add_text, begin_emphasis, end_of};
-use super::items::{Place, place_of};
+use super::items::place_of;
 use super::nesting::{close_indent, close_quote, nest};
-use super::state::{Around, Closing, KindClosing, LayoutState, TextContext};
+use super::state::{Around, Closing, Interrupted, KindClosing, LayoutState, TextContext};
 use crate::tagging::Tagging;
 use html_render_blocks::block::Block;
 use html_render_dom::Error;
@@ -23,8 +23,8 @@ use html_render_parts::decorate::TextDecorator;
 use std::alloc::Global;
 
 /// The columns that a node needs behind its prefix.
-fn inner_least(estimate: Estimate) -> usize
-    ensures { result ≡ inner_least estimate }
+fn inner_least(estimate: &Estimate) -> usize
+    ensures { result ≡ inner_least estimate.now }
 {
     estimate.least.saturating_sub(estimate.prefix)
 }
@@ -34,11 +34,11 @@ fn inner_least(estimate: Estimate) -> usize
 fn open_quote<D: TextDecorator, G: Tagging<D::Annotation>>(
     alloc: Global,
     prefix: String,
-    estimate: Estimate,
+    estimate: &Estimate,
     state: &mut LayoutState<D, G, G::Tag, Block<G::Tag, usize>>,
 ) -> Result<Option<KindClosing<D, Block<G::Tag, usize>>>, Error>
-    ensures ok { IfOk result (λ c. quote_opened D.decoration G.annotated machine.operations (string_bytes prefix) estimate state.old ≡ Some (way state.new c)) }
-    ensures err { IfErr result (λ e. Refuses e (quote_opened D.decoration G.annotated machine.operations (string_bytes prefix) estimate state.old)) }
+    ensures ok { IfOk result (λ c. quote_opened D.decoration G.annotated machine.operations (string_bytes prefix) estimate.now state.old ≡ Some (way state.new c)) }
+    ensures err { IfErr result (λ e. Refuses e (quote_opened D.decoration G.annotated machine.operations (string_bytes prefix) estimate.now state.old)) }
 {
     let columns = columns(prefix.as_str());
     let prefix = Text::new(prefix);
@@ -58,9 +58,9 @@ fn numbers<D: TextDecorator>(
     alloc: Global,
     decorator: &D,
     first: i64,
-    estimate: Estimate,
+    estimate: &Estimate,
 ) -> Result<Around, Error>
-    ensures ok { IfOk result (λ around. around ≡ numbers D.decoration estimate first decorator.now) }
+    ensures ok { IfOk result (λ around. around ≡ numbers D.decoration estimate.now first decorator.now) }
     ensures err { IfErr result (λ e. e ≡ Error.OutOfMemory) }
 {
     let columns = number_columns(alloc, decorator, first, estimate.children)?;
@@ -75,11 +75,11 @@ fn numbers<D: TextDecorator>(
 #[tactic(auto, using(html_render_dom::specs::laws::Outcome::refusals))]
 fn open_term<D: TextDecorator, G: Tagging<D::Annotation>>(
     alloc: Global,
-    estimate: Estimate,
+    estimate: &Estimate,
     state: &mut LayoutState<D, G, G::Tag, Block<G::Tag, usize>>,
 ) -> Result<Option<KindClosing<D, Block<G::Tag, usize>>>, Error>
-    ensures ok { IfOk result (λ c. kind_opened D.decoration G.annotated machine.operations NodeKind.Dt estimate state.old ≡ Some (way state.new c)) }
-    ensures err { IfErr result (λ e. Refuses e (kind_opened D.decoration G.annotated machine.operations NodeKind.Dt estimate state.old)) }
+    ensures ok { IfOk result (λ c. kind_opened D.decoration G.annotated machine.operations NodeKind.Dt estimate.now state.old ≡ Some (way state.new c)) }
+    ensures err { IfErr result (λ e. Refuses e (kind_opened D.decoration G.annotated machine.operations NodeKind.Dt estimate.now state.old)) }
 {
     state.block.new_line()?;
     begin_emphasis(alloc, Emphasis::Em, state)?;
@@ -90,11 +90,11 @@ fn open_term<D: TextDecorator, G: Tagging<D::Annotation>>(
 #[tactic(auto, using(html_render_dom::specs::laws::Outcome::refusals))]
 fn open_description<D: TextDecorator, G: Tagging<D::Annotation>>(
     alloc: Global,
-    estimate: Estimate,
+    estimate: &Estimate,
     state: &mut LayoutState<D, G, G::Tag, Block<G::Tag, usize>>,
 ) -> Result<Option<KindClosing<D, Block<G::Tag, usize>>>, Error>
-    ensures ok { IfOk result (λ c. kind_opened D.decoration G.annotated machine.operations NodeKind.Dd estimate state.old ≡ Some (way state.new c)) }
-    ensures err { IfErr result (λ e. Refuses e (kind_opened D.decoration G.annotated machine.operations NodeKind.Dd estimate state.old)) }
+    ensures ok { IfOk result (λ c. kind_opened D.decoration G.annotated machine.operations NodeKind.Dd estimate.now state.old ≡ Some (way state.new c)) }
+    ensures err { IfErr result (λ e. Refuses e (kind_opened D.decoration G.annotated machine.operations NodeKind.Dd estimate.now state.old)) }
 {
     let prefix = Text::new(String::from_str(alloc, "  ")?);
     let outer = nest(alloc, prefix, 2, inner_least(estimate), state.around, state)?;
@@ -106,11 +106,11 @@ fn open_description<D: TextDecorator, G: Tagging<D::Annotation>>(
 fn open_kind<D: TextDecorator, G: Tagging<D::Annotation>>(
     alloc: Global,
     kind: &NodeKind,
-    estimate: Estimate,
+    estimate: &Estimate,
     state: &mut LayoutState<D, G, G::Tag, Block<G::Tag, usize>>,
 ) -> Result<Option<KindClosing<D, Block<G::Tag, usize>>>, Error>
-    ensures ok { IfOk result (λ c. kind_opened D.decoration G.annotated machine.operations kind.now estimate state.old ≡ Some (way state.new c)) }
-    ensures err { IfErr result (λ e. Refuses e (kind_opened D.decoration G.annotated machine.operations kind.now estimate state.old)) }
+    ensures ok { IfOk result (λ c. kind_opened D.decoration G.annotated machine.operations kind.now estimate.now state.old ≡ Some (way state.new c)) }
+    ensures err { IfErr result (λ e. Refuses e (kind_opened D.decoration G.annotated machine.operations kind.now estimate.now state.old)) }
 {
     match kind {
         NodeKind::Text(text) => {
@@ -195,44 +195,25 @@ fn close_kind<D: TextDecorator, G: Tagging<D::Annotation>>(
     }
 }
 
-/// Opens a node in itself, and keeps how texts were treated before it.
+/// An item of a list begins in a block of its own, and what it interrupts is answered. A node that is no item stands
+/// where it is.
+///
+/// Almost every node is none, so this is a function of its own, which only the nodes of a list come to.
+#[inline(never)]
 #[tactic(auto, using(html_render_dom::specs::laws::Outcome::refusals))]
-fn open_node<D: TextDecorator, G: Tagging<D::Annotation>>(
+fn begin_placed<D: TextDecorator, G: Tagging<D::Annotation>>(
     alloc: Global,
-    kind: &NodeKind,
-    estimate: Estimate,
     state: &mut LayoutState<D, G, G::Tag, Block<G::Tag, usize>>,
-) -> Result<Option<Closing<D, G::Tag, Block<G::Tag, usize>>>, Error>
-    ensures ok { IfOk result (λ c. node_opened D.decoration G.annotated machine.operations kind.now estimate state.old ≡ Some (way state.new c)) }
-    ensures err { IfErr result (λ e. Refuses e (node_opened D.decoration G.annotated machine.operations kind.now estimate state.old)) }
+) -> Result<Option<Interrupted<D, Block<G::Tag, usize>>>, Error>
+    ensures ok { OnOk result (item_begun D.decoration machine.operations
+        (place_of D.decoration state.old.decorator state.old.around) state.old ≡ Some state.new) }
+    ensures item { IfOk result (λ item. item ≡ item_kept (place_of D.decoration state.old.decorator state.old.around) state.old) }
+    ensures err { IfErr result (λ e. Refuses e (item_begun D.decoration machine.operations
+        (place_of D.decoration state.old.decorator state.old.around) state.old)) }
 {
-    let text = state.text;
-    match open_kind(alloc, kind, estimate, state)? {
-        Some(kind) => Ok(Some(Closing {
-            item: None,
-            text,
-            kind,
-        })),
-        None => {
-            state.text = text;
-            Ok(None)
-        }
-    }
-}
-
-/// Opens an item in a block of its own.
-#[tactic(auto, using(html_render_dom::specs::laws::Outcome::refusals))]
-fn open_item<D: TextDecorator, G: Tagging<D::Annotation>>(
-    alloc: Global,
-    kind: &NodeKind,
-    estimate: Estimate,
-    place: Place,
-    state: &mut LayoutState<D, G, G::Tag, Block<G::Tag, usize>>,
-) -> Result<Option<Closing<D, G::Tag, Block<G::Tag, usize>>>, Error>
-    ensures ok { IfOk result (λ c. item_opened D.decoration G.annotated machine.operations kind.now estimate place state.old
-        ≡ Some (way state.new c)) }
-    ensures err { IfErr result (λ e. Refuses e (item_opened D.decoration G.annotated machine.operations kind.now estimate place state.old)) }
-{
+    let Some(place) = place_of(alloc, &state.decorator, &state.around)? else {
+        return Ok(None);
+    };
     let outer = nest(
         alloc,
         place.prefix,
@@ -241,21 +222,47 @@ fn open_item<D: TextDecorator, G: Tagging<D::Annotation>>(
         place.behind,
         state,
     )?;
-    match open_node(alloc, kind, estimate, state)? {
-        Some(closing) => Ok(Some(Closing {
-            item: Some(outer),
-            text: closing.text,
-            kind: closing.kind,
-        })),
-        None => {
-            close_indent(alloc, state.text, outer, state)?;
-            Ok(None)
-        }
+    Ok(Some(outer))
+}
+
+/// An item of a list begins, if the node is one.
+#[inline]
+#[tactic(auto, using(html_render_dom::specs::laws::Outcome::refusals))]
+fn begin_item<D: TextDecorator, G: Tagging<D::Annotation>>(
+    alloc: Global,
+    state: &mut LayoutState<D, G, G::Tag, Block<G::Tag, usize>>,
+) -> Result<Option<Interrupted<D, Block<G::Tag, usize>>>, Error>
+    ensures ok { OnOk result (item_begun D.decoration machine.operations
+        (place_of D.decoration state.old.decorator state.old.around) state.old ≡ Some state.new) }
+    ensures item { IfOk result (λ item. item ≡ item_kept (place_of D.decoration state.old.decorator state.old.around) state.old) }
+    ensures err { IfErr result (λ e. Refuses e (item_begun D.decoration machine.operations
+        (place_of D.decoration state.old.decorator state.old.around) state.old)) }
+{
+    match state.around {
+        Around::Plain => Ok(None),
+        Around::Bullets { .. } | Around::Numbers { .. } => begin_placed(alloc, state),
     }
 }
 
-/// Opens a node, as what it stands in says: the state becomes that of its children, or, with nothing kept, the one
-/// behind it.
+/// An item is over, if the node is one.
+#[inline]
+#[tactic(auto, using(html_render_dom::specs::laws::Outcome::refusals))]
+fn end_item<D: TextDecorator, G: Tagging<D::Annotation>>(
+    alloc: Global,
+    item: Option<Interrupted<D, Block<G::Tag, usize>>>,
+    state: &mut LayoutState<D, G, G::Tag, Block<G::Tag, usize>>,
+) -> Result<(), Error>
+    ensures ok { OnOk result (item_closed machine.operations item state.old ≡ Some state.new) }
+    ensures err { IfErr result (λ e. Refuses e (item_closed machine.operations item state.old)) }
+{
+    match item {
+        Some(outer) => close_indent(alloc, state.text, outer, state),
+        None => Ok(()),
+    }
+}
+
+/// Opens a node, as what it stands in says, and keeps how texts were treated before it: the state becomes that of its
+/// children, or, with nothing kept, the one behind it.
 ///
 /// # Errors
 ///
@@ -265,17 +272,23 @@ fn open_item<D: TextDecorator, G: Tagging<D::Annotation>>(
 pub fn open<D: TextDecorator, G: Tagging<D::Annotation>>(
     alloc: Global,
     kind: &NodeKind,
-    estimate: Estimate,
+    estimate: &Estimate,
     state: &mut LayoutState<D, G, G::Tag, Block<G::Tag, usize>>,
 ) -> Result<Option<Closing<D, G::Tag, Block<G::Tag, usize>>>, Error>
-    ensures ok { IfOk result (λ c. placed_opened D.decoration G.annotated machine.operations kind.now estimate
+    ensures ok { IfOk result (λ c. placed_opened D.decoration G.annotated machine.operations kind.now estimate.now
         (place_of D.decoration state.old.decorator state.old.around) state.old ≡ Some (way state.new c)) }
-    ensures err { IfErr result (λ e. Refuses e (placed_opened D.decoration G.annotated machine.operations kind.now estimate
+    ensures err { IfErr result (λ e. Refuses e (placed_opened D.decoration G.annotated machine.operations kind.now estimate.now
         (place_of D.decoration state.old.decorator state.old.around) state.old)) }
 {
-    match place_of(alloc, &state.decorator, &state.around)? {
-        None => open_node(alloc, kind, estimate, state),
-        Some(place) => open_item(alloc, kind, estimate, place, state),
+    let item = begin_item(alloc, state)?;
+    let text = state.text;
+    match open_kind(alloc, kind, estimate, state)? {
+        Some(kind) => Ok(Some(Closing { item, text, kind })),
+        None => {
+            state.text = text;
+            end_item(alloc, item, state)?;
+            Ok(None)
+        }
     }
 }
 
@@ -297,8 +310,5 @@ pub fn close<D: TextDecorator, G: Tagging<D::Annotation>>(
     let text = closing.text;
     close_kind(alloc, text, closing.kind, state)?;
     state.text = text;
-    match closing.item {
-        Some(outer) => close_indent(alloc, text, outer, state),
-        None => Ok(()),
-    }
+    end_item(alloc, closing.item, state)
 }
