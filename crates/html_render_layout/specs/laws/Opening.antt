@@ -1,5 +1,5 @@
 -- What the walk does at a node is what is defined.
-use Rattle.std.specs.Prelude.{◌≡◌, ℕ, List, Option, Some, None, option_and_then, refl}
+use Rattle.std.specs.Prelude.{◌≡◌, Option, Some, None, option_and_then, refl}
 use Rattle.std.proofs.Common.{ap, ◌∙◌, sym}
 use Rattle.std.specs.Str.{chars}
 use Rattle.html_render_dom.specs.Forest.{Forest}
