@@ -389,27 +389,26 @@ impl<T: Tag, M: Copy> Block<T, M> {
         move_lines(&mut self.lines, lines, waiting, first, later, self.setting)
     }
 
-    /// Adds the lines of a block and the marks that wait behind them, where both blocks are flushed.
+    /// Adds the lines of a block that is flushed, as this one is, and the marks that wait behind them.
     #[tactic(auto, using(html_render_dom::specs::laws::Outcome::refusals))]
     fn append_lines(
         &mut self,
-        sub: Block<T, M>,
+        lines: Vec<Line<T, M>>,
+        end: &[M],
         tag: T,
         first: &str,
         later: &str,
     ) -> Result<(), Error>
         ensures ok { OnOk result (machine.append_lines self.old (under tag (chars first.now)) (under tag (chars later.now))
-            sub.lines (machine.waiting sub.paragraph) ≡ Some self.new) }
+            lines.items end.now ≡ Some self.new) }
         ensures err { IfErr result (λ e. Refuses e (machine.append_lines self.old (under tag (chars first.now)) (under tag (chars later.now))
-            sub.lines (machine.waiting sub.paragraph))) }
+            lines.items end.now)) }
     {
-        let mut sub = sub;
-        let end = sub.take_waiting();
-        let mut lines = sub.into_lines();
         if lines.is_empty() {
-            return self.add_marks(end.as_slice());
+            return self.add_marks(end);
         }
-        mark_behind(&mut lines, end.as_slice())?;
+        let mut lines = lines;
+        mark_behind(&mut lines, end)?;
         let waiting = self.take_waiting();
         self.move_lines(
             lines,
@@ -441,7 +440,8 @@ impl<T: Tag, M: Copy> Block<T, M> {
         let mut sub = sub;
         self.flush()?;
         sub.flush()?;
-        self.append_lines(sub, tag, first, later)
+        let end = sub.take_waiting();
+        self.append_lines(sub.into_lines(), end.as_slice(), tag, first, later)
     }
 }
 

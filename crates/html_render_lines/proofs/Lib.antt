@@ -8,3 +8,4 @@ pub mod Letters
 pub mod WholeWords
 pub mod Fronts
 pub mod SpacedWords
+pub mod Flushing

@@ -158,6 +158,35 @@ is-longer rs (Some own) tag start bs cs cut e utf8 = record {
 pub chars-one : (c : ℕ) → IsUtf8 (encode_utf8 c) → chars (encode_utf8 c) ≡ c ∷ []
 chars-one c utf8 = chars_past_char (encode_utf8 c) [] c utf8 (sym (append-nil (encode_utf8 c))) ∙ ap (λ cs. c ∷ cs) chars-nil
 
+-- ---- text in front of the open run, before which nothing is closed
+
+nothing-before : {T M : Type 0} (tag : Option T) (start : ℕ) (bs : List ℕ) → IsCut {M = M} [] tag start bs → start ≡ 0
+nothing-before tag start bs cut = omega (arith, cut.within, ap length cut.closed, length-take start bs)
+
+pub all-fronted : {T M : Type 0} (rs : List (Run T M)) (some : Option T) (tag : T) (start : ℕ) (bs cs : List ℕ) → IsCut rs some start bs →
+    (length rs == 0) ≡ true → some ≡ Some tag → IsUtf8 cs →
+    all_elements rs some start (cs ++ bs) ≡ under tag (chars cs) ++ all_elements rs some start bs
+all-fronted (r ∷ rs) some tag start bs cs cut none e utf8 = absurd (omega (arith, eqb-true (length (r ∷ rs)) 0 none))
+all-fronted [] None tag start bs cs cut none e utf8 = cc
+all-fronted {T} {M} [] (Some own) tag start bs cs cut none e utf8 =
+    let same : own ≡ tag = cc in
+    let first : start ≡ 0 = nothing-before {M = M} (Some own) start bs cut in
+    rw (same, first) (ap (under {M = M} tag) (chars-append cs bs utf8)
+    ∙ map-append {B = Element T M} (λ (c : ℕ). element.Character c tag) (chars cs) (chars bs))
+
+pub is-fronted : {T M : Type 0} (rs : List (Run T M)) (some : Option T) (tag : T) (start : ℕ) (bs cs : List ℕ) → IsCut rs some start bs →
+    (length rs == 0) ≡ true → some ≡ Some tag → IsUtf8 cs → IsCut rs some start (cs ++ bs)
+is-fronted (r ∷ rs) some tag start bs cs cut none e utf8 = absurd (omega (arith, eqb-true (length (r ∷ rs)) 0 none))
+is-fronted [] None tag start bs cs cut none e utf8 = cc
+is-fronted {T} {M} [] (Some own) tag start bs cs cut none e utf8 =
+    let first : start ≡ 0 = nothing-before {M = M} (Some own) start bs cut in
+    rw first (record {
+      within = omega arith;
+      closed = refl;
+      ending = IsUtf8-append cs bs utf8 (subst (λ n. IsUtf8 (drop n bs)) first cut.ending);
+      has_tag = tt;
+    })
+
 -- ---- a mark behind the closed runs
 
 pub all-marked : {T M : Type 0} (rs : List (Run T M)) (none : Option T) (m : M) (start : ℕ) (bs : List ℕ) → IsCut rs none start bs →

@@ -108,6 +108,10 @@ pub fn class_of(mode: WhiteSpace, c: char) -> Class
             kind: Kind::Space,
             width: 1,
         },
+        '\n' if mode == WhiteSpace::Normal => Class {
+            kind: Kind::Space,
+            width: 0,
+        },
         '\u{A1}'..='\u{167F}' | '\u{3001}'..='\u{10FFFF}' => Class {
             kind: if mode == WhiteSpace::Pre {
                 Kind::Preserved

@@ -6,6 +6,7 @@
 ghost use Rattle.std.specs.Prelude.{◌≡◌, [], ◌∷◌, ◌++◌, Some, None, OnOk, IfErr, option_map};
 ghost use Rattle.std.specs.Str.{chars};
 ghost use Rattle.html_render_dom.specs.Outcome.{Refuses};
+ghost use Rattle.html_render_lines.specs.Paragraph.{with_line};
 ghost use Rattle.html_render_lines.specs.Stream.{start, step, after, styled, finished, flushed_to};
 
 use crate::character::{Character, Item, TextStyle};
@@ -107,8 +108,19 @@ impl<T: Tag, M: Copy> Paragraph<T, M> {
         ensures ok { OnOk result (after self.old (styled style (chars text.now)) ≡ Some self.new) }
         ensures err { IfErr result (λ e. Refuses e (after self.old (styled style (chars text.now)))) }
     {
-        self.line.reserve(text.len().min(self.width))?;
+        self.make_room(text.len())?;
         self.feed(text, style)
+    }
+
+    /// Makes room on an empty line for a text of so many bytes and a prefix in front of it. Short texts need none.
+    #[inline]
+    fn make_room(&mut self, bytes: usize) -> Result<(), AllocError>
+        ensures { self.new ≡ self.old }
+    {
+        if bytes < 16 {
+            return Ok(());
+        }
+        self.line.reserve(bytes.min(self.width).saturating_add(16))
     }
 
     /// Moves the finished lines behind the given ones.
@@ -116,7 +128,26 @@ impl<T: Tag, M: Copy> Paragraph<T, M> {
         ensures lines { OnOk result (lines.new.items ≡ lines.old.items ++ self.old.page.lines) }
         ensures after { OnOk result (self.new ≡ record self.old { page = record self.old.page { lines = [] } }) }
     {
+        if self.lines.is_empty() {
+            return Ok(());
+        }
+        if lines.is_empty() {
+            mem::swap(lines, &mut self.lines);
+            return Ok(());
+        }
         lines.append(&mut self.lines)?;
+        Ok(())
+    }
+
+    /// Moves the open line behind the given ones, unless it is empty.
+    fn move_line(&mut self, lines: &mut Vec<Line<T, M>>) -> Result<(), AllocError>
+        ensures lines { OnOk result (lines.new.items ≡ with_line lines.old.items self.old.page.line) }
+        ensures after { OnOk result (self.new ≡ record self.old { page = record self.old.page { line = [] } }) }
+    {
+        if !self.line.is_empty() {
+            let line = mem::replace(&mut self.line, Line::new(self.alloc));
+            lines.push(line)?;
+        }
         Ok(())
     }
 
@@ -137,13 +168,14 @@ impl<T: Tag, M: Copy> Paragraph<T, M> {
     ///
     /// `OutOfMemory`, and with overflow off `TooNarrow` where a character is wider than a line. What the paragraph and the
     /// lines then hold isn't told.
+    #[tactic(auto, using(crate::proofs::Flushing::flushing))]
     pub fn flush(&mut self, lines: &mut Vec<Line<T, M>>) -> Result<(), Error>
         ensures ok { OnOk result (option_map (flushed_to self.old.setting lines.old.items) (finished self.old) ≡ Some (lines.new.items, self.new)) }
         ensures err { IfErr result (λ e. Refuses e (finished self.old)) }
     {
         self.end_word()?;
-        self.continue_with(Line::new(self.alloc))?;
         self.move_lines(lines)?;
+        self.move_line(lines)?;
         self.restart();
         Ok(())
     }

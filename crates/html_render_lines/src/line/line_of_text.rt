@@ -187,30 +187,6 @@ impl<T: Tag, M: Copy> Line<T, M> {
         Ok(())
     }
 
-    /// Puts another line at the end, in time of that line's runs and bytes.
-    ///
-    /// # Errors
-    ///
-    /// `OutOfMemory`. The line is then empty.
-    #[tactic(auto, using(crate::proofs::LineColumns::pushes))]
-    pub fn append(&mut self, other: &Line<T, M>) -> Result<(), AllocError>
-        ensures ok { OnOk result (self.new ≡ self.old ++ other.now) }
-        ensures err { OnErr result (self.new ≡ []) }
-    {
-        let count = counted_together(self.count, other.count);
-        let appended = append_parts(&mut self.text, other.front.as_slice(), &other.text);
-        match appended {
-            Ok(()) => self.count = count,
-            // Memory ran out.
-            Err(_) => {
-                self.front.clear();
-                self.text.clear();
-                self.count = Some(0);
-            }
-        }
-        appended
-    }
-
     /// Puts a word of so many columns at the end, with the tags of a line that continues another, or of an ordinary line.
     ///
     /// # Errors
@@ -255,20 +231,6 @@ impl<T: Tag, M: Copy> Line<T, M> {
         Ok(())
     }
 
-    /// Puts some elements at the front, in time of their number.
-    ///
-    /// # Errors
-    ///
-    /// `OutOfMemory`. The last of the elements may then stand at the front.
-    pub fn put_front(&mut self, prefix: &[Element<T, M>]) -> Result<(), AllocError>
-        ensures { OnOk result (self.new ≡ prefix.now ++ self.old) }
-    {
-        for element in prefix.iter().rev() {
-            self.push_front(*element)?;
-        }
-        Ok(())
-    }
-
     /// Puts a text at the front, in time of the text. Its columns are counted before, where a machine word holds them.
     ///
     /// # Errors
@@ -282,10 +244,11 @@ impl<T: Tag, M: Copy> Line<T, M> {
         tag: T,
     ) -> Result<(), AllocError>
         requires { width ≡ counted (text_columns (chars text.now)) }
-        ensures { OnOk result (self.new ≡ under tag (chars text.now) ++ self.old) }
+        ensures ok { OnOk result (self.new ≡ under tag (chars text.now) ++ self.old) }
+        ensures err { OnErr result (self.new ≡ []) }
     {
         let count = counted_together(width, self.count);
-        let put = push_reversed(&mut self.front, text, tag);
+        let put = put_before(&mut self.front, &mut self.text, text, tag);
         match put {
             Ok(()) => self.count = count,
             // Memory ran out.
@@ -370,6 +333,22 @@ fn push_reversed<T: Copy, M: Copy>(
     Ok(())
 }
 
+/// Puts a text before elements, of which the first one comes last, and a text behind them: into the text, where nothing
+/// stands before it and it has place in front.
+fn put_before<T: Tag, M: Copy>(
+    front: &mut Vec<Element<T, M>>,
+    behind: &mut TaggedText<T, M>,
+    text: &str,
+    tag: T,
+) -> Result<(), AllocError>
+    ensures { OnOk result (reverse front.new.items ++ behind.new.elements ≡ under tag (chars text.now) ++ (reverse front.old.items ++ behind.old.elements)) }
+{
+    if front.is_empty() && behind.put_front(text, tag)? {
+        return Ok(());
+    }
+    push_reversed(front, text, tag)
+}
+
 /// How many columns elements end past a multiple of 8, which begin so many columns past one.
 fn past_tab_stop<T, M>(start: usize, elements: &[Element<T, M>]) -> usize
     requires { start < 8 }
@@ -392,18 +371,6 @@ fn text_past_tab_stop(start: usize, text: &str) -> usize
         at = (at + width_of(c) % 8) % 8;
     }
     at
-}
-
-/// Puts elements, of which the first one comes last, and another text behind a text.
-fn append_parts<T: Tag, M: Copy>(
-    text: &mut TaggedText<T, M>,
-    front: &[Element<T, M>],
-    behind: &TaggedText<T, M>,
-) -> Result<(), AllocError>
-    ensures { OnOk result (text.new.elements ≡ text.old.elements ++ (reverse front.now ++ behind.now.elements)) }
-{
-    text.push_reversed(front)?;
-    text.append(behind)
 }
 
 /// Adds an element's character to a string.

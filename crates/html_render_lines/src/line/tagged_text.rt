@@ -3,7 +3,7 @@
 //! A text under one tag has no closed run: the run at the text's end is kept apart from the others, and a run is closed
 //! only where a mark or another tag follows it.
 
-ghost use Rattle.std.specs.Prelude.{◌≡◌, ◌++◌, ◌∷◌, [], Some, None, OnOk, OnErr, IfOk, ◌==◌, length, map, reverse};
+ghost use Rattle.std.specs.Prelude.{◌≡◌, ◌++◌, ◌∷◌, [], Some, None, OnOk, OnErr, IfOk, ◌==◌, cond, length, map};
 ghost use Rattle.std.specs.Bool.{OnTrue};
 ghost use Rattle.std.specs.Str.{chars, IsUtf8};
 ghost use Rattle.std.specs.String.{string_bytes};
@@ -17,6 +17,9 @@ use crate::line::Element;
 use crate::tag::Tag;
 use std::alloc::{AllocError, Global};
 use std::marker::Model;
+
+/// How many bytes of a text are moved for what is put in front of it, at most.
+const SHORT: usize = 256;
 
 /// What stands next in a text.
 #[derive(Clone, Copy, Debug)]
@@ -235,76 +238,35 @@ impl<T: Tag, M: Copy> TaggedText<T, M> {
         self.push_mark_here(mark)
     }
 
-    /// Puts what an open run makes of a text.
+    /// Puts a text in front of the open run where the whole text is that run and short, and says whether it did.
     #[inline]
-    fn push_open(&mut self, tag: Option<T>, text: &str) -> Result<(), AllocError>
-        ensures { OnOk result (self.new.elements ≡ self.old.elements ++ open_elements tag text.now) }
+    fn put_front_here(&mut self, text: &str, tag: T) -> Result<bool, AllocError>
+        requires { self.old.tag ≡ Some tag }
+        ensures { IfOk result (λ done. self.new.elements ≡ cond done (under tag (chars text.now)) [] ++ self.old.elements) }
     {
-        if let Some(tag) = tag {
+        if !self.runs.as_slice().is_empty() || self.text.len() > SHORT {
+            return Ok(false);
+        }
+        self.text.insert_str(0, text)?;
+        Ok(true)
+    }
+
+    /// Puts a text under a tag in front, where that takes a short time and no run, and says whether it did.
+    ///
+    /// # Errors
+    ///
+    /// `OutOfMemory`.
+    pub fn put_front(&mut self, text: &str, tag: T) -> Result<bool, AllocError>
+        ensures { IfOk result (λ done. self.new.elements ≡ cond done (under tag (chars text.now)) [] ++ self.old.elements) }
+    {
+        if self.is_empty() {
             self.push_str(text, tag)?;
+            return Ok(true);
         }
-        Ok(())
-    }
-
-    /// Puts what runs make of a text.
-    fn push_runs(&mut self, runs: &[Run<T, M>], text: &str) -> Result<(), AllocError>
-        requires { Cuts runs.now text.now }
-        ensures { OnOk result (self.new.elements ≡ self.old.elements ++ elements_of runs.now text.now) }
-    {
-        let mut at = 0;
-        for run in runs {
-            match run {
-                Run::Text(len, tag) => {
-                    let end = at + *len;
-                    self.push_str(&text[at..end], *tag)?;
-                    at = end;
-                }
-                Run::Mark(mark) => self.push_mark(*mark)?,
-            }
+        if !self.is_under(tag) {
+            return Ok(false);
         }
-        Ok(())
-    }
-
-    /// Puts another text behind this one, in time of its runs and bytes.
-    ///
-    /// # Errors
-    ///
-    /// `OutOfMemory`. A part of the other text may then stand behind this one.
-    pub fn append(&mut self, other: &TaggedText<T, M>) -> Result<(), AllocError>
-        ensures { OnOk result (self.new.elements ≡ self.old.elements ++ other.now.elements) }
-    {
-        let text = other.text.as_str();
-        self.push_runs(other.runs.as_slice(), &text[..other.start])?;
-        self.push_open(other.tag, &text[other.start..])
-    }
-
-    /// Puts an element.
-    ///
-    /// # Errors
-    ///
-    /// `OutOfMemory`. Its elements are then as they were.
-    pub fn push_element(&mut self, element: Element<T, M>) -> Result<(), AllocError>
-        ensures ok { OnOk result (self.new.elements ≡ self.old.elements ++ element ∷ []) }
-        ensures err { OnErr result (self.new.elements ≡ self.old.elements) }
-    {
-        match element {
-            Element::Character(c, tag) => self.push_char(c, tag),
-            Element::Mark(mark) => self.push_mark(mark),
-        }
-    }
-
-    /// Puts some elements, the last one first.
-    ///
-    /// # Errors
-    ///
-    /// `OutOfMemory`. Some of the elements may then stand behind the text.
-    pub fn push_reversed(&mut self, elements: &[Element<T, M>]) -> Result<(), AllocError>
-        ensures { OnOk result (self.new.elements ≡ self.old.elements ++ reverse elements.now) }
-    {
-        for element in elements.iter().rev() {
-            self.push_element(*element)?;
-        }
-        Ok(())
+        self.put_front_here(text, tag)
     }
 
     /// Puts a word's text with one of its style's tags.

@@ -85,27 +85,34 @@ fn texts_under_one_tag_are_one_run(rt: HostRuntime) -> Result<(), Fail> {
     Ok(())
 }
 
+/// Puts a prefix of two columns.
+fn put_prefix(line: &mut Line<usize, u8>, tag: usize) -> Result<(), AllocError> {
+    line.put_front_str("> ", Some(2), tag)
+}
+
 #[test]
-fn lines_are_joined_and_prefixed(rt: HostRuntime) -> Result<(), Fail> {
+fn prefixes_join_the_text_or_stand_before_it(rt: HostRuntime) -> Result<(), Fail> {
     let alloc = rt.alloc();
     let mut line: Line<usize, u8> = Line::new(alloc);
-    push(&mut line, 'b', 0)?;
-    line.put_front(&[
-        Element::Mark(1),
-        Element::Character('界', 0),
-        Element::Character('>', 3),
-    ])?;
+    put_prefix(&mut line, 0)?;
+    push(&mut line, '界', 0)?;
+    put_prefix(&mut line, 0)?;
     let text = shown(alloc, &line)?;
-    assert_eq!(rt; text.as_str(), "*oco 界>b");
-    assert_eq!(rt; line.columns(), Some(4));
-    let mut joined = line.next(alloc)?;
-    joined.push_mark(2)?;
-    joined.append(&line)?;
-    joined.append(&line)?;
-    joined.put_front(&[Element::Character('-', 0)])?;
-    let text = shown(alloc, &joined)?;
-    assert_eq!(rt; text.as_str(), "o**oco*oco -界>b界>b");
-    assert_eq!(rt; joined.columns(), Some(9));
+    assert_eq!(rt; text.as_str(), "o > > 界");
+    put_prefix(&mut line, 3)?;
+    line.push_front(Element::Mark(1))?;
+    line.push_front(Element::Character('界', 0))?;
+    put_prefix(&mut line, 0)?;
+    let text = shown(alloc, &line)?;
+    assert_eq!(rt; text.as_str(), "ooo*cco > 界> > > 界");
+    assert_eq!(rt; line.columns(), Some(12));
+    let mut marked = line.next(alloc)?;
+    push(&mut marked, 'a', 0)?;
+    marked.push_mark(2)?;
+    put_prefix(&mut marked, 0)?;
+    let text = shown(alloc, &marked)?;
+    assert_eq!(rt; text.as_str(), "ooo* > a");
+    assert_eq!(rt; marked.columns(), Some(3));
     Ok(())
 }
 
