@@ -10,9 +10,10 @@ ghost use Rattle.std.specs.Str.{chars};
 ghost use Rattle.html_render_dom.specs.Outcome.{Refuses};
 ghost use Rattle.html_render_lines.specs.Character.{is_collapsible};
 ghost use Rattle.html_render_lines.specs.Line.{columns, marks_line};
+ghost use Rattle.html_render_lines.specs.Stream.{after};
 ghost use Rattle.html_render_lines.specs.TaggedText.{counted, text_columns, under};
 ghost use Rattle.html_render_blocks.specs.Joined.{marked_behind, moved};
-ghost use Rattle.html_render_blocks.specs.Block.{is_blank, wrap_width, inner_width};
+ghost use Rattle.html_render_blocks.specs.Block.{is_blank, mark_items, wrap_width, inner_width};
 ghost use Rattle.html_render_blocks.specs.BlockMachine as machine;
 
 use html_render_dom::Error;
@@ -23,6 +24,7 @@ use html_render_lines::paragraph::Paragraph;
 use html_render_lines::tag::Tag;
 use std::alloc::{AllocError, Global};
 use std::marker::Model;
+use std::mem;
 
 /// How wide a block is, and whether what is wider is laid out nevertheless.
 #[derive(Clone, Copy, Debug)]
@@ -245,6 +247,14 @@ impl<T: Tag, M: Copy> Block<T, M> {
         }
     }
 
+    /// Takes the finished lines out.
+    fn take_lines(&mut self) -> Vec<Line<T, M>>
+        ensures lines { result.items ≡ self.old.lines }
+        ensures after { self.new ≡ record self.old { lines = [] } }
+    {
+        mem::replace(&mut self.lines, Vec::new(self.alloc))
+    }
+
     /// Adds a finished line.
     fn push_line(&mut self, line: Line<T, M>) -> Result<(), AllocError>
         ensures { OnOk result (self.new ≡ record self.old { lines = self.old.lines ++ line ∷ [] }) }
@@ -363,17 +373,14 @@ impl<T: Tag, M: Copy> Block<T, M> {
         ensures ok { OnOk result (self.new ≡ machine.add_marks self.old marks.now) }
         ensures err { IfErr result (λ e. e ≡ Error.OutOfMemory) }
     {
-        let Some(mut paragraph) = self.paragraph.take() else {
+        let Some(paragraph) = &mut self.paragraph else {
             return Ok(());
         };
-        for mark in marks {
-            paragraph.add_mark(*mark)?;
-        }
-        self.paragraph = Some(paragraph);
-        Ok(())
+        add_each_mark(paragraph, marks)
     }
 
     /// Moves lines behind its own, each behind its prefix. With overflow off none may pass the width.
+    #[tactic(auto, using(html_render_dom::specs::laws::Outcome::refusals))]
     fn move_lines(
         &mut self,
         lines: Vec<Line<T, M>>,
@@ -386,6 +393,7 @@ impl<T: Tag, M: Copy> Block<T, M> {
         ensures err { IfErr result (λ e. Refuses e (moved self.old.setting.width self.old.setting.overflow waiting.now
             (under first.now.tag (chars first.now.text.now)) (under later.now.tag (chars later.now.text.now)) self.old.lines lines.items)) }
     {
+        self.lines.reserve(lines.len())?;
         move_lines(&mut self.lines, lines, waiting, first, later, self.setting)
     }
 
@@ -429,7 +437,7 @@ impl<T: Tag, M: Copy> Block<T, M> {
     #[tactic(auto, using(html_render_dom::specs::laws::Outcome::refusals))]
     pub fn append(
         &mut self,
-        sub: Block<T, M>,
+        mut sub: Block<T, M>,
         tag: T,
         first: &str,
         later: &str,
@@ -437,12 +445,23 @@ impl<T: Tag, M: Copy> Block<T, M> {
         ensures ok { OnOk result (machine.append self.old sub tag (chars first.now) (chars later.now) ≡ Some self.new) }
         ensures err { IfErr result (λ e. Refuses e (machine.append self.old sub tag (chars first.now) (chars later.now))) }
     {
-        let mut sub = sub;
         self.flush()?;
         sub.flush()?;
         let end = sub.take_waiting();
-        self.append_lines(sub.into_lines(), end.as_slice(), tag, first, later)
+        let lines = sub.take_lines();
+        self.append_lines(lines, end.as_slice(), tag, first, later)
     }
+}
+
+/// Adds marks to a paragraph.
+fn add_each_mark<T: Tag, M: Copy>(paragraph: &mut Paragraph<T, M>, marks: &[M]) -> Result<(), Error>
+    ensures ok { OnOk result (after paragraph.old (mark_items marks.now) ≡ Some paragraph.new) }
+    ensures err { IfErr result (λ e. e ≡ Error.OutOfMemory) }
+{
+    for mark in marks {
+        paragraph.add_mark(*mark)?;
+    }
+    Ok(())
 }
 
 /// Puts marks at the end of the last line.

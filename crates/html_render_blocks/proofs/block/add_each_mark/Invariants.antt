@@ -1,7 +1,7 @@
 use Rattle.std.proofs.Common.{◌≡◌, drop}
 use Rattle.html_render_lines.specs.Stream.{after}
 use Rattle.html_render_blocks.specs.Block.{mark_items}
-use Rattle.html_render_blocks.proofs.block.Block.add_marks.Given as goal
+use Rattle.html_render_blocks.proofs.block.add_each_mark.Given as goal
 
 -- what is wanted is what the marks that are left give from here
 abbrev pub invariant-loop-mark : goal.invariant-loop-mark
