@@ -85,13 +85,14 @@ fn texts_under_one_tag_are_one_run(rt: HostRuntime) -> Result<(), Fail> {
     Ok(())
 }
 
-/// Puts a prefix of two columns.
+/// Puts a prefix of two columns at the front.
 fn put_prefix(line: &mut Line<usize, u8>, tag: usize) -> Result<(), AllocError> {
-    line.put_front_str("> ", Some(2), tag)
+    let prefix = "> ";
+    line.put_front_str(prefix, text_columns(prefix), tag)
 }
 
 #[test]
-fn prefixes_join_the_text_or_stand_before_it(rt: HostRuntime) -> Result<(), Fail> {
+fn prefixes_join_a_text_under_their_tag(rt: HostRuntime) -> Result<(), Fail> {
     let alloc = rt.alloc();
     let mut line: Line<usize, u8> = Line::new(alloc);
     put_prefix(&mut line, 0)?;
@@ -99,20 +100,34 @@ fn prefixes_join_the_text_or_stand_before_it(rt: HostRuntime) -> Result<(), Fail
     put_prefix(&mut line, 0)?;
     let text = shown(alloc, &line)?;
     assert_eq!(rt; text.as_str(), "o > > 界");
+    assert_eq!(rt; line.columns(), Some(6));
+    Ok(())
+}
+
+#[test]
+fn prefixes_stand_before_another_tag(rt: HostRuntime) -> Result<(), Fail> {
+    let alloc = rt.alloc();
+    let mut line: Line<usize, u8> = Line::new(alloc);
+    push(&mut line, '界', 0)?;
     put_prefix(&mut line, 3)?;
     line.push_front(Element::Mark(1))?;
-    line.push_front(Element::Character('界', 0))?;
     put_prefix(&mut line, 0)?;
     let text = shown(alloc, &line)?;
-    assert_eq!(rt; text.as_str(), "ooo*cco > 界> > > 界");
-    assert_eq!(rt; line.columns(), Some(12));
-    let mut marked = line.next(alloc)?;
-    push(&mut marked, 'a', 0)?;
-    marked.push_mark(2)?;
-    put_prefix(&mut marked, 0)?;
-    let text = shown(alloc, &marked)?;
-    assert_eq!(rt; text.as_str(), "ooo* > a");
-    assert_eq!(rt; marked.columns(), Some(3));
+    assert_eq!(rt; text.as_str(), "oo*cco > > 界");
+    assert_eq!(rt; line.columns(), Some(6));
+    Ok(())
+}
+
+#[test]
+fn prefixes_stand_before_marks(rt: HostRuntime) -> Result<(), Fail> {
+    let alloc = rt.alloc();
+    let mut line: Line<usize, u8> = Line::new(alloc);
+    line.push_mark(2)?;
+    push(&mut line, 'a', 0)?;
+    put_prefix(&mut line, 0)?;
+    let text = shown(alloc, &line)?;
+    assert_eq!(rt; text.as_str(), "oo*o > a");
+    assert_eq!(rt; line.columns(), Some(3));
     Ok(())
 }
 
