@@ -2,3 +2,4 @@ pub mod Closings
 pub mod Conversions
 pub mod Numbers
 pub mod Receiving
+pub mod Styles

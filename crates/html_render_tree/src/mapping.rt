@@ -1,10 +1,10 @@
 //! Which render node a node of a document becomes.
 
-ghost use Rattle.std.specs.Prelude.{◌≡◌, IfOk, IfErr, codes, find, map, option_copied, option_map, pos, string_bytes, unwrap_or};
+ghost use Rattle.std.specs.Prelude.{◌≡◌, [], IfOk, IfErr, codes, find, map, option_copied, option_map, pos, string_bytes, unwrap_or};
 ghost use Rattle.std.specs.Str.{bytes_eq};
 ghost use Rattle.html_render_dom.specs.Cascade.{value_of};
 ghost use Rattle.html_render_dom.specs.Content.{content_of, property_of, space_of};
-ghost use Rattle.html_render_dom.specs.ElementStyle.{element_style, style_of};
+ghost use Rattle.html_render_dom.specs.ElementStyle.{element_style, style_by, style_of};
 ghost use Rattle.html_render_dom.specs.Rules.{rule_of};
 ghost use Rattle.html_render_tree.specs.Insertion.{holds_insertions};
 ghost use Rattle.html_render_tree.specs.Conversion.{number_of, start_of, html_mapping, element_mapping, node_style, keeps};
@@ -172,7 +172,26 @@ fn styled_outline(mapping: Mapping, style: ComputedStyle) -> Outline
     }
 }
 
+/// What becomes of an element where there are no rules, its children aside.
+fn unstyled_outline(mapping: Mapping) -> Outline
+    ensures { result ≡ styled_outline mapping (style_by []) }
+{
+    let (kind, if_empty, has_children) = match mapping {
+        Mapping::Nothing => return Outline::Nothing,
+        Mapping::Leaf(kind) => (kind, IfEmpty::Stands, false),
+        Mapping::Parent(kind, if_empty) => (kind, if_empty, true),
+    };
+    Outline::Over {
+        node: RenderNode::from(kind),
+        if_empty,
+        has_children,
+        before: None,
+        after: None,
+    }
+}
+
 /// What becomes of an element, its children aside. Its style is computed only where it counts.
+#[tactic(auto, using(crate::proofs::Styles::without_rules))]
 fn element_outline(
     alloc: Global,
     rules: &[StyleRule],
@@ -186,6 +205,7 @@ fn element_outline(
 {
     match element_mapping(name, attributes) {
         Mapping::Nothing => Ok(Outline::Nothing),
+        mapping if rules.is_empty() => Ok(unstyled_outline(mapping)),
         mapping => {
             let style = computed_style(alloc, rules, name.local.as_str(), attributes)?;
             Ok(styled_outline(mapping, style))
