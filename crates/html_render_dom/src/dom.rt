@@ -16,8 +16,6 @@ mod nodes;
 mod paths;
 mod queries;
 mod settings;
-#[cfg(test)]
-mod tests;
 
 pub use contents::{NodeData, NodeOrText};
 pub use documents::RcDom;

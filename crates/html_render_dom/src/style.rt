@@ -14,8 +14,6 @@ mod origins;
 mod rules;
 mod selectors;
 mod specificities;
-#[cfg(test)]
-mod tests;
 mod updates;
 mod winners;
 

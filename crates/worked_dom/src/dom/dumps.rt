@@ -1,5 +1,7 @@
-use super::super::{Handle, NodeOrText, RcDom};
+//! Dumps of nodes and of whole documents.
+
 use super::{put_element, put_text, string};
+use html_render_dom::dom::{Handle, NodeOrText, RcDom};
 use std::alloc::Global;
 use std::test::Fail;
 

@@ -1,7 +1,9 @@
+//! Many moves in a row, beside the same moves on plain lists.
+
 ghost use Rattle.std.specs.Prelude.{◌<◌};
 
-use super::super::{Handle, NodeOrText, RcDom};
 use super::{can_append, put_element};
+use html_render_dom::dom::{Handle, NodeOrText, RcDom};
 use std::alloc::{AllocError, Global};
 use std::test::Fail;
 

@@ -1,5 +1,9 @@
-use super::super::{Attribute, Handle, NodeData, NodeOrText, QuirksMode, RcDom};
+//! Edits of a document: what is appended, put, moved, removed and kept.
+
 use super::{element, html_name, label, labels, put, put_element, put_text, string};
+use html_render_dom::dom::{
+    Attribute, ElementFlags, Handle, NodeData, NodeOrText, QuirksMode, RcDom,
+};
 use std::alloc::{AllocError, Global};
 use std::test::Fail;
 
@@ -84,7 +88,7 @@ fn missing_attributes_are_added(rt: HostRuntime) -> Result<(), Fail> {
         alloc,
         html_name(alloc, "p")?,
         vec![in alloc; attribute("a", "1")?]?,
-        super::ElementFlags::default(),
+        ElementFlags::default(),
     )?;
     let given = vec![in alloc;
         attribute("a", "2")?,

@@ -1,3 +1,5 @@
+//! Documents that are built by calls, and what the calls answer of them.
+
 ghost use Rattle.std.specs.Prelude.{IsTrue};
 ghost use Rattle.html_render_dom.specs.Dom.{IsNode};
 ghost use Rattle.html_render_dom.specs.Edits.{CanAppend};
@@ -7,7 +9,9 @@ mod edits;
 mod moves;
 mod paths;
 
-use super::{Attribute, ElementFlags, Handle, Namespace, NodeData, NodeOrText, QualName, RcDom};
+use html_render_dom::dom::{
+    Attribute, ElementFlags, Handle, Namespace, NodeData, NodeOrText, QualName, RcDom,
+};
 use std::alloc::{AllocError, Global};
 use std::test::Fail;
 

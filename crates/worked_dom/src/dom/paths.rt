@@ -1,5 +1,7 @@
-use super::super::RcDom;
+//! Paths to nodes, and a document as deep as they lead.
+
 use super::{label, put_element};
+use html_render_dom::dom::RcDom;
 use std::test::Fail;
 
 #[test]
