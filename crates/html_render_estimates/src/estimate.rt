@@ -161,6 +161,3 @@ pub fn measure<D: TextDecorator>(
     }
     Ok(RenderTree::from(Flat::from_entries(entries)))
 }
-
-#[cfg(test)]
-mod tests;

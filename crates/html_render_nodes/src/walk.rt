@@ -143,6 +143,3 @@ pub fn walk<P: Pass>(
         }
     }
 }
-
-#[cfg(test)]
-mod tests;

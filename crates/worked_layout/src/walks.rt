@@ -1,8 +1,13 @@
+//! Walks over trees: what is entered, left and skipped, and what is counted of it.
+
 ghost use Rattle.std.specs.Prelude.{◌≡◌, ◌∷◌, [], ◌++◌, Some, None, OnOk, IfErr, nat_eq, option_and_then, refl, if◌then◌else◌};
 ghost use Rattle.html_render_nodes.specs.Pass.{Into, Past, through};
 
-use super::*;
-use crate::tree::Builder;
+use html_render_dom::Error;
+use html_render_nodes::tree::{Builder, Entry, Flat};
+use html_render_nodes::walk::{Pass, walk};
+use html_render_parts::widths::Meter;
+use std::alloc::Global;
 use std::marker::Model;
 use std::test::Fail;
 

@@ -1,7 +1,7 @@
 use Rattle.std.proofs.Common.{◌≡◌, ℕ, ap, ◌∙◌}
 use Rattle.html_render_dom.specs.Forest.{Forest, none, node, count}
 use Rattle.html_render_nodes.specs.Splits.{SplitAt}
-use Rattle.html_render_nodes.proofs.walk.tests.sample.Goals as goal
+use Rattle.worked_layout.proofs.walks.sample.Goals as goal
 
 -- after 4 and 3 were put
 abbrev pair : (mark : ℕ) (before t u : Forest ℕ) → mark ≡ count before → t ≡ node 4 none before → u ≡ node 3 none t → SplitAt u mark

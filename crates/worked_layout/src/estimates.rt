@@ -1,7 +1,11 @@
-use super::*;
+//! Estimates: of each kind of node, of lists and their numbers, and of trees as deep as they come.
+
+use html_render_dom::Error;
 use html_render_dom::text::Text;
-use html_render_nodes::tree::{Builder, Emphasis};
+use html_render_estimates::estimate::measure;
+use html_render_nodes::tree::{Builder, Emphasis, Estimate, NodeKind, RenderNode, RenderTree};
 use html_render_parts::decorate::PlainDecorator;
+use std::alloc::Global;
 use std::test::Fail;
 
 /// A node without a style.

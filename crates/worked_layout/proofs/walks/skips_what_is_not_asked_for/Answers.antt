@@ -1,5 +1,5 @@
 use Rattle.html_render_nodes.specs.laws.Splits.{SplitAt-none}
-use Rattle.html_render_nodes.proofs.walk.tests.skips_what_is_not_asked_for.Goals as goal
+use Rattle.worked_layout.proofs.walks.skips_what_is_not_asked_for.Goals as goal
 
 pub enclose-requires : goal.enclose-requires
 enclose-requires g c = SplitAt-none _
