@@ -1,0 +1,16 @@
+//! Tests of headings, quotes and lists as documents: worked rows, decorators of one's own, all narrow widths, and deep
+//! nesting.
+//!
+//! There is nothing to call here.
+#![tactic(auto)]
+
+#[cfg(test)]
+mod decorators;
+#[cfg(test)]
+mod nesting;
+#[cfg(test)]
+mod rows;
+#[cfg(test)]
+mod scripts;
+#[cfg(test)]
+mod widths;
