@@ -1,7 +1,6 @@
--- What a decorator answers, as functions of its value S; A are its annotations.
-use Rattle.std.specs.Prelude.{ℕ, ℤ, List, [], ◌++◌, codes}
-use Rattle.std.specs.Fmt.{signed_decimal}
-use Rattle.std.specs.List.{repeat}
+-- What a decorator answers, as functions of its value S; A are its annotations. Texts are in UTF-8.
+use Rattle.std.specs.Prelude.{ℕ, ℤ, List, Option}
+use Rattle.html_render_dom.specs.declared.style.colours.Colour.{Colour}
 
 -- a text, and what the characters in the part are annotated with
 pub record Start (A : Type 0) : Type 0 where
@@ -14,26 +13,30 @@ pub record Round (S A : Type 0) : Type 0 where
   pub end : S → List ℕ
 
 pub record Decoration (S A : Type 0) : Type 0 where
+  -- what stands round a link; its end knows no target
+  pub link_start : S → (target : List ℕ) → Start A
+  pub link_end : S → List ℕ
   pub em : Round S A
   pub strong : Round S A
+  pub strikeout : Round S A
   pub code : Round S A
+  pub superscript : Round S A
+  -- what is written in the place of an image
+  pub image : S → (source title : List ℕ) → Start A
   -- what stands before each line of a heading of a level, and of a quote
   pub header_prefix : S → (level : ℕ) → List ℕ
   pub quote_prefix : S → List ℕ
   -- what stands before the first line of a list's item
   pub unordered_item_prefix : S → List ℕ
   pub ordered_item_prefix : S → (number : ℤ) → List ℕ
+  -- what characters of a colour, or on a background, are annotated with
+  pub push_colour : S → Colour → Option A
+  pub push_background : S → Colour → Option A
+  -- the lines behind the document, where these are the targets of all its links
+  pub finalise : S → (targets : List (List ℕ)) → List (List ℕ)
   -- the decorator of a block inside the decorator's own
   pub subblock : S → S
 
--- no text, and the annotation that says nothing
-abbrev pub nothing_round : {S : Type 0} → Round S (Unit {0})
-nothing_round = record { start = λ s. record { text = []; annotation = tt }; end = λ s. [] }
-
--- a heading's prefix in plain text
-abbrev pub hashes : (level : ℕ) → List ℕ
-hashes level = repeat level (codes "#") ++ codes " "
-
--- the prefix of an ordered list's item in plain text
-abbrev pub number_and_dot : (number : ℤ) → List ℕ
-number_and_dot number = signed_decimal number ++ codes ". "
+-- what stands round a link to a target
+abbrev pub link : {S A : Type 0} → Decoration S A → (target : List ℕ) → Round S A
+link d target = record { start = λ s. d.link_start s target; end = d.link_end }

@@ -1,13 +1,21 @@
 //! Decorators: what is written round the parts of a document, and what its characters are annotated with.
 //!
-//! `PlainDecorator::new()` is the decorator of plain text. Its annotations say nothing, and a sub-block has the
-//! same decorator: `PlainDecorator::new().make_subblock_decorator(alloc)?` is `PlainDecorator::new()`. Before an ordered
-//! list's item of number 3 it writes `3. `.
+//! `PlainDecorator::new()` is the decorator of plain text. Its annotations say nothing: before an ordered list's item
+//! of number 3 it writes `3. `, and round a link `[` and `]`. `RichDecorator::new()` is the decorator of text that a
+//! viewer styles: it writes nothing round a link, whose characters have the annotation `RichAnnotation::Link` of its
+//! target. A sub-block has the same decorator for both.
 
-ghost use Rattle.std.specs.Prelude.{◌≡◌, IfOk, IfErr, codes, refl, string_bytes};
-ghost use Rattle.html_render_parts.specs.Decoration.{Decoration, nothing_round, hashes, number_and_dot};
+ghost use Rattle.std.specs.Prelude.{◌≡◌, IfOk, IfErr, map, string_bytes};
+ghost use Rattle.html_render_parts.specs.Decoration.{Decoration};
+
+mod plain;
+mod rich;
 
 use html_render_dom::Error;
+use html_render_dom::style::Colour;
+use html_render_dom::text::Text;
+pub use plain::PlainDecorator;
+pub use rich::{RichAnnotation, RichDecorator};
 use std::alloc::Global;
 
 /// What is written round the parts of a document.
@@ -19,6 +27,29 @@ pub trait TextDecorator: Drop {
 
     // what the decorator answers
     ghost decoration: { Decoration Self Self.Annotation };
+
+    /// The text before a link to this target, and what the characters in it are annotated with.
+    ///
+    /// # Errors
+    ///
+    /// `OutOfMemory`.
+    fn decorate_link_start(
+        &self,
+        alloc: Global,
+        url: &str,
+    ) -> Result<(String, Self::Annotation), Error>
+        ensures text { IfOk result (λ r. string_bytes r.0 ≡ (decoration.link_start self.now url.now).text) }
+        ensures annotation { IfOk result (λ r. r.1 ≡ (decoration.link_start self.now url.now).annotation) }
+        ensures err { IfErr result (λ e. e ≡ Error.OutOfMemory) };
+
+    /// The text behind a link.
+    ///
+    /// # Errors
+    ///
+    /// `OutOfMemory`.
+    fn decorate_link_end(&self, alloc: Global) -> Result<String, Error>
+        ensures ok { IfOk result (λ text. string_bytes text ≡ decoration.link_end self.now) }
+        ensures err { IfErr result (λ e. e ≡ Error.OutOfMemory) };
 
     /// The text before emphasised text, and what the characters in it are annotated with.
     ///
@@ -58,6 +89,25 @@ pub trait TextDecorator: Drop {
         ensures ok { IfOk result (λ text. string_bytes text ≡ decoration.strong.end self.now) }
         ensures err { IfErr result (λ e. e ≡ Error.OutOfMemory) };
 
+    /// The text before text that is struck out, and what the characters in it are annotated with.
+    ///
+    /// # Errors
+    ///
+    /// `OutOfMemory`.
+    fn decorate_strikeout_start(&self, alloc: Global) -> Result<(String, Self::Annotation), Error>
+        ensures text { IfOk result (λ r. string_bytes r.0 ≡ (decoration.strikeout.start self.now).text) }
+        ensures annotation { IfOk result (λ r. r.1 ≡ (decoration.strikeout.start self.now).annotation) }
+        ensures err { IfErr result (λ e. e ≡ Error.OutOfMemory) };
+
+    /// The text behind text that is struck out.
+    ///
+    /// # Errors
+    ///
+    /// `OutOfMemory`.
+    fn decorate_strikeout_end(&self, alloc: Global) -> Result<String, Error>
+        ensures ok { IfOk result (λ text. string_bytes text ≡ decoration.strikeout.end self.now) }
+        ensures err { IfErr result (λ e. e ≡ Error.OutOfMemory) };
+
     /// The text before code, and what the characters in it are annotated with.
     ///
     /// # Errors
@@ -75,6 +125,40 @@ pub trait TextDecorator: Drop {
     /// `OutOfMemory`.
     fn decorate_code_end(&self, alloc: Global) -> Result<String, Error>
         ensures ok { IfOk result (λ text. string_bytes text ≡ decoration.code.end self.now) }
+        ensures err { IfErr result (λ e. e ≡ Error.OutOfMemory) };
+
+    /// The text before a superscript, and what the characters in it are annotated with.
+    ///
+    /// # Errors
+    ///
+    /// `OutOfMemory`.
+    fn decorate_superscript_start(&self, alloc: Global) -> Result<(String, Self::Annotation), Error>
+        ensures text { IfOk result (λ r. string_bytes r.0 ≡ (decoration.superscript.start self.now).text) }
+        ensures annotation { IfOk result (λ r. r.1 ≡ (decoration.superscript.start self.now).annotation) }
+        ensures err { IfErr result (λ e. e ≡ Error.OutOfMemory) };
+
+    /// The text behind a superscript.
+    ///
+    /// # Errors
+    ///
+    /// `OutOfMemory`.
+    fn decorate_superscript_end(&self, alloc: Global) -> Result<String, Error>
+        ensures ok { IfOk result (λ text. string_bytes text ≡ decoration.superscript.end self.now) }
+        ensures err { IfErr result (λ e. e ≡ Error.OutOfMemory) };
+
+    /// The text in the place of an image of this source and title, and what its characters are annotated with.
+    ///
+    /// # Errors
+    ///
+    /// `OutOfMemory`.
+    fn decorate_image(
+        &self,
+        alloc: Global,
+        src: &str,
+        title: &str,
+    ) -> Result<(String, Self::Annotation), Error>
+        ensures text { IfOk result (λ r. string_bytes r.0 ≡ (decoration.image self.now src.now title.now).text) }
+        ensures annotation { IfOk result (λ r. r.1 ≡ (decoration.image self.now src.now title.now).annotation) }
         ensures err { IfErr result (λ e. e ≡ Error.OutOfMemory) };
 
     /// What stands before each line of a heading of this level.
@@ -113,6 +197,37 @@ pub trait TextDecorator: Drop {
         ensures ok { IfOk result (λ prefix. string_bytes prefix ≡ decoration.ordered_item_prefix self.now number) }
         ensures err { IfErr result (λ e. e ≡ Error.OutOfMemory) };
 
+    /// What characters of this colour are annotated with, or nothing.
+    ///
+    /// # Errors
+    ///
+    /// `OutOfMemory`.
+    fn push_colour(&self, alloc: Global, colour: Colour) -> Result<Option<Self::Annotation>, Error>
+        ensures ok { IfOk result (λ annotation. annotation ≡ decoration.push_colour self.now colour) }
+        ensures err { IfErr result (λ e. e ≡ Error.OutOfMemory) };
+
+    /// What characters on this background are annotated with, or nothing.
+    ///
+    /// # Errors
+    ///
+    /// `OutOfMemory`.
+    fn push_bgcolour(
+        &self,
+        alloc: Global,
+        colour: Colour,
+    ) -> Result<Option<Self::Annotation>, Error>
+        ensures ok { IfOk result (λ annotation. annotation ≡ decoration.push_background self.now colour) }
+        ensures err { IfErr result (λ e. e ≡ Error.OutOfMemory) };
+
+    /// The lines behind the document, where these are the targets of all its links, in order.
+    ///
+    /// # Errors
+    ///
+    /// `OutOfMemory`.
+    fn finalise(&self, alloc: Global, links: &[Text]) -> Result<Vec<String>, Error>
+        ensures ok { IfOk result (λ lines. map string_bytes lines.items ≡ decoration.finalise self.now links.now) }
+        ensures err { IfErr result (λ e. e ≡ Error.OutOfMemory) };
+
     /// The decorator of a block inside the decorator's own.
     ///
     /// # Errors
@@ -124,78 +239,4 @@ pub trait TextDecorator: Drop {
 
     // a clone of an annotation is the same value
     ghost clone_is_same: { (a b : Self.Annotation) → Self.Annotation.is_clone a b → b ≡ a };
-}
-
-/// The decorator of plain text.
-#[derive(Clone, Copy, Debug, Default, PartialEq, Eq)]
-pub struct PlainDecorator;
-
-impl PlainDecorator {
-    /// The decorator of plain text. It takes no memory.
-    pub fn new() -> PlainDecorator {
-        PlainDecorator
-    }
-}
-
-impl TextDecorator for PlainDecorator {
-    type Annotation = ();
-
-    ghost decoration = { record {
-      em = nothing_round;
-      strong = nothing_round;
-      code = nothing_round;
-      header_prefix = λ plain level. hashes level;
-      quote_prefix = λ plain. codes "> ";
-      unordered_item_prefix = λ plain. codes "* ";
-      ordered_item_prefix = λ plain number. number_and_dot number;
-      subblock = λ plain. plain;
-    } };
-
-    ghost clone_is_same = { λ a b h. refl };
-
-    fn decorate_em_start(&self, alloc: Global) -> Result<(String, ()), Error> {
-        Ok((String::new(alloc), ()))
-    }
-
-    fn decorate_em_end(&self, alloc: Global) -> Result<String, Error> {
-        Ok(String::new(alloc))
-    }
-
-    fn decorate_strong_start(&self, alloc: Global) -> Result<(String, ()), Error> {
-        Ok((String::new(alloc), ()))
-    }
-
-    fn decorate_strong_end(&self, alloc: Global) -> Result<String, Error> {
-        Ok(String::new(alloc))
-    }
-
-    fn decorate_code_start(&self, alloc: Global) -> Result<(String, ()), Error> {
-        Ok((String::new(alloc), ()))
-    }
-
-    fn decorate_code_end(&self, alloc: Global) -> Result<String, Error> {
-        Ok(String::new(alloc))
-    }
-
-    fn header_prefix(&self, alloc: Global, level: usize) -> Result<String, Error> {
-        let mut prefix = "#".repeat(alloc, level)?;
-        prefix.push(' ')?;
-        Ok(prefix)
-    }
-
-    fn quote_prefix(&self, alloc: Global) -> Result<String, Error> {
-        Ok(String::from_str(alloc, "> ")?)
-    }
-
-    fn unordered_item_prefix(&self, alloc: Global) -> Result<String, Error> {
-        Ok(String::from_str(alloc, "* ")?)
-    }
-
-    fn ordered_item_prefix(&self, alloc: Global, number: i64) -> Result<String, Error> {
-        Ok(format!(in alloc; "{number}. ")?)
-    }
-
-    fn make_subblock_decorator(&self, _alloc: Global) -> Result<PlainDecorator, Error> {
-        Ok(*self)
-    }
 }

@@ -8,5 +8,6 @@ pub mod Decorations
 pub mod Rendering
 -- the calls of the program's scripts
 pub mod Scripts
--- what a decorator answers, for callers that implement one
+-- what a decorator answers, and what those of plain and of rich text do, for callers that implement one
 pub use Rattle.html_render_parts.specs.Decoration
+pub use Rattle.html_render_parts.specs.Decorators

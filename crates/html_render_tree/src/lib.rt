@@ -11,7 +11,7 @@ mod mapping;
 mod script;
 mod texts;
 
-pub use html_render_dom::{Error, dom, style};
+pub use html_render_dom::{Error, dom, style, text};
 pub use html_render_parts::{decorate, table, widths};
 
 /// What a document becomes before it is wrapped.

@@ -4,12 +4,14 @@ ghost use Rattle.std.specs.Prelude.{◌≤◌, ◌+◌, ◌-◌, ◌^◌, IfOk, 
 ghost use Rattle.std.specs.List.{repeat};
 ghost use Rattle.std.specs.Ordering.{int_eq};
 ghost use Rattle.html_render_dom.specs.Dom.{IsNode};
-ghost use Rattle.html_render_tree.specs.Decoration.{hashes, nothing_round, number_and_dot};
+ghost use Rattle.html_render_tree.specs.Decorators.{number_and_dot, plain};
 
 use html_render_tree::Error;
 use html_render_tree::config::with_decorator;
 use html_render_tree::decorate::{PlainDecorator, TextDecorator};
 use html_render_tree::dom::{ElementFlags, Handle, NodeOrText, QualName, RcDom};
+use html_render_tree::style::Colour;
+use html_render_tree::text::Text;
 use std::alloc::Global;
 use std::test::Fail;
 
@@ -22,18 +24,20 @@ struct Grow {
 impl TextDecorator for Grow {
     type Annotation = ();
 
-    ghost decoration = { record {
-      em = nothing_round;
-      strong = nothing_round;
-      code = nothing_round;
-      header_prefix = λ s level. hashes level;
+    ghost decoration = { record (plain tt) {
       quote_prefix = λ s. repeat s.level (codes ">");
-      unordered_item_prefix = λ s. codes "* ";
-      ordered_item_prefix = λ s number. number_and_dot number;
       subblock = λ s. record { level = min (s.level + 1) (2 ^ 64 - 1) };
     } };
 
     ghost clone_is_same = { λ a b h. refl };
+
+    fn decorate_link_start(&self, alloc: Global, url: &str) -> Result<(String, ()), Error> {
+        PlainDecorator::new().decorate_link_start(alloc, url)
+    }
+
+    fn decorate_link_end(&self, alloc: Global) -> Result<String, Error> {
+        PlainDecorator::new().decorate_link_end(alloc)
+    }
 
     fn decorate_em_start(&self, alloc: Global) -> Result<(String, ()), Error> {
         PlainDecorator::new().decorate_em_start(alloc)
@@ -51,12 +55,32 @@ impl TextDecorator for Grow {
         PlainDecorator::new().decorate_strong_end(alloc)
     }
 
+    fn decorate_strikeout_start(&self, alloc: Global) -> Result<(String, ()), Error> {
+        PlainDecorator::new().decorate_strikeout_start(alloc)
+    }
+
+    fn decorate_strikeout_end(&self, alloc: Global) -> Result<String, Error> {
+        PlainDecorator::new().decorate_strikeout_end(alloc)
+    }
+
     fn decorate_code_start(&self, alloc: Global) -> Result<(String, ()), Error> {
         PlainDecorator::new().decorate_code_start(alloc)
     }
 
     fn decorate_code_end(&self, alloc: Global) -> Result<String, Error> {
         PlainDecorator::new().decorate_code_end(alloc)
+    }
+
+    fn decorate_superscript_start(&self, alloc: Global) -> Result<(String, ()), Error> {
+        PlainDecorator::new().decorate_superscript_start(alloc)
+    }
+
+    fn decorate_superscript_end(&self, alloc: Global) -> Result<String, Error> {
+        PlainDecorator::new().decorate_superscript_end(alloc)
+    }
+
+    fn decorate_image(&self, alloc: Global, src: &str, title: &str) -> Result<(String, ()), Error> {
+        PlainDecorator::new().decorate_image(alloc, src, title)
     }
 
     fn header_prefix(&self, alloc: Global, level: usize) -> Result<String, Error> {
@@ -75,6 +99,18 @@ impl TextDecorator for Grow {
         PlainDecorator::new().ordered_item_prefix(alloc, number)
     }
 
+    fn push_colour(&self, alloc: Global, colour: Colour) -> Result<Option<()>, Error> {
+        PlainDecorator::new().push_colour(alloc, colour)
+    }
+
+    fn push_bgcolour(&self, alloc: Global, colour: Colour) -> Result<Option<()>, Error> {
+        PlainDecorator::new().push_bgcolour(alloc, colour)
+    }
+
+    fn finalise(&self, alloc: Global, links: &[Text]) -> Result<Vec<String>, Error> {
+        PlainDecorator::new().finalise(alloc, links)
+    }
+
     fn make_subblock_decorator(&self, _alloc: Global) -> Result<Grow, Error> {
         Ok(Grow {
             level: self.level.saturating_add(1),
@@ -89,18 +125,19 @@ struct Odd;
 impl TextDecorator for Odd {
     type Annotation = ();
 
-    ghost decoration = { record {
-      em = nothing_round;
-      strong = nothing_round;
-      code = nothing_round;
-      header_prefix = λ s level. hashes level;
-      quote_prefix = λ s. codes "> ";
-      unordered_item_prefix = λ s. codes "* ";
+    ghost decoration = { record (plain tt) {
       ordered_item_prefix = λ s number. if int_eq number (pos 2) then codes "(two) " else number_and_dot number;
-      subblock = λ s. s;
     } };
 
     ghost clone_is_same = { λ a b h. refl };
+
+    fn decorate_link_start(&self, alloc: Global, url: &str) -> Result<(String, ()), Error> {
+        PlainDecorator::new().decorate_link_start(alloc, url)
+    }
+
+    fn decorate_link_end(&self, alloc: Global) -> Result<String, Error> {
+        PlainDecorator::new().decorate_link_end(alloc)
+    }
 
     fn decorate_em_start(&self, alloc: Global) -> Result<(String, ()), Error> {
         PlainDecorator::new().decorate_em_start(alloc)
@@ -118,12 +155,32 @@ impl TextDecorator for Odd {
         PlainDecorator::new().decorate_strong_end(alloc)
     }
 
+    fn decorate_strikeout_start(&self, alloc: Global) -> Result<(String, ()), Error> {
+        PlainDecorator::new().decorate_strikeout_start(alloc)
+    }
+
+    fn decorate_strikeout_end(&self, alloc: Global) -> Result<String, Error> {
+        PlainDecorator::new().decorate_strikeout_end(alloc)
+    }
+
     fn decorate_code_start(&self, alloc: Global) -> Result<(String, ()), Error> {
         PlainDecorator::new().decorate_code_start(alloc)
     }
 
     fn decorate_code_end(&self, alloc: Global) -> Result<String, Error> {
         PlainDecorator::new().decorate_code_end(alloc)
+    }
+
+    fn decorate_superscript_start(&self, alloc: Global) -> Result<(String, ()), Error> {
+        PlainDecorator::new().decorate_superscript_start(alloc)
+    }
+
+    fn decorate_superscript_end(&self, alloc: Global) -> Result<String, Error> {
+        PlainDecorator::new().decorate_superscript_end(alloc)
+    }
+
+    fn decorate_image(&self, alloc: Global, src: &str, title: &str) -> Result<(String, ()), Error> {
+        PlainDecorator::new().decorate_image(alloc, src, title)
     }
 
     fn header_prefix(&self, alloc: Global, level: usize) -> Result<String, Error> {
@@ -143,6 +200,18 @@ impl TextDecorator for Odd {
             return Ok(String::from_str(alloc, "(two) ")?);
         }
         PlainDecorator::new().ordered_item_prefix(alloc, number)
+    }
+
+    fn push_colour(&self, alloc: Global, colour: Colour) -> Result<Option<()>, Error> {
+        PlainDecorator::new().push_colour(alloc, colour)
+    }
+
+    fn push_bgcolour(&self, alloc: Global, colour: Colour) -> Result<Option<()>, Error> {
+        PlainDecorator::new().push_bgcolour(alloc, colour)
+    }
+
+    fn finalise(&self, alloc: Global, links: &[Text]) -> Result<Vec<String>, Error> {
+        PlainDecorator::new().finalise(alloc, links)
     }
 
     fn make_subblock_decorator(&self, _alloc: Global) -> Result<Odd, Error> {

@@ -2,16 +2,18 @@
 
 ghost use Rattle.std.specs.Prelude.{◌+◌, ◌-◌, ◌^◌, codes, min, refl};
 ghost use Rattle.std.specs.List.{repeat};
-ghost use Rattle.html_render_tree.specs.Decoration.{hashes, nothing_round, number_and_dot};
+ghost use Rattle.html_render_tree.specs.Decorators.{plain};
 
 use html_render_tree::Error;
 use html_render_tree::config::with_decorator;
 use html_render_tree::decorate::{PlainDecorator, TextDecorator};
 use html_render_tree::dom::{ElementFlags, NodeOrText, QualName, RcDom};
+use html_render_tree::style::Colour;
+use html_render_tree::text::Text;
 use std::alloc::Global;
 use std::test::Fail;
 
-/// Writes as many `_` round emphasis as blocks stand round it, and nothing round strong text and code.
+/// Writes as many `_` round emphasis as blocks stand round it, and is the decorator of plain text otherwise.
 #[derive(Clone, Copy)]
 struct Underscores {
     depth: usize,
@@ -20,21 +22,23 @@ struct Underscores {
 impl TextDecorator for Underscores {
     type Annotation = ();
 
-    ghost decoration = { record {
+    ghost decoration = { record (plain tt) {
       em = record {
         start = λ s. record { text = repeat s.depth (codes "_"); annotation = tt };
         end = λ s. repeat s.depth (codes "_");
       };
-      strong = nothing_round;
-      code = nothing_round;
-      header_prefix = λ s level. hashes level;
-      quote_prefix = λ s. codes "> ";
-      unordered_item_prefix = λ s. codes "* ";
-      ordered_item_prefix = λ s number. number_and_dot number;
       subblock = λ s. record { depth = min (s.depth + 1) (2 ^ 64 - 1) };
     } };
 
     ghost clone_is_same = { λ a b h. refl };
+
+    fn decorate_link_start(&self, alloc: Global, url: &str) -> Result<(String, ()), Error> {
+        PlainDecorator::new().decorate_link_start(alloc, url)
+    }
+
+    fn decorate_link_end(&self, alloc: Global) -> Result<String, Error> {
+        PlainDecorator::new().decorate_link_end(alloc)
+    }
 
     fn decorate_em_start(&self, alloc: Global) -> Result<(String, ()), Error> {
         Ok(("_".repeat(alloc, self.depth)?, ()))
@@ -45,19 +49,39 @@ impl TextDecorator for Underscores {
     }
 
     fn decorate_strong_start(&self, alloc: Global) -> Result<(String, ()), Error> {
-        Ok((String::new(alloc), ()))
+        PlainDecorator::new().decorate_strong_start(alloc)
     }
 
     fn decorate_strong_end(&self, alloc: Global) -> Result<String, Error> {
-        Ok(String::new(alloc))
+        PlainDecorator::new().decorate_strong_end(alloc)
+    }
+
+    fn decorate_strikeout_start(&self, alloc: Global) -> Result<(String, ()), Error> {
+        PlainDecorator::new().decorate_strikeout_start(alloc)
+    }
+
+    fn decorate_strikeout_end(&self, alloc: Global) -> Result<String, Error> {
+        PlainDecorator::new().decorate_strikeout_end(alloc)
     }
 
     fn decorate_code_start(&self, alloc: Global) -> Result<(String, ()), Error> {
-        Ok((String::new(alloc), ()))
+        PlainDecorator::new().decorate_code_start(alloc)
     }
 
     fn decorate_code_end(&self, alloc: Global) -> Result<String, Error> {
-        Ok(String::new(alloc))
+        PlainDecorator::new().decorate_code_end(alloc)
+    }
+
+    fn decorate_superscript_start(&self, alloc: Global) -> Result<(String, ()), Error> {
+        PlainDecorator::new().decorate_superscript_start(alloc)
+    }
+
+    fn decorate_superscript_end(&self, alloc: Global) -> Result<String, Error> {
+        PlainDecorator::new().decorate_superscript_end(alloc)
+    }
+
+    fn decorate_image(&self, alloc: Global, src: &str, title: &str) -> Result<(String, ()), Error> {
+        PlainDecorator::new().decorate_image(alloc, src, title)
     }
 
     fn header_prefix(&self, alloc: Global, level: usize) -> Result<String, Error> {
@@ -74,6 +98,18 @@ impl TextDecorator for Underscores {
 
     fn ordered_item_prefix(&self, alloc: Global, number: i64) -> Result<String, Error> {
         PlainDecorator::new().ordered_item_prefix(alloc, number)
+    }
+
+    fn push_colour(&self, alloc: Global, colour: Colour) -> Result<Option<()>, Error> {
+        PlainDecorator::new().push_colour(alloc, colour)
+    }
+
+    fn push_bgcolour(&self, alloc: Global, colour: Colour) -> Result<Option<()>, Error> {
+        PlainDecorator::new().push_bgcolour(alloc, colour)
+    }
+
+    fn finalise(&self, alloc: Global, links: &[Text]) -> Result<Vec<String>, Error> {
+        PlainDecorator::new().finalise(alloc, links)
     }
 
     fn make_subblock_decorator(&self, _alloc: Global) -> Result<Underscores, Error> {

@@ -1,7 +1,8 @@
 ghost use Rattle.std.specs.Prelude.{codes, refl};
-ghost use Rattle.html_render_parts.specs.Decoration.{hashes, number_and_dot};
+ghost use Rattle.html_render_parts.specs.Decorators.{between, plain};
 
 use super::*;
+use html_render_dom::style::Colour;
 use html_render_dom::text::Text;
 use html_render_lines::line::Run;
 use html_render_lines::tag::Tag;
@@ -138,18 +139,21 @@ struct Signs;
 impl TextDecorator for Signs {
     type Annotation = u8;
 
-    ghost decoration = { record {
-      em = record { start = λ s. record { text = codes "<"; annotation = 6 }; end = λ s. codes ">" };
-      strong = record { start = λ s. record { text = codes "["; annotation = 7 }; end = λ s. codes "]" };
-      code = record { start = λ s. record { text = codes "("; annotation = 8 }; end = λ s. codes ")" };
-      header_prefix = λ s level. hashes level;
-      quote_prefix = λ s. codes "> ";
-      unordered_item_prefix = λ s. codes "* ";
-      ordered_item_prefix = λ s number. number_and_dot number;
-      subblock = λ s. s;
+    ghost decoration = { record (plain 0) {
+      em = between (codes "<") (codes ">") 6;
+      strong = between (codes "[") (codes "]") 7;
+      code = between (codes "(") (codes ")") 8;
     } };
 
     ghost clone_is_same = { λ a b h. h };
+
+    fn decorate_link_start(&self, alloc: Global, url: &str) -> Result<(String, u8), Error> {
+        Ok((PlainDecorator::new().decorate_link_start(alloc, url)?.0, 0))
+    }
+
+    fn decorate_link_end(&self, alloc: Global) -> Result<String, Error> {
+        PlainDecorator::new().decorate_link_end(alloc)
+    }
 
     fn decorate_em_start(&self, alloc: Global) -> Result<(String, u8), Error> {
         Ok((String::from_str(alloc, "<")?, 6))
@@ -167,12 +171,38 @@ impl TextDecorator for Signs {
         Ok(String::from_str(alloc, "]")?)
     }
 
+    fn decorate_strikeout_start(&self, alloc: Global) -> Result<(String, u8), Error> {
+        Ok((PlainDecorator::new().decorate_strikeout_start(alloc)?.0, 0))
+    }
+
+    fn decorate_strikeout_end(&self, alloc: Global) -> Result<String, Error> {
+        PlainDecorator::new().decorate_strikeout_end(alloc)
+    }
+
     fn decorate_code_start(&self, alloc: Global) -> Result<(String, u8), Error> {
         Ok((String::from_str(alloc, "(")?, 8))
     }
 
     fn decorate_code_end(&self, alloc: Global) -> Result<String, Error> {
         Ok(String::from_str(alloc, ")")?)
+    }
+
+    fn decorate_superscript_start(&self, alloc: Global) -> Result<(String, u8), Error> {
+        Ok((
+            PlainDecorator::new().decorate_superscript_start(alloc)?.0,
+            0,
+        ))
+    }
+
+    fn decorate_superscript_end(&self, alloc: Global) -> Result<String, Error> {
+        PlainDecorator::new().decorate_superscript_end(alloc)
+    }
+
+    fn decorate_image(&self, alloc: Global, src: &str, title: &str) -> Result<(String, u8), Error> {
+        Ok((
+            PlainDecorator::new().decorate_image(alloc, src, title)?.0,
+            0,
+        ))
     }
 
     fn header_prefix(&self, alloc: Global, level: usize) -> Result<String, Error> {
@@ -189,6 +219,18 @@ impl TextDecorator for Signs {
 
     fn ordered_item_prefix(&self, alloc: Global, number: i64) -> Result<String, Error> {
         PlainDecorator::new().ordered_item_prefix(alloc, number)
+    }
+
+    fn push_colour(&self, _alloc: Global, _colour: Colour) -> Result<Option<u8>, Error> {
+        Ok(None)
+    }
+
+    fn push_bgcolour(&self, _alloc: Global, _colour: Colour) -> Result<Option<u8>, Error> {
+        Ok(None)
+    }
+
+    fn finalise(&self, alloc: Global, links: &[Text]) -> Result<Vec<String>, Error> {
+        PlainDecorator::new().finalise(alloc, links)
     }
 
     fn make_subblock_decorator(&self, _alloc: Global) -> Result<Signs, Error> {
