@@ -8,11 +8,10 @@ use std::test::Fail;
 /// The program answers what a case says: its words, the script and the answer, with `|` between them, and `/` for the
 /// end of a line.
 fn has_its_answer(rt: &impl Abort, alloc: Global, case: &str) -> Result<(), Fail> {
-    let mut fields = case.split('|');
-    let words = fields.next().ok_or("words")?;
-    let script = with_lines(alloc, fields.next().ok_or("a script")?)?;
-    let wanted = with_lines(alloc, fields.next().ok_or("an answer")?)?;
-    let answer = answer(alloc, words, script.as_str())?;
+    let (words, fields) = case.split_once('|').ok_or("a script")?;
+    let (script, wanted) = fields.split_once('|').ok_or("an answer")?;
+    let answer = answer(alloc, words, with_lines(alloc, script)?.as_str())?;
+    let wanted = with_lines(alloc, wanted)?;
     assert_eq!(rt; answer.as_str(), wanted.as_str(), "{case}");
     Ok(())
 }
@@ -29,6 +28,7 @@ fn have_their_answers(rt: &impl Abort, alloc: Global, cases: &str) -> Result<(),
 const HEADINGS_AND_QUOTES: &str = "\
 20|<h2/\"Title here|## Title here/
 8|<h2/\"ab cd ef|## ab cd/## ef/
+20|<h2/\"a/<br/>/\"b|## a/## b/
 20|<h1/\"a/>/<h3/\"b/>/<h6/\"c/>/<h7/\"d|# a//### b//###### c//d/
 20 bare|<h4/\"a/>/<h5/\"b|#### a//##### b/
 12|<p/\"Hello/>/\"\\n    /<blockquote/\"One, two, three/>/\"\\n    /<p/\"foo/>/\"\\n|Hello//> One, two,/> three//foo/
@@ -57,6 +57,9 @@ const UNORDERED_LISTS: &str = "\
 20|<ul/<li/>/<li/\"a/>/<li|* a/
 20|<ul/@start=3/\"x/<li/\"a/>/<p/\"b|* x/* a/* b/
 20|<ul/<li/<p/\"a/>/<p/\"b|* a/  /  b/
+20|<ul/<li/<h2/\"a/>/\"b|* ## a/  /  b/
+6|<ul/<li/\"ab cd/>/<li/<blockquote/\"bcd|Output width not wide enough./
+6 overflow|<ul/<li/\"ab cd/>/<li/<blockquote/\"bcd|* ab cd/* > bcd/
 20|<p/\"a/>/<ul/<li/\"b/>/>/\"c|a/* b//c/
 20|<ul/<li/\"a/>/>/\"b|* a/b/
 20|\"a/<li/\"b/>/<li/\"c/>/\"d|a//b//c//d/
@@ -84,6 +87,8 @@ const ORDERED_LISTS: &str = "\
 20|<ol/\"x/<p/\"y/>/<li/\"a/>/<ul/<li/\"z/>/>/<li/\"b|1. a/2. b/
 20|<ol/<li/\"a/<ol/@start=5/<li/\"b/>/>/>/<li/\"c|1. a/   5. b/2. c/
 20|\"a/<ol/\"x/>/\"b|ab/
+6|<blockquote/<ol/@start=-9/\"x/>/\"a|Output width not wide enough./
+7|<blockquote/<ol/@start=-9/\"x/>/\"a|> a/
 20|\"a/<ol/>/\"b|ab/
 ";
 
