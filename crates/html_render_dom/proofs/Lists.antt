@@ -1,22 +1,21 @@
 -- Lists of children, after the calls that change them.
-use Rattle.std.proofs.Common.{◌≡◌, ◌≢◌, ◌==◌, ℕ, zero, suc, ◌+◌, ◌-◌, ◌<◌, ◌≤◌, false, not, cond, nat_eq, ltb, if◌then◌else◌, List, [], ◌∷◌, ◌++◌}
-use Rattle.std.proofs.Common.{length, slice_get, slice_index_or, Option, Some, None, Contains, Result, Ok, Err, IsOk, ◌⊎◌, inl, inr, refl, sym, ap}
+use Rattle.std.proofs.Common.{◌≡◌, ◌≢◌, ◌==◌, ℕ, zero, suc, ◌+◌, ◌-◌, ◌<◌, ◌≤◌, false, not, cond, nat_eq, ltb, List, [], ◌∷◌, ◌++◌}
+use Rattle.std.proofs.Common.{length, slice_get, slice_index_or, Option, Some, None, Contains, Result, Ok, Err, IsOk, OnOk, ◌⊎◌, inl, inr, refl, sym, ap}
 use Rattle.std.proofs.Common.{◌∙◌, subst, arith}
-use Rattle.std.specs.Result.{is_ok}
-use Rattle.std.specs.List.{insert, position_or_len, IsDistinct, AllByRecursion}
+use Rattle.std.specs.List.{insert, remove, position_or_len, IsDistinct, AllByRecursion}
 use Rattle.std.proofs.lemmas.Bool.{false≢true, cases_Bool, ltb-true, ltb-false}
 use Rattle.std.proofs.lemmas.Bool.Decides.{eqb_tells}
-use Rattle.std.proofs.lemmas.List.Edits.{insert-append_right}
+use Rattle.std.proofs.lemmas.List.Edits.{insert-append_right, remove-append_right}
 use Rattle.std.proofs.lemmas.List.Elements.{Contains-get_or, All-filter, All-from_recursion, recursion_from_All, Contains-append_cases}
 use Rattle.std.proofs.lemmas.Map.Keys.{IsDistinct-head, IsDistinct-tail, IsDistinct-cons}
 use Rattle.html_render_dom.specs.laws.Forests.{IsDistinct-nil}
 use Rattle.html_render_dom.specs.laws.Members.{Contains-nil, Contains-head, Contains-tail, Contains-cons_cases}
 use Rattle.html_render_dom.specs.Moves.{without, before, previous}
 
--- what a call that can't be refused leaves
-pub ok_list : {T E X : Type 0} (r : Result T E) (xs ys zs : List X) → IsOk r → zs ≡ (if is_ok r then xs else ys) → zs ≡ xs
-ok_list (Ok x) xs ys zs h e = e
-ok_list (Err y) xs ys zs h e = absurd (false≢true h)
+-- what a call leaves that can't be refused
+pub ok_then : {T E : Type 0} (r : Result T E) (P : Type 0) → IsOk r → OnOk r P → P
+ok_then (Ok x) P h e = e
+ok_then (Err y) P h e = absurd (false≢true h)
 
 -- where a node stands, or the length
 abbrev pub place_of : ℕ → List ℕ → ℕ
@@ -56,6 +55,34 @@ before-absent s c (x ∷ xs) le =
       | inl e ↦ absurd (let le' : length (x ∷ xs) ≤ 0 = rw e.0 at le in omega arith)
       | inr d ↦ (let le' : length (x ∷ xs) ≤ 1 + place_of s xs = rw d.0 at le in
           rw d.0 (ap (λ ys. x ∷ ys) (before-absent s c xs (omega arith))))
+    ]
+
+kept : (s x : ℕ) (xs : List ℕ) → (x == s) ≡ false → without s (x ∷ xs) ≡ x ∷ without s xs
+kept s x xs d = rw d refl
+
+pub without-removed : (s : ℕ) (xs : List ℕ) → place_of s xs < length xs → without s (remove xs (place_of s xs)) ≡ without s xs
+without-removed s [] lt = absurd (omega arith)
+without-removed s (x ∷ xs) lt =
+    elim (eqb_tells x s) [
+      | inl e ↦ rw e.0 refl
+      | inr d ↦ (let lt' : 1 + place_of s xs < length (x ∷ xs) = rw d.0 at lt in
+          let less : 1 + place_of s xs - 1 ≡ place_of s xs = omega arith in
+          let moved : remove ((x ∷ []) ++ xs) (1 + place_of s xs) ≡ (x ∷ []) ++ remove xs (1 + place_of s xs - 1) =
+          remove-append_right (x ∷ []) xs 1 (1 + place_of s xs) refl (omega arith) in
+          let shifted : remove (x ∷ xs) (1 + place_of s xs) ≡ x ∷ remove xs (place_of s xs) =
+          moved ∙ ap (λ i. x ∷ remove xs i) less in
+          let rest : without s (x ∷ remove xs (place_of s xs)) ≡ x ∷ without s xs =
+          kept s x (remove xs (place_of s xs)) d.0 ∙ ap (λ ys. x ∷ ys) (without-removed s xs (omega arith)) in
+          rw d.0 (ap (without s) shifted ∙ rest))
+    ]
+
+pub without-absent : (s : ℕ) (xs : List ℕ) → length xs ≤ place_of s xs → without s xs ≡ xs
+without-absent s [] le = refl
+without-absent s (x ∷ xs) le =
+    elim (eqb_tells x s) [
+      | inl e ↦ absurd (let le' : length (x ∷ xs) ≤ 0 = rw e.0 at le in omega arith)
+      | inr d ↦ (let le' : length (x ∷ xs) ≤ 1 + place_of s xs = rw d.0 at le in
+          rw d.0 (ap (λ ys. x ∷ ys) (without-absent s xs (omega arith))))
     ]
 
 pub previous-absent : (s : ℕ) (last : Option ℕ) (xs : List ℕ) → length xs ≤ place_of s xs → previous s last xs ≡ None

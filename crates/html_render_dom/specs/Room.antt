@@ -1,11 +1,11 @@
 -- Room for more children, which no definition of a document speaks of.
-use Rattle.std.specs.Prelude.{ℕ, ◌+◌, ◌≤◌, List, slice_index_or, vec_len, vec_capacity}
+use Rattle.std.specs.Prelude.{ℕ, List, slice_index_or}
+use Rattle.smallvec.specs.SmallVec.{HasRoomFor}
 use Rattle.html_render_dom.specs.declared.dom.nodes.Node.{Node}
 
 -- the list of a node has places for so many more
 abbrev pub HasRoom : List Node → (node more : ℕ) → Type 0
-HasRoom items node more =
-    (other : Node) → vec_len (slice_index_or items node other).children + more ≤ vec_capacity (slice_index_or items node other).children
+HasRoom items node more = (other : Node) → HasRoomFor (slice_index_or items node other).children more
 
 -- no list of children has less room than before
 abbrev pub KeepsRoom : (old new : List Node) → Type 0

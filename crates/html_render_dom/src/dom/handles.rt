@@ -3,8 +3,8 @@
 use std::marker::Model;
 
 /// The name of a node of an `RcDom`: its number, in the order in which the nodes were made. The document has the
-/// number 0.
-#[derive(Clone, Copy, Debug, PartialEq, Eq)]
+/// number 0, which is the default.
+#[derive(Clone, Copy, Debug, Default, PartialEq, Eq)]
 pub struct Handle {
     number: usize,
 }

@@ -8,10 +8,12 @@ ghost use Rattle.html_render_dom.specs.Nodes.{nodes_of};
 ghost use Rattle.html_render_dom.specs.Edits.{created, with_children};
 ghost use Rattle.html_render_dom.specs.Moves.{before, placed, reparented, taken_out, text_placed, with_parents, without};
 ghost use Rattle.html_render_dom.specs.Room.{HasRoom, KeepsRoom};
+ghost use Rattle.smallvec.specs.SmallVec.{HasRoomFor, small_vec_len};
 
 use super::contents::NodeData;
 use super::handles::Handle;
 use super::nodes::{self, Node};
+use smallvec::SmallVec;
 use std::alloc::{AllocError, Global};
 use std::mem;
 
@@ -35,7 +37,18 @@ fn drop_child(nodes: &mut Vec<Node>, parent: Handle, child: Handle)
         nodes_of nodes.new.items ≡ with_children old parent (without child (node_in old parent).children) }
     ensures room { KeepsRoom nodes.old.items nodes.new.items }
 {
-    nodes[parent.number()].children.retain(|c| *c != child);
+    drop_from(&mut nodes[parent.number()].children, child);
+}
+
+/// Takes the child out of a list.
+fn drop_from(list: &mut SmallVec<Handle, 2>, child: Handle)
+    ensures list { list.new.items ≡ without child list.old.items }
+    ensures len { small_vec_len list.new ≤ small_vec_len list.old }
+    ensures capacity { list.new.capacity ≡ list.old.capacity }
+{
+    'dropping: while let Some(place) = list.as_slice().iter().position(|c| *c == child) {
+        list.remove(place);
+    }
 }
 
 /// Takes the child out of the list where it stands, and puts it directly before the sibling in the parent's list.
@@ -131,11 +144,11 @@ fn insert_child(nodes: &mut Vec<Node>, parent: Handle, sibling: Handle, child: H
 }
 
 /// Puts the child directly before the sibling.
-fn insert_before(list: &mut Vec<Handle>, sibling: Handle, child: Handle)
-    requires { vec_len list.old < vec_capacity list.old }
+fn insert_before(list: &mut SmallVec<Handle, 2>, sibling: Handle, child: Handle)
+    requires { HasRoomFor list.old 1 }
     ensures { list.new.items ≡ before sibling child list.old.items }
 {
-    if let Some(place) = list.iter().position(|c| *c == sibling) {
+    if let Some(place) = list.as_slice().iter().position(|c| *c == sibling) {
         let _ = list.insert(place, child);
     }
 }
@@ -175,14 +188,14 @@ pub fn move_children(
 }
 
 /// Takes the parent's whole list.
-fn take_children(alloc: Global, nodes: &mut Vec<Node>, parent: Handle) -> Vec<Handle>
+fn take_children(alloc: Global, nodes: &mut Vec<Node>, parent: Handle) -> SmallVec<Handle, 2>
     requires { parent < vec_len nodes.old }
     ensures list { result.items ≡ (node_in (nodes_of nodes.old.items) parent).children }
     ensures len { vec_len nodes.new ≡ vec_len nodes.old }
     ensures cleared { nodes_of nodes.new.items ≡ with_children (nodes_of nodes.old.items) parent [] }
     ensures room { (node more : ℕ) → node ≢ parent → HasRoom nodes.old.items node more → HasRoom nodes.new.items node more }
 {
-    mem::replace(&mut nodes[parent.number()].children, Vec::new(alloc))
+    mem::replace(&mut nodes[parent.number()].children, SmallVec::new(alloc))
 }
 
 /// Puts the children last in the parent's list.

@@ -13,6 +13,7 @@ use super::contents::NodeData;
 use super::handles::Handle;
 use super::names::{self, Attribute, QualName};
 use super::settings::ElementFlags;
+use smallvec::SmallVec;
 use std::alloc::{AllocError, Global};
 
 /// A node: what it holds, and its place in the forest.
@@ -20,8 +21,8 @@ use std::alloc::{AllocError, Global};
 pub struct Node {
     /// What the node holds.
     pub data: NodeData,
-    /// The children, in order.
-    pub children: Vec<Handle>,
+    /// The children, in order. Up to two take no memory of their own.
+    pub children: SmallVec<Handle, 2>,
     /// The node in whose list of children the node stands.
     pub parent: Option<Handle>,
 }
@@ -33,7 +34,7 @@ impl Node {
     {
         Node {
             data: contents,
-            children: Vec::new(alloc),
+            children: SmallVec::new(alloc),
             parent: None,
         }
     }

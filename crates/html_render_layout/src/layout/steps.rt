@@ -37,7 +37,8 @@ fn open_quote<D: TextDecorator, G: Tagging<D::Annotation>>(
     estimate: &Estimate,
     state: &mut LayoutState<D, G, G::Tag, Block<G::Tag, usize>>,
 ) -> Result<Option<KindClosing<D, Block<G::Tag, usize>>>, Error>
-    ensures ok { IfOk result (λ c. quote_opened D.decoration G.annotated machine.operations (string_bytes prefix) estimate.now state.old ≡ Some (way state.new c)) }
+    ensures ok { IfOk result (λ c. quote_opened D.decoration G.annotated machine.operations (string_bytes prefix) estimate.now state.old
+        ≡ Some (way state.new c)) }
     ensures err { IfErr result (λ e. Refuses e (quote_opened D.decoration G.annotated machine.operations (string_bytes prefix) estimate.now state.old)) }
 {
     let columns = columns(prefix.as_str());

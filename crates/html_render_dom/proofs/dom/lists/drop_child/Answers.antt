@@ -1,5 +1,4 @@
-use Rattle.std.proofs.Common.{rules, tests, ◌==◌, ◌<◌, length, ap, not}
-use Rattle.std.proofs.lemmas.Fn.{filter_same}
+use Rattle.std.proofs.Common.{rules, ◌<◌, length, ap}
 use Rattle.html_render_dom.specs.Nodes.{node_of}
 use Rattle.html_render_dom.specs.Moves.{without}
 use Rattle.html_render_dom.proofs.Writes.{written}
@@ -13,5 +12,4 @@ returns-clause-list c =
     let child = c.args.child in
     rw (← c.number.ensures) (written items c.number.result n _ at c.index_mut.ensures.value
     (λ x. record x { children = without child x.children })
-    (ap (λ cs. record (node_of n) { children = cs })
-    (filter_same _ (λ x. not (x == child)) _ (λ x b q k. search (rules, tests)) _ _ c.retain.ensures.filtered)))
+    (ap (λ cs. record (node_of n) { children = cs }) c.drop_from.ensures.list))

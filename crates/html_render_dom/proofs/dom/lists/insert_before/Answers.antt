@@ -2,7 +2,7 @@ use Rattle.std.proofs.Common.{rules, tests, ◌≡◌, ◌==◌, ◌∙◌, cond
 use Rattle.std.specs.List.{insert}
 use Rattle.std.proofs.lemmas.Iterator.{YieldsList-from_slice}
 use Rattle.std.proofs.lemmas.Iterator.Search.{position_from_yields_List}
-use Rattle.html_render_dom.proofs.Lists.{ok_list, place_of, place_found, place_absent, insert-before, before-absent}
+use Rattle.html_render_dom.proofs.Lists.{ok_then, place_of, place_found, place_absent, insert-before, before-absent}
 use Rattle.html_render_dom.proofs.dom.lists.insert_before.Goals as goal
 
 pub returns-in-Some : goal.returns-in-Some
@@ -14,7 +14,7 @@ returns-in-Some c =
     position_from_yields_List (λ x. x == s) _ _ c.position.result c.position.ensures.ran (YieldsList-from_slice xs cc)
     (λ x b q k. search (rules, tests)) in
     let f = place_found c.position.result (place_of s xs) (length xs) c.in-Some.place e c.in-Some.is in
-    ok_list c.insert.result _ _ _ (c.insert.ensures.succeeds c.requires) c.insert.ensures.items ∙ ap (λ i. insert xs i child) f.0
+    ok_then c.insert.result _ (c.insert.ensures.succeeds c.requires) c.insert.ensures.ok ∙ ap (λ i. insert xs i child) f.0
     ∙ insert-before s child xs f.1
 
 pub returns-in_default : goal.returns-in_default

@@ -1,4 +1,4 @@
-use Rattle.std.proofs.Common.{rules, arith, ◌≡◌, ◌<◌, length, map, ap, sym, ◌∙◌, vec_len}
+use Rattle.std.proofs.Common.{rules, arith, ◌≡◌, ◌<◌, length, map, ap, sym, ◌∙◌}
 use Rattle.html_render_dom.specs.Dom.{node_in}
 use Rattle.html_render_dom.specs.Nodes.{node_of}
 use Rattle.html_render_dom.proofs.Writes.{node_in-map}
@@ -13,9 +13,8 @@ push_children-requires-clause-room c =
     let kids : (node_in (map node_of items) c.args.from).children ≡ n.children.items =
     rw (← c.number.ensures) (ap (λ x. x.children) read) in
     let same : length c.as_slice.result.now ≡ length n.children.items =
-    ap length (c.as_slice.ensures.value ∙ c.take_children-moved.ensures.list
+    ap length (c.as_slice.ensures ∙ c.take_children-moved.ensures.list
     ∙ ap (λ ns. (node_in ns c.args.from).children) c.reserve_children.ensures.same ∙ kids) in
-    let len : vec_len n.children ≡ length n.children.items = search rules in
     let room = c.take_children-moved.ensures.room c.args.to c.len-more.result
     (λ e. c.requires.apart (sym e)) c.in_ok-reserve_children.ensures.room in
-    λ other. omega (arith, room other, same, len, c.len-more.ensures)
+    λ other. omega (arith, room other, same, c.len-more.ensures)

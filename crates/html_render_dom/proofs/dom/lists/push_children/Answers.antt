@@ -1,6 +1,7 @@
-use Rattle.std.proofs.Common.{rules, ◌≡◌, ◌<◌, ◌≤◌, ◌+◌, ◌++◌, length, ap, slice_index_or, vec_len, vec_capacity}
+use Rattle.std.proofs.Common.{rules, ◌≡◌, ◌<◌, ◌++◌, length, ap, slice_index_or}
+use Rattle.smallvec.specs.SmallVec.{HasRoomFor}
 use Rattle.html_render_dom.specs.Nodes.{node_of}
-use Rattle.html_render_dom.proofs.Lists.{ok_list}
+use Rattle.html_render_dom.proofs.Lists.{ok_then}
 use Rattle.html_render_dom.proofs.Writes.{written}
 use Rattle.html_render_dom.proofs.dom.lists.push_children.Goals as goal
 
@@ -11,8 +12,8 @@ returns-clause-list c =
     let at : c.number.result < length items = search rules in
     let more = c.args.children.now in
     let read : n ≡ slice_index_or items c.args.parent n = rw c.number.ensures at c.index_mut.ensures.value in
-    let room : vec_len n.children + length more ≤ vec_capacity n.children = rw read (c.requires.room n) in
+    let room : HasRoomFor n.children (length more) = rw read (c.requires.room n) in
     rw (← c.number.ensures) (written items c.number.result n _ at c.index_mut.ensures.value
     (λ x. record x { children = x.children ++ more })
     (ap (λ cs. record (node_of n) { children = cs })
-    (ok_list c.extend_from_slice.result _ _ _ (c.extend_from_slice.ensures.succeeds room) c.extend_from_slice.ensures.items)))
+    (ok_then c.extend_from_slice.result _ (c.extend_from_slice.ensures.succeeds room) c.extend_from_slice.ensures.ok)))

@@ -11,7 +11,7 @@ returns-in_err-push-clause-err c =
     let n = c.index_mut.result.now in
     let at : c.number.result < length items = search rules in
     rw p.1 (written-same items c.number.result n _ at c.index_mut.ensures.value
-    (ap (λ cs. record (node_of n) { children = cs }) c.in_err-push.ensures.items))
+    (ap (λ cs. record (node_of n) { children = cs }) (ap (λ v. v.items) c.in_err-push.ensures.err)))
 
 pub returns-clause-ok : goal.returns-clause-ok
 returns-clause-ok c =
@@ -21,4 +21,4 @@ returns-clause-ok c =
     let child = c.args.child in
     rw (← c.number.ensures) (written items c.number.result n _ at c.index_mut.ensures.value
     (λ x. record x { children = x.children ++ child ∷ [] })
-    (ap (λ cs. record (node_of n) { children = cs }) c.in_ok-push.ensures.items))
+    (ap (λ cs. record (node_of n) { children = cs }) c.in_ok-push.ensures.ok))

@@ -6,13 +6,13 @@ use Rattle.html_render_dom.proofs.dom.documents.RcDom.write_next.Goals as goal
 
 pub write_start-requires-clause-node : goal.write_start-requires-clause-node
 write_start-requires-clause-node c =
-    (child-facts c.args.self.now c.entry.ensures.forest c.args.frame _ _ (c.as_slice-children.ensures.value
+    (child-facts c.args.self.now c.entry.ensures.forest c.args.frame _ _ (c.as_slice-children.ensures
     ∙ ap (λ n. n.children) c.entry.ensures.node) (omega arith) c.index-children-frame.is).2
 
 pub write_start-requires-clause-frames : goal.write_start-requires-clause-frames
 write_start-requires-clause-frames c =
     let dom = c.args.self.now in
-    let p = child-facts dom c.entry.ensures.forest c.args.frame _ _ (c.as_slice-children.ensures.value
+    let p = child-facts dom c.entry.ensures.forest c.args.frame _ _ (c.as_slice-children.ensures
     ∙ ap (λ n. n.children) c.entry.ensures.node) (omega arith) c.index-children-frame.is in
     rw c.in_ok-push.ensures.items
     (All-push (FrameFits dom) c.args.frames.now.items (after_child c.args.frame) c.requires.frames
@@ -21,7 +21,7 @@ write_start-requires-clause-frames c =
 pub returns-in_ok-push-clause-ok : goal.returns-in_ok-push-clause-ok
 returns-in_ok-push-clause-ok c =
     let dom = c.args.self.now in
-    let p = child-facts dom c.entry.ensures.forest c.args.frame _ _ (c.as_slice-children.ensures.value
+    let p = child-facts dom c.entry.ensures.forest c.args.frame _ _ (c.as_slice-children.ensures
     ∙ ap (λ n. n.children) c.entry.ensures.node) (omega arith) c.index-children-frame.is in
     on_ok c.write_start.result c.write_start.ensures.ok (λ e. e
     ∙ stepped dom c.entry.ensures.forest c.args.frame _ p _ c.args.frames.now.items _ c.in_ok-push.ensures.items)
