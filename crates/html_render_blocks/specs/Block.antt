@@ -15,8 +15,9 @@ use Rattle.html_render_lines.specs.Paragraph.{Setting, Page, paragraph, all_line
 use Rattle.html_render_lines.specs.Stream.{styled}
 use Rattle.html_render_lines.specs.TaggedText.{under}
 use Rattle.html_render_blocks.specs.declared.block.BlockSetting.{BlockSetting}
-use Rattle.html_render_blocks.specs.Joined.{joined}
-use Rattle.html_render_blocks.specs.Operations.{Operations}
+use Rattle.html_render_blocks.specs.Closing.{line_setting, closing_lines}
+use Rattle.html_render_blocks.specs.Joined.{joined, marked_before, marked_behind}
+use Rattle.html_render_blocks.specs.Operations.{Operations, Ending}
 
 -- the columns of a paragraph's lines: those of its block, or fewer
 abbrev pub wrap_width : ℕ → Option ℕ → ℕ
@@ -94,6 +95,10 @@ add_inline_text {T} {M} d style cs =
     else if is_blank style.mode cs then Some d
     else option_map (λ (e : DefinedBlock T M). feed e style cs) (start_block d)
 
+-- a mark is fed to the open paragraph
+abbrev pub add_mark : {T M : Type 0} → DefinedBlock T M → M → DefinedBlock T M
+add_mark d m = record d { fed = d.fed ++ Mark m ∷ [] }
+
 -- ---- blocks in blocks
 
 -- the columns behind a prefix of so many columns, and at least so many; none where they aren't there, with overflow off
@@ -127,10 +132,34 @@ append d other tag first later = do
   other ← flush other
   append_lines d (under tag first) (under tag later) other.lines other.marks
 
+-- ---- a document's end
+
+-- the marks that wait, behind these lines; where there are none, they wait on
+abbrev pub end_behind : {T M : Type 0} → DefinedBlock T M → List (Line T M) → DefinedBlock T M
+end_behind d [] = d
+end_behind d (l ∷ ls) = record d { lines = marked_behind d.marks (l ∷ ls); marks = [] }
+
+-- the end: flushed, with the marks that wait at the end of the last line
+abbrev pub finish : {T M : Type 0} → DefinedBlock T M → Option (DefinedBlock T M)
+finish {T} {M} d = option_map (λ (e : DefinedBlock T M). end_behind e e.lines) (flush d)
+
+-- lines that are added as they are: the marks that wait stand at the front of the first
+abbrev pub add_lines : {T M : Type 0} → DefinedBlock T M → List (Line T M) → DefinedBlock T M
+add_lines d ls = record d { lines = d.lines ++ marked_before d.marks ls; marks = [] }
+
+-- texts that close the document, if there are any: a block of lines, cut at the block's width or left whole
+abbrev pub add_closing_lines : {T M : Type 0} → DefinedBlock T M → (cut : Bool) → T → List (List ℕ) → Option (DefinedBlock T M)
+add_closing_lines d cut tag [] = Some d
+add_closing_lines d cut tag (t ∷ ts) = do
+  e ← start_block d
+  ls ← closing_lines (line_setting e.setting) cut tag (t ∷ ts)
+  Some (add_lines e ls)
+
 -- the operations that a layout is made of
-abbrev pub operations : {T M : Type 0} → Operations (DefinedBlock T M) T
+abbrev pub operations : {T : Type 0} → Operations (DefinedBlock T ℕ) T
 operations = record {
   add_inline_text = add_inline_text;
+  add_mark = add_mark;
   new_line = new_line;
   new_line_hard = new_line_hard;
   start_block = start_block;
@@ -138,3 +167,7 @@ operations = record {
   sub_block = sub_block;
   append = append;
 }
+
+-- those that a document ends with
+abbrev pub ending : {T : Type 0} → Ending (DefinedBlock T ℕ) T
+ending = record { finish = finish; add_closing_lines = add_closing_lines }

@@ -3,14 +3,16 @@
 use Rattle.std.specs.Prelude.{ℕ, Bool, true, false, not, List, [], ◌∷◌, ◌++◌, length, ◌==◌}
 use Rattle.std.specs.Prelude.{Option, Some, None, option_map, option_and_then, if◌then◌else◌}
 use Rattle.html_render_dom.specs.Outcome.{◌>>=◌}
+use Rattle.html_render_lines.specs.declared.character.Item.TheVariants.{Mark}
 use Rattle.html_render_lines.specs.declared.character.TextStyle.{TextStyle}
 use Rattle.html_render_lines.specs.Line.{Line, marks_line}
 use Rattle.html_render_lines.specs.Paragraph.{Page, all_lines}
-use Rattle.html_render_lines.specs.Stream.{State, start, after, finished, styled}
+use Rattle.html_render_lines.specs.Stream.{State, start, step, after, finished, styled}
 use Rattle.html_render_lines.specs.TaggedText.{under}
 use Rattle.html_render_blocks.specs.declared.block.BlockSetting.{BlockSetting}
-use Rattle.html_render_blocks.specs.Operations.{Operations}
-use Rattle.html_render_blocks.specs.Joined.{joined}
+use Rattle.html_render_blocks.specs.Operations.{Operations, Ending}
+use Rattle.html_render_blocks.specs.Closing.{line_setting, closing_lines}
+use Rattle.html_render_blocks.specs.Joined.{joined, marked_before, marked_behind}
 use Rattle.html_render_blocks.specs.Block.{is_blank, paragraph_setting, inner_width, mark_items}
 
 -- a block of the machine; the open paragraph is none once a character was too wide for it
@@ -85,6 +87,10 @@ add_inline_text {T} {M} b style cs =
     else if is_blank style.mode cs then Some b
     else option_map (λ (c : MachineBlock T M). feed c style cs) (start_block b)
 
+-- a mark is fed to the open paragraph
+abbrev pub add_mark : {T M : Type 0} → MachineBlock T M → M → MachineBlock T M
+add_mark {T} {M} b m = record b { paragraph = option_and_then (λ (q : State T M). step q (Mark m)) b.paragraph }
+
 -- ---- blocks in blocks
 
 -- an empty block inside a block, behind a prefix of so many columns
@@ -110,10 +116,34 @@ append b other tag first later = do
   other ← flush other
   append_lines b (under tag first) (under tag later) other.lines (waiting other.paragraph)
 
+-- ---- a document's end
+
+-- the marks that wait, behind these lines; where there are none, they wait on
+abbrev pub end_behind : {T M : Type 0} → MachineBlock T M → List (Line T M) → MachineBlock T M
+end_behind b [] = b
+end_behind b (l ∷ ls) = record b { lines = marked_behind (waiting b.paragraph) (l ∷ ls); paragraph = take_waiting b.paragraph }
+
+-- the end: flushed, with the marks that wait at the end of the last line
+abbrev pub finish : {T M : Type 0} → MachineBlock T M → Option (MachineBlock T M)
+finish {T} {M} b = option_map (λ (c : MachineBlock T M). end_behind c c.lines) (flush b)
+
+-- lines that are added as they are: the marks that wait stand at the front of the first
+abbrev pub add_lines : {T M : Type 0} → MachineBlock T M → List (Line T M) → MachineBlock T M
+add_lines b ls = record b { lines = b.lines ++ marked_before (waiting b.paragraph) ls; paragraph = take_waiting b.paragraph }
+
+-- texts that close the document, if there are any: a block of lines, cut at the block's width or left whole
+abbrev pub add_closing_lines : {T M : Type 0} → MachineBlock T M → (cut : Bool) → T → List (List ℕ) → Option (MachineBlock T M)
+add_closing_lines b cut tag [] = Some b
+add_closing_lines b cut tag (t ∷ ts) = do
+  c ← start_block b
+  ls ← closing_lines (line_setting c.setting) cut tag (t ∷ ts)
+  Some (add_lines c ls)
+
 -- the operations that a layout is made of
-abbrev pub operations : {T M : Type 0} → Operations (MachineBlock T M) T
+abbrev pub operations : {T : Type 0} → Operations (MachineBlock T ℕ) T
 operations = record {
   add_inline_text = add_inline_text;
+  add_mark = add_mark;
   new_line = new_line;
   new_line_hard = new_line_hard;
   start_block = start_block;
@@ -121,3 +151,7 @@ operations = record {
   sub_block = sub_block;
   append = append;
 }
+
+-- those that a document ends with
+abbrev pub ending : {T : Type 0} → Ending (MachineBlock T ℕ) T
+ending = record { finish = finish; add_closing_lines = add_closing_lines }

@@ -18,6 +18,11 @@ marked_behind ms [] = []
 marked_behind ms (l ∷ []) = (l ++ marks_line ms) ∷ []
 marked_behind ms (l ∷ k ∷ ls) = l ∷ marked_behind ms (k ∷ ls)
 
+-- marks at the front of the first line
+abbrev pub marked_before : {T M : Type 0} → List M → List (Line T M) → List (Line T M)
+marked_before ms [] = []
+marked_before ms (l ∷ ls) = (marks_line ms ++ l) ∷ ls
+
 -- no line is wider
 abbrev pub are_within : {T M : Type 0} → ℕ → List (Line T M) → Bool
 are_within {T} {M} width lines = list_all (λ (l : Line T M). nat_le (columns l) width) lines

@@ -1,6 +1,7 @@
 -- the block: the definition on whole lists, and the machine that is fed character by character
 pub mod Operations
 pub mod Joined
+pub mod Closing
 pub mod Block
 pub mod BlockMachine
 -- its visible characters

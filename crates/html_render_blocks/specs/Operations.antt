@@ -1,13 +1,19 @@
--- The operations on blocks that a layout is made of.
-use Rattle.std.specs.Prelude.{ℕ, List, Option}
+-- The operations on blocks that a layout is made of, and those that a document ends with.
+use Rattle.std.specs.Prelude.{ℕ, Bool, List, Option}
 use Rattle.html_render_lines.specs.declared.character.TextStyle.{TextStyle}
 
--- B are the blocks and T the tags; none is "too narrow"
+-- B are the blocks and T the tags; marks are numbers; none is "too narrow"
 pub record Operations (B T : Type 0) : Type 0 where
   pub add_inline_text : B → TextStyle T → List ℕ → Option B
+  pub add_mark : B → ℕ → B
   pub new_line : B → Option B
   pub new_line_hard : B → Option B
   pub start_block : B → Option B
   pub end_block : B → B
   pub sub_block : B → ℕ → ℕ → Option B  -- behind a prefix of so many columns, with so many columns of its own or more
   pub append : B → B → T → List ℕ → List ℕ → Option B  -- a tag, and what the first line and the later ones stand behind
+
+-- none is "too narrow"
+pub record Ending (B T : Type 0) : Type 0 where
+  pub finish : B → Option B
+  pub add_closing_lines : B → (cut : Bool) → T → List (List ℕ) → Option B

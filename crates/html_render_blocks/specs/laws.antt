@@ -12,3 +12,7 @@ pub mod BlockLaws
 pub mod BlockOverflow
 -- no visible character is lost
 pub mod BlockVisible
+-- a block's end, and closing lines
+pub mod Closing
+-- marks that are fed first wait
+pub mod BlockMarks

@@ -26,6 +26,8 @@ use std::alloc::{AllocError, Global};
 use std::marker::Model;
 use std::mem;
 
+mod closing;
+
 /// How wide a block is, and whether what is wider is laid out nevertheless.
 #[derive(Clone, Copy, Debug)]
 pub struct BlockSetting {
@@ -368,6 +370,22 @@ impl<T: Tag, M: Copy> Block<T, M> {
         self.feed(text, style)
     }
 
+    /// Adds a mark to the open paragraph. It stands directly before the next character that is placed; where none follows,
+    /// it waits for the next paragraph, or for the next line that is added otherwise.
+    ///
+    /// # Errors
+    ///
+    /// `OutOfMemory`.
+    pub fn add_mark(&mut self, mark: M) -> Result<(), Error>
+        ensures ok { OnOk result (self.new ≡ machine.add_mark self.old mark) }
+        ensures err { IfErr result (λ e. e ≡ Error.OutOfMemory) }
+    {
+        let Some(paragraph) = &mut self.paragraph else {
+            return Ok(());
+        };
+        paragraph.add_mark(mark)
+    }
+
     /// Adds marks to the open paragraph.
     fn add_marks(&mut self, marks: &[M]) -> Result<(), Error>
         ensures ok { OnOk result (self.new ≡ machine.add_marks self.old marks.now) }
@@ -581,6 +599,3 @@ fn marks_line<T: Tag, M: Copy>(alloc: Global, marks: &[M]) -> Result<Line<T, M>,
     }
     Ok(line)
 }
-
-#[cfg(test)]
-mod tests;

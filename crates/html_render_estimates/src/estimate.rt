@@ -3,9 +3,9 @@
 //! `measure(alloc, &decorator, 3, tree)?` is the tree with each node's estimate: the least width in which the node
 //! can be laid out well, the columns of the decorator's prefix and the number of children.
 
-ghost use Rattle.std.specs.Prelude.{◌≡◌, IfOk, IfErr};
+ghost use Rattle.std.specs.Prelude.{◌≡◌, max, min, IfOk, IfErr};
 ghost use Rattle.html_render_nodes.specs.Preorder.{flatten, forest_of};
-ghost use Rattle.html_render_estimates.specs.Estimates.{trees, greatest_least, prefix_of, last_number, estimate_of, measured};
+ghost use Rattle.html_render_estimates.specs.Estimates.{trees, greatest_least, image_size, prefix_of, last_number, estimate_of, measured};
 
 use crate::text::{columns, size_within};
 use html_render_dom::Error;
@@ -95,7 +95,45 @@ fn prefix_of<D: TextDecorator>(
         | NodeKind::Emphasis(_)
         | NodeKind::ListItem
         | NodeKind::Dl
-        | NodeKind::Dt => Ok(0),
+        | NodeKind::Dt
+        | NodeKind::Strikeout
+        | NodeKind::Superscript
+        | NodeKind::Link(_)
+        | NodeKind::Image(_)
+        | NodeKind::Svg(_)
+        | NodeKind::FragmentStart(_) => Ok(0),
+    }
+}
+
+/// The estimate of what stands in a line, with no children.
+#[inline]
+fn piece(least: usize) -> Estimate
+    ensures { result ≡ record { least = least; prefix = 0; children = 0 } }
+{
+    Estimate {
+        least,
+        prefix: 0,
+        children: 0,
+    }
+}
+
+/// The lesser of an image's size and `limit`.
+fn image_size_within(title: &str, limit: usize) -> usize
+    ensures { result ≡ min (image_size title.now) limit }
+{
+    size_within(title, limit).saturating_add(2).min(limit)
+}
+
+/// The estimate of a link over measured nodes.
+fn link_estimate(below: &[Entry<RenderNode>]) -> Estimate
+    requires { flatten (forest_of below.now) ≡ below.now }
+    ensures { result ≡ record { least = max (greatest_least (forest_of below.now)) 5; prefix = 0; children = trees (forest_of below.now) } }
+{
+    let children = children_of(below);
+    Estimate {
+        least: children.least.max(5),
+        prefix: 0,
+        children: children.count,
     }
 }
 
@@ -113,16 +151,17 @@ fn estimate_of<D: TextDecorator>(
     ensures err { IfErr result (λ e. e ≡ Error.OutOfMemory) }
 {
     match kind {
-        NodeKind::Text(text) => Ok(Estimate {
-            least: size_within(text.as_str(), min_wrap_width),
-            prefix: 0,
-            children: 0,
-        }),
-        NodeKind::Break => Ok(Estimate {
-            least: 1,
-            prefix: 0,
-            children: 0,
-        }),
+        NodeKind::Text(text) | NodeKind::Svg(text) => Ok(piece(size_within(
+            text.as_str(),
+            min_wrap_width,
+        ))),
+        NodeKind::Break => Ok(piece(1)),
+        NodeKind::Image(image) => Ok(piece(image_size_within(
+            image.title().as_str(),
+            min_wrap_width,
+        ))),
+        NodeKind::FragmentStart(_) => Ok(piece(0)),
+        NodeKind::Link(_) => Ok(link_estimate(below)),
         _ => {
             let children = children_of(below);
             let prefix = prefix_of(alloc, decorator, kind, children.count)?;

@@ -1,1 +1,4 @@
 pub mod Spaces
+pub mod Struck
+pub mod FileNames
+pub mod Ending

@@ -8,15 +8,17 @@ use Rattle.html_render_lines.specs.Visible.{visible_in_lines}
 use Rattle.html_render_nodes.specs.declared.tree.NodeKind.{NodeKind}
 use Rattle.html_render_nodes.specs.declared.tree.NodeKind.TheVariants.{Text, Container, Break, Block, Div, Emphasis}
 use Rattle.html_render_nodes.specs.declared.tree.NodeKind.TheVariants.{Header, BlockQuote, Ul, Ol, ListItem, Dl, Dt, Dd}
+use Rattle.html_render_nodes.specs.declared.tree.NodeKind.TheVariants.{Strikeout, Superscript, Link, Image, Svg, FragmentStart}
 use Rattle.html_render_nodes.specs.declared.tree.RenderNode.{RenderNode}
 use Rattle.html_render_nodes.specs.Pass.{visited}
 use Rattle.html_render_blocks.specs.Visible.{count, text_count}
+use Rattle.html_render_layout.specs.declared.settings.LayoutSettings.{LayoutSettings}
 use Rattle.html_render_layout.specs.Layout.{defined, defined_inside, estimated, empty_state}
 
 -- the nodes that a layout visits, in order
-abbrev pub visited_nodes : {S A : Type 0} → Decoration S A → Forest RenderNode → S → (width : ℕ) → (overflow : Bool) → List RenderNode
-visited_nodes d t decorator width overflow =
-    visited (defined d) (defined_inside d) (estimated d decorator t) (empty_state d decorator width overflow)
+abbrev pub visited_nodes : {S A : Type 0} → Decoration S A → LayoutSettings → Forest RenderNode → S → (width : ℕ) → (overflow : Bool) → List RenderNode
+visited_nodes d settings t decorator width overflow =
+    visited (defined d) (defined_inside d) (estimated d decorator t) (empty_state d settings decorator width overflow)
 
 -- the characters of a node, if it is a text
 abbrev pub node_characters : NodeKind → List ℕ
@@ -34,6 +36,12 @@ node_characters ListItem = []
 node_characters Dl = []
 node_characters Dt = []
 node_characters Dd = []
+node_characters Strikeout = []
+node_characters Superscript = []
+node_characters (Link target) = []
+node_characters (Image i) = []
+node_characters (Svg title) = []
+node_characters (FragmentStart name) = []
 
 -- the characters of the texts among these nodes, in order
 abbrev pub text_characters : List RenderNode → List ℕ

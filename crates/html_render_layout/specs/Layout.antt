@@ -1,11 +1,17 @@
 -- THE DEFINITION of the layout, node kind by node kind.
-use Rattle.std.specs.Prelude.{ℕ, ℤ, pos, ◌+ℤ◌, ◌-◌, ◌==◌, Bool, false, List, [], ◌∷◌, ◌++◌, Option, Some, None, option_map, replicate, if◌then◌else◌}
+use Rattle.std.specs.Prelude.{ℕ, ℤ, pos, ◌+◌, ◌+ℤ◌, ◌-◌, ◌==◌, Bool, true, false, List, [], ◌∷◌, ◌++◌, length, map, codes, slice_index_or}
+use Rattle.std.specs.Prelude.{Option, Some, None, option_map, replicate, if◌then◌else◌}
+use Rattle.std.specs.Char.{is_ascii_digit}
+use Rattle.std.specs.Fmt.{decimal}
 use Rattle.std.specs.Int.{saturate_signed, w64}
+use Rattle.std.specs.List.{list_all}
 use Rattle.std.specs.Str.{chars}
-use Rattle.html_render_dom.specs.Forest.{Forest}
+use Rattle.html_render_dom.specs.Forest.{Forest, none, node}
 use Rattle.html_render_dom.specs.Outcome.{◌>>=◌}
 use Rattle.html_render_dom.specs.declared.style.WhiteSpace.TheVariants.{Normal}
-use Rattle.html_render_parts.specs.Decoration.{Decoration, Round}
+use Rattle.html_render_dom.specs.declared.style.colours.Colour.{Colour}
+use Rattle.html_render_parts.specs.Decoration.{Decoration, Round, link}
+use Rattle.html_render_lines.specs.Character.{is_collapsible}
 use Rattle.html_render_lines.specs.declared.character.TextStyle.{TextStyle}
 use Rattle.html_render_lines.specs.Line.{Line}
 use Rattle.html_render_lines.specs.Tags.{lines_with}
@@ -14,10 +20,12 @@ use Rattle.html_render_nodes.specs.declared.tree.Emphasis.TheVariants.{Em, Stron
 use Rattle.html_render_nodes.specs.declared.tree.NodeKind.{NodeKind}
 use Rattle.html_render_nodes.specs.declared.tree.NodeKind.TheVariants.{Text, Container, Break, Block, Div, Emphasis}
 use Rattle.html_render_nodes.specs.declared.tree.NodeKind.TheVariants.{Header, BlockQuote, Ul, Ol, ListItem, Dl, Dt, Dd}
+use Rattle.html_render_nodes.specs.declared.tree.NodeKind.TheVariants.{Strikeout, Superscript, Link, Image, Svg, FragmentStart}
+use Rattle.html_render_nodes.specs.declared.tree.NodeStyle.{NodeStyle}
 use Rattle.html_render_nodes.specs.declared.tree.Estimate.{Estimate}
 use Rattle.html_render_nodes.specs.declared.tree.RenderNode.{RenderNode}
 use Rattle.html_render_nodes.specs.Pass.{Steps, Inside, run}
-use Rattle.html_render_blocks.specs.Operations.{Operations}
+use Rattle.html_render_blocks.specs.Operations.{Operations, Ending}
 use Rattle.html_render_blocks.specs.Block as definition
 use Rattle.html_render_blocks.specs.Block.{DefinedBlock}
 use Rattle.html_render_estimates.specs.Estimates.{prefix_columns, prefix_of, measured}
@@ -25,6 +33,9 @@ use Rattle.html_render_layout.specs.declared.layout.state.Around.{Around}
 use Rattle.html_render_layout.specs.declared.layout.state.Around.TheVariants.{Plain, Bullets, Numbers}
 use Rattle.html_render_layout.specs.declared.layout.state.LayoutState.{LayoutState}
 use Rattle.html_render_layout.specs.declared.layout.state.TextContext.{TextContext}
+use Rattle.html_render_layout.specs.declared.settings.LayoutSettings.{LayoutSettings}
+use Rattle.html_render_layout.specs.Images.{shown_title}
+use Rattle.html_render_layout.specs.Ending.{ended}
 
 -- what stands round an emphasis
 abbrev pub emphasis_decoration : {S A : Type 0} → Decoration S A → TheEmphasis → Round S A
@@ -42,13 +53,31 @@ on_block f s = do
   b ← f s.block
   Some (record s { block = b })
 
--- the state with a text more
+-- characters that are struck out: U+0336 stands behind each that isn't collapsible white space
+abbrev pub struck : List ℕ → List ℕ
+struck [] = []
+struck (c ∷ cs) = if is_collapsible c then c ∷ struck cs else c ∷ (822 ∷ struck cs)
+
+-- characters as they are written
+abbrev pub written : (struck_out : Bool) → List ℕ → List ℕ
+written true cs = struck cs
+written false cs = cs
+
+-- the state with characters more
+abbrev pub add_characters : {S K T B : Type 0} → Operations B T → List ℕ → LayoutState S K T B → Option (LayoutState S K T B)
+add_characters o cs s = on_block (λ b. o.add_inline_text b (text_style s.text) (written s.text.struck_out cs)) s
+
+-- and with a text more, in UTF-8
 abbrev pub add_text : {S K T B : Type 0} → Operations B T → List ℕ → LayoutState S K T B → Option (LayoutState S K T B)
-add_text o t s = on_block (λ b. o.add_inline_text b (text_style s.text) (chars t)) s
+add_text o t s = add_characters o (chars t) s
 
 -- the state with its texts under another tag
 abbrev pub under : {S K T B : Type 0} → K × T → LayoutState S K T B → LayoutState S K T B
 under x s = record s { stacks = x.0; text = record s.text { tag = x.1 } }
+
+-- texts that are struck out, or aren't
+abbrev pub striking : {S K T B : Type 0} → Bool → LayoutState S K T B → LayoutState S K T B
+striking struck_out s = record s { text = record s.text { struck_out = struck_out } }
 
 -- round every node: texts are treated behind it as they were before it
 abbrev pub restored : {S K T B : Type 0} → (LayoutState S K T B → Option (LayoutState S K T B)) → LayoutState S K T B →
@@ -128,6 +157,68 @@ placed d o layout s (Numbers least number columns) =
 abbrev pub numbers : {S A : Type 0} → Decoration S A → Estimate → (first : ℤ) → S → Around
 numbers d e first decorator = Numbers (inner_least e) first (prefix_of d decorator (Ol first) e.children)
 
+-- ---- images and superscripts
+
+-- what is written for an image
+abbrev pub image_round : {S A : Type 0} → Decoration S A → (source title : List ℕ) → Round S A
+image_round d source title = record { start = λ decorator. d.image decorator source title; end = λ decorator. [] }
+
+-- the superscripts of the digits from 0 to 9
+abbrev pub superscripts : List ℕ
+superscripts = 8304 ∷ (185 ∷ (178 ∷ (179 ∷ (8308 ∷ (8309 ∷ (8310 ∷ (8311 ∷ (8312 ∷ (8313 ∷ [])))))))))
+
+-- a digit as a superscript
+abbrev pub raised : ℕ → ℕ
+raised digit = slice_index_or superscripts (digit - 48) 0
+
+-- the digits of a superscript that holds one text, of ASCII digits alone
+abbrev pub digits_of_kind : NodeKind → Option (List ℕ)
+digits_of_kind (Text t) = if list_all is_ascii_digit t then Some t else None
+digits_of_kind _ = None
+
+-- the node of trees, where they are one without children
+abbrev pub only_node : Forest RenderNode → Option RenderNode
+only_node (node n none none) = Some n
+only_node _ = None
+
+abbrev pub digits_of : Forest RenderNode → Option (List ℕ)
+digits_of t = do
+  n ← only_node t
+  digits_of_kind n.kind
+
+-- ---- links and marks
+
+-- the state with the target of one link more
+abbrev pub with_target : {S K T B : Type 0} → (target : List ℕ) → LayoutState S K T B → LayoutState S K T B
+with_target target s = record s { targets = s.targets ++ target ∷ [] }
+
+-- the state with the mark of this name more: marks are numbered in their order, from 0
+abbrev pub marked : {S K T B : Type 0} → Operations B T → (name : List ℕ) → LayoutState S K T B → LayoutState S K T B
+marked o name s = record s { block = o.add_mark s.block (length s.names); names = s.names ++ name ∷ [] }
+
+-- the number of a link, if there are footnotes, among texts that are treated so
+abbrev pub link_number : {S K T B : Type 0} → Operations B T → TextContext T → (number : ℕ) → LayoutState S K T B →
+    Option (LayoutState S K T B)
+link_number o text number s =
+    if s.settings.link_footnotes then add_text o (codes "[" ++ decimal number ++ codes "]") (record s { text = text }) else Some s
+
+-- ---- colours
+
+-- the state with its texts under one annotation more, if there is one
+abbrev pub annotated : {S A K T B : Type 0} → (K → T → A → K × T) → Option A → LayoutState S K T B → LayoutState S K T B
+annotated push None s = s
+annotated push (Some a) s = under (push s.stacks s.text.tag a) s
+
+-- under that of a colour, if there is a colour
+abbrev pub coloured : {S A K T B : Type 0} → (K → T → A → K × T) → (S → Colour → Option A) → Option Colour → LayoutState S K T B →
+    LayoutState S K T B
+coloured push annotation None s = s
+coloured push annotation (Some colour) s = annotated push (annotation s.decorator colour) s
+
+-- with what a node's style gives them: its colour, and then that of its background
+abbrev pub in_style : {S A K T B : Type 0} → Decoration S A → (K → T → A → K × T) → NodeStyle → LayoutState S K T B → LayoutState S K T B
+in_style d push style s = coloured push d.push_background style.background (coloured push d.push_colour style.colour s)
+
 -- d is what the decorators S answer, with annotations A; push gives the tag T of one annotation more, in the stacks K;
 -- and o are the operations on blocks B
 module _ {S A K T B : Type 0} (d : Decoration S A) (push : K → T → A → K × T) (o : Operations B T) where
@@ -143,77 +234,130 @@ module _ {S A K T B : Type 0} (d : Decoration S A) (push : K → T → A → K �
     r ← children q
     add_text o (round.end r.decorator) r
 
-  -- WHAT EACH KIND OF NODE DOES to a state, where this is what its children do to one; none where it is too narrow
-  abbrev pub kind_steps : NodeKind → Estimate → (children : LayoutState S K T B → Option (LayoutState S K T B)) →
+  -- an image, where it has a title to be written
+  abbrev pub titled : (source : List ℕ) → (title : Option (List ℕ)) → LayoutState S K T B → Option (LayoutState S K T B)
+  titled source None s = Some s
+  titled source (Some title) s = begun (image_round d source title) s
+
+  abbrev pub image : (source title : List ℕ) → LayoutState S K T B → Option (LayoutState S K T B)
+  image source title s = titled source (shown_title s.settings.empty_images source title) s
+
+  -- a part that is struck out between what stands round it
+  abbrev pub struck_out : (LayoutState S K T B → Option (LayoutState S K T B)) → LayoutState S K T B → Option (LayoutState S K T B)
+  struck_out children s = do
+    q ← begun d.strikeout s
+    r ← children (striking s.settings.unicode_strikeout q)
+    add_text o (d.strikeout.end r.decorator) (striking s.text.struck_out r)
+
+  -- a superscript: of digits by their own characters, anything else between what stands round it
+  abbrev pub superscript : (digits : Option (List ℕ)) → (LayoutState S K T B → Option (LayoutState S K T B)) →
       LayoutState S K T B → Option (LayoutState S K T B)
-  kind_steps (Text t) e children s = add_text o t s
-  kind_steps Container e children s = children s
-  kind_steps Break e children s = on_block o.new_line_hard s
-  kind_steps Block e children s = do
+  superscript None children s = decorated d.superscript children s
+  superscript (Some digits) children s = add_characters o (map raised digits) s
+
+  -- a link between what stands round it, and its number: links are numbered in the order in which they start
+  abbrev pub linked : (target : List ℕ) → (LayoutState S K T B → Option (LayoutState S K T B)) → LayoutState S K T B →
+      Option (LayoutState S K T B)
+  linked target children s = do
+    r ← decorated (link d target) children (with_target target s)
+    link_number o s.text (length s.targets + 1) r
+
+  -- WHAT EACH KIND OF NODE DOES to a state, over these trees, where this is what they do to one; none where it is too narrow
+  abbrev pub kind_steps : NodeKind → Estimate → (trees : Forest RenderNode) →
+      (children : LayoutState S K T B → Option (LayoutState S K T B)) → LayoutState S K T B → Option (LayoutState S K T B)
+  kind_steps (Text t) e trees children s = add_text o t s
+  kind_steps Container e trees children s = children s
+  kind_steps Break e trees children s = on_block o.new_line_hard s
+  kind_steps Block e trees children s = do
     q ← on_block o.start_block s
     r ← children q
     Some (record r { block = o.end_block r.block })
-  kind_steps Div e children s = do
+  kind_steps Div e trees children s = do
     q ← on_block o.new_line s
     r ← children q
     on_block o.new_line r
-  kind_steps (Emphasis m) e children s = decorated (emphasis_decoration d m) children s
-  kind_steps (Header level) e children s = quoted d o (d.header_prefix s.decorator level) (inner_least e) children s
-  kind_steps BlockQuote e children s = quoted d o (d.quote_prefix s.decorator) (inner_least e) children s
-  kind_steps Ul e children s = among (Bullets (inner_least e)) children s
-  kind_steps (Ol first) e children s = among (numbers d e first s.decorator) children s
-  kind_steps ListItem e children s = do
+  kind_steps (Emphasis m) e trees children s = decorated (emphasis_decoration d m) children s
+  kind_steps (Header level) e trees children s = quoted d o (d.header_prefix s.decorator level) (inner_least e) children s
+  kind_steps BlockQuote e trees children s = quoted d o (d.quote_prefix s.decorator) (inner_least e) children s
+  kind_steps Ul e trees children s = among (Bullets (inner_least e)) children s
+  kind_steps (Ol first) e trees children s = among (numbers d e first s.decorator) children s
+  kind_steps ListItem e trees children s = do
     q ← on_block o.start_block s
     r ← children q
     Some (record r { block = o.end_block r.block })
-  kind_steps Dl e children s = do
+  kind_steps Dl e trees children s = do
     q ← on_block o.start_block s
     children q
-  kind_steps Dt e children s = do
+  kind_steps Dt e trees children s = do
     q ← on_block o.new_line s
     decorated d.em children q
-  kind_steps Dd e children s = indented d o (spaces 2) 2 (inner_least e) s.around children s
+  kind_steps Dd e trees children s = indented d o (spaces 2) 2 (inner_least e) s.around children s
+  kind_steps Strikeout e trees children s = struck_out children s
+  kind_steps Superscript e trees children s = superscript (digits_of trees) children s
+  kind_steps (Link target) e trees children s = linked target children s
+  kind_steps (Image i) e trees children s = image i.source i.title s
+  kind_steps (Svg title) e trees children s = image [] title s
+  kind_steps (FragmentStart name) e trees children s = Some (marked o name s)
+
+  -- and each node: its kind, in its style
+  abbrev pub node_steps : Steps RenderNode (LayoutState S K T B)
+  node_steps n trees children s = restored (λ q. kind_steps n.kind n.estimate trees children (in_style d push n.style q)) s
 
   abbrev pub steps : Steps RenderNode (LayoutState S K T B)
-  steps n trees children s = placed d o (λ q. restored (kind_steps n.kind n.estimate children) q) s s.around
+  steps n trees children s = placed d o (node_steps n trees children) s s.around
 
-  -- the state in which a node's children are laid out, by its kind; none where it is too narrow for them, or has none
-  abbrev pub kind_inside : NodeKind → Estimate → LayoutState S K T B → Option (LayoutState S K T B)
-  kind_inside (Text t) e s = None
-  kind_inside Container e s = Some s
-  kind_inside Break e s = None
-  kind_inside Block e s = on_block o.start_block s
-  kind_inside Div e s = on_block o.new_line s
-  kind_inside (Emphasis m) e s = begun (emphasis_decoration d m) s
-  kind_inside (Header level) e s = nested d o (prefix_columns (d.header_prefix s.decorator level)) (inner_least e) s
-  kind_inside BlockQuote e s = nested d o (prefix_columns (d.quote_prefix s.decorator)) (inner_least e) s
-  kind_inside Ul e s = Some (record s { around = Bullets (inner_least e) })
-  kind_inside (Ol first) e s = Some (record s { around = numbers d e first s.decorator })
-  kind_inside ListItem e s = on_block o.start_block s
-  kind_inside Dl e s = on_block o.start_block s
-  kind_inside Dt e s = do
+  -- the state in which a node's children are laid out, by its kind; none where it is too narrow for them, or where they aren't
+  abbrev pub superscript_inside : (digits : Option (List ℕ)) → LayoutState S K T B → Option (LayoutState S K T B)
+  superscript_inside None s = begun d.superscript s
+  superscript_inside (Some digits) s = None
+
+  abbrev pub kind_inside : NodeKind → Estimate → (trees : Forest RenderNode) → LayoutState S K T B → Option (LayoutState S K T B)
+  kind_inside (Text t) e trees s = None
+  kind_inside Container e trees s = Some s
+  kind_inside Break e trees s = None
+  kind_inside Block e trees s = on_block o.start_block s
+  kind_inside Div e trees s = on_block o.new_line s
+  kind_inside (Emphasis m) e trees s = begun (emphasis_decoration d m) s
+  kind_inside (Header level) e trees s = nested d o (prefix_columns (d.header_prefix s.decorator level)) (inner_least e) s
+  kind_inside BlockQuote e trees s = nested d o (prefix_columns (d.quote_prefix s.decorator)) (inner_least e) s
+  kind_inside Ul e trees s = Some (record s { around = Bullets (inner_least e) })
+  kind_inside (Ol first) e trees s = Some (record s { around = numbers d e first s.decorator })
+  kind_inside ListItem e trees s = on_block o.start_block s
+  kind_inside Dl e trees s = on_block o.start_block s
+  kind_inside Dt e trees s = do
     q ← on_block o.new_line s
     begun d.em q
-  kind_inside Dd e s = nested d o 2 (inner_least e) s
+  kind_inside Dd e trees s = nested d o 2 (inner_least e) s
+  kind_inside Strikeout e trees s = do
+    q ← begun d.strikeout s
+    Some (striking s.settings.unicode_strikeout q)
+  kind_inside Superscript e trees s = superscript_inside (digits_of trees) s
+  kind_inside (Link target) e trees s = begun (link d target) (with_target target s)
+  kind_inside (Image i) e trees s = None
+  kind_inside (Svg title) e trees s = None
+  kind_inside (FragmentStart name) e trees s = None
+
+  abbrev pub node_inside : RenderNode → Forest RenderNode → LayoutState S K T B → Option (LayoutState S K T B)
+  node_inside n trees s = kind_inside n.kind n.estimate trees (in_style d push n.style s)
 
   -- and by what it stands in
-  abbrev pub placed_inside : NodeKind → Estimate → LayoutState S K T B → Around → Option (LayoutState S K T B)
-  placed_inside k e s Plain = kind_inside k e s
-  placed_inside k e s (Bullets least) = do
+  abbrev pub placed_inside : RenderNode → Forest RenderNode → LayoutState S K T B → Around → Option (LayoutState S K T B)
+  placed_inside n trees s Plain = node_inside n trees s
+  placed_inside n trees s (Bullets least) = do
     q ← nested d o (prefix_columns (d.unordered_item_prefix s.decorator)) least s
-    kind_inside k e q
-  placed_inside k e s (Numbers least number columns) = do
+    node_inside n trees q
+  placed_inside n trees s (Numbers least number columns) = do
     q ← nested d o columns least s
-    kind_inside k e q
+    node_inside n trees q
 
   abbrev pub inside : Inside RenderNode (LayoutState S K T B)
-  inside n trees s = placed_inside n.kind n.estimate s s.around
+  inside n trees s = placed_inside n trees s s.around
 
-  -- what the state shows once all trees are laid out, and what is left in the open paragraph
-  abbrev pub shown_after : {L : Type 0} → (LayoutState S K T B → L) → Forest RenderNode → LayoutState S K T B → Option L
-  shown_after shown t s = do
+  -- what the state shows once all trees are laid out and the document is closed, under the tag that its texts began with
+  abbrev pub shown_after : {L : Type 0} → Ending B T → (LayoutState S K T B → L) → Forest RenderNode → LayoutState S K T B → Option L
+  shown_after end shown t s = do
     r ← run steps t s
-    q ← on_block o.new_line r
+    q ← ended d end s.settings.link_footnotes s.settings.wrap_links s.text.tag r
     Some (shown q)
 
 -- an annotation on a stack; the stacks themselves are the tags
@@ -235,9 +379,10 @@ abbrev pub plain_text : {T : Type 0} → T → TextContext T
 plain_text tag = record { tag = tag; mode = Normal; preformatted = false; struck_out = false }
 
 -- the state in which a layout begins
-abbrev pub begin_with : {S K T B : Type 0} → S → K → T → B → LayoutState S K T B
-begin_with decorator stacks tag block =
+abbrev pub begin_with : {S K T B : Type 0} → LayoutSettings → S → K → T → B → LayoutState S K T B
+begin_with settings decorator stacks tag block =
     record {
+      settings = settings;
       decorator = decorator;
       stacks = stacks;
       text = plain_text tag;
@@ -248,9 +393,9 @@ begin_with decorator stacks tag block =
     }
 
 -- an empty block in the decorator's sub-block, without annotations
-abbrev pub empty_state : {S A : Type 0} → Decoration S A → S → (width : ℕ) → (overflow : Bool) → Defined S A
-empty_state d decorator width overflow =
-    begin_with (d.subblock decorator) tt [] (definition.empty_block (record { width = width; max_wrap_width = None; overflow = overflow }))
+abbrev pub empty_state : {S A : Type 0} → Decoration S A → LayoutSettings → S → (width : ℕ) → (overflow : Bool) → Defined S A
+empty_state d settings decorator width overflow =
+    begin_with settings (d.subblock decorator) tt [] (definition.empty_block (record { width = width; max_wrap_width = None; overflow = overflow }))
 
 -- a text needs its own columns, or so many
 abbrev pub min_wrap_width : ℕ
@@ -261,18 +406,18 @@ abbrev pub estimated : {S A : Type 0} → Decoration S A → S → Forest Render
 estimated d decorator t = measured d (d.subblock (d.subblock decorator)) min_wrap_width t
 
 -- THE LINES of a render tree, each character with its stack of annotations; none where it is too narrow
-abbrev pub layout_lines : {S A : Type 0} → Decoration S A → Forest RenderNode → S → (width : ℕ) → (overflow : Bool) →
+abbrev pub layout_lines : {S A : Type 0} → Decoration S A → LayoutSettings → Forest RenderNode → S → (width : ℕ) → (overflow : Bool) →
     Option (List (Line (List A) ℕ))
-layout_lines {S} {A} d t decorator width overflow =
+layout_lines {S} {A} d settings t decorator width overflow =
     if width == 0 then None
-    else shown_after d onto definition.operations (λ (s : Defined S A). s.block.lines) (estimated d decorator t)
-    (empty_state d decorator width overflow)
+    else shown_after d onto definition.operations definition.ending (λ (s : Defined S A). s.block.lines) (estimated d decorator t)
+    (empty_state d settings decorator width overflow)
 
 abbrev pub no_tag : {X : Type 0} → X → Unit {0}
 no_tag x = tt
 
 -- the same lines without annotations
-abbrev pub untagged_lines : {S A : Type 0} → Decoration S A → Forest RenderNode → S → (width : ℕ) → (overflow : Bool) →
+abbrev pub untagged_lines : {S A : Type 0} → Decoration S A → LayoutSettings → Forest RenderNode → S → (width : ℕ) → (overflow : Bool) →
     Option (List (Line (Unit {0}) ℕ))
-untagged_lines {S} {A} d t decorator width overflow =
-    option_map (lines_with (λ (stack : List A). no_tag stack)) (layout_lines d t decorator width overflow)
+untagged_lines {S} {A} d settings t decorator width overflow =
+    option_map (lines_with (λ (stack : List A). no_tag stack)) (layout_lines d settings t decorator width overflow)

@@ -1,5 +1,8 @@
 -- the layout: the definition, and what the code computes
 pub mod Stacks
+pub mod Settings
+pub mod Images
+pub mod Ending
 pub mod Layout
 pub mod Kept
 pub mod Opening

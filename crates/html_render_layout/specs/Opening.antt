@@ -1,15 +1,16 @@
 -- What the walk does as it opens a node and closes it.
-use Rattle.std.specs.Prelude.{ℕ, ℤ, List, Option, Some, None}
+use Rattle.std.specs.Prelude.{ℕ, ℤ, ◌+◌, List, [], length, map, Option, Some, None}
 use Rattle.std.specs.Str.{chars}
 use Rattle.html_render_dom.specs.Forest.{Forest}
 use Rattle.html_render_dom.specs.Outcome.{◌>>=◌}
-use Rattle.html_render_parts.specs.Decoration.{Decoration}
+use Rattle.html_render_parts.specs.Decoration.{Decoration, link}
 use Rattle.html_render_estimates.specs.Estimates.{prefix_columns}
 use Rattle.html_render_nodes.specs.declared.tree.Emphasis.TheVariants.{Em}
 use Rattle.html_render_nodes.specs.declared.tree.Estimate.{Estimate}
 use Rattle.html_render_nodes.specs.declared.tree.NodeKind.{NodeKind}
 use Rattle.html_render_nodes.specs.declared.tree.NodeKind.TheVariants.{Text, Container, Break, Block, Div, Emphasis}
 use Rattle.html_render_nodes.specs.declared.tree.NodeKind.TheVariants.{Header, BlockQuote, Ul, Ol, ListItem, Dl, Dt, Dd}
+use Rattle.html_render_nodes.specs.declared.tree.NodeKind.TheVariants.{Strikeout, Superscript, Link, Image, Svg, FragmentStart}
 use Rattle.html_render_nodes.specs.declared.tree.RenderNode.{RenderNode}
 use Rattle.html_render_nodes.specs.Pass.{Way, Into, Past, past}
 use Rattle.html_render_blocks.specs.Operations.{Operations}
@@ -20,39 +21,45 @@ use Rattle.html_render_layout.specs.declared.layout.state.Closing.{Closing}
 use Rattle.html_render_layout.specs.declared.layout.state.KindClosing.{KindClosing}
 use Rattle.html_render_layout.specs.declared.layout.state.KindClosing.TheVariants.{Nothing, EndBlock, NewLine, EndEmphasis}
 use Rattle.html_render_layout.specs.declared.layout.state.KindClosing.TheVariants.{EndList, EndQuote, EndIndent}
+use Rattle.html_render_layout.specs.declared.layout.state.KindClosing.TheVariants.{EndStrikeout, EndSuperscript, EndLink}
 use Rattle.html_render_layout.specs.declared.layout.state.LayoutState.{LayoutState}
 use Rattle.html_render_layout.specs.declared.layout.state.Outer.{Outer}
 use Rattle.html_render_layout.specs.declared.layout.state.TextContext.{TextContext}
-use Rattle.html_render_layout.specs.Layout.{on_block, add_text, begun, emphasis_decoration, nested, spaces, padded, next_number, inner_least, numbers}
+use Rattle.html_render_layout.specs.Layout.{on_block, add_characters, add_text, begun, emphasis_decoration, nested, spaces, padded}
+use Rattle.html_render_layout.specs.Layout.{next_number, inner_least, numbers, striking, raised, digits_of, in_style, image, link_number, with_target, marked}
 
 -- what a block inside the state's interrupts, with what the nodes stand in behind it
-abbrev pub interrupted : {S K T B : Type 0} → LayoutState S K T B → Around → (prefix : List ℕ) → (columns : ℕ) → Outer S B
-interrupted s around prefix columns =
-    record { decorator = s.decorator; block = s.block; around = around; prefix = prefix; columns = columns }
+abbrev pub interrupted : {S K T B : Type 0} → LayoutState S K T B → Around → (prefix : List ℕ) → (columns : ℕ) → Outer S T B
+interrupted s around prefix columns = record {
+  decorator = s.decorator;
+  block = s.block;
+  around = around;
+  prefix = prefix;
+  columns = columns;
+  tag = s.text.tag;
+}
 
 -- an interrupted block goes on, with this in it
-abbrev pub outside : {S K T B : Type 0} → Outer S B → B → LayoutState S K T B → LayoutState S K T B
+abbrev pub outside : {S K T B : Type 0} → Outer S T B → B → LayoutState S K T B → LayoutState S K T B
 outside u b r = record r { decorator = u.decorator; block = b; around = u.around }
 
 -- what was indented is over
-abbrev pub indent_closed : {S K T B : Type 0} → Operations B T → TextContext T → Outer S B → LayoutState S K T B →
-    Option (LayoutState S K T B)
-indent_closed o text u r = do
-  b ← o.append u.block r.block text.tag (chars u.prefix) (spaces u.columns)
+abbrev pub indent_closed : {S K T B : Type 0} → Operations B T → Outer S T B → LayoutState S K T B → Option (LayoutState S K T B)
+indent_closed o u r = do
+  b ← o.append u.block r.block u.tag (chars u.prefix) (spaces u.columns)
   Some (outside u b r)
 
 -- a heading or a quote is over
-abbrev pub quote_closed : {S K T B : Type 0} → Operations B T → TextContext T → Outer S B → LayoutState S K T B →
-    Option (LayoutState S K T B)
-quote_closed o text u r = do
+abbrev pub quote_closed : {S K T B : Type 0} → Operations B T → Outer S T B → LayoutState S K T B → Option (LayoutState S K T B)
+quote_closed o u r = do
   b ← o.start_block u.block
-  c ← o.append b r.block text.tag (chars u.prefix) (chars u.prefix)
+  c ← o.append b r.block u.tag (chars u.prefix) (chars u.prefix)
   Some (outside u (o.end_block c) r)
 
 -- an item is over, if the node is one
-abbrev pub item_closed : {S K T B : Type 0} → Operations B T → Option (Outer S B) → LayoutState S K T B → Option (LayoutState S K T B)
+abbrev pub item_closed : {S K T B : Type 0} → Operations B T → Option (Outer S T B) → LayoutState S K T B → Option (LayoutState S K T B)
 item_closed o None r = Some r
-item_closed o (Some u) r = indent_closed o r.text u r
+item_closed o (Some u) r = indent_closed o u r
 
 -- where an item stands behind a bullet
 abbrev pub bullet_place : {S A : Type 0} → Decoration S A → S → (least : ℕ) → Place
@@ -82,75 +89,116 @@ item_begun d o None s = Some s
 item_begun d o (Some p) s = nested d o p.columns p.least s
 
 -- what it interrupts
-abbrev pub item_kept : {S K T B : Type 0} → Option Place → LayoutState S K T B → Option (Outer S B)
+abbrev pub item_kept : {S K T B : Type 0} → Option Place → LayoutState S K T B → Option (Outer S T B)
 item_kept None s = None
 item_kept (Some p) s = Some (interrupted s p.behind p.prefix p.columns)
 
 -- the way of a node, by that of its kind, with what it restores
-abbrev pub keeping : {S K T B : Type 0} → Operations B T → Option (Outer S B) → TextContext T →
-    Way (LayoutState S K T B) (KindClosing S B) → Option (Way (LayoutState S K T B) (Closing S T B))
+abbrev pub keeping : {S K T B : Type 0} → Operations B T → Option (Outer S T B) → TextContext T →
+    Way (LayoutState S K T B) (KindClosing S T B) → Option (Way (LayoutState S K T B) (Closing S T B))
 keeping o item text (Into q k) = Some (Into q (record { item = item; text = text; kind = k }))
 keeping o item text (Past r) = past (item_closed o item (record r { text = text }))
 
 module _ {S A K T B : Type 0} (d : Decoration S A) (push : K → T → A → K × T) (o : Operations B T) where
-  abbrev pub quote_opened : (prefix : List ℕ) → Estimate → LayoutState S K T B → Option (Way (LayoutState S K T B) (KindClosing S B))
+  abbrev pub quote_opened : (prefix : List ℕ) → Estimate → LayoutState S K T B → Option (Way (LayoutState S K T B) (KindClosing S T B))
   quote_opened prefix e s = do
     q ← nested d o (prefix_columns prefix) (inner_least e) s
     Some (Into q (EndQuote (interrupted s s.around prefix (prefix_columns prefix))))
 
-  -- how each kind of node is opened
-  abbrev pub kind_opened : NodeKind → Estimate → LayoutState S K T B → Option (Way (LayoutState S K T B) (KindClosing S B))
-  kind_opened (Text t) e s = past (add_text o t s)
-  kind_opened Container e s = Some (Into s Nothing)
-  kind_opened Break e s = past (on_block o.new_line_hard s)
-  kind_opened Block e s = do
-    q ← on_block o.start_block s
-    Some (Into q EndBlock)
-  kind_opened Div e s = do
-    q ← on_block o.new_line s
-    Some (Into q NewLine)
-  kind_opened (Emphasis m) e s = do
-    q ← begun d push o (emphasis_decoration d m) s
-    Some (Into q (EndEmphasis m))
-  kind_opened (Header level) e s = quote_opened (d.header_prefix s.decorator level) e s
-  kind_opened BlockQuote e s = quote_opened (d.quote_prefix s.decorator) e s
-  kind_opened Ul e s = Some (Into (record s { around = Bullets (inner_least e) }) EndList)
-  kind_opened (Ol first) e s = Some (Into (record s { around = numbers d e first s.decorator }) EndList)
-  kind_opened ListItem e s = do
-    q ← on_block o.start_block s
-    Some (Into q EndBlock)
-  kind_opened Dl e s = do
-    q ← on_block o.start_block s
-    Some (Into q Nothing)
-  kind_opened Dt e s = do
+  -- a term of a description list, and what is said of it
+  abbrev pub term_opened : LayoutState S K T B → Option (Way (LayoutState S K T B) (KindClosing S T B))
+  term_opened s = do
     p ← on_block o.new_line s
     q ← begun d push o d.em p
     Some (Into q (EndEmphasis Em))
-  kind_opened Dd e s = do
+
+  abbrev pub description_opened : Estimate → LayoutState S K T B → Option (Way (LayoutState S K T B) (KindClosing S T B))
+  description_opened e s = do
     q ← nested d o 2 (inner_least e) s
     Some (Into q (EndIndent (interrupted s s.around (spaces 2) 2)))
 
+  -- a part that is struck out, and a link
+  abbrev pub strikeout_opened : LayoutState S K T B → Option (Way (LayoutState S K T B) (KindClosing S T B))
+  strikeout_opened s = do
+    q ← begun d push o d.strikeout s
+    Some (Into (striking s.settings.unicode_strikeout q) (EndStrikeout s.text.struck_out))
+
+  abbrev pub link_opened : (target : List ℕ) → LayoutState S K T B → Option (Way (LayoutState S K T B) (KindClosing S T B))
+  link_opened target s = do
+    q ← begun d push o (link d target) (with_target target s)
+    Some (Into q (EndLink s.text (length s.targets + 1)))
+
+  -- a superscript, which is passed where it is of digits
+  abbrev pub superscript_opened : (digits : Option (List ℕ)) → LayoutState S K T B → Option (Way (LayoutState S K T B) (KindClosing S T B))
+  superscript_opened None s = do
+    q ← begun d push o d.superscript s
+    Some (Into q EndSuperscript)
+  superscript_opened (Some digits) s = past (add_characters o (map raised digits) s)
+
+  -- how each kind of node is opened
+  abbrev pub kind_opened : NodeKind → Estimate → (trees : Forest RenderNode) → LayoutState S K T B →
+      Option (Way (LayoutState S K T B) (KindClosing S T B))
+  kind_opened (Text t) e trees s = past (add_text o t s)
+  kind_opened Container e trees s = Some (Into s Nothing)
+  kind_opened Break e trees s = past (on_block o.new_line_hard s)
+  kind_opened Block e trees s = do
+    q ← on_block o.start_block s
+    Some (Into q EndBlock)
+  kind_opened Div e trees s = do
+    q ← on_block o.new_line s
+    Some (Into q NewLine)
+  kind_opened (Emphasis m) e trees s = do
+    q ← begun d push o (emphasis_decoration d m) s
+    Some (Into q (EndEmphasis m))
+  kind_opened (Header level) e trees s = quote_opened (d.header_prefix s.decorator level) e s
+  kind_opened BlockQuote e trees s = quote_opened (d.quote_prefix s.decorator) e s
+  kind_opened Ul e trees s = Some (Into (record s { around = Bullets (inner_least e) }) EndList)
+  kind_opened (Ol first) e trees s = Some (Into (record s { around = numbers d e first s.decorator }) EndList)
+  kind_opened ListItem e trees s = do
+    q ← on_block o.start_block s
+    Some (Into q EndBlock)
+  kind_opened Dl e trees s = do
+    q ← on_block o.start_block s
+    Some (Into q Nothing)
+  kind_opened Dt e trees s = term_opened s
+  kind_opened Dd e trees s = description_opened e s
+  kind_opened Strikeout e trees s = strikeout_opened s
+  kind_opened Superscript e trees s = superscript_opened (digits_of trees) s
+  kind_opened (Link target) e trees s = link_opened target s
+  kind_opened (Image i) e trees s = past (image d push o i.source i.title s)
+  kind_opened (Svg title) e trees s = past (image d push o [] title s)
+  kind_opened (FragmentStart name) e trees s = past (Some (marked o name s))
+
   -- what each does once its children are laid out
-  abbrev pub kind_closed : TextContext T → KindClosing S B → LayoutState S K T B → Option (LayoutState S K T B)
-  kind_closed text Nothing r = Some r
-  kind_closed text EndBlock r = Some (record r { block = o.end_block r.block })
-  kind_closed text NewLine r = on_block o.new_line r
-  kind_closed text (EndEmphasis m) r = add_text o ((emphasis_decoration d m).end r.decorator) r
-  kind_closed text EndList r = Some (record r { around = Plain })
-  kind_closed text (EndQuote u) r = quote_closed o text u r
-  kind_closed text (EndIndent u) r = indent_closed o text u r
+  abbrev pub kind_closed : KindClosing S T B → LayoutState S K T B → Option (LayoutState S K T B)
+  kind_closed Nothing r = Some r
+  kind_closed EndBlock r = Some (record r { block = o.end_block r.block })
+  kind_closed NewLine r = on_block o.new_line r
+  kind_closed (EndEmphasis m) r = add_text o ((emphasis_decoration d m).end r.decorator) r
+  kind_closed EndList r = Some (record r { around = Plain })
+  kind_closed (EndQuote u) r = quote_closed o u r
+  kind_closed (EndIndent u) r = indent_closed o u r
+  kind_closed (EndStrikeout struck_out) r = add_text o (d.strikeout.end r.decorator) (striking struck_out r)
+  kind_closed EndSuperscript r = add_text o (d.superscript.end r.decorator) r
+  kind_closed (EndLink text number) r = do
+    q ← add_text o (d.link_end r.decorator) r
+    link_number o text number q
+
+  abbrev pub node_opened : RenderNode → Forest RenderNode → LayoutState S K T B → Option (Way (LayoutState S K T B) (KindClosing S T B))
+  node_opened n trees s = kind_opened n.kind n.estimate trees (in_style d push n.style s)
 
   -- a node is opened where it stands, if it is an item
-  abbrev pub placed_opened : NodeKind → Estimate → Option Place → LayoutState S K T B → Option (Way (LayoutState S K T B) (Closing S T B))
-  placed_opened k e p s = do
+  abbrev pub placed_opened : RenderNode → Forest RenderNode → Option Place → LayoutState S K T B →
+      Option (Way (LayoutState S K T B) (Closing S T B))
+  placed_opened n trees p s = do
     q ← item_begun d o p s
-    w ← kind_opened k e q
+    w ← node_opened n trees q
     keeping o (item_kept p s) q.text w
 
   abbrev pub opened : RenderNode → Forest RenderNode → LayoutState S K T B → Option (Way (LayoutState S K T B) (Closing S T B))
-  opened n trees s = placed_opened n.kind n.estimate (place_of d s.decorator s.around) s
+  opened n trees s = placed_opened n trees (place_of d s.decorator s.around) s
 
   abbrev pub closed : Closing S T B → LayoutState S K T B → Option (LayoutState S K T B)
   closed c r = do
-    t ← kind_closed c.text c.kind r
+    t ← kind_closed c.kind r
     item_closed o c.item (record t { text = c.text })

@@ -34,7 +34,7 @@ laid_out l = tagged l.stacks l.lines.items
 
 -- the lines that the code makes from a state
 abbrev pub work_lines : {S A : Type 0} → Decoration S A → Forest RenderNode → Worked S A → Option (List (Line (List A) ℕ))
-work_lines {S} {A} d t s = shown_after d tabled machine.operations (λ (r : Worked S A). tagged r.stacks r.block.lines) t s
+work_lines {S} {A} d t s = shown_after d tabled machine.operations machine.ending (λ (r : Worked S A). tagged r.stacks r.block.lines) t s
 
 -- the state of a layout without annotations
 abbrev pub Untagged : Type 0 → Type 0 → Type 0
@@ -42,4 +42,4 @@ Untagged S K = LayoutState S K (Unit {0}) (MachineBlock (Unit {0}) ℕ)
 
 -- the lines that the code makes from it
 abbrev pub untagged_work : {S A K : Type 0} → Decoration S A → Forest RenderNode → Untagged S K → Option (List (Line (Unit {0}) ℕ))
-untagged_work {S} {A} {K} d t s = shown_after d untagged machine.operations (λ (r : Untagged S K). r.block.lines) t s
+untagged_work {S} {A} {K} d t s = shown_after d untagged machine.operations machine.ending (λ (r : Untagged S K). r.block.lines) t s

@@ -1,5 +1,7 @@
 pub mod Stacks
+pub mod Styles
 pub mod Opening
+pub mod Ending
 pub mod Representation
 pub mod LayoutKeeps
 pub mod LayoutLaws

@@ -17,6 +17,7 @@ ghost use Rattle.html_render_layout.specs.laws.Opening.{steps-told};
 ghost use Rattle.html_render_layout.specs.Working.{tabled, work_lines, laid_out, untagged_work};
 
 use self::state::{Around, Closing, LayoutState, TextContext, TextList};
+use crate::settings::LayoutSettings;
 use crate::stacks::Stacks;
 use crate::tagging::{Tagging, Untagged};
 use html_render_blocks::block::{Block, BlockSetting};
@@ -32,12 +33,18 @@ use html_render_parts::widths::Meter;
 use std::alloc::Global;
 use std::marker::PhantomData;
 
+mod colours;
 mod emphasis;
+mod ending;
+mod images;
 mod items;
+mod links;
 mod nesting;
 mod spaces;
 pub mod state;
 mod steps;
+mod superscripts;
+mod texts;
 
 /// The columns that a text needs at least, unless its own are fewer.
 const MIN_WRAP_WIDTH: usize = 3;
@@ -72,14 +79,14 @@ impl<D: TextDecorator, G: Tagging<D::Annotation>> Pass for Layout<D, G> {
 
     ghost told = { steps-told D.decoration G.annotated machine.operations };
 
-    /// Opens a node, as its kind says.
+    /// Opens a node, as its kind and its style say.
     fn open(
         alloc: Global,
         node: &RenderNode,
-        _children: &[Entry<RenderNode>],
+        children: &[Entry<RenderNode>],
         state: &mut LayoutState<D, G, G::Tag, Block<G::Tag, usize>>,
     ) -> Result<Option<Closing<D, G::Tag, Block<G::Tag, usize>>>, Error> {
-        steps::open(alloc, &node.kind, &node.estimate, state)
+        steps::open(alloc, node, children, state)
     }
 
     /// Closes it.
@@ -95,14 +102,16 @@ impl<D: TextDecorator, G: Tagging<D::Annotation>> Pass for Layout<D, G> {
 /// The state in which a layout begins.
 fn begin_with<D: TextDecorator, G: Tagging<D::Annotation>>(
     alloc: Global,
+    settings: LayoutSettings,
     decorator: D,
     stacks: G,
     tag: G::Tag,
     block: Block<G::Tag, usize>,
 ) -> LayoutState<D, G, G::Tag, Block<G::Tag, usize>>
-    ensures { result ≡ begin_with decorator stacks tag block }
+    ensures { result ≡ begin_with settings decorator stacks tag block }
 {
     LayoutState {
+        settings,
         decorator,
         stacks,
         text: TextContext {
@@ -118,22 +127,43 @@ fn begin_with<D: TextDecorator, G: Tagging<D::Annotation>>(
     }
 }
 
-/// The state once a tree is laid out, and what is left in the open paragraph.
+/// Lays out a tree, and closes the document under the tag that its texts begin with.
 #[tactic(auto, using(html_render_dom::specs::laws::Outcome::refusals))]
+fn lay_out_into<D: TextDecorator, G: Tagging<D::Annotation>>(
+    alloc: Global,
+    tree: &RenderTree,
+    state: &mut LayoutState<D, G, G::Tag, Block<G::Tag, usize>>,
+    meter: &mut Meter,
+) -> Result<(), Error>
+    ensures ok { OnOk result (shown_after D.decoration G.annotated machine.operations machine.ending (λ r. r) tree.now state.old ≡ Some state.new) }
+    ensures err { IfErr result (λ e. Refuses e
+        (shown_after D.decoration G.annotated machine.operations machine.ending (λ r. r) tree.now state.old)) }
+    ensures counts { CountsNodes result (steps D.decoration G.annotated machine.operations)
+        (inside_of (opened D.decoration G.annotated machine.operations)) tree.now state.old meter.old meter.new }
+{
+    let tag = state.text.tag;
+    let link_footnotes = state.settings.link_footnotes;
+    let wrap_links = state.settings.wrap_links;
+    walk::<Layout<D, G>>(alloc, tree.nodes(), state, meter)?;
+    ending::end(alloc, link_footnotes, wrap_links, tag, state)
+}
+
+/// The state once a tree is laid out and the document is closed.
 fn laid_out_from<D: TextDecorator, G: Tagging<D::Annotation>>(
     alloc: Global,
     tree: &RenderTree,
     state: LayoutState<D, G, G::Tag, Block<G::Tag, usize>>,
     meter: &mut Meter,
 ) -> Result<LayoutState<D, G, G::Tag, Block<G::Tag, usize>>, Error>
-    ensures ok { IfOk result (λ after. shown_after D.decoration G.annotated machine.operations (λ r. r) tree.now state ≡ Some after) }
-    ensures err { IfErr result (λ e. Refuses e (shown_after D.decoration G.annotated machine.operations (λ r. r) tree.now state)) }
+    ensures ok { IfOk result (λ after.
+        shown_after D.decoration G.annotated machine.operations machine.ending (λ r. r) tree.now state ≡ Some after) }
+    ensures err { IfErr result (λ e. Refuses e
+        (shown_after D.decoration G.annotated machine.operations machine.ending (λ r. r) tree.now state)) }
     ensures counts { CountsNodes result (steps D.decoration G.annotated machine.operations)
         (inside_of (opened D.decoration G.annotated machine.operations)) tree.now state meter.old meter.new }
 {
     let mut state = state;
-    walk::<Layout<D, G>>(alloc, tree.nodes(), &mut state, meter)?;
-    state.block.flush()?;
+    lay_out_into(alloc, tree, &mut state, meter)?;
     Ok(state)
 }
 
@@ -184,7 +214,9 @@ fn outermost<T: Tag>(alloc: Global, width: usize, overflow: bool) -> Block<T, us
 }
 
 /// The lines of a tree, wrapped to `width` columns, with what a sub-block of the decorator's writes. Where a character
-/// is wider than a line, it stands alone on one with `overflow`. The meter's `entered`, `left` and `frames` count from 0,
+/// is wider than a line, it stands alone on one with `overflow`. Behind them stand the lines that close the document: the
+/// number of each link and its target with `settings.link_footnotes`, and what the decorator answers for all targets; they
+/// are wrapped with `settings.wrap_links`. The meter's `entered`, `left` and `frames` count from 0,
 /// also where the call refuses; `probes` stays.
 ///
 /// # Errors
@@ -197,22 +229,24 @@ pub fn lay_out<D: TextDecorator>(
     tree: RenderTree,
     width: usize,
     overflow: bool,
+    settings: LayoutSettings,
     meter: &mut Meter,
 ) -> Result<LaidOut<D::Annotation>, Error>
-    ensures ok { IfOk result (λ lines. layout_lines D.decoration tree decorator.now width overflow ≡ Some (laid_out lines)) }
-    ensures err { IfErr result (λ e. Refuses e (layout_lines D.decoration tree decorator.now width overflow)) }
+    ensures ok { IfOk result (λ lines. layout_lines D.decoration settings tree decorator.now width overflow ≡ Some (laid_out lines)) }
+    ensures err { IfErr result (λ e. Refuses e (layout_lines D.decoration settings tree decorator.now width overflow)) }
 
-    // no line is too wide, and with overflow no width is too small but 0, before anything is allocated
-    ensures within { IfOk result (λ lines. overflow ≡ false → AllWithinWidth width (laid_out lines)) }
+    // no line is too wide, where closing lines are cut, and with overflow no width is too small but 0, before anything is
+    // allocated
+    ensures within { IfOk result (λ lines. overflow ≡ false → settings.wrap_links ≡ true → AllWithinWidth width (laid_out lines)) }
     ensures answered { 0 < width → overflow ≡ true → result ≢ Err Error.TooNarrow }
     ensures no_width { width ≡ 0 → result ≡ Err Error.TooNarrow }
 
     // where overflow off gives lines, they are the answer with overflow on too
     ensures same { IfOk result (λ answer.
-        IfSome (layout_lines D.decoration tree decorator.now width false) (λ lines. laid_out answer ≡ lines)) }
+        IfSome (layout_lines D.decoration settings tree decorator.now width false) (λ lines. laid_out answer ≡ lines)) }
 
     // no visible character of the texts that are visited is lost
-    ensures kept { IfOk result (λ lines. KeepsTexts (visited_nodes D.decoration tree decorator.now width overflow) (laid_out lines)) }
+    ensures kept { IfOk result (λ lines. KeepsTexts (visited_nodes D.decoration settings tree decorator.now width overflow) (laid_out lines)) }
 
     // a tree that is laid out leaves the texts that follow, with their annotations, and the decorator of any state as they were
     ensures stacks { (s : Defined D D.Annotation) →
@@ -220,7 +254,7 @@ pub fn lay_out<D: TextDecorator>(
 
     // what was counted, where there are lines, and where there are none
     ensures counts { CountsNodes result (defined D.decoration) (defined_inside D.decoration)
-        (estimated D.decoration decorator.now tree) (empty_state D.decoration decorator.now width overflow) meter.old meter.new }
+        (estimated D.decoration decorator.now tree) (empty_state D.decoration settings decorator.now width overflow) meter.old meter.new }
 {
     meter.entered = 0;
     meter.left = 0;
@@ -231,7 +265,7 @@ pub fn lay_out<D: TextDecorator>(
     let inner = decorator.make_subblock_decorator(alloc)?;
     let tree = estimated(alloc, &inner, tree)?;
     let block = outermost(alloc, width, overflow);
-    let state = begin_with(alloc, inner, Stacks::new(alloc), 0, block);
+    let state = begin_with(alloc, settings, inner, Stacks::new(alloc), 0, block);
     lines_from(alloc, &tree, state, meter)
 }
 
@@ -262,17 +296,18 @@ pub fn lay_out_untagged<D: TextDecorator>(
     tree: RenderTree,
     width: usize,
     overflow: bool,
+    settings: LayoutSettings,
 ) -> Result<Vec<Line<(), usize>>, Error>
-    ensures ok { IfOk result (λ lines. untagged_lines D.decoration tree decorator.now width overflow ≡ Some lines.items) }
-    ensures err { IfErr result (λ e. Refuses e (untagged_lines D.decoration tree decorator.now width overflow)) }
+    ensures ok { IfOk result (λ lines. untagged_lines D.decoration settings tree decorator.now width overflow ≡ Some lines.items) }
+    ensures err { IfErr result (λ e. Refuses e (untagged_lines D.decoration settings tree decorator.now width overflow)) }
 
     // as for the lines with annotations
-    ensures within { IfOk result (λ lines. overflow ≡ false → AllWithinWidth width lines.items) }
+    ensures within { IfOk result (λ lines. overflow ≡ false → settings.wrap_links ≡ true → AllWithinWidth width lines.items) }
     ensures answered { 0 < width → overflow ≡ true → result ≢ Err Error.TooNarrow }
     ensures no_width { width ≡ 0 → result ≡ Err Error.TooNarrow }
     ensures same { IfOk result (λ answer.
-        IfSome (untagged_lines D.decoration tree decorator.now width false) (λ lines. answer.items ≡ lines)) }
-    ensures kept { IfOk result (λ lines. KeepsTexts (visited_nodes D.decoration tree decorator.now width overflow) lines.items) }
+        IfSome (untagged_lines D.decoration settings tree decorator.now width false) (λ lines. answer.items ≡ lines)) }
+    ensures kept { IfOk result (λ lines. KeepsTexts (visited_nodes D.decoration settings tree decorator.now width overflow) lines.items) }
 {
     if width == 0 {
         return Err(Error::TooNarrow);
@@ -280,9 +315,6 @@ pub fn lay_out_untagged<D: TextDecorator>(
     let inner = decorator.make_subblock_decorator(alloc)?;
     let tree = estimated(alloc, &inner, tree)?;
     let block = outermost(alloc, width, overflow);
-    let state = begin_with(alloc, inner, Untagged, (), block);
+    let state = begin_with(alloc, settings, inner, Untagged, (), block);
     untagged_lines_from(alloc, &tree, state)
 }
-
-#[cfg(test)]
-mod tests;

@@ -2,5 +2,6 @@
 #![tactic(auto)]
 
 pub mod layout;
+pub mod settings;
 pub mod stacks;
 pub mod tagging;

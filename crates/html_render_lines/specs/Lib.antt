@@ -14,6 +14,8 @@ pub mod Stream
 pub mod OpenWord
 -- a text under runs of tags
 pub mod TaggedText
+-- a text cut into lines where a line is full
+pub mod CutText
 -- a word put on a line as a whole
 pub mod Word
 -- texts that a paragraph takes as slices

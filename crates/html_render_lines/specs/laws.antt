@@ -14,3 +14,5 @@ pub mod Overflow
 pub mod Visible
 -- the wrapping doesn't depend on the tags
 pub mod Tags
+-- a text that is cut into lines
+pub mod CutText

@@ -1,9 +1,11 @@
 //! Laws of the definition of a paragraph, each the contract of a function that does nothing.
 
 ghost use Rattle.std.specs.Prelude.{◌≡◌, ℕ, List, Some, IfSome, IsSome, option_and_then};
+ghost use Rattle.html_render_lines.specs.CutText.{cut_lines, together, AreLongest};
 ghost use Rattle.html_render_lines.specs.Line.{AllWithinWidth};
 ghost use Rattle.html_render_lines.specs.Paragraph.{Page, Setting, without_overflow, with_overflow, paragraph, all_lines};
 ghost use Rattle.html_render_lines.specs.Stream.{start, after, finished};
+ghost use Rattle.html_render_lines.specs.TaggedText.{under};
 ghost use Rattle.html_render_lines.specs.Visible.{visible_in_items, visible_in_lines};
 ghost use Rattle.html_render_lines.specs.declared.character.Item.{Item};
 
@@ -41,4 +43,18 @@ fn overflow_gives_the_same_lines<T, M>()
 fn feeding_gives_the_whole_paragraph<T, M>()
     ensures { (setting : Setting) (marks : List M) (items : List (Item T M)) →
         option_and_then finished (after (start setting marks) items) ≡ paragraph setting marks items }
+{}
+
+/// A text that is cut into lines stands on them whole: each of its characters, in order, and nothing else.
+#[tactic(auto, using(crate::specs::laws::CutText::cuts))]
+fn a_cut_text_is_whole<T, M>()
+    ensures { (setting : Setting) (tag : T) (text : List ℕ) →
+        IfSome (cut_lines {M = M} setting tag text) (λ lines. together lines ≡ under tag text) }
+{}
+
+/// It is cut where a line is full, and nowhere else.
+#[tactic(auto, using(crate::specs::laws::CutText::cuts))]
+fn a_text_is_cut_where_lines_are_full<T, M>()
+    ensures { (setting : Setting) (tag : T) (text : List ℕ) →
+        IfSome (cut_lines {M = M} setting tag text) (AreLongest setting.width) }
 {}

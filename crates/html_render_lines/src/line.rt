@@ -47,6 +47,3 @@ pub(crate) fn tag_on<T: Copy>(continues: bool, character: &Character<T>) -> T
         character.tag
     }
 }
-
-#[cfg(test)]
-mod tests;

@@ -17,9 +17,12 @@ use std::alloc::{AllocError, Global};
 use std::marker::Model;
 use std::mem;
 
+mod cut;
 mod feeding;
 mod page;
 mod word;
+
+pub use cut::push_cut_text;
 
 /// Whether a word is open, and how the white space of its text is treated.
 #[derive(Clone, Copy)]
@@ -188,6 +191,3 @@ impl<T: Tag, M: Copy> Paragraph<T, M> {
         mem::replace(&mut self.waiting, Vec::new(self.alloc))
     }
 }
-
-#[cfg(test)]
-mod tests;

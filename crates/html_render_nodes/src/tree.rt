@@ -3,7 +3,7 @@
 //! [`Builder`] makes them from the last node to the first: after `put(b)`, `put(a)` and `enclose(c, 0)` it holds
 //! one tree, the node `c` over `a` and `b`, and `finish` gives the [`Flat`] of it, whose nodes are `c`, `a`, `b`.
 
-ghost use Rattle.std.specs.Prelude.{◌≡◌, ◌↔◌, IsTrue, OnOk, OnErr, IfErr, ℕ};
+ghost use Rattle.std.specs.Prelude.{◌≡◌, ◌↔◌, IsTrue, OnOk, OnErr, IfOk, IfErr, ℕ};
 ghost use Rattle.html_render_dom.specs.Forest as forest;
 ghost use Rattle.html_render_dom.specs.Forest.{none, count};
 ghost use Rattle.html_render_nodes.specs.Preorder.{flatten, forest_of};
@@ -210,6 +210,70 @@ pub enum NodeKind {
     Dt,
     /// What such a list says of a term.
     Dd,
+    /// A part of a line that is struck out, between what the decorator writes round it.
+    Strikeout,
+    /// A part of a line that is raised.
+    Superscript,
+    /// A link to this target.
+    Link(Text),
+    /// An image.
+    Image(Image),
+    /// A drawing, with this title.
+    Svg(Text),
+    /// The place that this name stands for. It is shown as nothing.
+    FragmentStart(Text),
+}
+
+/// Where an image lies, and what is shown in its place.
+#[derive(Drop)]
+pub struct ImageParts {
+    /// Its address.
+    pub source: Text,
+    /// What it is called, which may be nothing.
+    pub title: Text,
+}
+
+/// An image, held so that a node is moved in few bytes.
+#[derive(Drop)]
+pub struct Image {
+    parts: Box<ImageParts>,
+}
+
+impl Model for Image {
+    ghost use Rattle.html_render_nodes.specs.declared.tree.ImageParts.{ImageParts};
+
+    ghost Value = { ImageParts };
+
+    ghost view = { λ i. i.parts.value };
+}
+
+impl Image {
+    /// An image of these parts.
+    ///
+    /// # Errors
+    ///
+    /// `OutOfMemory`.
+    pub fn new(alloc: Global, source: Text, title: Text) -> Result<Image, Error>
+        ensures ok { IfOk result (λ i. i ≡ record { source = source; title = title }) }
+        ensures err { IfErr result (λ e. e ≡ Error.OutOfMemory) }
+    {
+        let parts = Box::new(alloc, ImageParts { source, title })?;
+        Ok(Image { parts })
+    }
+
+    /// Its address.
+    pub fn source(&self) -> &Text
+        ensures { result.now ≡ self.now.source }
+    {
+        &self.parts.source
+    }
+
+    /// What it is called.
+    pub fn title(&self) -> &Text
+        ensures { result.now ≡ self.now.title }
+    {
+        &self.parts.title
+    }
 }
 
 /// What the style of an element gives the node that it becomes. [`NodeStyle::default`] is the one of texts, and of what

@@ -1,13 +1,12 @@
--- a document becomes a render tree
-pub mod Insertion
-pub mod Conversion
-pub mod Converting
 -- the settings of a configuration, and the text of a render tree
 pub mod Texts
 pub mod Decorations
 pub mod Rendering
 -- the calls of the program's scripts
 pub mod Scripts
+-- which render tree a document becomes
+pub use Rattle.html_render_conversion.specs.Insertion
+pub use Rattle.html_render_conversion.specs.Conversion
 -- what a decorator answers, and what those of plain and of rich text do, for callers that implement one
 pub use Rattle.html_render_parts.specs.Decoration
 pub use Rattle.html_render_parts.specs.Decorators

@@ -8,19 +8,22 @@ ghost use Rattle.html_render_dom.specs.Outcome.{Refuses};
 ghost use Rattle.html_render_dom.specs.Rules.{rule_of};
 ghost use Rattle.html_render_lines.specs.Line.{AllWithinWidth};
 ghost use Rattle.html_render_layout.specs.Kept.{visited_nodes, KeepsTexts};
-ghost use Rattle.html_render_tree.specs.Conversion.{render_tree_of};
+ghost use Rattle.html_render_conversion.specs.Conversion.{render_tree_of};
 ghost use Rattle.html_render_tree.specs.Decorations.{decorations};
 ghost use Rattle.html_render_tree.specs.Rendering.{rendered_lines, initial_options};
+ghost use Rattle.html_render_layout.specs.Settings.{default_settings};
 ghost use Rattle.html_render_tree.specs.Texts.{text_of};
 
-use crate::convert;
 use crate::texts::string_of;
+use html_render_conversion::convert;
 use html_render_dom::Error;
 use html_render_dom::dom::RcDom;
 use html_render_dom::style::StyleRule;
 use html_render_layout::layout::lay_out_untagged;
+pub use html_render_layout::settings::ImageRenderMode;
+use html_render_layout::settings::LayoutSettings;
 use html_render_nodes::tree::RenderTree;
-use html_render_parts::decorate::{PlainDecorator, TextDecorator};
+use html_render_parts::decorate::{PlainDecorator, RichDecorator, TextDecorator};
 use std::alloc::Global;
 use std::marker::Model;
 
@@ -33,7 +36,7 @@ pub struct Config<D: TextDecorator> {
     /// In the order in which they were added.
     rules: Vec<StyleRule>,
     overflow: bool,
-    link_footnotes: bool,
+    nodes: LayoutSettings,
 }
 
 impl<D: TextDecorator> Model for Config<D> {
@@ -47,7 +50,7 @@ impl<D: TextDecorator> Model for Config<D> {
       decorator = c.decorator;
       rules = map rule_of c.rules.items;
       overflow = c.overflow;
-      link_footnotes = c.link_footnotes;
+      nodes = c.nodes;
     } };
 }
 
@@ -57,14 +60,14 @@ impl<D: TextDecorator> Model for Config<D> {
 ///
 /// `OutOfMemory`.
 pub fn plain(alloc: Global) -> Result<Config<PlainDecorator>, Error>
-    ensures ok { IfOk result (λ config. config ≡ record (initial_options config.decorator) { rules = decorations; link_footnotes = true }) }
+    ensures ok { IfOk result (λ config. config ≡ record (initial_options config.decorator) {
+      rules = decorations;
+      nodes = record default_settings { link_footnotes = true };
+    }) }
     ensures err { IfErr result (λ e. e ≡ Error.OutOfMemory) }
 {
     let config = plain_no_decorate(alloc).do_decorate(alloc)?;
-    Ok(Config {
-        link_footnotes: true,
-        ..config
-    })
+    Ok(config.link_footnotes(true))
 }
 
 /// Plain text without decorations: no rules, no overflow and no footnotes. It takes no memory.
@@ -72,6 +75,13 @@ pub fn plain_no_decorate(alloc: Global) -> Config<PlainDecorator>
     ensures { result ≡ initial_options result.decorator }
 {
     with_decorator(alloc, PlainDecorator::new())
+}
+
+/// Text with annotations that say what each part is: no rules, no overflow and no footnotes. It takes no memory.
+pub fn rich(alloc: Global) -> Config<RichDecorator>
+    ensures { result ≡ initial_options result.decorator }
+{
+    with_decorator(alloc, RichDecorator::new())
 }
 
 /// Text with a decorator of the caller's: no rules, no overflow and no footnotes. It takes no memory.
@@ -82,7 +92,7 @@ pub fn with_decorator<D: TextDecorator>(alloc: Global, decorator: D) -> Config<D
         decorator,
         rules: Vec::new(alloc),
         overflow: false,
-        link_footnotes: false,
+        nodes: LayoutSettings::default(),
     }
 }
 
@@ -125,6 +135,39 @@ impl<D: TextDecorator> Config<D> {
         }
     }
 
+    /// Whether each link has its number behind it, in brackets, and its target among the lines behind the document; links
+    /// are numbered in the order in which they start.
+    pub fn link_footnotes(mut self, numbered: bool) -> Config<D>
+        ensures { result ≡ record self { nodes = record self.nodes { link_footnotes = numbered } } }
+    {
+        self.nodes.link_footnotes = numbered;
+        self
+    }
+
+    /// The lines behind the document, as those of links' targets, aren't wrapped, and so may be wider than the width.
+    pub fn no_link_wrapping(mut self) -> Config<D>
+        ensures { result ≡ record self { nodes = record self.nodes { wrap_links = false } } }
+    {
+        self.nodes.wrap_links = false;
+        self
+    }
+
+    /// Whether U+0336, a stroke, is put behind each character of what is struck out that isn't collapsible white space.
+    pub fn unicode_strikeout(mut self, strokes: bool) -> Config<D>
+        ensures { result ≡ record self { nodes = record self.nodes { unicode_strikeout = strokes } } }
+    {
+        self.nodes.unicode_strikeout = strokes;
+        self
+    }
+
+    /// What stands in the place of an image whose title is empty.
+    pub fn empty_img_mode(mut self, mode: ImageRenderMode) -> Config<D>
+        ensures { result ≡ record self { nodes = record self.nodes { empty_images = mode } } }
+    {
+        self.nodes.empty_images = mode;
+        self
+    }
+
     /// The render tree of a document.
     ///
     /// # Errors
@@ -155,25 +198,24 @@ impl<D: TextDecorator> Config<D> {
         ensures err { IfErr result (λ e. Refuses e (rendered_lines D.decoration self.now tree width)) }
         ensures no_width { width ≡ 0 → result ≡ Err Error.TooNarrow }
 
-        // with overflow off no line passes the width; with overflow on nothing is too narrow, and where overflow off gives
+        // with overflow off and links wrapped no line passes the width; with overflow on nothing is too narrow, and where overflow off gives
         // lines, the text is theirs
-        ensures within { self.now.overflow ≡ false → IfSome (rendered_lines D.decoration self.now tree width) (AllWithinWidth width) }
+        ensures within { self.now.overflow ≡ false → self.now.nodes.wrap_links ≡ true → IfSome (rendered_lines D.decoration self.now tree width) (AllWithinWidth width) }
         ensures wide { self.now.overflow ≡ true → 1 ≤ width → result ≢ Err Error.TooNarrow }
         ensures same { IfOk result (λ text. IfSome (rendered_lines D.decoration (record self.now { overflow = false }) tree width)
             (λ lines. string_bytes text ≡ text_of lines)) }
 
         // no visible character of the texts that are visited is lost
         ensures kept { IfSome (rendered_lines D.decoration self.now tree width)
-            (KeepsTexts (visited_nodes D.decoration tree self.now.decorator width self.now.overflow)) }
+            (KeepsTexts (visited_nodes D.decoration self.now.nodes tree self.now.decorator width self.now.overflow)) }
     {
         if width == 0 {
             return Err(Error::TooNarrow);
         }
-        let lines = lay_out_untagged(alloc, &self.decorator, tree, width, self.overflow)?;
+        let nodes = self.nodes.try_clone()?;
+        let lines = lay_out_untagged(alloc, &self.decorator, tree, width, self.overflow, nodes)?;
         Ok(string_of(alloc, &lines)?)
     }
 }
 
 mod decorations;
-#[cfg(test)]
-mod tests;

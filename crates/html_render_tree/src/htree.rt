@@ -8,14 +8,14 @@ ghost use Rattle.html_render_dom.specs.Content.{space_of};
 ghost use Rattle.html_render_dom.specs.Dom.{IsNode, IsElement, content_at, node_count};
 ghost use Rattle.html_render_tree.specs.Scripts.{with_element, with_comment, with_attribute, called, next_of};
 
-use crate::config::{Config, plain, plain_no_decorate};
+use crate::config::{Config, plain, plain_no_decorate, rich};
 use crate::script::{Call, Texts, plain_len, split_line};
 use html_render_dom::Error;
 use html_render_dom::dom::{
     Attribute, ElementFlags, Handle, Namespace, NodeOrText, QualName, RcDom,
 };
 use html_render_nodes::tree::RenderTree;
-use html_render_parts::decorate::PlainDecorator;
+use html_render_parts::decorate::TextDecorator;
 use std::alloc::{AllocError, AllocFailed, Global};
 use std::io;
 use std::io::{ErrorKind, Read, Write};
@@ -75,6 +75,8 @@ impl<T: Drop> From<AllocFailed<T>> for Fault {
 enum Preset {
     /// `plain`: with decorations and footnotes.
     Plain,
+    /// `rich`: with annotations, which a text doesn't show, and without decorations and footnotes.
+    Rich,
     /// `bare`: without any.
     Bare,
 }
@@ -84,6 +86,7 @@ impl Preset {
     fn read(word: &str) -> Result<Preset, Fault> {
         match word {
             "plain" => Ok(Preset::Plain),
+            "rich" => Ok(Preset::Rich),
             "bare" => Ok(Preset::Bare),
             _ => Err(Fault::Arguments),
         }
@@ -99,7 +102,7 @@ struct Settings {
 }
 
 impl Settings {
-    /// The settings of `WIDTH [plain|bare] [overflow]`; without a preset it is `plain`.
+    /// The settings of `WIDTH [plain|rich|bare] [overflow]`; without a preset it is `plain`.
     fn read(words: &[String]) -> Result<Settings, Fault> {
         let (words, overflow) = match words {
             [front @ .., last] if last.as_str() == "overflow" => (front, true),
@@ -300,36 +303,40 @@ fn read_dom<R: Read>(alloc: Global, input: &mut R) -> Result<RcDom, Fault> {
     built(alloc, script.as_str())
 }
 
-/// The configuration that the settings ask for.
-fn configured(alloc: Global, settings: Settings) -> Result<Config<PlainDecorator>, Fault> {
-    let config = match settings.preset {
-        Preset::Plain => plain(alloc)?,
-        Preset::Bare => plain_no_decorate(alloc),
-    };
-    Ok(if settings.overflow {
+/// The render tree of a document, which is dropped.
+fn tree_of<D: TextDecorator>(
+    alloc: Global,
+    config: &Config<D>,
+    dom: RcDom,
+) -> Result<RenderTree, Error> {
+    config.dom_to_render_tree(alloc, &dom)
+}
+
+/// The text of a document, as the settings ask for it.
+fn rendered_by<D: TextDecorator>(
+    alloc: Global,
+    config: Config<D>,
+    settings: &Settings,
+    dom: RcDom,
+) -> Result<String, Fault> {
+    let config = if settings.overflow {
         config.allow_width_overflow()
     } else {
         config
-    })
-}
-
-/// The render tree of the script in `input`. Its DOM is dropped.
-fn read_tree<R: Read>(
-    alloc: Global,
-    settings: Settings,
-    input: &mut R,
-) -> Result<(Config<PlainDecorator>, RenderTree), Fault> {
-    let dom = read_dom(alloc, input)?;
-    let config = configured(alloc, settings)?;
-    let tree = config.dom_to_render_tree(alloc, &dom)?;
-    Ok((config, tree))
+    };
+    let tree = tree_of(alloc, &config, dom)?;
+    Ok(config.render_to_string(alloc, tree, settings.width)?)
 }
 
 /// The text of the script in `input`.
 fn rendered<R: Read>(alloc: Global, words: &[String], input: &mut R) -> Result<String, Fault> {
     let settings = Settings::read(words)?;
-    let (config, tree) = read_tree(alloc, settings, input)?;
-    Ok(config.render_to_string(alloc, tree, settings.width)?)
+    let dom = read_dom(alloc, input)?;
+    match settings.preset {
+        Preset::Plain => rendered_by(alloc, plain(alloc)?, &settings, dom),
+        Preset::Rich => rendered_by(alloc, rich(alloc), &settings, dom),
+        Preset::Bare => rendered_by(alloc, plain_no_decorate(alloc), &settings, dom),
+    }
 }
 
 /// Writes a whole text, and flushes it.
@@ -340,13 +347,13 @@ fn write_text<O: Write>(text: &str, output: &mut O) -> io::Result<()> {
 
 /// Writes the text of the script in `input` to `output`, or one line on what is wrong to `faults`, and answers the
 /// program's exit status: 0 for a text; 1 with an [`Error`]'s text, where the document can't be rendered or memory
-/// is out; 2 with `htree: arguments` for words that are not `WIDTH [plain|bare] [overflow]`, `htree: input` where
+/// is out; 2 with `htree: arguments` for words that are not `WIDTH [plain|rich|bare] [overflow]`, `htree: input` where
 /// `input` can't be read or isn't UTF-8, `htree: line N` (from 1) for a faulty line, `htree: output` where `output`
 /// can't be written or flushed. A failed write to `faults` changes no status.
 ///
 /// The words are those behind the program's name, and are looked at first; then the whole input is read. The width is
 /// a number of columns. `plain`, which is also the preset of words that name none, is text as
-/// [`plain`](crate::config::plain) renders it, and `bare` as [`plain_no_decorate`]; `overflow` stands for
+/// [`plain`](crate::config::plain) renders it, `rich` as [`rich`] and `bare` as [`plain_no_decorate`]; `overflow` stands for
 /// [`Config::allow_width_overflow`](crate::config::Config::allow_width_overflow).
 pub fn run<R: Read, O: Write, F: Write>(
     alloc: Global,

@@ -5,9 +5,7 @@
 #![tactic(auto)]
 
 pub mod config;
-mod convert;
 pub mod htree;
-mod mapping;
 mod script;
 mod texts;
 

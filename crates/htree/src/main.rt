@@ -1,4 +1,4 @@
-//! Renders a script of DOM calls as text: `htree WIDTH [plain|bare] [overflow]`, with the script on standard input.
+//! Renders a script of DOM calls as text: `htree WIDTH [plain|rich|bare] [overflow]`, with the script on standard input.
 #![tactic(auto)]
 
 use html_render_tree::htree::{run, run_without_words};

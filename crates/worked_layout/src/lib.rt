@@ -1,4 +1,4 @@
-//! Tests of what a layout goes by: decorators, walks over render trees, the columns of texts, and estimates.
+//! Tests of layouts, and of what they go by: decorators, walks over render trees, the columns of texts, and estimates.
 //!
 //! There is nothing to call here.
 #![tactic(auto)]
@@ -9,5 +9,7 @@ mod columns;
 mod decorators;
 #[cfg(test)]
 mod estimates;
+#[cfg(test)]
+mod layouts;
 #[cfg(test)]
 mod walks;

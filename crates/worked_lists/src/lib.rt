@@ -1,5 +1,5 @@
-//! Tests of headings, quotes and lists as documents: worked rows, decorators of one's own, all narrow widths, and deep
-//! nesting.
+//! Tests of headings, quotes and lists, and of links, images and the like, as documents: worked rows, decorators of one's
+//! own, all narrow widths, and deep nesting.
 //!
 //! There is nothing to call here.
 #![tactic(auto)]

@@ -1,4 +1,4 @@
-//! Documents of headings, quotes and lists: a case a line.
+//! Documents of headings, quotes and lists, and of links, images, superscripts and struck-out text: a case a line.
 
 use crate::scripts::{answer, with_lines};
 use std::alloc::Global;
@@ -113,4 +113,60 @@ const DESCRIPTIONS: &str = "\
 #[test]
 fn descriptions_stand_behind_spaces(rt: HostRuntime) -> Result<(), Fail> {
     have_their_answers(&rt, rt.alloc(), DESCRIPTIONS)
+}
+
+/// Superscripts and text that is struck out.
+const SUPERSCRIPTS_AND_STRIKEOUTS: &str = "\
+20|<p/\"x/<sup/\"12/>/<sup/\"a|x¹²^{a}/
+20|<p/\"x/<sup/\"0345/>/<sup/\"6789/>/<sup/\"1b|x⁰³⁴⁵⁶⁷⁸⁹^{1b}/
+20|<p/\"x/<sup|x^{}/
+20|<p/\"x/<sup/<em/\"1|x^{*1*}/
+10|<s/\"a b|a\u{336} b\u{336}/
+20 bare|<del/\"a/<a/@href=u/\"b/>/>/\"c|a\u{336}[\u{336}b\u{336}]\u{336}c/
+20 bare|<s/\"a/<sup/\"1|a\u{336}¹\u{336}/
+20|<p/\"a/>/<s/\" /<p/\"b|a//b\u{336}/
+";
+
+#[test]
+fn superscripts_are_raised_and_texts_struck_out(rt: HostRuntime) -> Result<(), Fail> {
+    have_their_answers(&rt, rt.alloc(), SUPERSCRIPTS_AND_STRIKEOUTS)
+}
+
+/// Links, images, drawings and marks, without footnotes.
+const LINKS_AND_IMAGES: &str = "\
+20 bare|<p/<a/@href=u/\"A b|[A b]/
+5 bare|<p/<a/@href=u/\"ab cd|[ab/cd]/
+20 rich|<p/<a/@href=u/\"A b/>/\"c|A bc/
+20 bare|<p/\"x/<a/@href=u/\" |x/
+20 bare|<a/\"x|x/
+20 bare|<p/<img/@src=s/@alt=pic/>/<img/@src=s|[pic]/
+20 rich|<p/<img/@src=s/@alt=pic|pic/
+20 bare|<svg:svg/<svg:title/\"a/>/<svg:title/\"b/\"c/>/<svg:g/>/<svg:title/\"d/>/>/\"e|[bc]e/
+20|\"a/<wbr/>/\"b|ab/
+1|\"a/<wbr/>/\"b|a/b/
+20|<p/@id=f/\"a/<span/@id=z/>/>/<p/\"b|a//b/
+20|<a/@name=m/>/<p/\"b|b/
+";
+
+#[test]
+fn links_and_images_are_decorated(rt: HostRuntime) -> Result<(), Fail> {
+    have_their_answers(&rt, rt.alloc(), LINKS_AND_IMAGES)
+}
+
+/// Links with footnotes, which are numbered through all blocks, and the lines that these close the document with.
+const FOOTNOTES: &str = "\
+20|<p/<a/@href=u/\"A/>/\" /<a/@href=v/\"B|[A][1] [B][2]//[1]: u/[2]: v/
+10|<a/@href=abcdefghijklm/\"Hello|[Hello][1]//[1]: abcde/fghijklm/
+20|<p/\"x/<a/@href=u/\" |x/
+20|<ul/<li/<a/@href=u/\"A/>/>/<li/<a/@href=v/\"B|* [A][1]/* [B][2]//[1]: u/[2]: v/
+20|<blockquote/<a/@href=u/\"A/<a/@href=v/\"B|> [A[B][2]][1]//[1]: u/[2]: v/
+20|<a/@href=/<br/>/\"A|[/A][1]//[1]: /
+4|<a/@href=u/\"A|[A][/1]//[1]:/ u/
+1|<a/@href=世/\"A|Output width not wide enough./
+20|<p/<s/<a/@href=u/\"A|[\u{336}A\u{336}]\u{336}[\u{336}1\u{336}]\u{336}//[1]: u/
+";
+
+#[test]
+fn links_have_footnotes(rt: HostRuntime) -> Result<(), Fail> {
+    have_their_answers(&rt, rt.alloc(), FOOTNOTES)
 }

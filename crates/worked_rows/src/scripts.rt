@@ -172,7 +172,8 @@ const WORDS: &str = "\
 20 overflow overflow|<p/\"a世/||htree: arguments/|2
 20 plain bare|<p/\"a世/||htree: arguments/|2
 20 plain plain overflow|<p/\"a世/||htree: arguments/|2
-20 rich|<p/\"a世/||htree: arguments/|2
+20 rich|<p/\"a世/|a世/||0
+20 fancy|<p/\"a世/||htree: arguments/|2
 20 Plain|<p/\"a世/||htree: arguments/|2
 20 |<p/\"a世/||htree: arguments/|2
 plain|<p/\"a世/||htree: arguments/|2

@@ -65,7 +65,7 @@ separate-block d [] e = refl
 separate-block d (l ∷ ls) e = add_empty_line-block d e
 
 -- what an operation does once the block is flushed
-after_flush : {T M : Type 0} (d : DefinedBlock T M) (k : DefinedBlock T M → DefinedBlock T M) (l : MachineBlock T M → MachineBlock T M) →
+pub after_flush : {T M : Type 0} (d : DefinedBlock T M) (k : DefinedBlock T M → DefinedBlock T M) (l : MachineBlock T M → MachineBlock T M) →
     ((e : DefinedBlock T M) → e.fed ≡ [] → l (block_of e) ≡ block_of (k e)) →
     option_map l (machine.flush (block_of d)) ≡ option_map block_of (option_map k (definition.flush d))
 after_flush {T} {M} d k l same =
@@ -165,9 +165,10 @@ append-block {T} {M} d e t first later =
         ∙ both p (paragraph (paragraph_setting e.setting) e.marks e.fed)
 
 -- THE THEOREM: each operation on a block that was fed is the definition's
-pub block_of-commutes : {T M : Type 0} → Commutes block_of (λ (t : T). t) (definition.operations {T = T} {M = M}) machine.operations
+pub block_of-commutes : {T : Type 0} → Commutes block_of (λ (t : T). t) definition.operations machine.operations
 block_of-commutes = record {
   add_inline_text = add_inline_text-block;
+  add_mark = λ d m. add_marks-block d (m ∷ []);
   new_line = flush-block;
   new_line_hard = new_line_hard-block;
   start_block = start_block-block;

@@ -28,7 +28,7 @@ pub record IsWithin {T M : Type 0} (w : ℕ) (d : DefinedBlock T M) : Type 0 whe
   pub overflow : d.setting.overflow ≡ false
   pub lines : AllWithinWidth w d.lines
 
-with_lines : {T M : Type 0} (w : ℕ) (d e : DefinedBlock T M) → IsWithin w d → e.setting ≡ d.setting → AllWithinWidth w e.lines → IsWithin w e
+pub with_lines : {T M : Type 0} (w : ℕ) (d e : DefinedBlock T M) → IsWithin w d → e.setting ≡ d.setting → AllWithinWidth w e.lines → IsWithin w e
 with_lines w d e h same lines = record {
   width = ap (λ (s : BlockSetting). s.width) same ∙ h.width;
   overflow = ap (λ (s : BlockSetting). s.overflow) same ∙ h.overflow;
@@ -49,7 +49,7 @@ page_within {T} {M} w d h =
     (IfSome_then (paragraph (without_overflow v) d.marks d.fed) (paragraph_within v d.marks d.fed)
     (λ p k. All-weaker (λ (l : Line T M). columns l ≤ v) (λ (l : Line T M). columns l ≤ w) (λ l n. omega (arith, n, le)) (all_lines p) k))
 
-flush_within : {T M : Type 0} (w : ℕ) (d : DefinedBlock T M) → IsWithin w d → IfSome (flush d) (IsWithin w)
+pub flush_within : {T M : Type 0} (w : ℕ) (d : DefinedBlock T M) → IsWithin w d → IfSome (flush d) (IsWithin w)
 flush_within {T} {M} w d h =
     map_if (λ (p : Page T M). AllWithinWidth w (all_lines p)) (IsWithin w) (λ (p : Page T M). add_page d p)
     (paragraph (paragraph_setting d.setting) d.marks d.fed) (page_within w d h)
@@ -66,7 +66,7 @@ separate_within w d (l ∷ ls) h = add_empty_line_within w d h
 unended_within : {T M : Type 0} (w : ℕ) (d : DefinedBlock T M) → IsWithin w d → IsWithin w (record d { at_block_end = false })
 unended_within w d h = with_lines w d (record d { at_block_end = false }) h refl h.lines
 
-start_block_within : {T M : Type 0} (w : ℕ) (d : DefinedBlock T M) → IsWithin w d → IfSome (start_block d) (IsWithin w)
+pub start_block_within : {T M : Type 0} (w : ℕ) (d : DefinedBlock T M) → IsWithin w d → IfSome (start_block d) (IsWithin w)
 start_block_within w d h =
     map_if (IsWithin w) (IsWithin w) _ (flush d) (flush_within w d h)
     (λ e k. unended_within w (separate_behind e e.lines) (separate_within w e e.lines k))
@@ -134,9 +134,10 @@ append_within {T} {M} w v d e t first later h _ =
     (flush e) (any (flush e)) (λ e _. append_lines_within w d (under t first) (under t later) e.lines e.marks h))
 
 -- THE LAW: with overflow off no operation makes a line that passes the block's own width
-pub operations_within : {T M : Type 0} → Keeps (operations {T = T} {M = M}) IsWithin
+pub operations_within : {T : Type 0} → Keeps (operations {T = T}) IsWithin
 operations_within = record {
   add_inline_text = add_inline_text_within;
+  add_mark = λ w d m h. with_lines w d _ h refl h.lines;
   new_line = flush_within;
   new_line_hard = new_line_hard_within;
   start_block = start_block_within;
@@ -152,7 +153,7 @@ pub record Overflows {T M : Type 0} (w : ℕ) (d : DefinedBlock T M) : Type 0 wh
   pub width : d.setting.width ≡ w
   pub overflow : d.setting.overflow ≡ true
 
-flush_succeeds : {T M : Type 0} (w : ℕ) (d : DefinedBlock T M) → Overflows w d → IsSomeAnd (flush d) (Overflows w)
+pub flush_succeeds : {T M : Type 0} (w : ℕ) (d : DefinedBlock T M) → Overflows w d → IsSomeAnd (flush d) (Overflows w)
 flush_succeeds {T} {M} w d h =
     let v = wrap_width d.setting.width d.setting.max_wrap_width in
     by (paragraph (paragraph_setting d.setting) d.marks d.fed)
@@ -170,7 +171,7 @@ separate_succeeds w d (l ∷ ls) h = record { width = h.width; overflow = h.over
 unended_succeeds : {T M : Type 0} (w : ℕ) (d : DefinedBlock T M) → Overflows w d → Overflows w (record d { at_block_end = false })
 unended_succeeds w d h = record { width = h.width; overflow = h.overflow }
 
-start_block_succeeds : {T M : Type 0} (w : ℕ) (d : DefinedBlock T M) → Overflows w d → IsSomeAnd (start_block d) (Overflows w)
+pub start_block_succeeds : {T M : Type 0} (w : ℕ) (d : DefinedBlock T M) → Overflows w d → IsSomeAnd (start_block d) (Overflows w)
 start_block_succeeds w d h = map_and (Overflows w) (Overflows w) _ (flush d) (flush_succeeds w d h)
     (λ e k. unended_succeeds w (separate_behind e e.lines) (separate_succeeds w e e.lines k))
 
@@ -219,9 +220,10 @@ append_succeeds {T} {M} w v d e t first later h k =
     (flush e) (flush_succeeds v e k) (λ e _. append_lines_succeeds w d (under t first) (under t later) e.lines e.marks h))
 
 -- THE LAW: with overflow on no operation refuses
-pub operations_succeed : {T M : Type 0} → Succeeds (operations {T = T} {M = M}) Overflows
+pub operations_succeed : {T : Type 0} → Succeeds (operations {T = T}) Overflows
 operations_succeed = record {
   add_inline_text = add_inline_text_succeeds;
+  add_mark = λ w d m h. record { width = h.width; overflow = h.overflow };
   new_line = flush_succeeds;
   new_line_hard = new_line_hard_succeeds;
   start_block = start_block_succeeds;

@@ -22,7 +22,7 @@ paragraph_stays : {T M : Type 0} (w : ℕ) (o : Bool) (ms : List M) (xs : List (
 paragraph_stays w true ms xs = if_is _ (paragraph (with_overflow w) ms xs) (λ p e. e)
 paragraph_stays w false ms xs = if_is _ (paragraph (without_overflow w) ms xs) (paragraph_same w ms xs)
 
-flush_stays : {T M : Type 0} (d : DefinedBlock T M) → Stays overflowing (flush d) (flush (overflowing d))
+pub flush_stays : {T M : Type 0} (d : DefinedBlock T M) → Stays overflowing (flush d) (flush (overflowing d))
 flush_stays {T} {M} d =
     let w = wrap_width d.setting.width d.setting.max_wrap_width in
     map_stays (λ (p : Page T M). p) overflowing (λ (p : Page T M). add_page d p) (λ (p : Page T M). add_page (overflowing d) p)
@@ -34,7 +34,7 @@ separate-overflowing : {T M : Type 0} (d : DefinedBlock T M) (ls : List (Line T 
 separate-overflowing d [] = refl
 separate-overflowing d (l ∷ ls) = refl
 
-start_block_stays : {T M : Type 0} (d : DefinedBlock T M) → Stays overflowing (start_block d) (start_block (overflowing d))
+pub start_block_stays : {T M : Type 0} (d : DefinedBlock T M) → Stays overflowing (start_block d) (start_block (overflowing d))
 start_block_stays {T} {M} d =
     map_stays overflowing overflowing _ _ (flush d) (flush (overflowing d)) (flush_stays d)
     (λ e. ap (λ (f : DefinedBlock T M). record f { at_block_end = false }) (separate-overflowing e e.lines))
@@ -85,9 +85,10 @@ append_stays {T} {M} d e t first later =
     (flush e) (flush (overflowing e)) (flush_stays e) (λ e. append_lines_stays d (under t first) (under t later) e.lines e.marks))
 
 -- THE LAW: where overflow off has an answer, overflow on has the same
-pub operations_refine : {T M : Type 0} → Refines overflowing (operations {T = T} {M = M})
+pub operations_refine : {T : Type 0} → Refines overflowing (operations {T = T})
 operations_refine = record {
   add_inline_text = add_inline_text_stays;
+  add_mark = λ d m. refl;
   new_line = flush_stays;
   new_line_hard = new_line_hard_stays;
   start_block = start_block_stays;

@@ -40,14 +40,14 @@ module _ {T U M : Type 0} (f : T → U) where
       map_with (page_with f) block_with (λ p. add_page b q p) (λ p. add_page (block_with b) (state_with f q) p) (finished q) _
       (finished-with f q) (add_page-with b q)
 
-  flush-with : (b : MachineBlock T M) → flush (block_with b) ≡ option_map block_with (flush b)
+  pub flush-with : (b : MachineBlock T M) → flush (block_with b) ≡ option_map block_with (flush b)
   flush-with b = flush_paragraph-with b b.paragraph
 
-  waiting-with : (o : Option (State T M)) → waiting (option_map (state_with f) o) ≡ waiting o
+  pub waiting-with : (o : Option (State T M)) → waiting (option_map (state_with f) o) ≡ waiting o
   waiting-with None = refl
   waiting-with (Some q) = refl
 
-  take_waiting-with : (o : Option (State T M)) → take_waiting (option_map (state_with f) o) ≡ option_map (state_with f) (take_waiting o)
+  pub take_waiting-with : (o : Option (State T M)) → take_waiting (option_map (state_with f) o) ≡ option_map (state_with f) (take_waiting o)
   take_waiting-with None = refl
   take_waiting-with (Some q) = refl
 
@@ -70,7 +70,7 @@ module _ {T U M : Type 0} (f : T → U) where
   separate_behind-with b [] = refl
   separate_behind-with b (l ∷ ls) = add_empty_line-with b
 
-  start_block-with : (b : MachineBlock T M) → start_block (block_with b) ≡ option_map block_with (start_block b)
+  pub start_block-with : (b : MachineBlock T M) → start_block (block_with b) ≡ option_map block_with (start_block b)
   start_block-with b = map_with block_with block_with (λ c. record (separate_behind c c.lines) { at_block_end = false })
       (λ c. record (separate_behind c c.lines) { at_block_end = false }) (flush b) _ (flush-with b)
       (λ c. ap (λ (d : MachineBlock U M). record d { at_block_end = false }) (separate_behind-with c c.lines))
@@ -104,7 +104,7 @@ module _ {T U M : Type 0} (f : T → U) where
 
   -- ---- blocks in blocks
 
-  under-with : (t : T) (cs : List ℕ) → line_with f (under {M = M} t cs) ≡ under (f t) cs
+  pub under-with : (t : T) (cs : List ℕ) → line_with f (under {M = M} t cs) ≡ under (f t) cs
   under-with t [] = refl
   under-with t (c ∷ cs) = ap (λ l. Character c (f t) ∷ l) (under-with t cs)
 
@@ -119,7 +119,7 @@ module _ {T U M : Type 0} (f : T → U) where
   prefixed-with p q (l ∷ ls) = ap (λ x. x ∷ lines_with f (behind q ls)) (map-append (element_with f) p l)
       ∙ ap (λ xs. (line_with f p ++ line_with f l) ∷ xs) (behind-with q ls)
 
-  marked_behind-with : (ms : List M) (ls : List (Line T M)) → lines_with f (marked_behind ms ls) ≡ marked_behind ms (lines_with f ls)
+  pub marked_behind-with : (ms : List M) (ls : List (Line T M)) → lines_with f (marked_behind ms ls) ≡ marked_behind ms (lines_with f ls)
   marked_behind-with ms [] = refl
   marked_behind-with ms (l ∷ []) =
       ap (λ x. x ∷ []) (map-append (element_with f) l (marks_line ms) ∙ ap (λ x. line_with f l ++ x) (marks-with f ms))
@@ -191,14 +191,15 @@ module _ {T U M : Type 0} (f : T → U) where
       (waiting-with c.paragraph)
       ∙ append_lines-with b (under t first) (under t later) c.lines (waiting c.paragraph)))
 
-  -- THE LAW: each operation commutes with a map of tags
-  pub block_with-commutes : Commutes block_with f (operations {T = T} {M = M}) operations
-  block_with-commutes = record {
-    add_inline_text = add_inline_text-with;
-    new_line = flush-with;
-    new_line_hard = new_line_hard-with;
-    start_block = start_block-with;
-    end_block = λ b. refl;
-    sub_block = sub_block-with;
-    append = append-with;
-  }
+-- THE LAW: each operation commutes with a map of tags
+pub block_with-commutes : {T U : Type 0} (f : T → U) → Commutes (block_with f) f operations operations
+block_with-commutes f = record {
+  add_inline_text = add_inline_text-with f;
+  add_mark = λ b m. add_marks-with f b (m ∷ []);
+  new_line = flush-with f;
+  new_line_hard = new_line_hard-with f;
+  start_block = start_block-with f;
+  end_block = λ b. refl;
+  sub_block = sub_block-with f;
+  append = append-with f;
+}

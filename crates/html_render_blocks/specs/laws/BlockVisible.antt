@@ -23,7 +23,7 @@ use Rattle.html_render_blocks.specs.laws.Operations.{Counts}
 use Rattle.html_render_blocks.specs.laws.Cases.{map_if, then_if, any}
 use Rattle.html_render_blocks.specs.Joined.{behind, prefixed, marked_behind, are_within, fitting, joined}
 use Rattle.html_render_blocks.specs.Block.{DefinedBlock, paragraph_setting, empty_block, flush, add_page, add_empty_line}
-use Rattle.html_render_blocks.specs.Block.{separate_behind, start_block, new_line_hard, add_inline_text, feed, is_blank, inner_width, mark_items}
+use Rattle.html_render_blocks.specs.Block.{separate_behind, start_block, new_line_hard, add_inline_text, feed, is_blank, add_mark, inner_width, mark_items}
 use Rattle.html_render_blocks.specs.Block.{sub_block, append_lines, append, operations}
 use Rattle.html_render_blocks.specs.Visible.{visible_in_text, visible_in_block, count, text_count, visible_count}
 
@@ -43,7 +43,7 @@ items-marks : (T : Type 0) {M : Type 0} (ms : List M) → visible_in_items (mark
 items-marks T [] = refl
 items-marks T (m ∷ ms) = items-marks T ms
 
-lines-append : {T M : Type 0} (ls ks : List (Line T M)) → visible_in_lines (ls ++ ks) ≡ visible_in_lines ls ++ visible_in_lines ks
+pub lines-append : {T M : Type 0} (ls ks : List (Line T M)) → visible_in_lines (ls ++ ks) ≡ visible_in_lines ls ++ visible_in_lines ks
 lines-append [] ks = refl
 lines-append (l ∷ ls) ks = ap (λ r. visible_in_line l ++ r) (lines-append ls ks)
     ∙ sym (append_assoc (visible_in_line l) (visible_in_lines ls) (visible_in_lines ks))
@@ -52,7 +52,7 @@ lines-append (l ∷ ls) ks = ap (λ r. visible_in_line l ++ r) (lines-append ls 
 abbrev pub Same : {T M : Type 0} → DefinedBlock T M → DefinedBlock T M → Type 0
 Same d e = visible_in_block e ≡ visible_in_block d
 
-flush_same : {T M : Type 0} (d : DefinedBlock T M) → IfSome (flush d) (Same d)
+pub flush_same : {T M : Type 0} (d : DefinedBlock T M) → IfSome (flush d) (Same d)
 flush_same {T} {M} d =
     map_if (λ (p : Page T M). visible_in_lines (all_lines p) ≡ visible_in_items d.fed) (Same d) (λ (p : Page T M). add_page d p)
     (paragraph (paragraph_setting d.setting) d.marks d.fed) (paragraph_keeps (paragraph_setting d.setting) d.marks d.fed)
@@ -67,7 +67,7 @@ separate_same : {T M : Type 0} (d : DefinedBlock T M) (ls : List (Line T M)) →
 separate_same d [] = refl
 separate_same d (l ∷ ls) = add_empty_line_same d
 
-start_block_same : {T M : Type 0} (d : DefinedBlock T M) → IfSome (start_block d) (Same d)
+pub start_block_same : {T M : Type 0} (d : DefinedBlock T M) → IfSome (start_block d) (Same d)
 start_block_same d = map_if (Same d) (Same d) _ (flush d) (flush_same d) (λ e h. separate_same e e.lines ∙ h)
 
 new_line_hard_same : {T M : Type 0} (d : DefinedBlock T M) → IfSome (new_line_hard d) (Same d)
@@ -124,7 +124,7 @@ add_inline_text_adds {T} {M} d style cs =
     (λ _. map_if (Same d) (Adds (visible_in_text cs) d) (λ (e : DefinedBlock T M). feed e style cs) (start_block d) (start_block_same d)
     (λ e h. feed_adds e style cs ∙ ap (λ r. r ++ visible_in_text cs) h))))
 
-marked_behind_same : {T M : Type 0} (ms : List M) (ls : List (Line T M)) → visible_in_lines (marked_behind ms ls) ≡ visible_in_lines ls
+pub marked_behind_same : {T M : Type 0} (ms : List M) (ls : List (Line T M)) → visible_in_lines (marked_behind ms ls) ≡ visible_in_lines ls
 marked_behind_same ms [] = refl
 marked_behind_same {T} ms (l ∷ []) = ap (λ r. r ++ []) (visible_in_line-append l (marks_line ms)
     ∙ ap (λ r. visible_in_line l ++ r) (visible_in_line-marks T ms) ∙ append-nil (visible_in_line l))
@@ -132,7 +132,7 @@ marked_behind_same ms (l ∷ k ∷ ls) = ap (λ r. visible_in_line l ++ r) (mark
 
 -- ---- how often
 
-count-append : (c : ℕ) (a b : List ℕ) → count c (a ++ b) ≡ count c a + count c b
+pub count-append : (c : ℕ) (a b : List ℕ) → count c (a ++ b) ≡ count c a + count c b
 count-append c a b = sum_by-append (λ x. cond (eqb x c) 1 0) a b
 
 line_count : {T M : Type 0} (c : ℕ) (p l : Line T M) → count c (visible_in_line l) ≤ count c (visible_in_line (p ++ l))
@@ -206,7 +206,7 @@ append_lines_count {T} {M} c d p q (l ∷ ls) ms =
     ))
 
 -- nothing is fed to a block that is flushed
-flush_empties : {T M : Type 0} (d : DefinedBlock T M) → IfSome (flush d) (λ e. e.fed ≡ [])
+pub flush_empties : {T M : Type 0} (d : DefinedBlock T M) → IfSome (flush d) (λ e. e.fed ≡ [])
 flush_empties {T} {M} d = by (paragraph (paragraph_setting d.setting) d.marks d.fed)
   where
     by : (o : Option (Page T M)) → IfSome (option_map (λ (p : Page T M). add_page d p) o) (λ e. e.fed ≡ [])
@@ -245,6 +245,9 @@ add_inline_text_count c d style cs =
     IfSome_then (add_inline_text d style cs) (add_inline_text_adds d style cs)
     (λ e h. ap (count c) h ∙ count-append c (visible_in_block d) (visible_in_text cs))
 
+add_mark_same : {T M : Type 0} (d : DefinedBlock T M) (m : M) → Same d (add_mark d m)
+add_mark_same d m = ap (λ r. visible_in_lines d.lines ++ r) (items-append d.fed (Mark m ∷ []) ∙ append-nil (visible_in_items d.fed))
+
 sub_block_count : {T M : Type 0} (c : ℕ) (d : DefinedBlock T M) (prefix inner : ℕ) →
     IfSome (sub_block d prefix inner) (λ e. visible_count c e ≡ 0)
 sub_block_count {T} {M} c d prefix inner =
@@ -252,9 +255,10 @@ sub_block_count {T} {M} c d prefix inner =
     (inner_width d.setting prefix inner) (any (inner_width d.setting prefix inner)) (λ w _. refl)
 
 -- THE LAW: a visible character stands in a block as often as it was fed, or more often
-pub operations_keep_visible : {T M : Type 0} (c : ℕ) → Counts (visible_count c) (text_count c) (operations {T = T} {M = M})
+pub operations_keep_visible : {T : Type 0} (c : ℕ) → Counts (visible_count c) (text_count c) (operations {T = T})
 operations_keep_visible c = record {
   add_inline_text = add_inline_text_count c;
+  add_mark = λ d m. ap (count c) (add_mark_same d m);
   new_line = λ d. same_count c d (flush d) (flush_same d);
   new_line_hard = λ d. same_count c d (new_line_hard d) (new_line_hard_same d);
   start_block = λ d. same_count c d (start_block d) (start_block_same d);

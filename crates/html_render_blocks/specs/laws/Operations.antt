@@ -8,6 +8,7 @@ use Rattle.html_render_blocks.specs.Operations.{Operations}
 -- each operation keeps what P i says of a block, where it has an answer; a block inside it has an i of its own
 pub record Keeps {B T I : Type 0} (o : Operations B T) (P : I → B → Type 0) : Type 0 where
   pub add_inline_text : (i : I) (b : B) (s : TextStyle T) (cs : List ℕ) → P i b → IfSome (o.add_inline_text b s cs) (P i)
+  pub add_mark : (i : I) (b : B) (m : ℕ) → P i b → P i (o.add_mark b m)
   pub new_line : (i : I) (b : B) → P i b → IfSome (o.new_line b) (P i)
   pub new_line_hard : (i : I) (b : B) → P i b → IfSome (o.new_line_hard b) (P i)
   pub start_block : (i : I) (b : B) → P i b → IfSome (o.start_block b) (P i)
@@ -18,6 +19,7 @@ pub record Keeps {B T I : Type 0} (o : Operations B T) (P : I → B → Type 0) 
 -- each operation has an answer, and keeps what P i says of a block
 pub record Succeeds {B T I : Type 0} (o : Operations B T) (P : I → B → Type 0) : Type 0 where
   pub add_inline_text : (i : I) (b : B) (s : TextStyle T) (cs : List ℕ) → P i b → IsSomeAnd (o.add_inline_text b s cs) (P i)
+  pub add_mark : (i : I) (b : B) (m : ℕ) → P i b → P i (o.add_mark b m)
   pub new_line : (i : I) (b : B) → P i b → IsSomeAnd (o.new_line b) (P i)
   pub new_line_hard : (i : I) (b : B) → P i b → IsSomeAnd (o.new_line_hard b) (P i)
   pub start_block : (i : I) (b : B) → P i b → IsSomeAnd (o.start_block b) (P i)
@@ -29,6 +31,7 @@ pub record Succeeds {B T I : Type 0} (o : Operations B T) (P : I → B → Type 
 pub record Commutes {A B T U : Type 0} (f : A → B) (g : T → U) (o : Operations A T) (p : Operations B U) : Type 0 where
   pub add_inline_text : (a : A) (s : TextStyle T) (cs : List ℕ) →
       p.add_inline_text (f a) (style_with g s) cs ≡ option_map f (o.add_inline_text a s cs)
+  pub add_mark : (a : A) (m : ℕ) → p.add_mark (f a) m ≡ f (o.add_mark a m)
   pub new_line : (a : A) → p.new_line (f a) ≡ option_map f (o.new_line a)
   pub new_line_hard : (a : A) → p.new_line_hard (f a) ≡ option_map f (o.new_line_hard a)
   pub start_block : (a : A) → p.start_block (f a) ≡ option_map f (o.start_block a)
@@ -41,6 +44,7 @@ pub record Commutes {A B T U : Type 0} (f : A → B) (g : T → U) (o : Operatio
 pub record Refines {B T : Type 0} (f : B → B) (o : Operations B T) : Type 0 where
   pub add_inline_text : (b : B) (s : TextStyle T) (cs : List ℕ) →
       IfSome (o.add_inline_text b s cs) (λ c. o.add_inline_text (f b) s cs ≡ Some (f c))
+  pub add_mark : (b : B) (m : ℕ) → o.add_mark (f b) m ≡ f (o.add_mark b m)
   pub new_line : (b : B) → IfSome (o.new_line b) (λ c. o.new_line (f b) ≡ Some (f c))
   pub new_line_hard : (b : B) → IfSome (o.new_line_hard b) (λ c. o.new_line_hard (f b) ≡ Some (f c))
   pub start_block : (b : B) → IfSome (o.start_block b) (λ c. o.start_block (f b) ≡ Some (f c))
@@ -52,6 +56,7 @@ pub record Refines {B T : Type 0} (f : B → B) (o : Operations B T) : Type 0 wh
 -- what v counts in a block grows by what w counts in a text, and isn't less once blocks are joined
 pub record Counts {B T : Type 0} (v : B → ℕ) (w : List ℕ → ℕ) (o : Operations B T) : Type 0 where
   pub add_inline_text : (b : B) (s : TextStyle T) (cs : List ℕ) → IfSome (o.add_inline_text b s cs) (λ c. v c ≡ v b + w cs)
+  pub add_mark : (b : B) (m : ℕ) → v (o.add_mark b m) ≡ v b
   pub new_line : (b : B) → IfSome (o.new_line b) (λ c. v c ≡ v b)
   pub new_line_hard : (b : B) → IfSome (o.new_line_hard b) (λ c. v c ≡ v b)
   pub start_block : (b : B) → IfSome (o.start_block b) (λ c. v c ≡ v b)
@@ -71,6 +76,7 @@ pub Commutes-then : {A B C T U V : Type 0} (f : A → B) (g : T → U) (h : B �
 Commutes-then f g h k o p q c d = record {
   add_inline_text = λ a s cs. d.add_inline_text (f a) (style_with g s) cs ∙ ap (option_map h) (c.add_inline_text a s cs)
       ∙ map_map f h (o.add_inline_text a s cs);
+  add_mark = λ a m. d.add_mark (f a) m ∙ ap h (c.add_mark a m);
   new_line = λ a. d.new_line (f a) ∙ ap (option_map h) (c.new_line a) ∙ map_map f h (o.new_line a);
   new_line_hard = λ a. d.new_line_hard (f a) ∙ ap (option_map h) (c.new_line_hard a) ∙ map_map f h (o.new_line_hard a);
   start_block = λ a. d.start_block (f a) ∙ ap (option_map h) (c.start_block a) ∙ map_map f h (o.start_block a);

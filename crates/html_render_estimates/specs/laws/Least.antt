@@ -5,6 +5,7 @@ use Rattle.html_render_parts.specs.Decoration.{Decoration}
 use Rattle.html_render_nodes.specs.declared.tree.NodeKind.{NodeKind}
 use Rattle.html_render_nodes.specs.declared.tree.NodeKind.TheVariants.{Text, Container, Break, Block, Div, Emphasis, Header}
 use Rattle.html_render_nodes.specs.declared.tree.NodeKind.TheVariants.{BlockQuote, Ul, Ol, ListItem, Dl, Dt, Dd}
+use Rattle.html_render_nodes.specs.declared.tree.NodeKind.TheVariants.{Strikeout, Superscript, Link, Image, Svg, FragmentStart}
 use Rattle.html_render_nodes.specs.declared.tree.RenderNode.{RenderNode}
 use Rattle.html_render_estimates.specs.Estimates.{trees, greatest_least, node_size, size, estimate_of, measured}
 
@@ -14,6 +15,10 @@ trees-measured d s m none = refl
 trees-measured d s m (node n children beside) = omega (arith, trees-measured d s m beside)
 
 module _ {D A : Type 0} (decoration : Decoration D A) (decorator : D) (min_wrap_width : ℕ) where
+  size_bounded : (t : Forest RenderNode) → size decoration decorator t ≤ 2 ^ 64 - 1
+  size_bounded none = omega arith
+  size_bounded (node n children beside) = omega arith
+
   node_least : (kind : NodeKind) (below children : Forest RenderNode) → greatest_least below ≤ size decoration decorator children →
       trees below ≡ trees children →
       (estimate_of decoration decorator min_wrap_width kind below).least
@@ -32,27 +37,34 @@ module _ {D A : Type 0} (decoration : Decoration D A) (decorator : D) (min_wrap_
   node_least Dl below children h same = omega (arith, h)
   node_least Dt below children h same = omega (arith, h)
   node_least Dd below children h same = omega (arith, h)
+  node_least Strikeout below children h same = omega (arith, h)
+  node_least Superscript below children h same = omega (arith, h)
+  node_least (Link target) below children h same = omega (arith, h, size_bounded children)
+  node_least (Image image) below children h same = omega arith
+  node_least (Svg title) below children h same = omega arith
+  node_least (FragmentStart name) below children h same = omega arith
 
-  least_bounded : (kind : NodeKind) (below : Forest RenderNode) →
-      (estimate_of decoration decorator min_wrap_width kind below).least ≤ 2 ^ 64 - 1
-  least_bounded (Text text) below = omega arith
-  least_bounded Break below = omega arith
-  least_bounded Container below = omega arith
-  least_bounded Block below = omega arith
-  least_bounded Div below = omega arith
-  least_bounded (Emphasis e) below = omega arith
-  least_bounded (Header level) below = omega arith
-  least_bounded BlockQuote below = omega arith
-  least_bounded Ul below = omega arith
-  least_bounded (Ol first) below = omega arith
-  least_bounded ListItem below = omega arith
-  least_bounded Dl below = omega arith
-  least_bounded Dt below = omega arith
-  least_bounded Dd below = omega arith
-
-  size_bounded : (t : Forest RenderNode) → size decoration decorator t ≤ 2 ^ 64 - 1
-  size_bounded none = omega arith
-  size_bounded (node n children beside) = omega arith
+  node_size_bounded : (kind : NodeKind) (below children : ℕ) → node_size decoration decorator kind below children ≤ 2 ^ 64 - 1
+  node_size_bounded (Text text) below children = omega arith
+  node_size_bounded Break below children = omega arith
+  node_size_bounded Container below children = omega arith
+  node_size_bounded Block below children = omega arith
+  node_size_bounded Div below children = omega arith
+  node_size_bounded (Emphasis e) below children = omega arith
+  node_size_bounded (Header level) below children = omega arith
+  node_size_bounded BlockQuote below children = omega arith
+  node_size_bounded Ul below children = omega arith
+  node_size_bounded (Ol first) below children = omega arith
+  node_size_bounded ListItem below children = omega arith
+  node_size_bounded Dl below children = omega arith
+  node_size_bounded Dt below children = omega arith
+  node_size_bounded Dd below children = omega arith
+  node_size_bounded Strikeout below children = omega arith
+  node_size_bounded Superscript below children = omega arith
+  node_size_bounded (Link target) below children = omega arith
+  node_size_bounded (Image image) below children = omega arith
+  node_size_bounded (Svg title) below children = omega arith
+  node_size_bounded (FragmentStart name) below children = omega arith
 
   pub least_within_size : (t : Forest RenderNode) →
       greatest_least (measured decoration decorator min_wrap_width t) ≤ size decoration decorator t
@@ -61,4 +73,10 @@ module _ {D A : Type 0} (decoration : Decoration D A) (decorator : D) (min_wrap_
       let below = measured decoration decorator min_wrap_width children in
       let front =
       node_least n.kind below children (least_within_size children) (trees-measured decoration decorator min_wrap_width children) in
-      omega (arith, front, least_within_size beside, least_bounded n.kind below, size_bounded beside)
+      omega (
+        arith,
+        front,
+        least_within_size beside,
+        size_bounded beside,
+        node_size_bounded n.kind (size decoration decorator children) (trees children),
+      )

@@ -1,14 +1,18 @@
 -- What a layout keeps, if each operation on blocks does, and what it gives back.
-use Rattle.std.proofs.Common.{◌≡◌, Option, Some, None, MatchOption, IfSome, List, ℕ, refl, ap, sym, ◌∙◌, option_and_then}
+use Rattle.std.proofs.Common.{◌≡◌, ℕ, ◌+◌, Bool, true, false, cond, List, [], ◌++◌, length, codes, Option, Some, None, MatchOption, IfSome}
+use Rattle.std.proofs.Common.{refl, ap, sym, ◌∙◌, subst, option_and_then}
+use Rattle.std.specs.Fmt.{decimal}
 use Rattle.std.specs.Option.{IsSomeAnd}
+use Rattle.std.specs.Prelude.{map}
 use Rattle.std.specs.Str.{chars}
 use Rattle.html_render_dom.specs.Forest.{Forest, none, node}
-use Rattle.html_render_parts.specs.Decoration.{Decoration, Round}
+use Rattle.html_render_parts.specs.Decoration.{Decoration, Round, link}
 use Rattle.html_render_lines.specs.declared.character.TextStyle.{TextStyle}
 use Rattle.html_render_nodes.specs.declared.tree.Estimate.{Estimate}
 use Rattle.html_render_nodes.specs.declared.tree.NodeKind.{NodeKind}
 use Rattle.html_render_nodes.specs.declared.tree.NodeKind.TheVariants.{Text, Container, Break, Block, Div, Emphasis}
 use Rattle.html_render_nodes.specs.declared.tree.NodeKind.TheVariants.{Header, BlockQuote, Ul, Ol, ListItem, Dl, Dt, Dd}
+use Rattle.html_render_nodes.specs.declared.tree.NodeKind.TheVariants.{Strikeout, Superscript, Link, Image, Svg, FragmentStart}
 use Rattle.html_render_nodes.specs.declared.tree.RenderNode.{RenderNode}
 use Rattle.html_render_nodes.specs.Pass.{run}
 use Rattle.html_render_nodes.specs.laws.Runs.{MatchOption-then, IfSome-then, IfSome-weaken, NodesKeep, run-keeps}
@@ -20,13 +24,17 @@ use Rattle.html_render_layout.specs.declared.layout.state.Around.{Around}
 use Rattle.html_render_layout.specs.declared.layout.state.Around.TheVariants.{Plain, Bullets, Numbers}
 use Rattle.html_render_layout.specs.declared.layout.state.LayoutState.{LayoutState}
 use Rattle.html_render_layout.specs.declared.layout.state.TextContext.{TextContext}
-use Rattle.html_render_layout.specs.Layout.{on_block, add_text, text_style, under, emphasis_decoration, begun, decorated, restored, placed}
-use Rattle.html_render_layout.specs.Layout.{inner_least, spaces, padded, next_number, nested, indented, quoted, among, numbers}
-use Rattle.html_render_layout.specs.Layout.{kind_steps, steps}
+use Rattle.html_render_layout.specs.Images.{shown_title}
+use Rattle.html_render_layout.specs.Layout.{on_block, written, add_characters, add_text, text_style, under, emphasis_decoration}
+use Rattle.html_render_layout.specs.Layout.{begun, decorated, placed, inner_least, spaces, padded, next_number, nested, indented, quoted, among}
+use Rattle.html_render_layout.specs.Layout.{numbers, image_round, titled, image, raised, digits_of, superscript, striking, struck_out}
+use Rattle.html_render_layout.specs.Layout.{with_target, link_number, linked, in_style, kind_steps, node_steps, steps}
+use Rattle.html_render_layout.specs.laws.Styles.{in_style-decorator, in_style-block, in_style-around}
 
 -- each operation keeps what P i says of a block; N is what holds where it has no answer
 record Each {B T I : Type 0} (o : Operations B T) (N : Type 0) (P : I → B → Type 0) : Type 0 where
   pub add_inline_text : (i : I) (b : B) (s : TextStyle T) (cs : List ℕ) → P i b → MatchOption (o.add_inline_text b s cs) N (P i)
+  pub add_mark : (i : I) (b : B) (m : ℕ) → P i b → P i (o.add_mark b m)
   pub new_line : (i : I) (b : B) → P i b → MatchOption (o.new_line b) N (P i)
   pub new_line_hard : (i : I) (b : B) → P i b → MatchOption (o.new_line_hard b) N (P i)
   pub start_block : (i : I) (b : B) → P i b → MatchOption (o.start_block b) N (P i)
@@ -84,13 +92,33 @@ module _ {S A K T B : Type 0} (d : Decoration S A) (push : K → T → A → K �
     start_block-keeps : (i : I) (s : State) → OfState i s → MatchOption (on_block o.start_block s) N (OfState i)
     start_block-keeps i s p = on_block-keeps o.start_block i s (h.start_block i s.block p)
 
+    characters-keep : (cs : List ℕ) (i : I) (s : State) → OfState i s → MatchOption (add_characters o cs s) N (OfState i)
+    characters-keep cs i s p = on_block-keeps (λ b. o.add_inline_text b (text_style s.text) (written s.text.struck_out cs)) i s
+        (h.add_inline_text i s.block (text_style s.text) (written s.text.struck_out cs) p)
+
     text-keeps : (t : List ℕ) (i : I) (s : State) → OfState i s → MatchOption (add_text o t s) N (OfState i)
-    text-keeps t i s p = on_block-keeps (λ b. o.add_inline_text b (text_style s.text) (chars t)) i s
-        (h.add_inline_text i s.block (text_style s.text) (chars t) p)
+    text-keeps t i s p = characters-keep (chars t) i s p
 
     begun-keeps : (round : Round S A) (i : I) (s : State) → OfState i s → MatchOption (begun d push o round s) N (OfState i)
     begun-keeps round i s p =
         text-keeps (round.start s.decorator).text i (under (push s.stacks s.text.tag (round.start s.decorator).annotation) s) p
+
+    titled-keeps : (source : List ℕ) (title : Option (List ℕ)) (i : I) (s : State) → OfState i s →
+        MatchOption (titled d push o source title s) N (OfState i)
+    titled-keeps source None i s p = p
+    titled-keeps source (Some title) i s p = begun-keeps (image_round d source title) i s p
+
+    image-keeps : (source title : List ℕ) (i : I) (s : State) → OfState i s → MatchOption (image d push o source title s) N (OfState i)
+    image-keeps source title i s p = titled-keeps source (shown_title s.settings.empty_images source title) i s p
+
+    link_number-keeps : (text : TextContext T) (number : ℕ) (i : I) (s : State) → OfState i s →
+        MatchOption (link_number o text number s) N (OfState i)
+    link_number-keeps text number i s p = by s.settings.link_footnotes
+      where
+        by : (z : Bool) →
+            MatchOption (cond z (add_text o (codes "[" ++ decimal number ++ codes "]") (record s { text = text })) (Some s)) N (OfState i)
+        by true = text-keeps (codes "[" ++ decimal number ++ codes "]") i (record s { text = text }) p
+        by false = p
 
     -- one step after another
     then_keeps : (i : I) (l : Option State) (f : State → Option State) → MatchOption l N (OfState i) →
@@ -107,8 +135,9 @@ module _ {S A K T B : Type 0} (d : Decoration S A) (push : K → T → A → K �
         (h.sub_block i s.block prefix least p) (λ b k. k)) (λ q k. next k.0 q k.1)
 
     module _ (layout : State → Option State) (below : (i : I) (q : State) → OfState i q → MatchOption (layout q) N (OfState i)) where
-      block-keeps : (e : Estimate) (i : I) (s : State) → OfState i s → MatchOption (kind_steps d push o Block e layout s) N (OfState i)
-      block-keeps e i s p =
+      block-keeps : (e : Estimate) (trees : Forest RenderNode) (i : I) (s : State) → OfState i s →
+          MatchOption (kind_steps d push o Block e trees layout s) N (OfState i)
+      block-keeps e trees i s p =
           then_keeps i (on_block o.start_block s) _ (start_block-keeps i s p) (λ q a.
           then_keeps i (layout q) _ (below i q a) (λ r b. h.end_block i r.block b))
 
@@ -138,29 +167,55 @@ module _ {S A K T B : Type 0} (d : Decoration S A) (push : K → T → A → K �
       among-keeps : (around : Around) (i : I) (s : State) → OfState i s → MatchOption (among around layout s) N (OfState i)
       among-keeps around i s p = then_keeps i (layout (record s { around = around })) _ (below i _ p) (λ r b. b)
 
-      kind-keeps : (k : NodeKind) (e : Estimate) (i : I) (s : State) → OfState i s →
-          MatchOption (kind_steps d push o k e layout s) N (OfState i)
-      kind-keeps (Text t) e i s p = text-keeps t i s p
-      kind-keeps Container e i s p = below i s p
-      kind-keeps Break e i s p = on_block-keeps o.new_line_hard i s (h.new_line_hard i s.block p)
-      kind-keeps Block e i s p = block-keeps e i s p
-      kind-keeps Div e i s p =
+      struck_out-keeps : (i : I) (s : State) → OfState i s → MatchOption (struck_out d push o layout s) N (OfState i)
+      struck_out-keeps i s p =
+          then_keeps i (begun d push o d.strikeout s) _ (begun-keeps d.strikeout i s p) (λ q a.
+          then_keeps i (layout (striking s.settings.unicode_strikeout q)) _ (below i (striking s.settings.unicode_strikeout q) a) (λ r b.
+          text-keeps (d.strikeout.end r.decorator) i (striking s.text.struck_out r) b))
+
+      superscript-keeps : (digits : Option (List ℕ)) (i : I) (s : State) → OfState i s →
+          MatchOption (superscript d push o digits layout s) N (OfState i)
+      superscript-keeps None i s p = decorated-keeps d.superscript i s p
+      superscript-keeps (Some digits) i s p = characters-keep (map raised digits) i s p
+
+      linked-keeps : (target : List ℕ) (i : I) (s : State) → OfState i s → MatchOption (linked d push o target layout s) N (OfState i)
+      linked-keeps target i s p =
+          then_keeps i (decorated d push o (link d target) layout (with_target target s)) _
+          (decorated-keeps (link d target) i (with_target target s) p) (λ r b.
+          link_number-keeps s.text (length s.targets + 1) i r b)
+
+      kind-keeps : (k : NodeKind) (e : Estimate) (trees : Forest RenderNode) (i : I) (s : State) → OfState i s →
+          MatchOption (kind_steps d push o k e trees layout s) N (OfState i)
+      kind-keeps (Text t) e trees i s p = text-keeps t i s p
+      kind-keeps Container e trees i s p = below i s p
+      kind-keeps Break e trees i s p = on_block-keeps o.new_line_hard i s (h.new_line_hard i s.block p)
+      kind-keeps Block e trees i s p = block-keeps e trees i s p
+      kind-keeps Div e trees i s p =
           then_keeps i (on_block o.new_line s) _ (new_line-keeps i s p) (λ q a.
           then_keeps i (layout q) _ (below i q a) (λ r b. new_line-keeps i r b))
-      kind-keeps (Emphasis m) e i s p = decorated-keeps (emphasis_decoration d m) i s p
-      kind-keeps (Header level) e i s p = quoted-keeps (d.header_prefix s.decorator level) (inner_least e) i s p
-      kind-keeps BlockQuote e i s p = quoted-keeps (d.quote_prefix s.decorator) (inner_least e) i s p
-      kind-keeps Ul e i s p = among-keeps (Bullets (inner_least e)) i s p
-      kind-keeps (Ol first) e i s p = among-keeps (numbers d e first s.decorator) i s p
-      kind-keeps ListItem e i s p = block-keeps e i s p
-      kind-keeps Dl e i s p = then_keeps i (on_block o.start_block s) _ (start_block-keeps i s p) (λ q a. below i q a)
-      kind-keeps Dt e i s p =
+      kind-keeps (Emphasis m) e trees i s p = decorated-keeps (emphasis_decoration d m) i s p
+      kind-keeps (Header level) e trees i s p = quoted-keeps (d.header_prefix s.decorator level) (inner_least e) i s p
+      kind-keeps BlockQuote e trees i s p = quoted-keeps (d.quote_prefix s.decorator) (inner_least e) i s p
+      kind-keeps Ul e trees i s p = among-keeps (Bullets (inner_least e)) i s p
+      kind-keeps (Ol first) e trees i s p = among-keeps (numbers d e first s.decorator) i s p
+      kind-keeps ListItem e trees i s p = block-keeps e trees i s p
+      kind-keeps Dl e trees i s p = then_keeps i (on_block o.start_block s) _ (start_block-keeps i s p) (λ q a. below i q a)
+      kind-keeps Dt e trees i s p =
           then_keeps i (on_block o.new_line s) _ (new_line-keeps i s p) (λ q a. decorated-keeps d.em i q a)
-      kind-keeps Dd e i s p = indented-keeps (spaces 2) 2 (inner_least e) s.around i s p
+      kind-keeps Dd e trees i s p = indented-keeps (spaces 2) 2 (inner_least e) s.around i s p
+      kind-keeps Strikeout e trees i s p = struck_out-keeps i s p
+      kind-keeps Superscript e trees i s p = superscript-keeps (digits_of trees) i s p
+      kind-keeps (Link target) e trees i s p = linked-keeps target i s p
+      kind-keeps (Image m) e trees i s p = image-keeps m.source m.title i s p
+      kind-keeps (Svg title) e trees i s p = image-keeps [] title i s p
+      kind-keeps (FragmentStart name) e trees i s p = h.add_mark i s.block (length s.names) p
 
-      restored-keeps : (k : NodeKind) (e : Estimate) (i : I) (s : State) → OfState i s →
-          MatchOption (restored (kind_steps d push o k e layout) s) N (OfState i)
-      restored-keeps k e i s p = then_keeps i (kind_steps d push o k e layout s) _ (kind-keeps k e i s p) (λ r b. b)
+      node-keeps : (n : RenderNode) (trees : Forest RenderNode) (i : I) (s : State) → OfState i s →
+          MatchOption (node_steps d push o n trees layout s) N (OfState i)
+      node-keeps n trees i s p =
+          let q : State = in_style d push n.style s in
+          then_keeps i (kind_steps d push o n.kind n.estimate trees layout q) _
+          (kind-keeps n.kind n.estimate trees i q (subst (P i) (sym (in_style-block d push n.style s)) p)) (λ r b. b)
 
       placed-keeps : (a : Around) (i : I) (s : State) → OfState i s → MatchOption (placed d o layout s a) N (OfState i)
       placed-keeps Plain i s p = below i s p
@@ -173,8 +228,7 @@ module _ {S A K T B : Type 0} (d : Decoration S A) (push : K → T → A → K �
 
     steps-keep : NodesKeep N OfState (steps d push o)
     steps-keep n trees children below i s p =
-        placed-keeps (λ q. restored (kind_steps d push o n.kind n.estimate children) q)
-        (λ j q a. restored-keeps children below n.kind n.estimate j q a) s.around i s p
+        placed-keeps (λ q. node_steps d push o n trees children q) (λ j q a. node-keeps children below n trees j q a) s.around i s p
 
     each-keeps : (t : Forest RenderNode) (i : I) (s : State) → P i s.block → MatchOption (run (steps d push o) t s) N (OfState i)
     each-keeps t i s p = run-keeps N OfState (steps d push o) steps-keep t i s p
@@ -188,6 +242,7 @@ module _ {S A K T B : Type 0} (d : Decoration S A) (push : K → T → A → K �
         IfSome (run (steps d push o) t s) (λ r. P i r.block)
     layout-keeps h t i s p = match_if (λ (r : State). P i r.block) (run (steps d push o) t s) (each-keeps (Unit {0}) P (record {
       add_inline_text = λ i b x cs k. if_match (P i) (o.add_inline_text b x cs) (h.add_inline_text i b x cs k);
+      add_mark = h.add_mark;
       new_line = λ i b k. if_match (P i) (o.new_line b) (h.new_line i b k);
       new_line_hard = λ i b k. if_match (P i) (o.new_line_hard b) (h.new_line_hard i b k);
       start_block = λ i b k. if_match (P i) (o.start_block b) (h.start_block i b k);
@@ -201,6 +256,7 @@ module _ {S A K T B : Type 0} (d : Decoration S A) (push : K → T → A → K �
         IsSomeAnd (run (steps d push o) t s) (λ r. P i r.block)
     layout-succeeds h t i s p = match_and (λ (r : State). P i r.block) (run (steps d push o) t s) (each-keeps ⊥ P (record {
       add_inline_text = λ i b x cs k. and_match (P i) (o.add_inline_text b x cs) (h.add_inline_text i b x cs k);
+      add_mark = h.add_mark;
       new_line = λ i b k. and_match (P i) (o.new_line b) (h.new_line i b k);
       new_line_hard = λ i b k. and_match (P i) (o.new_line_hard b) (h.new_line_hard i b k);
       start_block = λ i b k. and_match (P i) (o.start_block b) (h.start_block i b k);
@@ -232,12 +288,30 @@ module _ {S A K T B : Type 0} (d : Decoration S A) (push : K → T → A → K �
   then_same s l f h next = IfSome-then (SamePlace s) (SamePlace s) l f h (λ q a.
       IfSome-weaken (SamePlace q) (SamePlace s) (f q) (next q) (λ r b. (b.0 ∙ a.0, λ e. b.1 (a.1 e))))
 
+  characters-same : (cs : List ℕ) (s : State) → IfSome (add_characters o cs s) (SamePlace s)
+  characters-same cs s = on_block-same (λ b. o.add_inline_text b (text_style s.text) (written s.text.struck_out cs)) s
+
   text-same : (t : List ℕ) (s : State) → IfSome (add_text o t s) (SamePlace s)
-  text-same t s = on_block-same (λ b. o.add_inline_text b (text_style s.text) (chars t)) s
+  text-same t s = characters-same (chars t) s
 
   begun-same : (round : Round S A) (s : State) → IfSome (begun d push o round s) (SamePlace s)
   begun-same round s =
       text-same (round.start s.decorator).text (under (push s.stacks s.text.tag (round.start s.decorator).annotation) s)
+
+  titled-same : (source : List ℕ) (title : Option (List ℕ)) (s : State) → IfSome (titled d push o source title s) (SamePlace s)
+  titled-same source None s = (refl, λ e. e)
+  titled-same source (Some title) s = begun-same (image_round d source title) s
+
+  image-same : (source title : List ℕ) (s : State) → IfSome (image d push o source title s) (SamePlace s)
+  image-same source title s = titled-same source (shown_title s.settings.empty_images source title) s
+
+  link_number-same : (text : TextContext T) (number : ℕ) (s : State) → IfSome (link_number o text number s) (SamePlace s)
+  link_number-same text number s = by s.settings.link_footnotes
+    where
+      by : (z : Bool) →
+          IfSome (cond z (add_text o (codes "[" ++ decimal number ++ codes "]") (record s { text = text })) (Some s)) (SamePlace s)
+      by true = text-same (codes "[" ++ decimal number ++ codes "]") (record s { text = text })
+      by false = (refl, λ e. e)
 
   -- what comes back from a block inside the state's
   inner-same : (Q : State → Type 0) (prefix least : ℕ) (s : State) (f : State → Option State) →
@@ -273,8 +347,9 @@ module _ {S A K T B : Type 0} (d : Decoration S A) (push : K → T → A → K �
     below-same : (q : State) → IfSome (children q) (SamePlace q)
     below-same q = IfSome-weaken (Same q) (SamePlace q) (children q) (below q) (λ r a. (a.1, a.2))
 
-    block-same : (e : Estimate) (s : State) → IfSome (kind_steps d push o Block e children s) (SamePlace s)
-    block-same e s =
+    block-same : (e : Estimate) (trees : Forest RenderNode) (s : State) →
+        IfSome (kind_steps d push o Block e trees children s) (SamePlace s)
+    block-same e trees s =
         then_same s (on_block o.start_block s) _ (on_block-same o.start_block s) (λ q.
         then_same q (children q) _ (below-same q) (λ r. (refl, λ e. e)))
 
@@ -288,31 +363,56 @@ module _ {S A K T B : Type 0} (d : Decoration S A) (push : K → T → A → K �
         let u : State = record s { around = around } in
         IfSome-then (SamePlace u) (SamePlace s) (children u) _ (below-same u) (λ r a. (a.0, λ e. e))
 
-    kind-same : (k : NodeKind) (e : Estimate) (s : State) → IfSome (kind_steps d push o k e children s) (SamePlace s)
-    kind-same (Text t) e s = text-same t s
-    kind-same Container e s = below-same s
-    kind-same Break e s = on_block-same o.new_line_hard s
-    kind-same Block e s = block-same e s
-    kind-same Div e s =
+    struck_out-same : (s : State) → IfSome (struck_out d push o children s) (SamePlace s)
+    struck_out-same s =
+        then_same s (begun d push o d.strikeout s) _ (begun-same d.strikeout s) (λ q.
+        then_same q (children (striking s.settings.unicode_strikeout q)) _ (below-same (striking s.settings.unicode_strikeout q)) (λ r.
+        text-same (d.strikeout.end r.decorator) (striking s.text.struck_out r)))
+
+    superscript-same : (digits : Option (List ℕ)) (s : State) → IfSome (superscript d push o digits children s) (SamePlace s)
+    superscript-same None s = decorated-same d.superscript s
+    superscript-same (Some digits) s = characters-same (map raised digits) s
+
+    linked-same : (target : List ℕ) (s : State) → IfSome (linked d push o target children s) (SamePlace s)
+    linked-same target s =
+        then_same s (decorated d push o (link d target) children (with_target target s)) _
+        (decorated-same (link d target) (with_target target s)) (λ r. link_number-same s.text (length s.targets + 1) r)
+
+    kind-same : (k : NodeKind) (e : Estimate) (trees : Forest RenderNode) (s : State) →
+        IfSome (kind_steps d push o k e trees children s) (SamePlace s)
+    kind-same (Text t) e trees s = text-same t s
+    kind-same Container e trees s = below-same s
+    kind-same Break e trees s = on_block-same o.new_line_hard s
+    kind-same Block e trees s = block-same e trees s
+    kind-same Div e trees s =
         then_same s (on_block o.new_line s) _ (on_block-same o.new_line s) (λ q.
         then_same q (children q) _ (below-same q) (λ r. on_block-same o.new_line r))
-    kind-same (Emphasis m) e s = decorated-same (emphasis_decoration d m) s
-    kind-same (Header level) e s = quoted-same children (d.header_prefix s.decorator level) (inner_least e) s
-    kind-same BlockQuote e s = quoted-same children (d.quote_prefix s.decorator) (inner_least e) s
-    kind-same Ul e s = among-same (Bullets (inner_least e)) s
-    kind-same (Ol first) e s = among-same (numbers d e first s.decorator) s
-    kind-same ListItem e s = block-same e s
-    kind-same Dl e s = then_same s (on_block o.start_block s) _ (on_block-same o.start_block s) below-same
-    kind-same Dt e s = then_same s (on_block o.new_line s) _ (on_block-same o.new_line s) (decorated-same d.em)
-    kind-same Dd e s =
+    kind-same (Emphasis m) e trees s = decorated-same (emphasis_decoration d m) s
+    kind-same (Header level) e trees s = quoted-same children (d.header_prefix s.decorator level) (inner_least e) s
+    kind-same BlockQuote e trees s = quoted-same children (d.quote_prefix s.decorator) (inner_least e) s
+    kind-same Ul e trees s = among-same (Bullets (inner_least e)) s
+    kind-same (Ol first) e trees s = among-same (numbers d e first s.decorator) s
+    kind-same ListItem e trees s = block-same e trees s
+    kind-same Dl e trees s = then_same s (on_block o.start_block s) _ (on_block-same o.start_block s) below-same
+    kind-same Dt e trees s = then_same s (on_block o.new_line s) _ (on_block-same o.new_line s) (decorated-same d.em)
+    kind-same Dd e trees s =
         IfSome-weaken (λ (r : State). Unit {0} × (r.decorator ≡ s.decorator) × (r.around ≡ s.around)) (SamePlace s)
         (indented d o (spaces 2) 2 (inner_least e) s.around children s)
         (indented-same (λ x. Unit {0}) children (spaces 2) 2 (inner_least e) s.around s (λ q k. any (children q)))
         (λ r a. (a.1, λ e. a.2 ∙ e))
+    kind-same Strikeout e trees s = struck_out-same s
+    kind-same Superscript e trees s = superscript-same (digits_of trees) s
+    kind-same (Link target) e trees s = linked-same target s
+    kind-same (Image m) e trees s = image-same m.source m.title s
+    kind-same (Svg title) e trees s = image-same [] title s
+    kind-same (FragmentStart name) e trees s = (refl, λ e. e)
 
-    restored-same : (k : NodeKind) (e : Estimate) (s : State) → IfSome (restored (kind_steps d push o k e children) s) (Same s)
-    restored-same k e s =
-        IfSome-then (SamePlace s) (Same s) (kind_steps d push o k e children s) _ (kind-same k e s) (λ r a. (refl, a.0, a.1))
+    node-same : (n : RenderNode) (trees : Forest RenderNode) (s : State) → IfSome (node_steps d push o n trees children s) (Same s)
+    node-same n trees s =
+        let q : State = in_style d push n.style s in
+        IfSome-then (SamePlace q) (Same s) (kind_steps d push o n.kind n.estimate trees children q) _
+        (kind-same n.kind n.estimate trees q) (λ r a.
+        (refl, a.0 ∙ in_style-decorator d push n.style s, λ e. a.1 (in_style-around d push n.style s ∙ e)))
 
   -- behind a node
   abbrev Behind : State → State → Type 0
@@ -350,10 +450,10 @@ module _ {S A K T B : Type 0} (d : Decoration S A) (push : K → T → A → K �
   layout-stands (node n children beside) s =
       let below : State → Option State = λ q. run (steps d push o) children q in
       IfSome-then (Behind s) (Returned (node n children beside) s) (steps d push o n children below s) _
-      (placed-behind (λ q. restored (kind_steps d push o n.kind n.estimate below) q)
-      (restored-same below (λ q.
+      (placed-behind (λ q. node_steps d push o n children below q)
+      (node-same below (λ q.
       IfSome-weaken (Returned children q) (Same q) (below q) (layout-stands children q) (λ r a.
-      (a.0, a.1, λ e. a.2 ∙ ap (behind_nodes children) e ∙ behind-plain children))) n.kind n.estimate) s s.around refl) (λ q a.
+      (a.0, a.1, λ e. a.2 ∙ ap (behind_nodes children) e ∙ behind-plain children))) n children) s s.around refl) (λ q a.
       IfSome-weaken (Returned beside q) (Returned (node n children beside) s) (run (steps d push o) beside q) (layout-stands beside q)
       (λ r b. (b.0 ∙ a.0, b.1 ∙ a.1, b.2 ∙ ap (behind_nodes beside) a.2)))
 

@@ -20,8 +20,12 @@ use Rattle.html_render_blocks.specs.declared.block.BlockSetting.{BlockSetting}
 use Rattle.html_render_blocks.specs.Block as definition
 use Rattle.html_render_blocks.specs.Block.{DefinedBlock}
 use Rattle.html_render_blocks.specs.laws.BlockLaws.{IsWithin, Overflows, empty_within, operations_within, operations_succeed}
-use Rattle.html_render_layout.specs.Layout.{on_block, onto, shown_after, Defined, defined, empty_state, estimated, layout_lines, no_tag}
+use Rattle.html_render_blocks.specs.laws.Closing.{finish_within, add_closing_lines_within, finish_succeeds, add_closing_lines_succeeds}
+use Rattle.html_render_layout.specs.declared.settings.LayoutSettings.{LayoutSettings}
+use Rattle.html_render_layout.specs.Ending.{ended}
+use Rattle.html_render_layout.specs.Layout.{onto, shown_after, Defined, defined, empty_state, estimated, layout_lines, no_tag}
 use Rattle.html_render_layout.specs.Layout.{untagged_lines}
+use Rattle.html_render_layout.specs.laws.Ending.{ended-keeps, ended-succeeds}
 use Rattle.html_render_layout.specs.laws.LayoutKeeps.{layout-keeps, layout-succeeds}
 
 then_some : {X Y : Type 0} (P : X → Type 0) (o : Option X) (f : X → Option Y) → IsSomeAnd o P → ((x : X) → P x → IsSome (f x)) →
@@ -38,57 +42,52 @@ within-with {T} {U} {M} f w (l ∷ ls) h =
     (subst (λ n. n ≤ w) (sym (columns-with f l)) (All-head (λ (l : Line T M). columns l ≤ w) l ls h))
     (within-with f w ls (All-tail (λ (l : Line T M). columns l ≤ w) l ls h))
 
-module _ {S A : Type 0} (d : Decoration S A) where
+module _ {S A : Type 0} (d : Decoration S A) (settings : LayoutSettings) where
   abbrev lines_from : Forest RenderNode → Defined S A → Option (List (Line (List A) ℕ))
-  lines_from t s = shown_after d onto definition.operations (λ (r : Defined S A). r.block.lines) t s
+  lines_from t s = shown_after d onto definition.operations definition.ending (λ (r : Defined S A). r.block.lines) t s
 
   abbrev setting : ℕ → Bool → BlockSetting
   setting w o = record { width = w; max_wrap_width = None; overflow = o }
 
-  lines-within : (t : Forest RenderNode) (decorator : S) (w : ℕ) →
-      IfSome (lines_from t (empty_state d decorator w false)) (λ lines. AllWithinWidth w lines)
-  lines-within t decorator w =
+  lines-within : (t : Forest RenderNode) (decorator : S) (w : ℕ) → settings.wrap_links ≡ true →
+      IfSome (lines_from t (empty_state d settings decorator w false)) (λ lines. AllWithinWidth w lines)
+  lines-within t decorator w wrapped =
       IfSome-then (λ (r : Defined S A). IsWithin w r.block) (λ lines. AllWithinWidth w lines)
-      (run (defined d) t (empty_state d decorator w false)) _
-      (layout-keeps d onto definition.operations IsWithin operations_within t w (empty_state d decorator w false)
+      (run (defined d) t (empty_state d settings decorator w false)) _
+      (layout-keeps d onto definition.operations IsWithin operations_within t w (empty_state d settings decorator w false)
       (empty_within (setting w false) refl)) (λ r h.
       IfSome-then (λ (q : Defined S A). IsWithin w q.block) (λ lines. AllWithinWidth w lines)
-      (on_block definition.operations.new_line r) _
-      (IfSome-then (IsWithin w) (λ (q : Defined S A). IsWithin w q.block) (definition.operations.new_line r.block) _
-      (operations_within.new_line w r.block h) (λ b k. k)) (λ q k. k.lines))
+      (ended d definition.ending settings.link_footnotes settings.wrap_links [] r) _
+      (subst (λ cut. IfSome (ended d definition.ending settings.link_footnotes cut [] r) (λ q. IsWithin w q.block)) (sym wrapped)
+      (ended-keeps d definition.ending settings.link_footnotes true [] (IsWithin w) (IsWithin w) r (finish_within w r.block h)
+      (λ b ts k. add_closing_lines_within w b [] ts k))) (λ q k. k.lines))
 
-  -- with overflow off no line passes the width
-  pub layout_within : (t : Forest RenderNode) (decorator : S) (w : ℕ) →
-      IfSome (layout_lines d t decorator w false) (λ lines. AllWithinWidth w lines)
-  layout_within t decorator w = by (w == 0)
+  -- with overflow off, and closing lines that are cut, no line passes the width
+  pub layout_within : (t : Forest RenderNode) (decorator : S) (w : ℕ) → settings.wrap_links ≡ true →
+      IfSome (layout_lines d settings t decorator w false) (λ lines. AllWithinWidth w lines)
+  layout_within t decorator w wrapped = by (w == 0)
     where
       by : (z : Bool) →
-          IfSome (cond z None (lines_from (estimated d decorator t) (empty_state d decorator w false))) (λ lines. AllWithinWidth w lines)
+          IfSome (cond z None (lines_from (estimated d decorator t) (empty_state d settings decorator w false))) (λ lines. AllWithinWidth w lines)
       by true = tt
-      by false = lines-within (estimated d decorator t) decorator w
+      by false = lines-within (estimated d decorator t) decorator w wrapped
 
-  flushes : (w : ℕ) (r : Defined S A) → Overflows w r.block →
-      IsSomeAnd (on_block definition.operations.new_line r) (λ q. Overflows w q.block)
-  flushes w r k = at (definition.operations.new_line r.block) (operations_succeed.new_line w r.block k)
-    where
-      at : (o : Option (DefinedBlock (List A) ℕ)) → IsSomeAnd o (Overflows w) →
-          IsSomeAnd (option_and_then (λ b. Some (record r { block = b })) o) (λ q. Overflows w q.block)
-      at None n = n
-      at (Some b) n = n
-
-  lines-succeed : (t : Forest RenderNode) (decorator : S) (w : ℕ) → IsSome (lines_from t (empty_state d decorator w true))
+  lines-succeed : (t : Forest RenderNode) (decorator : S) (w : ℕ) → IsSome (lines_from t (empty_state d settings decorator w true))
   lines-succeed t decorator w =
-      then_some (λ (r : Defined S A). Overflows w r.block) (run (defined d) t (empty_state d decorator w true)) _
-      (layout-succeeds d onto definition.operations Overflows operations_succeed t w (empty_state d decorator w true)
+      then_some (λ (r : Defined S A). Overflows w r.block) (run (defined d) t (empty_state d settings decorator w true)) _
+      (layout-succeeds d onto definition.operations Overflows operations_succeed t w (empty_state d settings decorator w true)
       (record { width = refl; overflow = refl })) (λ r k.
-      then_some (λ (q : Defined S A). Overflows w q.block) (on_block definition.operations.new_line r) _ (flushes w r k) (λ q n. refl))
+      then_some (λ (q : Defined S A). Overflows w q.block)
+      (ended d definition.ending settings.link_footnotes settings.wrap_links [] r) _
+      (ended-succeeds d definition.ending settings.link_footnotes settings.wrap_links [] (Overflows w) r (finish_succeeds w r.block k)
+      (λ b ts n. add_closing_lines_succeeds w b settings.wrap_links [] ts n)) (λ q n. refl))
 
   -- with overflow on it is never too narrow, but at width 0
-  pub layout_succeeds : (t : Forest RenderNode) (decorator : S) (w : ℕ) → 0 < w → IsSome (layout_lines d t decorator w true)
+  pub layout_succeeds : (t : Forest RenderNode) (decorator : S) (w : ℕ) → 0 < w → IsSome (layout_lines d settings t decorator w true)
   layout_succeeds t decorator w h = by (w == 0) refl
     where
       by : (z : Bool) → (w == 0) ≡ z →
-          IsSome (cond z None (lines_from (estimated d decorator t) (empty_state d decorator w true)))
+          IsSome (cond z None (lines_from (estimated d decorator t) (empty_state d settings decorator w true)))
       by true e = absurd (let zero = eqb-true w 0 e in omega arith)
       by false e = lines-succeed (estimated d decorator t) decorator w
 
@@ -96,10 +95,12 @@ module _ {S A : Type 0} (d : Decoration S A) where
 
   pub within-answered : {X : Type 0} (t : Forest RenderNode) (decorator : S) (w : ℕ) (o : Bool) (lines : X →
       List (Line (List A) ℕ)) (r : Result X Error) →
-      IfOk r (λ v. layout_lines d t decorator w o ≡ Some (lines v)) → IfOk r (λ v. o ≡ false → AllWithinWidth w (lines v))
+      IfOk r (λ v. layout_lines d settings t decorator w o ≡ Some (lines v)) →
+      IfOk r (λ v. o ≡ false → settings.wrap_links ≡ true → AllWithinWidth w (lines v))
   within-answered t decorator w o lines (Err e) h = tt
   within-answered t decorator w o lines (Ok v) h =
-      λ off. by (layout_lines d t decorator w false) (layout_within t decorator w) (ap (λ b. layout_lines d t decorator w b) (sym off) ∙ h)
+      λ off wrapped. by (layout_lines d settings t decorator w false) (layout_within t decorator w wrapped)
+      (ap (λ b. layout_lines d settings t decorator w b) (sym off) ∙ h)
     where
       by : (q : Option (List (Line (List A) ℕ))) → IfSome q (λ ls. AllWithinWidth w ls) → q ≡ Some (lines v) →
           AllWithinWidth w (lines v)
@@ -107,11 +108,11 @@ module _ {S A : Type 0} (d : Decoration S A) where
       by (Some ls) k e = subst (λ x. AllWithinWidth w x) (same_Some ls (lines v) e) k
 
   pub succeeds-answered : {X : Type 0} (t : Forest RenderNode) (decorator : S) (w : ℕ) (o : Bool) (r : Result X Error) →
-      IfErr r (λ e. Refuses e (layout_lines d t decorator w o)) → 0 < w → o ≡ true → r ≢ Err TooNarrow
+      IfErr r (λ e. Refuses e (layout_lines d settings t decorator w o)) → 0 < w → o ≡ true → r ≢ Err TooNarrow
   succeeds-answered t decorator w o (Ok v) h positive on e = cc
   succeeds-answered {X} t decorator w o (Err x) h positive on e =
-      by (layout_lines d t decorator w true) (layout_succeeds t decorator w positive) (ap (λ b. layout_lines d t decorator w b) (sym on)
-      ∙ subst (λ (y : Error). Refuses y (layout_lines d t decorator w o)) (same_error x e) h)
+      by (layout_lines d settings t decorator w true) (layout_succeeds t decorator w positive) (ap (λ b. layout_lines d settings t decorator w b) (sym on)
+      ∙ subst (λ (y : Error). Refuses y (layout_lines d settings t decorator w o)) (same_error x e) h)
     where
       same_error : (x : Error) → ◌≡◌ {A = Result X Error} (Err x) (Err TooNarrow) → x ≡ TooNarrow
       same_error x e = cc
@@ -121,9 +122,9 @@ module _ {S A : Type 0} (d : Decoration S A) where
       by (Some p) k e = cc
 
   -- the same of the lines without annotations
-  pub untagged_within : (t : Forest RenderNode) (decorator : S) (w : ℕ) →
-      IfSome (untagged_lines d t decorator w false) (λ lines. AllWithinWidth w lines)
-  untagged_within t decorator w = by (layout_lines d t decorator w false) (layout_within t decorator w)
+  pub untagged_within : (t : Forest RenderNode) (decorator : S) (w : ℕ) → settings.wrap_links ≡ true →
+      IfSome (untagged_lines d settings t decorator w false) (λ lines. AllWithinWidth w lines)
+  untagged_within t decorator w wrapped = by (layout_lines d settings t decorator w false) (layout_within t decorator w wrapped)
     where
       by : (o : Option (List (Line (List A) ℕ))) → IfSome o (λ ls. AllWithinWidth w ls) →
           IfSome (option_map (lines_with (λ (s : List A). no_tag s)) o) (λ ls. AllWithinWidth w ls)
@@ -132,11 +133,12 @@ module _ {S A : Type 0} (d : Decoration S A) where
 
   pub untagged_within-answered : {X : Type 0} (t : Forest RenderNode) (decorator : S) (w : ℕ) (o : Bool) (lines : X →
       List (Line (Unit {0}) ℕ)) (r : Result X Error) →
-      IfOk r (λ v. untagged_lines d t decorator w o ≡ Some (lines v)) → IfOk r (λ v. o ≡ false → AllWithinWidth w (lines v))
+      IfOk r (λ v. untagged_lines d settings t decorator w o ≡ Some (lines v)) →
+      IfOk r (λ v. o ≡ false → settings.wrap_links ≡ true → AllWithinWidth w (lines v))
   untagged_within-answered t decorator w o lines (Err e) h = tt
   untagged_within-answered t decorator w o lines (Ok v) h =
-      λ off. by (untagged_lines d t decorator w false) (untagged_within t decorator w)
-      (ap (λ b. untagged_lines d t decorator w b) (sym off) ∙ h)
+      λ off wrapped. by (untagged_lines d settings t decorator w false) (untagged_within t decorator w wrapped)
+      (ap (λ b. untagged_lines d settings t decorator w b) (sym off) ∙ h)
     where
       by : (q : Option (List (Line (Unit {0}) ℕ))) → IfSome q (λ ls. AllWithinWidth w ls) → q ≡ Some (lines v) →
           AllWithinWidth w (lines v)
@@ -145,8 +147,8 @@ module _ {S A : Type 0} (d : Decoration S A) where
 
   -- an error says the same of both
   pub refuses-untagged : (t : Forest RenderNode) (decorator : S) (w : ℕ) (o : Bool) (e : Error) →
-      Refuses e (untagged_lines d t decorator w o) → Refuses e (layout_lines d t decorator w o)
-  refuses-untagged t decorator w o e h = by e (layout_lines d t decorator w o) h
+      Refuses e (untagged_lines d settings t decorator w o) → Refuses e (layout_lines d settings t decorator w o)
+  refuses-untagged t decorator w o e h = by e (layout_lines d settings t decorator w o) h
     where
       by : (e : Error) (q : Option (List (Line (List A) ℕ))) → Refuses e (option_map (lines_with (λ (s : List A). no_tag s)) q) →
           Refuses e q

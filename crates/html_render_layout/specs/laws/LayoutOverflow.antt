@@ -1,32 +1,44 @@
 -- Where a layout has lines with overflow off, it has the same with overflow on.
+use Rattle.std.specs.Prelude.{codes, if◌then◌else◌}
+use Rattle.std.specs.Fmt.{decimal}
 use Rattle.std.specs.Str.{chars}
-use Rattle.std.proofs.Common.{◌≡◌, ℕ, ◌==◌, Bool, true, false, cond, List, Option, Some, None, option_map, option_and_then}
-use Rattle.std.proofs.Common.{IfSome, IfOk, Result, Ok, Err, refl, ap, sym, ◌∙◌}
+use Rattle.std.proofs.Common.{◌≡◌, ℕ, ◌+◌, ◌==◌, Bool, true, false, cond, List, [], ◌++◌, length, map, Option, Some, None}
+use Rattle.std.proofs.Common.{IfSome, IfOk, Result, Ok, Err, option_map, option_and_then, refl, ap, sym, ◌∙◌, subst}
 use Rattle.std.proofs.lemmas.Option.{same_Some}
 use Rattle.html_render_dom.specs.declared.errors.Error.{Error}
 use Rattle.html_render_dom.specs.Forest.{Forest}
-use Rattle.html_render_parts.specs.Decoration.{Decoration, Round}
+use Rattle.html_render_dom.specs.declared.style.colours.Colour.{Colour}
+use Rattle.html_render_parts.specs.Decoration.{Decoration, Round, link}
 use Rattle.html_render_lines.specs.Line.{Line}
 use Rattle.html_render_lines.specs.Tags.{lines_with}
 use Rattle.html_render_nodes.specs.declared.tree.Estimate.{Estimate}
 use Rattle.html_render_nodes.specs.declared.tree.NodeKind.{NodeKind}
 use Rattle.html_render_nodes.specs.declared.tree.NodeKind.TheVariants.{Text, Container, Break, Block, Div, Emphasis}
 use Rattle.html_render_nodes.specs.declared.tree.NodeKind.TheVariants.{Header, BlockQuote, Ul, Ol, ListItem, Dl, Dt, Dd}
+use Rattle.html_render_nodes.specs.declared.tree.NodeKind.TheVariants.{Strikeout, Superscript, Link, Image as TheImage, Svg, FragmentStart}
+use Rattle.html_render_nodes.specs.declared.tree.NodeStyle.{NodeStyle}
 use Rattle.html_render_nodes.specs.declared.tree.RenderNode.{RenderNode}
 use Rattle.html_render_nodes.specs.Pass.{run}
 use Rattle.html_render_nodes.specs.laws.Images.{Image, image-then, NodesImage, run-image}
-use Rattle.html_render_blocks.specs.Operations.{Operations}
+use Rattle.html_render_blocks.specs.Operations.{Operations, Ending}
 use Rattle.html_render_blocks.specs.Block as definition
-use Rattle.html_render_blocks.specs.Block.{DefinedBlock}
 use Rattle.html_render_blocks.specs.laws.Operations.{Refines}
 use Rattle.html_render_blocks.specs.laws.BlockOverflow.{overflowing, operations_refine}
+use Rattle.html_render_blocks.specs.laws.Closing.{finish_stays, add_closing_lines_stays}
 use Rattle.html_render_estimates.specs.Estimates.{prefix_columns}
 use Rattle.html_render_layout.specs.declared.layout.state.Around.{Around}
 use Rattle.html_render_layout.specs.declared.layout.state.Around.TheVariants.{Plain, Bullets, Numbers}
 use Rattle.html_render_layout.specs.declared.layout.state.LayoutState.{LayoutState}
-use Rattle.html_render_layout.specs.Layout.{on_block, add_text, text_style, under, restored, inner_least, spaces, padded, next_number}
-use Rattle.html_render_layout.specs.Layout.{nested, resumed, indented, quoted, among, placed, emphasis_decoration, begun, decorated}
-use Rattle.html_render_layout.specs.Layout.{numbers, kind_steps, steps}
+use Rattle.html_render_layout.specs.declared.layout.state.TextContext.{TextContext}
+use Rattle.html_render_layout.specs.declared.settings.LayoutSettings.{LayoutSettings}
+use Rattle.html_render_layout.specs.Images.{shown_title}
+use Rattle.html_render_layout.specs.Ending.{ended}
+use Rattle.html_render_layout.specs.laws.Ending.{ended-image}
+use Rattle.html_render_layout.specs.Layout.{on_block, written, add_characters, add_text, text_style, under, striking}
+use Rattle.html_render_layout.specs.Layout.{inner_least, spaces, padded, next_number, nested, resumed, indented, quoted, among, placed}
+use Rattle.html_render_layout.specs.Layout.{image_round, raised, digits_of, with_target, marked, link_number, annotated, coloured, in_style}
+use Rattle.html_render_layout.specs.Layout.{emphasis_decoration, begun, decorated, titled, image, struck_out, superscript, linked}
+use Rattle.html_render_layout.specs.Layout.{numbers, kind_steps, node_steps, steps}
 use Rattle.html_render_layout.specs.Layout.{shown_after, onto, Defined, empty_state, estimated, layout_lines, no_tag, untagged_lines}
 
 module _ {S A K T B : Type 0} (d : Decoration S A) (push : K → T → A → K × T) (o : Operations B T) (f : B → B) (h : Refines f o) where
@@ -52,9 +64,12 @@ module _ {S A K T B : Type 0} (d : Decoration S A) (push : K → T → A → K �
       image-then f mapped (λ b. Some (record s { block = b })) (λ b. Some (record (mapped s) { block = b })) (g s.block) (g (f s.block)) e
       (λ b. refl)
 
+  characters-stay : (cs : List ℕ) → Stays (add_characters o cs) (add_characters o cs)
+  characters-stay cs s = on_block-stays (λ b. o.add_inline_text b (text_style s.text) (written s.text.struck_out cs)) s
+      (h.add_inline_text s.block (text_style s.text) (written s.text.struck_out cs))
+
   text-stays : (t : List ℕ) → Stays (add_text o t) (add_text o t)
-  text-stays t s = on_block-stays (λ b. o.add_inline_text b (text_style s.text) (chars t)) s
-      (h.add_inline_text s.block (text_style s.text) (chars t))
+  text-stays t = characters-stay (chars t)
 
   nested-stays : (prefix least : ℕ) → Stays (nested d o prefix least) (nested d o prefix least)
   nested-stays prefix least s =
@@ -66,11 +81,40 @@ module _ {S A K T B : Type 0} (d : Decoration S A) (push : K → T → A → K �
   begun-stays round s =
       text-stays (round.start s.decorator).text (under (push s.stacks s.text.tag (round.start s.decorator).annotation) s)
 
-  module _ (l m : State → Option State) (below : Stays l m) where
-    restored-stays : Stays (restored l) (restored m)
-    restored-stays s =
-        both (l s) (m (mapped s)) (λ r. Some (record r { text = s.text })) (λ r. Some (record r { text = s.text })) (below s) (λ r. refl)
+  titled-stays : (source : List ℕ) (title : Option (List ℕ)) → Stays (titled d push o source title) (titled d push o source title)
+  titled-stays source None s = refl
+  titled-stays source (Some title) s = begun-stays (image_round d source title) s
 
+  image-stays : (source title : List ℕ) → Stays (image d push o source title) (image d push o source title)
+  image-stays source title s = titled-stays source (shown_title s.settings.empty_images source title) s
+
+  link_number-stays : (text : TextContext T) (number : ℕ) → Stays (link_number o text number) (link_number o text number)
+  link_number-stays text number s = by s.settings.link_footnotes
+    where
+      digits : List ℕ
+      digits = codes "[" ++ decimal number ++ codes "]"
+
+      by : (z : Bool) → Image mapped (if z then add_text o digits (record s { text = text }) else Some s)
+          (if z then add_text o digits (record (mapped s) { text = text }) else Some (mapped s))
+      by true = text-stays digits (record s { text = text })
+      by false = refl
+
+  -- the style of a node doesn't touch the block
+  annotated-stays : (a : Option A) (s : State) → annotated push a (mapped s) ≡ mapped (annotated push a s)
+  annotated-stays None s = refl
+  annotated-stays (Some a) s = refl
+
+  coloured-stays : (annotation : S → Colour → Option A) (colour : Option Colour) (s : State) →
+      coloured push annotation colour (mapped s) ≡ mapped (coloured push annotation colour s)
+  coloured-stays annotation None s = refl
+  coloured-stays annotation (Some colour) s = annotated-stays (annotation s.decorator colour) s
+
+  in_style-stays : (style : NodeStyle) (s : State) → in_style d push style (mapped s) ≡ mapped (in_style d push style s)
+  in_style-stays style s =
+      ap (λ q. coloured push d.push_background style.background q) (coloured-stays d.push_colour style.colour s)
+      ∙ coloured-stays d.push_background style.background (coloured push d.push_colour style.colour s)
+
+  module _ (l m : State → Option State) (below : Stays l m) where
     indented-stays : (prefix : List ℕ) (columns least : ℕ) (behind : Around) →
         Stays (indented d o prefix columns least behind l) (indented d o prefix columns least behind m)
     indented-stays prefix columns least behind s =
@@ -103,36 +147,69 @@ module _ {S A K T B : Type 0} (d : Decoration S A) (push : K → T → A → K �
         both (begun d push o round s) (begun d push o round (mapped s)) _ _ (begun-stays round s) (λ q.
         both (l q) (m (mapped q)) _ _ (below q) (λ r. text-stays (round.end r.decorator) r))
 
+    struck_out-stays : Stays (struck_out d push o l) (struck_out d push o m)
+    struck_out-stays s =
+        both (begun d push o d.strikeout s) (begun d push o d.strikeout (mapped s)) _ _ (begun-stays d.strikeout s) (λ q.
+        both (l (striking s.settings.unicode_strikeout q)) (m (striking s.settings.unicode_strikeout (mapped q))) _ _
+        (below (striking s.settings.unicode_strikeout q)) (λ r.
+        text-stays (d.strikeout.end r.decorator) (striking s.text.struck_out r)))
+
+    superscript-stays : (digits : Option (List ℕ)) → Stays (superscript d push o digits l) (superscript d push o digits m)
+    superscript-stays None s = decorated-stays d.superscript s
+    superscript-stays (Some digits) s = characters-stay (map raised digits) s
+
+    linked-stays : (target : List ℕ) → Stays (linked d push o target l) (linked d push o target m)
+    linked-stays target s =
+        both (decorated d push o (link d target) l (with_target target s)) (decorated d push o (link d target) m (with_target target (mapped s)))
+        _ _ (decorated-stays (link d target) (with_target target s)) (λ r. link_number-stays s.text (length s.targets + 1) r)
+
     -- nodes between the start and the end of a block
-    block-stays : (e : Estimate) → Stays (kind_steps d push o Block e l) (kind_steps d push o Block e m)
-    block-stays e s =
+    block-stays : (e : Estimate) (trees : Forest RenderNode) →
+        Stays (kind_steps d push o Block e trees l) (kind_steps d push o Block e trees m)
+    block-stays e trees s =
         both (on_block o.start_block s) (on_block o.start_block (mapped s)) _ _
         (on_block-stays o.start_block s (h.start_block s.block)) (λ q.
         both (l q) (m (mapped q)) (λ r. Some (record r { block = o.end_block r.block }))
         (λ r. Some (record r { block = o.end_block r.block }))
         (below q) (λ r. ap (λ e. Some (record r { block = e })) (h.end_block r.block)))
 
-    kind-stays : (k : NodeKind) (e : Estimate) → Stays (kind_steps d push o k e l) (kind_steps d push o k e m)
-    kind-stays (Text t) e s = text-stays t s
-    kind-stays Container e s = below s
-    kind-stays Break e s = on_block-stays o.new_line_hard s (h.new_line_hard s.block)
-    kind-stays Block e s = block-stays e s
-    kind-stays Div e s =
+    kind-stays : (k : NodeKind) (e : Estimate) (trees : Forest RenderNode) →
+        Stays (kind_steps d push o k e trees l) (kind_steps d push o k e trees m)
+    kind-stays (Text t) e trees s = text-stays t s
+    kind-stays Container e trees s = below s
+    kind-stays Break e trees s = on_block-stays o.new_line_hard s (h.new_line_hard s.block)
+    kind-stays Block e trees s = block-stays e trees s
+    kind-stays Div e trees s =
         both (on_block o.new_line s) (on_block o.new_line (mapped s)) _ _ (on_block-stays o.new_line s (h.new_line s.block)) (λ q.
         both (l q) (m (mapped q)) _ _ (below q) (λ r. on_block-stays o.new_line r (h.new_line r.block)))
-    kind-stays (Emphasis x) e s = decorated-stays (emphasis_decoration d x) s
-    kind-stays (Header level) e s = quoted-stays (d.header_prefix s.decorator level) (inner_least e) s
-    kind-stays BlockQuote e s = quoted-stays (d.quote_prefix s.decorator) (inner_least e) s
-    kind-stays Ul e s = among-stays (Bullets (inner_least e)) s
-    kind-stays (Ol first) e s = among-stays (numbers d e first s.decorator) s
-    kind-stays ListItem e s = block-stays e s
-    kind-stays Dl e s =
+    kind-stays (Emphasis x) e trees s = decorated-stays (emphasis_decoration d x) s
+    kind-stays (Header level) e trees s = quoted-stays (d.header_prefix s.decorator level) (inner_least e) s
+    kind-stays BlockQuote e trees s = quoted-stays (d.quote_prefix s.decorator) (inner_least e) s
+    kind-stays Ul e trees s = among-stays (Bullets (inner_least e)) s
+    kind-stays (Ol first) e trees s = among-stays (numbers d e first s.decorator) s
+    kind-stays ListItem e trees s = block-stays e trees s
+    kind-stays Dl e trees s =
         both (on_block o.start_block s) (on_block o.start_block (mapped s)) l m
         (on_block-stays o.start_block s (h.start_block s.block)) below
-    kind-stays Dt e s =
+    kind-stays Dt e trees s =
         both (on_block o.new_line s) (on_block o.new_line (mapped s)) (decorated d push o d.em l) (decorated d push o d.em m)
         (on_block-stays o.new_line s (h.new_line s.block)) (decorated-stays d.em)
-    kind-stays Dd e s = indented-stays (spaces 2) 2 (inner_least e) s.around s
+    kind-stays Dd e trees s = indented-stays (spaces 2) 2 (inner_least e) s.around s
+    kind-stays Strikeout e trees s = struck_out-stays s
+    kind-stays Superscript e trees s = superscript-stays (digits_of trees) s
+    kind-stays (Link target) e trees s = linked-stays target s
+    kind-stays (TheImage i) e trees s = image-stays i.source i.title s
+    kind-stays (Svg title) e trees s = image-stays [] title s
+    kind-stays (FragmentStart name) e trees s =
+        ap (λ b. Some (record (marked o name s) { block = b })) (h.add_mark s.block (length s.names))
+
+    node-stays : (n : RenderNode) (trees : Forest RenderNode) → Stays (node_steps d push o n trees l) (node_steps d push o n trees m)
+    node-stays n trees s =
+        let q : State = in_style d push n.style s in
+        both (kind_steps d push o n.kind n.estimate trees l q) (kind_steps d push o n.kind n.estimate trees m (in_style d push n.style (mapped s)))
+        (λ r. Some (record r { text = s.text })) (λ r. Some (record r { text = s.text }))
+        (subst (λ u. Image mapped (kind_steps d push o n.kind n.estimate trees l q) (kind_steps d push o n.kind n.estimate trees m u))
+        (sym (in_style-stays n.style s)) (kind-stays n.kind n.estimate trees q)) (λ r. refl)
 
     placed-stays : (a : Around) (s : State) → Image mapped (placed d o l s a) (placed d o m (mapped s) a)
     placed-stays Plain s = below s
@@ -145,10 +222,7 @@ module _ {S A K T B : Type 0} (d : Decoration S A) (push : K → T → A → K �
 
   steps-stay : NodesImage mapped (steps d push o) (steps d push o)
   steps-stay n trees l m below s =
-      placed-stays (λ q. restored (kind_steps d push o n.kind n.estimate l) q) (λ q. restored (kind_steps d push o n.kind n.estimate m) q)
-      (restored-stays (kind_steps d push o n.kind n.estimate l) (kind_steps d push o n.kind n.estimate m)
-      (kind-stays l m below n.kind n.estimate))
-      s.around s
+      placed-stays (node_steps d push o n trees l) (node_steps d push o n trees m) (node-stays l m below n trees) s.around s
 
   -- a layout gives the image of what it gives, from the image of a state
   pub layout-image : (t : Forest RenderNode) (s : State) → IfSome (run (steps d push o) t s)
@@ -156,13 +230,19 @@ module _ {S A K T B : Type 0} (d : Decoration S A) (push : K → T → A → K �
   layout-image t s = run-image mapped (steps d push o) (steps d push o) steps-stay t s
 
   -- and so does what is shown of it, which may not tell them apart
-  pub shown-image : {L : Type 0} (shown : State → L) → ((r : State) → shown (record r { block = f r.block }) ≡ shown r) →
-      (t : Forest RenderNode) (s : State) → IfSome (shown_after d push o shown t s)
-      (λ lines. shown_after d push o shown t (record s { block = f s.block }) ≡ Some lines)
-  shown-image {L} shown same t s =
+  pub shown-image : {L : Type 0} (end : Ending B T) → ((b : B) → Image f (end.finish b) (end.finish (f b))) →
+      ((b : B) (cut : Bool) (tag : T) (ts : List (List ℕ)) →
+      Image f (end.add_closing_lines b cut tag ts) (end.add_closing_lines (f b) cut tag ts)) →
+      (shown : State → L) → ((r : State) → shown (record r { block = f r.block }) ≡ shown r) →
+      (t : Forest RenderNode) (s : State) → IfSome (shown_after d push o end shown t s)
+      (λ lines. shown_after d push o end shown t (record s { block = f s.block }) ≡ Some lines)
+  shown-image {L} end finished closed shown same t s =
+      let footnotes = s.settings.link_footnotes in
+      let cut = s.settings.wrap_links in
       image-then mapped (λ (x : L). x) _ _ (run (steps d push o) t s) (run (steps d push o) t (mapped s)) (layout-image t s) (λ r.
-      image-then mapped (λ (x : L). x) (λ q. Some (shown q)) (λ q. Some (shown q)) (on_block o.new_line r) (on_block o.new_line (mapped r))
-      (on_block-stays o.new_line r (h.new_line r.block)) (λ q. ap Some (same q)))
+      image-then mapped (λ (x : L). x) (λ q. Some (shown q)) (λ q. Some (shown q)) (ended d end footnotes cut s.text.tag r)
+      (ended d end footnotes cut s.text.tag (mapped r))
+      (ended-image d end footnotes cut s.text.tag f finished (λ b. closed b cut s.text.tag) r) (λ q. ap Some (same q)))
 
 -- what is there with overflow on is there with overflow on or off
 with_either : {L : Type 0} (f : Bool → Option L) → IfSome (f false) (λ lines. f true ≡ Some lines) →
@@ -179,29 +259,29 @@ agrees : {L : Type 0} (p q : Option L) (lines : L) → IfSome p (λ ls. q ≡ So
 agrees None q lines h e = tt
 agrees (Some ls) q lines h e = same_Some lines ls (sym e ∙ h)
 
-module _ {S A : Type 0} (d : Decoration S A) where
+module _ {S A : Type 0} (d : Decoration S A) (settings : LayoutSettings) where
   abbrev lines_from : Forest RenderNode → Defined S A → Option (List (Line (List A) ℕ))
-  lines_from t s = shown_after d onto definition.operations (λ (r : Defined S A). r.block.lines) t s
+  lines_from t s = shown_after d onto definition.operations definition.ending (λ (r : Defined S A). r.block.lines) t s
 
   abbrev bare : List (Line (List A) ℕ) → List (Line (Unit {0}) ℕ)
   bare lines = lines_with (λ (stack : List A). no_tag stack) lines
 
   -- THE LAW: where there are lines with overflow off, they are the lines with overflow on
   pub layout_same : (t : Forest RenderNode) (decorator : S) (w : ℕ) →
-      IfSome (layout_lines d t decorator w false) (λ lines. layout_lines d t decorator w true ≡ Some lines)
+      IfSome (layout_lines d settings t decorator w false) (λ lines. layout_lines d settings t decorator w true ≡ Some lines)
   layout_same t decorator w = by (w == 0)
     where
-      by : (z : Bool) → IfSome (cond z None (lines_from (estimated d decorator t) (empty_state d decorator w false)))
-          (λ lines. cond z None (lines_from (estimated d decorator t) (empty_state d decorator w true)) ≡ Some lines)
+      by : (z : Bool) → IfSome (cond z None (lines_from (estimated d decorator t) (empty_state d settings decorator w false)))
+          (λ lines. cond z None (lines_from (estimated d decorator t) (empty_state d settings decorator w true)) ≡ Some lines)
       by true = tt
       by false =
-          shown-image d onto definition.operations overflowing operations_refine (λ (s : Defined S A). s.block.lines) (λ r. refl)
-          (estimated d decorator t) (empty_state d decorator w false)
+          shown-image d onto definition.operations overflowing operations_refine definition.ending finish_stays add_closing_lines_stays (λ (s : Defined S A). s.block.lines) (λ r. refl)
+          (estimated d decorator t) (empty_state d settings decorator w false)
 
   -- the same of the lines without annotations
   pub untagged_same : (t : Forest RenderNode) (decorator : S) (w : ℕ) →
-      IfSome (untagged_lines d t decorator w false) (λ lines. untagged_lines d t decorator w true ≡ Some lines)
-  untagged_same t decorator w = by (layout_lines d t decorator w false) (layout_lines d t decorator w true) (layout_same t decorator w)
+      IfSome (untagged_lines d settings t decorator w false) (λ lines. untagged_lines d settings t decorator w true ≡ Some lines)
+  untagged_same t decorator w = by (layout_lines d settings t decorator w false) (layout_lines d settings t decorator w true) (layout_same t decorator w)
     where
       by : (p q : Option (List (Line (List A) ℕ))) → IfSome p (λ lines. q ≡ Some lines) →
           IfSome (option_map bare p) (λ lines. option_map bare q ≡ Some lines)
@@ -212,18 +292,18 @@ module _ {S A : Type 0} (d : Decoration S A) where
 
   pub same-answered : {X : Type 0} (t : Forest RenderNode) (decorator : S) (w : ℕ) (o : Bool) (lines : X → List (Line (List A) ℕ))
       (r : Result X Error) →
-      IfOk r (λ v. layout_lines d t decorator w o ≡ Some (lines v)) →
-      IfOk r (λ v. IfSome (layout_lines d t decorator w false) (λ ls. lines v ≡ ls))
+      IfOk r (λ v. layout_lines d settings t decorator w o ≡ Some (lines v)) →
+      IfOk r (λ v. IfSome (layout_lines d settings t decorator w false) (λ ls. lines v ≡ ls))
   same-answered t decorator w o lines (Err e) h = tt
   same-answered t decorator w o lines (Ok v) h =
-      agrees (layout_lines d t decorator w false) (layout_lines d t decorator w o) (lines v)
-      (with_either (λ b. layout_lines d t decorator w b) (layout_same t decorator w) o) h
+      agrees (layout_lines d settings t decorator w false) (layout_lines d settings t decorator w o) (lines v)
+      (with_either (λ b. layout_lines d settings t decorator w b) (layout_same t decorator w) o) h
 
   pub untagged_same-answered : {X : Type 0} (t : Forest RenderNode) (decorator : S) (w : ℕ) (o : Bool)
       (lines : X → List (Line (Unit {0}) ℕ)) (r : Result X Error) →
-      IfOk r (λ v. untagged_lines d t decorator w o ≡ Some (lines v)) →
-      IfOk r (λ v. IfSome (untagged_lines d t decorator w false) (λ ls. lines v ≡ ls))
+      IfOk r (λ v. untagged_lines d settings t decorator w o ≡ Some (lines v)) →
+      IfOk r (λ v. IfSome (untagged_lines d settings t decorator w false) (λ ls. lines v ≡ ls))
   untagged_same-answered t decorator w o lines (Err e) h = tt
   untagged_same-answered t decorator w o lines (Ok v) h =
-      agrees (untagged_lines d t decorator w false) (untagged_lines d t decorator w o) (lines v)
-      (with_either (λ b. untagged_lines d t decorator w b) (untagged_same t decorator w) o) h
+      agrees (untagged_lines d settings t decorator w false) (untagged_lines d settings t decorator w o) (lines v)
+      (with_either (λ b. untagged_lines d settings t decorator w b) (untagged_same t decorator w) o) h

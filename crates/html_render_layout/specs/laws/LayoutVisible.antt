@@ -1,13 +1,15 @@
 -- A layout loses no visible character of the texts that it visits.
+use Rattle.std.specs.Fmt.{decimal}
 use Rattle.std.specs.Str.{chars}
-use Rattle.std.proofs.Common.{◌≡◌, ℕ, ◌+◌, ◌≤◌, ◌==◌, Bool, true, false, cond, List, [], ◌∷◌, ◌++◌, Option, Some, None}
+use Rattle.std.proofs.Common.{◌≡◌, ℕ, ◌+◌, ◌≤◌, ◌==◌, Bool, true, false, cond, List, [], ◌∷◌, ◌++◌, length, codes, Option, Some, None}
 use Rattle.std.proofs.Common.{option_map, option_and_then, IfSome, IfOk, Result, Ok, Err, refl, ap, sym, ◌∙◌, subst, arith, append_assoc}
-use Rattle.std.specs.Prelude.{sum_by}
+use Rattle.std.specs.Prelude.{map, sum_by}
 use Rattle.std.proofs.lemmas.Option.{same_Some}
 use Rattle.std.proofs.lemmas.List.Sums.{sum_by-cons, sum_by-append}
 use Rattle.html_render_dom.specs.declared.errors.Error.{Error}
 use Rattle.html_render_dom.specs.Forest.{Forest}
-use Rattle.html_render_parts.specs.Decoration.{Decoration, Round}
+use Rattle.html_render_parts.specs.Decoration.{Decoration, Round, link}
+use Rattle.html_render_lines.specs.Character.{is_collapsible}
 use Rattle.html_render_lines.specs.Line.{Line}
 use Rattle.html_render_lines.specs.Tags.{line_with, lines_with}
 use Rattle.html_render_lines.specs.Visible.{if_visible, visible_in_line, visible_in_lines}
@@ -16,6 +18,7 @@ use Rattle.html_render_nodes.specs.declared.tree.Estimate.{Estimate}
 use Rattle.html_render_nodes.specs.declared.tree.NodeKind.{NodeKind}
 use Rattle.html_render_nodes.specs.declared.tree.NodeKind.TheVariants.{Text, Container, Break, Block, Div, Emphasis}
 use Rattle.html_render_nodes.specs.declared.tree.NodeKind.TheVariants.{Header, BlockQuote, Ul, Ol, ListItem, Dl, Dt, Dd}
+use Rattle.html_render_nodes.specs.declared.tree.NodeKind.TheVariants.{Strikeout, Superscript, Link, Image, Svg, FragmentStart}
 use Rattle.html_render_nodes.specs.declared.tree.RenderNode.{RenderNode}
 use Rattle.html_render_nodes.specs.Pass.{run, visited}
 use Rattle.html_render_nodes.specs.laws.Runs.{IfSome-then, IfSome-weaken}
@@ -25,21 +28,30 @@ use Rattle.html_render_blocks.specs.Block as definition
 use Rattle.html_render_blocks.specs.Block.{DefinedBlock}
 use Rattle.html_render_blocks.specs.Visible.{visible_in_text, count, text_count, visible_count}
 use Rattle.html_render_blocks.specs.laws.Operations.{Counts}
-use Rattle.html_render_blocks.specs.laws.BlockVisible.{operations_keep_visible, flushed_count}
+use Rattle.html_render_blocks.specs.laws.BlockVisible.{operations_keep_visible}
+use Rattle.html_render_blocks.specs.laws.Closing.{finish_count, closed_count}
 use Rattle.html_render_estimates.specs.Estimates.{prefix_columns}
 use Rattle.html_render_layout.specs.declared.layout.state.Around.{Around}
 use Rattle.html_render_layout.specs.declared.layout.state.Around.TheVariants.{Plain, Bullets, Numbers}
 use Rattle.html_render_layout.specs.declared.layout.state.LayoutState.{LayoutState}
+use Rattle.html_render_layout.specs.declared.layout.state.TextContext.{TextContext}
+use Rattle.html_render_layout.specs.declared.settings.LayoutSettings.{LayoutSettings}
+use Rattle.html_render_layout.specs.Images.{shown_title}
 use Rattle.html_render_layout.specs.Kept.{visited_nodes, node_characters, text_characters, KeepsTexts}
-use Rattle.html_render_layout.specs.Layout.{on_block, add_text, text_style, under, restored, inner_least, spaces, padded, next_number}
-use Rattle.html_render_layout.specs.Layout.{nested, resumed, indented, quoted, among, placed, emphasis_decoration, begun, decorated}
-use Rattle.html_render_layout.specs.Layout.{numbers, kind_steps, steps}
-use Rattle.html_render_layout.specs.Layout.{kind_inside, placed_inside, inside, shown_after, onto, Defined, defined, empty_state}
-use Rattle.html_render_layout.specs.Layout.{estimated, layout_lines, no_tag, untagged_lines}
+use Rattle.html_render_layout.specs.Layout.{on_block, struck, written, add_characters, add_text, text_style, under, inner_least}
+use Rattle.html_render_layout.specs.Layout.{spaces, padded, next_number, nested, resumed, indented, quoted, among, placed}
+use Rattle.html_render_layout.specs.Layout.{emphasis_decoration, begun, decorated, numbers, image_round, titled, image, raised, digits_of}
+use Rattle.html_render_layout.specs.Layout.{superscript, superscript_inside, striking, with_target, link_number, linked}
+use Rattle.html_render_layout.specs.Layout.{in_style, kind_steps, node_steps, steps, kind_inside, node_inside, placed_inside, inside}
+use Rattle.html_render_layout.specs.Layout.{shown_after, onto, Defined, defined, empty_state, estimated, layout_lines, no_tag, untagged_lines}
+use Rattle.html_render_layout.specs.Ending.{ended}
+use Rattle.html_render_layout.specs.laws.Ending.{ended-keeps}
+use Rattle.html_render_layout.specs.laws.Styles.{in_style-block}
 
--- what v counts in a block grows by what w counts in a text, and nothing counts less
+-- what v counts in a block grows by what w counts in a text, and nothing counts less; w counts no less in a text as it is
+-- written
 module _ {S A K T B : Type 0} (d : Decoration S A) (push : K → T → A → K × T) (o : Operations B T) (v : B → ℕ) (w : List ℕ → ℕ)
-    (h : Counts v w o) (empty : w [] ≡ 0) where
+    (h : Counts v w o) (empty : w [] ≡ 0) (no_less : (struck_out : Bool) (cs : List ℕ) → w cs ≤ w (written struck_out cs)) where
   abbrev State : Type 0
   State = LayoutState S K T B
 
@@ -62,12 +74,16 @@ module _ {S A K T B : Type 0} (d : Decoration S A) (push : K → T → A → K �
   keeps-counts g s k =
       on_block-counts (counted s) g s (IfSome-weaken (λ b. v b ≡ v s.block) (λ b. counted s ≤ v b) (g s.block) k (λ b e. omega arith))
 
+  characters-count : (cs : List ℕ) (s : State) → IfSome (add_characters o cs s) (AtLeast (counted s + w cs))
+  characters-count cs s =
+      let fed : List ℕ = written s.text.struck_out cs in
+      on_block-counts (counted s + w cs) (λ b. o.add_inline_text b (text_style s.text) fed) s
+      (IfSome-weaken (λ b. v b ≡ v s.block + w fed) (λ b. counted s + w cs ≤ v b)
+      (o.add_inline_text s.block (text_style s.text) fed) (h.add_inline_text s.block (text_style s.text) fed)
+      (λ b e. let l = no_less s.text.struck_out cs in omega arith))
+
   text-counts : (t : List ℕ) (s : State) → IfSome (add_text o t s) (AtLeast (counted s + w (chars t)))
-  text-counts t s =
-      on_block-counts (counted s + w (chars t)) (λ b. o.add_inline_text b (text_style s.text) (chars t)) s
-      (IfSome-weaken (λ b. v b ≡ v s.block + w (chars t)) (λ b. counted s + w (chars t) ≤ v b)
-      (o.add_inline_text s.block (text_style s.text) (chars t)) (h.add_inline_text s.block (text_style s.text) (chars t))
-      (λ b e. omega arith))
+  text-counts t s = characters-count (chars t) s
 
   -- a text of the decoration
   round-counts : (t : List ℕ) (s : State) → IfSome (add_text o t s) (AtLeast (counted s))
@@ -77,6 +93,21 @@ module _ {S A K T B : Type 0} (d : Decoration S A) (push : K → T → A → K �
   begun-counts : (round : Round S A) (s : State) → IfSome (begun d push o round s) (AtLeast (counted s))
   begun-counts round s = round-counts (round.start s.decorator).text
       (under (push s.stacks s.text.tag (round.start s.decorator).annotation) s)
+
+  image-counts : (source title : List ℕ) (s : State) → IfSome (image d push o source title s) (AtLeast (counted s))
+  image-counts source title s = by (shown_title s.settings.empty_images source title)
+    where
+      by : (shown : Option (List ℕ)) → IfSome (titled d push o source shown s) (AtLeast (counted s))
+      by None = omega arith
+      by (Some shown) = begun-counts (image_round d source shown) s
+
+  link_number-counts : (text : TextContext T) (number : ℕ) (s : State) → IfSome (link_number o text number s) (AtLeast (counted s))
+  link_number-counts text number s = by s.settings.link_footnotes
+    where
+      by : (z : Bool) →
+          IfSome (cond z (add_text o (codes "[" ++ decimal number ++ codes "]") (record s { text = text })) (Some s)) (AtLeast (counted s))
+      by true = round-counts (codes "[" ++ decimal number ++ codes "]") (record s { text = text })
+      by false = omega arith
 
   -- nothing is counted in a block that begins
   nested-counts : (prefix least : ℕ) (s : State) → IfSome (nested d o prefix least s) (λ q. counted q ≡ 0)
@@ -151,51 +182,90 @@ module _ {S A K T B : Type 0} (d : Decoration S A) (push : K → T → A → K �
         IfSome-then (AtLeast n) (AtLeast n) (children (record s { around = around })) _ (below (record s { around = around })) (λ r a. a)
 
     -- what a kind without a text adds
-    abbrev Adds : NodeKind → Estimate → State → Type 0
-    Adds k e s = IfSome (kind_steps d push o k e children s) (AtLeast (counted s + count_from added (kind_inside d push o k e s)))
+    abbrev Adds : NodeKind → Estimate → Forest RenderNode → State → Type 0
+    Adds k e trees s =
+        IfSome (kind_steps d push o k e trees children s) (AtLeast (counted s + count_from added (kind_inside d push o k e trees s)))
 
     -- what a node adds: its text, and what its children do
-    abbrev Grows : NodeKind → Estimate → State → Type 0
-    Grows k e s =
-        IfSome (kind_steps d push o k e children s)
-        (AtLeast (counted s + (w (node_characters k) + count_from added (kind_inside d push o k e s))))
+    abbrev Grows : NodeKind → Estimate → Forest RenderNode → State → Type 0
+    Grows k e trees s =
+        IfSome (kind_steps d push o k e trees children s)
+        (AtLeast (counted s + (w (node_characters k) + count_from added (kind_inside d push o k e trees s))))
 
-    grows : (k : NodeKind) (e : Estimate) (s : State) → node_characters k ≡ [] → Adds k e s → Grows k e s
-    grows k e s none a =
+    grows : (k : NodeKind) (e : Estimate) (trees : Forest RenderNode) (s : State) → node_characters k ≡ [] → Adds k e trees s →
+        Grows k e trees s
+    grows k e trees s none a =
         let zero : w (node_characters k) ≡ 0 = ap w none ∙ empty in
-        IfSome-weaken (AtLeast (counted s + count_from added (kind_inside d push o k e s)))
-        (AtLeast (counted s + (w (node_characters k) + count_from added (kind_inside d push o k e s))))
-        (kind_steps d push o k e children s) a (λ r b. omega arith)
+        IfSome-weaken (AtLeast (counted s + count_from added (kind_inside d push o k e trees s)))
+        (AtLeast (counted s + (w (node_characters k) + count_from added (kind_inside d push o k e trees s))))
+        (kind_steps d push o k e trees children s) a (λ r b. omega arith)
 
-    block-counts : (e : Estimate) (s : State) → Adds Block e s
-    block-counts e s =
+    -- what a kind that asks for no children adds
+    lone : (k : NodeKind) (e : Estimate) (trees : Forest RenderNode) (s : State) → node_characters k ≡ [] →
+        kind_inside d push o k e trees s ≡ None → IfSome (kind_steps d push o k e trees children s) (AtLeast (counted s)) → Grows k e trees s
+    lone k e trees s none nowhere a =
+        let zero : count_from added (kind_inside d push o k e trees s) ≡ 0 = ap (count_from added) nowhere in
+        grows k e trees s none (IfSome-weaken (AtLeast (counted s))
+        (AtLeast (counted s + count_from added (kind_inside d push o k e trees s))) (kind_steps d push o k e trees children s) a
+        (λ r b. omega arith))
+
+    block-counts : (e : Estimate) (trees : Forest RenderNode) (s : State) → Adds Block e trees s
+    block-counts e trees s =
         between-counts (counted s) (on_block o.start_block s) (λ r. Some (record r { block = o.end_block r.block }))
         (keeps-counts o.start_block s (h.start_block s.block)) end-counts
 
-    kind-counts : (k : NodeKind) (e : Estimate) (s : State) → Grows k e s
-    kind-counts (Text t) e s =
+    struck_out-counts : (e : Estimate) (trees : Forest RenderNode) (s : State) → Adds Strikeout e trees s
+    struck_out-counts e trees s = by (begun d push o d.strikeout s) (begun-counts d.strikeout s)
+      where
+        by : (q : Option State) → IfSome q (AtLeast (counted s)) →
+            IfSome (option_and_then (λ p. option_and_then (λ r.
+            add_text o (d.strikeout.end r.decorator) (striking s.text.struck_out r))
+            (children (striking s.settings.unicode_strikeout p))) q)
+            (AtLeast (counted s + count_from added (option_and_then (λ p. Some (striking s.settings.unicode_strikeout p)) q)))
+        by None a = tt
+        by (Some p) a =
+            then-counts (counted s) (striking s.settings.unicode_strikeout p)
+            (λ r. add_text o (d.strikeout.end r.decorator) (striking s.text.struck_out r)) a
+            (λ r. round-counts (d.strikeout.end r.decorator) (striking s.text.struck_out r))
+
+    superscript-counts : (digits : Option (List ℕ)) (s : State) → IfSome (superscript d push o digits children s)
+        (AtLeast (counted s + count_from added (superscript_inside d push o digits s)))
+    superscript-counts None s = decorated-counts d.superscript s
+    superscript-counts (Some digits) s =
+        IfSome-weaken (AtLeast (counted s + w (map raised digits))) (AtLeast (counted s + 0)) (add_characters o (map raised digits) s)
+        (characters-count (map raised digits) s) (λ r a. omega arith)
+
+    linked-counts : (target : List ℕ) (s : State) → IfSome (linked d push o target children s)
+        (AtLeast (counted s + count_from added (begun d push o (link d target) (with_target target s))))
+    linked-counts target s =
+        let least = counted s + count_from added (begun d push o (link d target) (with_target target s)) in
+        IfSome-then (AtLeast least) (AtLeast least) (decorated d push o (link d target) children (with_target target s)) _
+        (decorated-counts (link d target) (with_target target s)) (λ r a.
+        IfSome-weaken (AtLeast (counted r)) (AtLeast least) (link_number o s.text (length s.targets + 1) r)
+        (link_number-counts s.text (length s.targets + 1) r) (λ t b. omega arith))
+
+    kind-counts : (k : NodeKind) (e : Estimate) (trees : Forest RenderNode) (s : State) → Grows k e trees s
+    kind-counts (Text t) e trees s =
         IfSome-weaken (AtLeast (counted s + w (chars t))) (AtLeast (counted s + (w (chars t) + 0))) (add_text o t s) (text-counts t s)
         (λ r a. omega arith)
-    kind-counts Container e s = grows Container e s refl (below s)
-    kind-counts Break e s =
-        grows Break e s refl (IfSome-weaken (AtLeast (counted s)) (AtLeast (counted s + 0)) (on_block o.new_line_hard s)
-        (keeps-counts o.new_line_hard s (h.new_line_hard s.block)) (λ r a. omega arith))
-    kind-counts Block e s = grows Block e s refl (block-counts e s)
-    kind-counts Div e s =
-        grows Div e s refl (between-counts (counted s) (on_block o.new_line s) (λ r. on_block o.new_line r)
+    kind-counts Container e trees s = grows Container e trees s refl (below s)
+    kind-counts Break e trees s = lone Break e trees s refl refl (keeps-counts o.new_line_hard s (h.new_line_hard s.block))
+    kind-counts Block e trees s = grows Block e trees s refl (block-counts e trees s)
+    kind-counts Div e trees s =
+        grows Div e trees s refl (between-counts (counted s) (on_block o.new_line s) (λ r. on_block o.new_line r)
         (keeps-counts o.new_line s (h.new_line s.block)) (λ r. keeps-counts o.new_line r (h.new_line r.block)))
-    kind-counts (Emphasis m) e s = grows (Emphasis m) e s refl (decorated-counts (emphasis_decoration d m) s)
-    kind-counts (Header level) e s = grows (Header level) e s refl (quoted-counts (d.header_prefix s.decorator level) (inner_least e) s)
-    kind-counts BlockQuote e s = grows BlockQuote e s refl (quoted-counts (d.quote_prefix s.decorator) (inner_least e) s)
-    kind-counts Ul e s = grows Ul e s refl (among-counts (Bullets (inner_least e)) s)
-    kind-counts (Ol first) e s = grows (Ol first) e s refl (among-counts (numbers d e first s.decorator) s)
-    kind-counts ListItem e s = grows ListItem e s refl (block-counts e s)
-    kind-counts Dl e s =
-        grows Dl e s refl (asked added (AtLeast (counted s)) (λ m. AtLeast (counted s + m)) (on_block o.start_block s) children
+    kind-counts (Emphasis m) e trees s = grows (Emphasis m) e trees s refl (decorated-counts (emphasis_decoration d m) s)
+    kind-counts (Header level) e trees s = grows (Header level) e trees s refl (quoted-counts (d.header_prefix s.decorator level) (inner_least e) s)
+    kind-counts BlockQuote e trees s = grows BlockQuote e trees s refl (quoted-counts (d.quote_prefix s.decorator) (inner_least e) s)
+    kind-counts Ul e trees s = grows Ul e trees s refl (among-counts (Bullets (inner_least e)) s)
+    kind-counts (Ol first) e trees s = grows (Ol first) e trees s refl (among-counts (numbers d e first s.decorator) s)
+    kind-counts ListItem e trees s = grows ListItem e trees s refl (block-counts e trees s)
+    kind-counts Dl e trees s =
+        grows Dl e trees s refl (asked added (AtLeast (counted s)) (λ m. AtLeast (counted s + m)) (on_block o.start_block s) children
         (keeps-counts o.start_block s (h.start_block s.block)) (λ q a.
         IfSome-weaken (AtLeast (counted q + added q)) (AtLeast (counted s + added q)) (children q) (below q) (λ r b. omega arith)))
-    kind-counts Dt e s =
-        grows Dt e s refl (by (on_block o.new_line s) (keeps-counts o.new_line s (h.new_line s.block)))
+    kind-counts Dt e trees s =
+        grows Dt e trees s refl (by (on_block o.new_line s) (keeps-counts o.new_line s (h.new_line s.block)))
       where
         by : (q : Option State) → IfSome q (AtLeast (counted s)) →
             IfSome (option_and_then (λ p. decorated d push o d.em children p) q)
@@ -205,49 +275,58 @@ module _ {S A K T B : Type 0} (d : Decoration S A) (push : K → T → A → K �
             IfSome-weaken (AtLeast (counted p + count_from added (begun d push o d.em p)))
             (AtLeast (counted s + count_from added (begun d push o d.em p))) (decorated d push o d.em children p)
             (decorated-counts d.em p) (λ r b. omega arith)
-    kind-counts Dd e s = grows Dd e s refl (indented-counts (spaces 2) 2 (inner_least e) s.around s)
+    kind-counts Dd e trees s = grows Dd e trees s refl (indented-counts (spaces 2) 2 (inner_least e) s.around s)
+    kind-counts Strikeout e trees s = grows Strikeout e trees s refl (struck_out-counts e trees s)
+    kind-counts Superscript e trees s = grows Superscript e trees s refl (superscript-counts (digits_of trees) s)
+    kind-counts (Link target) e trees s = grows (Link target) e trees s refl (linked-counts target s)
+    kind-counts (Image m) e trees s = lone (Image m) e trees s refl refl (image-counts m.source m.title s)
+    kind-counts (Svg title) e trees s = lone (Svg title) e trees s refl refl (image-counts [] title s)
+    kind-counts (FragmentStart name) e trees s =
+        lone (FragmentStart name) e trees s refl refl (omega (arith, h.add_mark s.block (length s.names)))
 
-    restored-counts : (k : NodeKind) (e : Estimate) (s : State) →
-        IfSome (restored (kind_steps d push o k e children) s)
-        (AtLeast (counted s + (w (node_characters k) + count_from added (kind_inside d push o k e s))))
-    restored-counts k e s =
-        let least = counted s + (w (node_characters k) + count_from added (kind_inside d push o k e s)) in
-        IfSome-then (AtLeast least) (AtLeast least) (kind_steps d push o k e children s) _ (kind-counts k e s) (λ r a. a)
+    node-counts : (n : RenderNode) (trees : Forest RenderNode) (s : State) →
+        IfSome (node_steps d push o n trees children s)
+        (AtLeast (counted s + (w (node_characters n.kind) + count_from added (node_inside d push o n trees s))))
+    node-counts n trees s =
+        let q : State = in_style d push n.style s in
+        let more = w (node_characters n.kind) + count_from added (kind_inside d push o n.kind n.estimate trees q) in
+        IfSome-then (AtLeast (counted q + more)) (AtLeast (counted s + more)) (kind_steps d push o n.kind n.estimate trees children q) _
+        (kind-counts n.kind n.estimate trees q) (λ r a. let e = ap v (in_style-block d push n.style s) in omega arith)
 
     -- an item of a list
-    item-counts : (k : NodeKind) (e : Estimate) (prefix : List ℕ) (columns least : ℕ) (behind : Around) (s : State) →
-        IfSome (indented d o prefix columns least behind (λ q. restored (kind_steps d push o k e children) q) s)
-        (AtLeast (counted s + (w (node_characters k)
-        + count_from added (option_and_then (λ q. kind_inside d push o k e q) (nested d o columns least s)))))
-    item-counts k e prefix columns least behind s = by (nested d o columns least s) (nested-counts columns least s)
+    item-counts : (n : RenderNode) (trees : Forest RenderNode) (prefix : List ℕ) (columns least : ℕ) (behind : Around) (s : State) →
+        IfSome (indented d o prefix columns least behind (λ q. node_steps d push o n trees children q) s)
+        (AtLeast (counted s + (w (node_characters n.kind)
+        + count_from added (option_and_then (λ q. node_inside d push o n trees q) (nested d o columns least s)))))
+    item-counts n trees prefix columns least behind s = by (nested d o columns least s) (nested-counts columns least s)
       where
-        by : (n : Option State) → IfSome n (λ q. counted q ≡ 0) →
+        by : (u : Option State) → IfSome u (λ q. counted q ≡ 0) →
             IfSome (option_and_then (λ q. option_and_then (λ r. option_and_then (λ b. Some (resumed s b behind r))
-            (o.append s.block r.block s.text.tag (chars prefix) (spaces columns))) (restored (kind_steps d push o k e children) q)) n)
-            (AtLeast (counted s + (w (node_characters k) + count_from added (option_and_then (λ q. kind_inside d push o k e q) n))))
+            (o.append s.block r.block s.text.tag (chars prefix) (spaces columns))) (node_steps d push o n trees children q)) u)
+            (AtLeast (counted s + (w (node_characters n.kind) + count_from added (option_and_then (λ q. node_inside d push o n trees q) u))))
         by None a = tt
         by (Some q) a =
-            let inner = w (node_characters k) + count_from added (kind_inside d push o k e q) in
-            IfSome-then (AtLeast (counted q + inner)) (AtLeast (counted s + inner)) (restored (kind_steps d push o k e children) q) _
-            (restored-counts k e q) (λ r b.
+            let inner = w (node_characters n.kind) + count_from added (node_inside d push o n trees q) in
+            IfSome-then (AtLeast (counted q + inner)) (AtLeast (counted s + inner)) (node_steps d push o n trees children q) _
+            (node-counts n trees q) (λ r b.
             IfSome-weaken (AtLeast (v s.block + counted r)) (AtLeast (counted s + inner))
             (option_and_then (λ c. Some (resumed s c behind r)) (o.append s.block r.block s.text.tag (chars prefix) (spaces columns)))
             (append-counts s r s.block (chars prefix) (spaces columns) (λ c. resumed s c behind r) (λ c. refl))
             (λ t x. omega arith))
 
-    placed-counts : (k : NodeKind) (e : Estimate) (s : State) (a : Around) →
-        IfSome (placed d o (λ q. restored (kind_steps d push o k e children) q) s a)
-        (AtLeast (counted s + (w (node_characters k) + count_from added (placed_inside d push o k e s a))))
-    placed-counts k e s Plain = restored-counts k e s
-    placed-counts k e s (Bullets least) =
+    placed-counts : (n : RenderNode) (trees : Forest RenderNode) (s : State) (a : Around) →
+        IfSome (placed d o (λ q. node_steps d push o n trees children q) s a)
+        (AtLeast (counted s + (w (node_characters n.kind) + count_from added (placed_inside d push o n trees s a))))
+    placed-counts n trees s Plain = node-counts n trees s
+    placed-counts n trees s (Bullets least) =
         let bullet = d.unordered_item_prefix s.decorator in
-        item-counts k e bullet (prefix_columns bullet) least (Bullets least) s
-    placed-counts k e s (Numbers least number columns) =
-        item-counts k e (padded columns (d.ordered_item_prefix s.decorator number)) columns least
+        item-counts n trees bullet (prefix_columns bullet) least (Bullets least) s
+    placed-counts n trees s (Numbers least number columns) =
+        item-counts n trees (padded columns (d.ordered_item_prefix s.decorator number)) columns least
         (Numbers least (next_number number) columns) s
 
   steps-grow : NodesGrow counted node_count (steps d push o) (inside d push o)
-  steps-grow n trees children added below s = placed-counts children added below n.kind n.estimate s s.around
+  steps-grow n trees children added below s = placed-counts children added below n trees s s.around
 
   -- what is counted grows by what is counted in the texts that are visited
   pub layout-grows : (t : Forest RenderNode) (s : State) → IfSome (run (steps d push o) t s)
@@ -270,6 +349,25 @@ texts_count c (n ∷ ns) =
     ap (count c) (visible-append (node_characters n.kind) (text_characters ns))
     ∙ sum_by-append (λ x. cond (x == c) 1 0) (visible_in_text (node_characters n.kind)) (visible_in_text (text_characters ns))
     ∙ ap (λ m. text_count c (node_characters n.kind) + m) (texts_count c ns) ∙ sym (sum_by-cons f n ns)
+
+-- a character more, in front of a text
+text_count-cons : (c x : ℕ) (cs : List ℕ) → text_count c (x ∷ cs) ≡ count c (if_visible x) + text_count c cs
+text_count-cons c x cs = sum_by-append (λ y. cond (y == c) 1 0) (if_visible x) (visible_in_text cs)
+
+-- a visible character stands in a text that is struck out as often as in the text, or more often
+struck-count : (c : ℕ) (cs : List ℕ) → text_count c cs ≤ text_count c (struck cs)
+struck-count c [] = omega arith
+struck-count c (x ∷ cs) = by (struck-count c cs) (is_collapsible x)
+  where
+    by : text_count c cs ≤ text_count c (struck cs) → (z : Bool) →
+        text_count c (x ∷ cs) ≤ text_count c (cond z (x ∷ struck cs) (x ∷ (822 ∷ struck cs)))
+    by h true = omega (arith, text_count-cons c x cs, text_count-cons c x (struck cs))
+    by h false = omega (arith, text_count-cons c x cs, text_count-cons c x (822 ∷ struck cs), text_count-cons c 822 (struck cs))
+
+-- and so it does in a text as it is written
+written-count : (c : ℕ) (struck_out : Bool) (cs : List ℕ) → text_count c cs ≤ text_count c (written struck_out cs)
+written-count c true cs = struck-count c cs
+written-count c false cs = omega arith
 
 -- a law for each character
 for_each : {X : Type 0} (P : ℕ → X → Type 0) (o : Option X) → ((c : ℕ) → IfSome o (P c)) → IfSome o (λ x. (c : ℕ) → P c x)
@@ -294,65 +392,69 @@ of_lines P (Some ls) lines h e = subst P (same_Some ls lines e) h
 
 module _ {S A : Type 0} (d : Decoration S A) where
   abbrev lines_from : Forest RenderNode → Defined S A → Option (List (Line (List A) ℕ))
-  lines_from t s = shown_after d onto definition.operations (λ (r : Defined S A). r.block.lines) t s
+  lines_from t s = shown_after d onto definition.operations definition.ending (λ (r : Defined S A). r.block.lines) t s
 
   -- THE LAW: each visible character of the texts that are visited stands in the lines as often, or more often
-  pub layout_keeps_texts : (t : Forest RenderNode) (decorator : S) (w : ℕ) (o : Bool) → IfSome (layout_lines d t decorator w o)
-      (KeepsTexts (visited_nodes d t decorator w o))
-  layout_keeps_texts t decorator w o =
-      for_each (λ c lines. text_count c (text_characters (visited_nodes d t decorator w o)) ≤ count c (visible_in_lines lines))
-      (layout_lines d t decorator w o) (λ c. by c (w == 0))
+  pub layout_keeps_texts : (settings : LayoutSettings) (t : Forest RenderNode) (decorator : S) (w : ℕ) (o : Bool) →
+      IfSome (layout_lines d settings t decorator w o) (KeepsTexts (visited_nodes d settings t decorator w o))
+  layout_keeps_texts settings t decorator w o =
+      for_each (λ c lines. text_count c (text_characters (visited_nodes d settings t decorator w o)) ≤ count c (visible_in_lines lines))
+      (layout_lines d settings t decorator w o) (λ c. by c (w == 0))
     where
-      lines : (c : ℕ) → IfSome (lines_from (estimated d decorator t) (empty_state d decorator w o))
-          (λ lines. text_count c (text_characters (visited_nodes d t decorator w o)) ≤ count c (visible_in_lines lines))
+      lines : (c : ℕ) → IfSome (lines_from (estimated d decorator t) (empty_state d settings decorator w o))
+          (λ lines. text_count c (text_characters (visited_nodes d settings t decorator w o)) ≤ count c (visible_in_lines lines))
       lines c =
-          let start = empty_state d decorator w o in
+          let start = empty_state d settings decorator w o in
           let f : RenderNode → ℕ = λ n. text_count c (node_characters n.kind) in
           let wanted : List (Line (List A) ℕ) → Type 0 =
-          λ lines. text_count c (text_characters (visited_nodes d t decorator w o)) ≤ count c (visible_in_lines lines) in
-          let had = visible_count c start.block + sum_by f (visited_nodes d t decorator w o) in
+          λ lines. text_count c (text_characters (visited_nodes d settings t decorator w o)) ≤ count c (visible_in_lines lines) in
+          let had = visible_count c start.block + sum_by f (visited_nodes d settings t decorator w o) in
           IfSome-then (λ (r : Defined S A). had ≤ visible_count c r.block) wanted
           (run (defined d) (estimated d decorator t) start) _
           (layout-grows d onto definition.operations (visible_count c) (text_count c) (operations_keep_visible c) refl
+          (written-count c)
           (estimated d decorator t) start) (λ r a.
-          IfSome-then (λ (q : Defined S A). count c (visible_in_lines q.block.lines) ≡ visible_count c r.block) wanted
-          (on_block definition.operations.new_line r) _
-          (IfSome-then (λ (b : DefinedBlock (List A) ℕ). count c (visible_in_lines b.lines) ≡ visible_count c r.block)
-          (λ (q : Defined S A). count c (visible_in_lines q.block.lines) ≡ visible_count c r.block) (definition.flush r.block) _
-          (flushed_count c r.block) (λ b e. e)) (λ q e. omega (arith, a, e, texts_count c (visited_nodes d t decorator w o))))
+          IfSome-then (λ (q : Defined S A). visible_count c r.block ≤ count c (visible_in_lines q.block.lines)) wanted
+          (ended d definition.ending settings.link_footnotes settings.wrap_links [] r) _
+          (ended-keeps d definition.ending settings.link_footnotes settings.wrap_links []
+          (λ (b : DefinedBlock (List A) ℕ). (b.fed ≡ []) × (visible_count c b ≡ visible_count c r.block))
+          (λ b. visible_count c r.block ≤ count c (visible_in_lines b.lines)) r (finish_count c r.block)
+          (λ b ts h. subst (λ n. IfSome (definition.add_closing_lines b settings.wrap_links [] ts)
+          (λ e. n ≤ count c (visible_in_lines e.lines))) h.1 (closed_count c b settings.wrap_links [] ts h.0)))
+          (λ q e. omega (arith, a, e, texts_count c (visited_nodes d settings t decorator w o))))
 
-      by : (c : ℕ) (z : Bool) → IfSome (cond z None (lines_from (estimated d decorator t) (empty_state d decorator w o)))
-          (λ lines. text_count c (text_characters (visited_nodes d t decorator w o)) ≤ count c (visible_in_lines lines))
+      by : (c : ℕ) (z : Bool) → IfSome (cond z None (lines_from (estimated d decorator t) (empty_state d settings decorator w o)))
+          (λ lines. text_count c (text_characters (visited_nodes d settings t decorator w o)) ≤ count c (visible_in_lines lines))
       by c true = tt
       by c false = lines c
 
   -- the same of the lines without annotations
-  pub untagged_keeps_texts : (t : Forest RenderNode) (decorator : S) (w : ℕ) (o : Bool) → IfSome (untagged_lines d t decorator w o)
-      (KeepsTexts (visited_nodes d t decorator w o))
-  untagged_keeps_texts t decorator w o = by (layout_lines d t decorator w o) (layout_keeps_texts t decorator w o)
+  pub untagged_keeps_texts : (settings : LayoutSettings) (t : Forest RenderNode) (decorator : S) (w : ℕ) (o : Bool) →
+      IfSome (untagged_lines d settings t decorator w o) (KeepsTexts (visited_nodes d settings t decorator w o))
+  untagged_keeps_texts settings t decorator w o = by (layout_lines d settings t decorator w o) (layout_keeps_texts settings t decorator w o)
     where
-      by : (p : Option (List (Line (List A) ℕ))) → IfSome p (KeepsTexts (visited_nodes d t decorator w o)) →
-          IfSome (option_map (lines_with (λ (s : List A). no_tag s)) p) (KeepsTexts (visited_nodes d t decorator w o))
+      by : (p : Option (List (Line (List A) ℕ))) → IfSome p (KeepsTexts (visited_nodes d settings t decorator w o)) →
+          IfSome (option_map (lines_with (λ (s : List A). no_tag s)) p) (KeepsTexts (visited_nodes d settings t decorator w o))
       by None h = tt
-      by (Some ls) h = λ c. subst (λ cs. text_count c (text_characters (visited_nodes d t decorator w o)) ≤ count c cs)
+      by (Some ls) h = λ c. subst (λ cs. text_count c (text_characters (visited_nodes d settings t decorator w o)) ≤ count c cs)
           (sym (lines-with (λ (s : List A). no_tag s) ls)) (h c)
 
   -- ---- the laws, of what a call answers
 
-  pub keeps-answered : {X : Type 0} (t : Forest RenderNode) (decorator : S) (w : ℕ) (o : Bool) (lines : X → List (Line (List A) ℕ))
-      (r : Result X Error) →
-      IfOk r (λ v. layout_lines d t decorator w o ≡ Some (lines v)) →
-      IfOk r (λ v. KeepsTexts (visited_nodes d t decorator w o) (lines v))
-  keeps-answered t decorator w o lines (Err e) h = tt
-  keeps-answered t decorator w o lines (Ok v) h =
-      of_lines (KeepsTexts (visited_nodes d t decorator w o)) (layout_lines d t decorator w o) (lines v)
-      (layout_keeps_texts t decorator w o) h
+  pub keeps-answered : {X : Type 0} (settings : LayoutSettings) (t : Forest RenderNode) (decorator : S) (w : ℕ) (o : Bool)
+      (lines : X → List (Line (List A) ℕ)) (r : Result X Error) →
+      IfOk r (λ v. layout_lines d settings t decorator w o ≡ Some (lines v)) →
+      IfOk r (λ v. KeepsTexts (visited_nodes d settings t decorator w o) (lines v))
+  keeps-answered settings t decorator w o lines (Err e) h = tt
+  keeps-answered settings t decorator w o lines (Ok v) h =
+      of_lines (KeepsTexts (visited_nodes d settings t decorator w o)) (layout_lines d settings t decorator w o) (lines v)
+      (layout_keeps_texts settings t decorator w o) h
 
-  pub untagged_keeps-answered : {X : Type 0} (t : Forest RenderNode) (decorator : S) (w : ℕ) (o : Bool)
+  pub untagged_keeps-answered : {X : Type 0} (settings : LayoutSettings) (t : Forest RenderNode) (decorator : S) (w : ℕ) (o : Bool)
       (lines : X → List (Line (Unit {0}) ℕ)) (r : Result X Error) →
-      IfOk r (λ v. untagged_lines d t decorator w o ≡ Some (lines v)) →
-      IfOk r (λ v. KeepsTexts (visited_nodes d t decorator w o) (lines v))
-  untagged_keeps-answered t decorator w o lines (Err e) h = tt
-  untagged_keeps-answered t decorator w o lines (Ok v) h =
-      of_lines (KeepsTexts (visited_nodes d t decorator w o)) (untagged_lines d t decorator w o) (lines v)
-      (untagged_keeps_texts t decorator w o) h
+      IfOk r (λ v. untagged_lines d settings t decorator w o ≡ Some (lines v)) →
+      IfOk r (λ v. KeepsTexts (visited_nodes d settings t decorator w o) (lines v))
+  untagged_keeps-answered settings t decorator w o lines (Err e) h = tt
+  untagged_keeps-answered settings t decorator w o lines (Ok v) h =
+      of_lines (KeepsTexts (visited_nodes d settings t decorator w o)) (untagged_lines d settings t decorator w o) (lines v)
+      (untagged_keeps_texts settings t decorator w o) h

@@ -19,6 +19,7 @@ use Rattle.html_render_layout.specs.Stacks.{stack_at}
 use Rattle.html_render_nodes.specs.Counts.{CountsNodes}
 use Rattle.html_render_nodes.specs.Pass.{visited, inside_of}
 use Rattle.html_render_nodes.specs.laws.Counts.{counts-same}
+use Rattle.html_render_layout.specs.declared.settings.LayoutSettings.{LayoutSettings}
 use Rattle.html_render_layout.specs.Layout.{onto, steps, shown_after, Defined, defined, defined_inside, begin_with, empty_state}
 use Rattle.html_render_layout.specs.Layout.{estimated, layout_lines, untagged_lines}
 use Rattle.html_render_layout.specs.Opening.{opened}
@@ -45,13 +46,13 @@ module _ {T M : Type 0} (f : T → T) (same : (t : T) → f t ≡ t) where
   mapped-same None = refl
   mapped-same (Some ls) = ap Some (lines-same ls)
 
-module _ {S A : Type 0} (d : Decoration S A) where
+module _ {S A : Type 0} (d : Decoration S A) (settings : LayoutSettings) where
   -- what is defined of measured trees, from an empty block
   abbrev wanted : Forest RenderNode → S → ℕ → Bool → Option (List (Line (List A) ℕ))
-  wanted t decorator w o = shown_after d onto definition.operations (λ (r : Defined S A). r.block.lines) t (empty_state d decorator w o)
+  wanted t decorator w o = shown_after d onto definition.operations definition.ending (λ (r : Defined S A). r.block.lines) t (empty_state d settings decorator w o)
 
   wanted-lines : (t : Forest RenderNode) (decorator : S) (w : ℕ) (o : Bool) → w ≢ 0 →
-      wanted (estimated d decorator t) decorator w o ≡ layout_lines d t decorator w o
+      wanted (estimated d decorator t) decorator w o ≡ layout_lines d settings t decorator w o
   wanted-lines t decorator w o wide = by (w == 0) refl
     where
       by : (z : Bool) → (w == 0) ≡ z →
@@ -78,12 +79,13 @@ module _ {S A : Type 0} (d : Decoration S A) where
 
   abbrev pub empty_worked : S → (width : ℕ) → (overflow : Bool) → Worked S A
   empty_worked decorator w o =
-      begin_with (d.subblock decorator) ([] ∷ []) 0 (machine.empty_block (record { width = w; max_wrap_width = None; overflow = o }))
+      begin_with settings (d.subblock decorator) ([] ∷ []) 0 (machine.empty_block (record { width = w; max_wrap_width = None; overflow = o }))
 
   begins : (decorator : S) (w : ℕ) (o : Bool) →
       Represents d tabled stack_at (λ (s : List A). s) Pushed (λ k. ([], sym (append-nil k))) Pushed-goes
-      (λ k t a. ((stack_at k t ++ a ∷ []) ∷ [], refl)) tag_pushed (empty_worked decorator w o) (empty_state d decorator w o)
+      (λ k t a. ((stack_at k t ++ a ∷ []) ∷ [], refl)) tag_pushed (empty_worked decorator w o) (empty_state d settings decorator w o)
   begins decorator w o = record {
+    settings = refl;
     decorator = refl;
     text = record { tag = λ i. ap (λ x. stack_at x 0) i.1.1; mode = refl; preformatted = refl; struck_out = refl };
     block = λ i. refl;
@@ -98,13 +100,13 @@ module _ {S A : Type 0} (d : Decoration S A) where
       lines-represented d tabled stack_at (λ (s : List A). s) Pushed (λ k. ([], sym (append-nil k))) Pushed-goes
       (λ k t a. ((stack_at k t ++ a ∷ []) ∷ [], refl)) tag_pushed
       (λ (r : Worked S A). lines_with (stack_at r.stacks) r.block.lines) (λ r. refl) t (empty_worked decorator w o)
-      (empty_state d decorator w o)
+      (empty_state d settings decorator w o)
       (begins decorator w o)
       ∙ mapped-same (λ (s : List A). s) (λ s. refl) (wanted t decorator w o)
 
   -- from an empty block of a width that isn't 0, what the code does with the measured trees makes the lines of the tree
   pub layout_lines-works : (t measured : Forest RenderNode) (decorator : S) (w : ℕ) (o : Bool) (s : Worked S A) → w ≢ 0 →
-      measured ≡ estimated d decorator t → s ≡ empty_worked decorator w o → work_lines d measured s ≡ layout_lines d t decorator w o
+      measured ≡ estimated d decorator t → s ≡ empty_worked decorator w o → work_lines d measured s ≡ layout_lines d settings t decorator w o
   layout_lines-works t measured decorator w o s wide m e =
       ap (λ x. work_lines d measured x) e ∙ ap (λ x. work_lines d x (empty_worked decorator w o)) m
       ∙ work_lines-wanted (estimated d decorator t) decorator w o ∙ wanted-lines t decorator w o wide
@@ -113,13 +115,13 @@ module _ {S A : Type 0} (d : Decoration S A) where
   counts-wanted : {X : Type 0} (r : Result X Error) (t : Forest RenderNode) (decorator : S) (w : ℕ) (o : Bool) (s : Worked S A)
       (old other new : Meter) → s ≡ empty_worked decorator w o → other.probes ≡ old.probes →
       CountsNodes r (steps d tabled machine.operations) (inside_of (opened d tabled machine.operations)) t s other new →
-      CountsNodes r (defined d) (defined_inside d) t (empty_state d decorator w o) old new
+      CountsNodes r (defined d) (defined_inside d) t (empty_state d settings decorator w o) old new
   counts-wanted r t decorator w o s old other new e probes c =
       counts-same r (steps d tabled machine.operations) (inside_of (opened d tabled machine.operations)) (defined d) (defined_inside d) t s
-      (empty_state d decorator w o) old other new
+      (empty_state d settings decorator w o) old other new
       (ap (λ x. visited (steps d tabled machine.operations) (inside_of (opened d tabled machine.operations)) t x) e
       ∙ visited-represented d tabled stack_at (λ (s : List A). s) Pushed (λ k. ([], sym (append-nil k))) Pushed-goes
-      (λ k t a. ((stack_at k t ++ a ∷ []) ∷ [], refl)) tag_pushed t (empty_worked decorator w o) (empty_state d decorator w o)
+      (λ k t a. ((stack_at k t ++ a ∷ []) ∷ [], refl)) tag_pushed t (empty_worked decorator w o) (empty_state d settings decorator w o)
       (begins decorator w o))
       (layout-asks d onto definition.operations) probes c
 
@@ -128,7 +130,7 @@ module _ {S A : Type 0} (d : Decoration S A) where
       (s : Worked S A) (old other new : Meter) → measured ≡ estimated d decorator t → s ≡ empty_worked decorator w o →
       other.probes ≡ old.probes →
       CountsNodes r (steps d tabled machine.operations) (inside_of (opened d tabled machine.operations)) measured s other new →
-      CountsNodes r (defined d) (defined_inside d) (estimated d decorator t) (empty_state d decorator w o) old new
+      CountsNodes r (defined d) (defined_inside d) (estimated d decorator t) (empty_state d settings decorator w o) old new
   counts-work r t measured decorator w o s old other new m e probes c =
       counts-wanted r (estimated d decorator t) decorator w o s old other new e probes
       (subst (λ x. CountsNodes r (steps d tabled machine.operations) (inside_of (opened d tabled machine.operations)) x s other new) m c)
@@ -137,7 +139,7 @@ module _ {S A : Type 0} (d : Decoration S A) where
 
   abbrev pub empty_untagged : {K : Type 0} → K → S → (width : ℕ) → (overflow : Bool) → Untagged S K
   empty_untagged k decorator w o =
-      begin_with (d.subblock decorator) k tt (machine.empty_block (record { width = w; max_wrap_width = None; overflow = o }))
+      begin_with settings (d.subblock decorator) k tt (machine.empty_block (record { width = w; max_wrap_width = None; overflow = o }))
 
   untagged_work-wanted : {K : Type 0} (t : Forest RenderNode) (decorator : S) (w : ℕ) (o : Bool) (k : K) →
       untagged_work d t (empty_untagged k decorator w o) ≡ option_map (lines_with (λ (s : List A). tt)) (wanted t decorator w o)
@@ -145,8 +147,9 @@ module _ {S A : Type 0} (d : Decoration S A) where
       lines-represented d untagged (λ k t. tt) (λ (s : List A). tt) (λ k l. Unit {0}) (λ k. tt) (λ k l m a b. tt) (λ k t a. tt)
       (λ k t a s h l g. refl)
       (λ (r : Untagged S K). r.block.lines) (λ r. sym (lines-same (λ (t : Unit {0}). tt) (λ t. refl) r.block.lines)) t
-      (empty_untagged k decorator w o) (empty_state d decorator w o)
+      (empty_untagged k decorator w o) (empty_state d settings decorator w o)
       (record {
+        settings = refl;
         decorator = refl;
         text = record { tag = λ i. refl; mode = refl; preformatted = refl; struck_out = refl };
         block = λ i. refl;
@@ -158,7 +161,7 @@ module _ {S A : Type 0} (d : Decoration S A) where
   -- the same, without what the characters are annotated with
   pub untagged_lines-works : {K : Type 0} (t measured : Forest RenderNode) (decorator : S) (w : ℕ) (o : Bool) (k : K)
       (s : Untagged S K) → w ≢ 0 → measured ≡ estimated d decorator t → s ≡ empty_untagged k decorator w o →
-      untagged_work d measured s ≡ untagged_lines d t decorator w o
+      untagged_work d measured s ≡ untagged_lines d settings t decorator w o
   untagged_lines-works t measured decorator w o k s wide m e =
       ap (λ x. untagged_work d measured x) e ∙ ap (λ x. untagged_work d x (empty_untagged k decorator w o)) m
       ∙ untagged_work-wanted (estimated d decorator t) decorator w o k

@@ -1,14 +1,15 @@
 -- What the walk does at a node is what is defined.
-use Rattle.std.specs.Prelude.{◌≡◌, Option, Some, None, option_and_then, refl}
+use Rattle.std.specs.Prelude.{◌≡◌, ℕ, List, [], map, Option, Some, None, option_and_then, refl}
 use Rattle.std.proofs.Common.{ap, ◌∙◌, sym}
-use Rattle.std.specs.Str.{chars}
 use Rattle.html_render_dom.specs.Forest.{Forest}
-use Rattle.html_render_parts.specs.Decoration.{Decoration}
+use Rattle.html_render_dom.specs.declared.style.colours.Colour.{Colour}
+use Rattle.html_render_parts.specs.Decoration.{Decoration, link}
 use Rattle.html_render_estimates.specs.Estimates.{prefix_columns}
 use Rattle.html_render_nodes.specs.declared.tree.Estimate.{Estimate}
 use Rattle.html_render_nodes.specs.declared.tree.NodeKind.{NodeKind}
 use Rattle.html_render_nodes.specs.declared.tree.NodeKind.TheVariants.{Text, Container, Break, Block, Div, Emphasis}
 use Rattle.html_render_nodes.specs.declared.tree.NodeKind.TheVariants.{Header, BlockQuote, Ul, Ol, ListItem, Dl, Dt, Dd}
+use Rattle.html_render_nodes.specs.declared.tree.NodeKind.TheVariants.{Strikeout, Superscript, Link, Image, Svg, FragmentStart}
 use Rattle.html_render_nodes.specs.declared.tree.RenderNode.{RenderNode}
 use Rattle.html_render_nodes.specs.Pass.{Way, Into, Past, AsksIn, past, through, into, inside_of}
 use Rattle.html_render_nodes.specs.laws.Visits.{opened-asks, asks-same}
@@ -21,10 +22,13 @@ use Rattle.html_render_layout.specs.declared.layout.state.KindClosing.{KindClosi
 use Rattle.html_render_layout.specs.declared.layout.state.LayoutState.{LayoutState}
 use Rattle.html_render_layout.specs.declared.layout.state.Outer.{Outer}
 use Rattle.html_render_layout.specs.declared.layout.state.TextContext.{TextContext}
-use Rattle.html_render_layout.specs.Layout.{on_block, add_text, begun, emphasis_decoration, nested, indented, resumed, spaces}
-use Rattle.html_render_layout.specs.Layout.{inner_least, restored, among, numbers, placed, kind_steps, steps, kind_inside, placed_inside, inside}
+use Rattle.html_render_layout.specs.Layout.{on_block, add_characters, add_text, begun, emphasis_decoration, nested, indented}
+use Rattle.html_render_layout.specs.Layout.{inner_least, among, numbers, placed, digits_of, raised, superscript, image}
+use Rattle.html_render_layout.specs.Layout.{with_target, marked, in_style, kind_steps, node_steps, steps}
+use Rattle.html_render_layout.specs.Layout.{superscript_inside, kind_inside, node_inside, placed_inside, inside}
 use Rattle.html_render_layout.specs.Opening.{interrupted, item_closed, bullet_place, number_place, place_of, keeping}
-use Rattle.html_render_layout.specs.Opening.{kind_opened, kind_closed, placed_opened, opened, closed}
+use Rattle.html_render_layout.specs.Opening.{superscript_opened, kind_opened, kind_closed, node_opened, placed_opened, opened, closed}
+use Rattle.html_render_layout.specs.laws.Styles.{in_style-around}
 
 and_then_some : {A : Type 0} (o : Option A) → o ≡ option_and_then (λ x. Some x) o
 and_then_some None = refl
@@ -66,142 +70,174 @@ module _ {S A K T B : Type 0} (d : Decoration S A) (push : K → T → A → K �
   among-told around children s plain =
       ap (λ a. option_and_then (λ (r : State). Some (record r { around = a })) (children (record s { around = around }))) plain
 
-  kind-told : (k : NodeKind) (e : Estimate) (children : State → Option State) (s : State) → s.around ≡ Plain →
-      kind_steps d push o k e children s
-      ≡ option_and_then (through (kind_closed d push o s.text) children) (kind_opened d push o k e s)
-  kind-told (Text t) e children s plain = past-told (kind_closed d push o s.text) children (add_text o t s)
-  kind-told Container e children s plain = and_then_some (children s)
-  kind-told Break e children s plain = past-told (kind_closed d push o s.text) children (on_block o.new_line_hard s)
-  kind-told Block e children s plain = and_then_assoc (on_block o.start_block s) _ _
-  kind-told Div e children s plain = and_then_assoc (on_block o.new_line s) _ _
-  kind-told (Emphasis m) e children s plain = and_then_assoc (begun d push o (emphasis_decoration d m) s) _ _
-  kind-told (Header level) e children s plain =
+  -- a superscript, of digits or of anything else
+  superscript-told : (digits : Option (List ℕ)) (children : State → Option State) (s : State) →
+      superscript d push o digits children s
+      ≡ option_and_then (through (kind_closed d push o) children) (superscript_opened d push o digits s)
+  superscript-told None children s = and_then_assoc (begun d push o d.superscript s) _ _
+  superscript-told (Some digits) children s = past-told (kind_closed d push o) children (add_characters o (map raised digits) s)
+
+  kind-told : (k : NodeKind) (e : Estimate) (trees : Forest RenderNode) (children : State → Option State) (s : State) →
+      s.around ≡ Plain →
+      kind_steps d push o k e trees children s
+      ≡ option_and_then (through (kind_closed d push o) children) (kind_opened d push o k e trees s)
+  kind-told (Text t) e trees children s plain = past-told (kind_closed d push o) children (add_text o t s)
+  kind-told Container e trees children s plain = and_then_some (children s)
+  kind-told Break e trees children s plain = past-told (kind_closed d push o) children (on_block o.new_line_hard s)
+  kind-told Block e trees children s plain = and_then_assoc (on_block o.start_block s) _ _
+  kind-told Div e trees children s plain = and_then_assoc (on_block o.new_line s) _ _
+  kind-told (Emphasis m) e trees children s plain = and_then_assoc (begun d push o (emphasis_decoration d m) s) _ _
+  kind-told (Header level) e trees children s plain =
       and_then_assoc (nested d o (prefix_columns (d.header_prefix s.decorator level)) (inner_least e) s) _ _
-  kind-told BlockQuote e children s plain = and_then_assoc (nested d o (prefix_columns (d.quote_prefix s.decorator)) (inner_least e) s) _ _
-  kind-told Ul e children s plain = among-told (Bullets (inner_least e)) children s plain
-  kind-told (Ol first) e children s plain = among-told (numbers d e first s.decorator) children s plain
-  kind-told ListItem e children s plain = and_then_assoc (on_block o.start_block s) _ _
-  kind-told Dl e children s plain =
+  kind-told BlockQuote e trees children s plain =
+      and_then_assoc (nested d o (prefix_columns (d.quote_prefix s.decorator)) (inner_least e) s) _ _
+  kind-told Ul e trees children s plain = among-told (Bullets (inner_least e)) children s plain
+  kind-told (Ol first) e trees children s plain = among-told (numbers d e first s.decorator) children s plain
+  kind-told ListItem e trees children s plain = and_then_assoc (on_block o.start_block s) _ _
+  kind-told Dl e trees children s plain =
       and_then_same (on_block o.start_block s) _ _ (λ q. and_then_some (children q)) ∙ and_then_assoc (on_block o.start_block s) _ _
-  kind-told Dt e children s plain =
+  kind-told Dt e trees children s plain =
       and_then_same (on_block o.new_line s) _ _ (λ q. and_then_assoc (begun d push o d.em q) _ _)
       ∙ and_then_assoc (on_block o.new_line s) _ _
-  kind-told Dd e children s plain = and_then_assoc (nested d o 2 (inner_least e) s) _ _
+  kind-told Dd e trees children s plain = and_then_assoc (nested d o 2 (inner_least e) s) _ _
+  kind-told Strikeout e trees children s plain = and_then_assoc (begun d push o d.strikeout s) _ _
+  kind-told Superscript e trees children s plain = superscript-told (digits_of trees) children s
+  kind-told (Link target) e trees children s plain =
+      let start = begun d push o (link d target) (with_target target s) in
+      sym (and_then_assoc start _ _)
+      ∙ and_then_same start _ _ (λ q. sym (and_then_assoc (children q) (λ r. add_text o (d.link_end r.decorator) r) _))
+      ∙ and_then_assoc start _ _
+  kind-told (Image i) e trees children s plain = past-told (kind_closed d push o) children (image d push o i.source i.title s)
+  kind-told (Svg title) e trees children s plain = past-told (kind_closed d push o) children (image d push o [] title s)
+  kind-told (FragmentStart name) e trees children s plain = past-told (kind_closed d push o) children (Some (marked o name s))
 
   -- texts are treated so again
   abbrev back : TextContext T → State → Option State
   back text r = Some (record r { text = text })
 
   -- from what the kind does to what the node does
-  keeping-told : (children : State → Option State) (item : Option (Outer S B)) (text : TextContext T)
-      (w : Option (Way State (KindClosing S B))) →
+  keeping-told : (children : State → Option State) (item : Option (Outer S T B)) (text : TextContext T)
+      (w : Option (Way State (KindClosing S T B))) →
       option_and_then (item_closed o item)
-      (option_and_then (back text) (option_and_then (through (kind_closed d push o text) children) w))
+      (option_and_then (back text) (option_and_then (through (kind_closed d push o) children) w))
       ≡ option_and_then (through (closed d push o) children) (option_and_then (keeping o item text) w)
   keeping-told children item text None = refl
   keeping-told children item text (Some (Into q k)) =
-      ap (option_and_then (item_closed o item)) (sym (and_then_assoc (children q) (kind_closed d push o text k) (back text)))
-      ∙ sym (and_then_assoc (children q) (λ r. option_and_then (back text) (kind_closed d push o text k r)) (item_closed o item))
-      ∙ and_then_same (children q) _ _ (λ r. sym (and_then_assoc (kind_closed d push o text k r) (back text) (item_closed o item)))
+      ap (option_and_then (item_closed o item)) (sym (and_then_assoc (children q) (kind_closed d push o k) (back text)))
+      ∙ sym (and_then_assoc (children q) (λ r. option_and_then (back text) (kind_closed d push o k r)) (item_closed o item))
+      ∙ and_then_same (children q) _ _ (λ r. sym (and_then_assoc (kind_closed d push o k r) (back text) (item_closed o item)))
   keeping-told children item text (Some (Past r)) = past-told (closed d push o) children (item_closed o item (record r { text = text }))
 
-  node-told : (k : NodeKind) (e : Estimate) (children : State → Option State) (s : State) → s.around ≡ Plain →
-      restored (kind_steps d push o k e children) s
-      ≡ option_and_then (through (closed d push o) children) (placed_opened d push o k e None s)
-  node-told k e children s plain =
-      and_then_some (restored (kind_steps d push o k e children) s)
-      ∙ ap (λ x. option_and_then (item_closed o None) (option_and_then (back s.text) x)) (kind-told k e children s plain)
-      ∙ keeping-told children None s.text (kind_opened d push o k e s)
+  -- in its style
+  styled-told : (n : RenderNode) (trees : Forest RenderNode) (children : State → Option State) (s : State) → s.around ≡ Plain →
+      kind_steps d push o n.kind n.estimate trees children (in_style d push n.style s)
+      ≡ option_and_then (through (kind_closed d push o) children) (node_opened d push o n trees s)
+  styled-told n trees children s plain =
+      kind-told n.kind n.estimate trees children (in_style d push n.style s) (in_style-around d push n.style s ∙ plain)
 
-  item-told : (k : NodeKind) (e : Estimate) (p : Place) (children : State → Option State) (s : State) →
-      indented d o p.prefix p.columns p.least p.behind (restored (kind_steps d push o k e children)) s
-      ≡ option_and_then (through (closed d push o) children) (placed_opened d push o k e (Some p) s)
-  item-told k e p children s = by (o.sub_block s.block p.columns p.least)
+  node-told : (n : RenderNode) (trees : Forest RenderNode) (children : State → Option State) (s : State) → s.around ≡ Plain →
+      node_steps d push o n trees children s
+      ≡ option_and_then (through (closed d push o) children) (placed_opened d push o n trees None s)
+  node-told n trees children s plain =
+      and_then_some (node_steps d push o n trees children s)
+      ∙ ap (λ x. option_and_then (item_closed o None) (option_and_then (back s.text) x)) (styled-told n trees children s plain)
+      ∙ keeping-told children None s.text (node_opened d push o n trees s)
+
+  item-told : (n : RenderNode) (trees : Forest RenderNode) (p : Place) (children : State → Option State) (s : State) →
+      indented d o p.prefix p.columns p.least p.behind (node_steps d push o n trees children) s
+      ≡ option_and_then (through (closed d push o) children) (placed_opened d push o n trees (Some p) s)
+  item-told n trees p children s = by (o.sub_block s.block p.columns p.least)
     where
-      -- the item's block is put into the state's
-      put : State → Option State
-      put r = option_and_then (λ b. Some (resumed s b p.behind r)) (o.append s.block r.block s.text.tag (chars p.prefix) (spaces p.columns))
-
-      item : Outer S B
+      item : Outer S T B
       item = interrupted s p.behind p.prefix p.columns
 
-      same : (text : TextContext T) → text ≡ s.text → (r : Option State) →
-          option_and_then put (option_and_then (back text) r)
-          ≡ option_and_then (item_closed o (Some item)) (option_and_then (back text) r)
-      same text e None = refl
-      same text e (Some r) = ap (λ (x : TextContext T). option_and_then (λ b. Some (resumed s b p.behind (record r { text = text })))
-          (o.append s.block r.block x.tag (chars p.prefix) (spaces p.columns))) (sym e)
-
       by : (b : Option B) →
-          option_and_then (λ (q : State). option_and_then put (restored (kind_steps d push o k e children) q))
+          option_and_then (λ (q : State). option_and_then (item_closed o (Some item)) (node_steps d push o n trees children q))
           (option_and_then (λ c. Some (record s { decorator = d.subblock s.decorator; block = c; around = Plain })) b)
           ≡ option_and_then (through (closed d push o) children)
-          (option_and_then (λ (q : State). option_and_then (keeping o (Some item) q.text) (kind_opened d push o k e q))
+          (option_and_then (λ (q : State). option_and_then (keeping o (Some item) q.text) (node_opened d push o n trees q))
           (option_and_then (λ c. Some (record s { decorator = d.subblock s.decorator; block = c; around = Plain })) b))
       by None = refl
       by (Some c) =
           let q : State = record s { decorator = d.subblock s.decorator; block = c; around = Plain } in
-          same s.text refl (kind_steps d push o k e children q)
-          ∙ ap (λ x. option_and_then (item_closed o (Some item)) (option_and_then (back s.text) x)) (kind-told k e children q refl)
-          ∙ keeping-told children (Some item) s.text (kind_opened d push o k e q)
+          ap (λ x. option_and_then (item_closed o (Some item)) (option_and_then (back s.text) x)) (styled-told n trees children q refl)
+          ∙ keeping-told children (Some item) s.text (node_opened d push o n trees q)
 
   -- THE LAW: a node's steps are that it is opened, its children come, and it is closed
   pub steps-told : (n : RenderNode) (trees : Forest RenderNode) (children : State → Option State) (s : State) →
       steps d push o n trees children s ≡ option_and_then (through (closed d push o) children) (opened d push o n trees s)
   steps-told n trees children s = by s.around refl
     where
-      by : (a : Around) → s.around ≡ a → placed d o (λ q. restored (kind_steps d push o n.kind n.estimate children) q) s a
-          ≡ option_and_then (through (closed d push o) children) (placed_opened d push o n.kind n.estimate (place_of d s.decorator a) s)
-      by Plain h = node-told n.kind n.estimate children s h
-      by (Bullets least) h = item-told n.kind n.estimate (bullet_place d s.decorator least) children s
-      by (Numbers least number columns) h = item-told n.kind n.estimate (number_place d s.decorator least number columns) children s
+      by : (a : Around) → s.around ≡ a → placed d o (node_steps d push o n trees children) s a
+          ≡ option_and_then (through (closed d push o) children) (placed_opened d push o n trees (place_of d s.decorator a) s)
+      by Plain h = node-told n trees children s h
+      by (Bullets least) h = item-told n trees (bullet_place d s.decorator least) children s
+      by (Numbers least number columns) h = item-told n trees (number_place d s.decorator least number columns) children s
 
   -- ---- where its children are laid out
 
-  kind-inside : (k : NodeKind) (e : Estimate) (s : State) →
-      option_and_then (λ w. into w) (kind_opened d push o k e s) ≡ kind_inside d push o k e s
-  kind-inside (Text t) e s = past-inside (KindClosing S B) (add_text o t s)
-  kind-inside Container e s = refl
-  kind-inside Break e s = past-inside (KindClosing S B) (on_block o.new_line_hard s)
-  kind-inside Block e s = into-inside (KindClosing S B) (on_block o.start_block s) _
-  kind-inside Div e s = into-inside (KindClosing S B) (on_block o.new_line s) _
-  kind-inside (Emphasis m) e s = into-inside (KindClosing S B) (begun d push o (emphasis_decoration d m) s) _
-  kind-inside (Header level) e s =
-      into-inside (KindClosing S B) (nested d o (prefix_columns (d.header_prefix s.decorator level)) (inner_least e) s) _
-  kind-inside BlockQuote e s = into-inside (KindClosing S B) (nested d o (prefix_columns (d.quote_prefix s.decorator)) (inner_least e) s) _
-  kind-inside Ul e s = refl
-  kind-inside (Ol first) e s = refl
-  kind-inside ListItem e s = into-inside (KindClosing S B) (on_block o.start_block s) _
-  kind-inside Dl e s = into-inside (KindClosing S B) (on_block o.start_block s) _
-  kind-inside Dt e s =
-      sym (and_then_assoc (on_block o.new_line s) _ _)
-      ∙ and_then_same (on_block o.new_line s) _ _ (λ q. into-inside (KindClosing S B) (begun d push o d.em q) _)
-  kind-inside Dd e s = into-inside (KindClosing S B) (nested d o 2 (inner_least e) s) _
+  superscript-inside : (digits : Option (List ℕ)) (s : State) →
+      option_and_then (λ w. into w) (superscript_opened d push o digits s) ≡ superscript_inside d push o digits s
+  superscript-inside None s = into-inside (KindClosing S T B) (begun d push o d.superscript s) _
+  superscript-inside (Some digits) s = past-inside (KindClosing S T B) (add_characters o (map raised digits) s)
 
-  keeping-inside : (item : Option (Outer S B)) (text : TextContext T) (w : Option (Way State (KindClosing S B))) →
+  kind-inside : (k : NodeKind) (e : Estimate) (trees : Forest RenderNode) (s : State) →
+      option_and_then (λ w. into w) (kind_opened d push o k e trees s) ≡ kind_inside d push o k e trees s
+  kind-inside (Text t) e trees s = past-inside (KindClosing S T B) (add_text o t s)
+  kind-inside Container e trees s = refl
+  kind-inside Break e trees s = past-inside (KindClosing S T B) (on_block o.new_line_hard s)
+  kind-inside Block e trees s = into-inside (KindClosing S T B) (on_block o.start_block s) _
+  kind-inside Div e trees s = into-inside (KindClosing S T B) (on_block o.new_line s) _
+  kind-inside (Emphasis m) e trees s = into-inside (KindClosing S T B) (begun d push o (emphasis_decoration d m) s) _
+  kind-inside (Header level) e trees s =
+      into-inside (KindClosing S T B) (nested d o (prefix_columns (d.header_prefix s.decorator level)) (inner_least e) s) _
+  kind-inside BlockQuote e trees s =
+      into-inside (KindClosing S T B) (nested d o (prefix_columns (d.quote_prefix s.decorator)) (inner_least e) s) _
+  kind-inside Ul e trees s = refl
+  kind-inside (Ol first) e trees s = refl
+  kind-inside ListItem e trees s = into-inside (KindClosing S T B) (on_block o.start_block s) _
+  kind-inside Dl e trees s = into-inside (KindClosing S T B) (on_block o.start_block s) _
+  kind-inside Dt e trees s =
+      sym (and_then_assoc (on_block o.new_line s) _ _)
+      ∙ and_then_same (on_block o.new_line s) _ _ (λ q. into-inside (KindClosing S T B) (begun d push o d.em q) _)
+  kind-inside Dd e trees s = into-inside (KindClosing S T B) (nested d o 2 (inner_least e) s) _
+  kind-inside Strikeout e trees s = sym (and_then_assoc (begun d push o d.strikeout s) _ _)
+  kind-inside Superscript e trees s = superscript-inside (digits_of trees) s
+  kind-inside (Link target) e trees s = into-inside (KindClosing S T B) (begun d push o (link d target) (with_target target s)) _
+  kind-inside (Image i) e trees s = past-inside (KindClosing S T B) (image d push o i.source i.title s)
+  kind-inside (Svg title) e trees s = past-inside (KindClosing S T B) (image d push o [] title s)
+  kind-inside (FragmentStart name) e trees s = refl
+
+  keeping-inside : (item : Option (Outer S T B)) (text : TextContext T) (w : Option (Way State (KindClosing S T B))) →
       option_and_then (λ v. into v) (option_and_then (keeping o item text) w) ≡ option_and_then (λ v. into v) w
   keeping-inside item text None = refl
   keeping-inside item text (Some (Into q k)) = refl
   keeping-inside item text (Some (Past r)) = past-inside (Closing S T B) (item_closed o item (record r { text = text }))
 
-  item-inside : (k : NodeKind) (e : Estimate) (p : Place) (s : State) →
-      option_and_then (λ w. into w) (placed_opened d push o k e (Some p) s)
-      ≡ option_and_then (λ q. kind_inside d push o k e q) (nested d o p.columns p.least s)
-  item-inside k e p s =
+  node-inside : (n : RenderNode) (trees : Forest RenderNode) (item : Option (Outer S T B)) (text : TextContext T) (s : State) →
+      option_and_then (λ w. into w) (option_and_then (keeping o item text) (node_opened d push o n trees s))
+      ≡ node_inside d push o n trees s
+  node-inside n trees item text s =
+      keeping-inside item text (node_opened d push o n trees s)
+      ∙ kind-inside n.kind n.estimate trees (in_style d push n.style s)
+
+  item-inside : (n : RenderNode) (trees : Forest RenderNode) (p : Place) (s : State) →
+      option_and_then (λ w. into w) (placed_opened d push o n trees (Some p) s)
+      ≡ option_and_then (λ q. node_inside d push o n trees q) (nested d o p.columns p.least s)
+  item-inside n trees p s =
       sym (and_then_assoc (nested d o p.columns p.least s) _ _)
       ∙ and_then_same (nested d o p.columns p.least s) _ _ (λ q.
-      keeping-inside (Some (interrupted s p.behind p.prefix p.columns)) q.text (kind_opened d push o k e q)
-      ∙ kind-inside k e q)
+      node-inside n trees (Some (interrupted s p.behind p.prefix p.columns)) q.text q)
 
   pub opened-inside : (n : RenderNode) (trees : Forest RenderNode) (s : State) →
       inside_of (opened d push o) n trees s ≡ inside d push o n trees s
   opened-inside n trees s = by s.around
     where
-      by : (a : Around) → option_and_then (λ w. into w) (placed_opened d push o n.kind n.estimate (place_of d s.decorator a) s)
-          ≡ placed_inside d push o n.kind n.estimate s a
-      by Plain = keeping-inside None s.text (kind_opened d push o n.kind n.estimate s) ∙ kind-inside n.kind n.estimate s
-      by (Bullets least) = item-inside n.kind n.estimate (bullet_place d s.decorator least) s
-      by (Numbers least number columns) = item-inside n.kind n.estimate (number_place d s.decorator least number columns) s
+      by : (a : Around) → option_and_then (λ w. into w) (placed_opened d push o n trees (place_of d s.decorator a) s)
+          ≡ placed_inside d push o n trees s a
+      by Plain = node-inside n trees None s.text s
+      by (Bullets least) = item-inside n trees (bullet_place d s.decorator least) s
+      by (Numbers least number columns) = item-inside n trees (number_place d s.decorator least number columns) s
 
   -- THE LAW: a node's steps ask for its children there
   pub layout-asks : AsksIn (steps d push o) (inside d push o)

@@ -1,8 +1,12 @@
 -- THE THEOREM: a layout whose characters carry tags represents the layout by stacks, through each node.
-use Rattle.std.proofs.Common.{◌≡◌, ℕ, List, [], ◌∷◌, ◌++◌, Option, refl, sym, ap, ◌∙◌, subst, option_map, option_and_then}
+use Rattle.std.specs.Prelude.{codes, if◌then◌else◌}
+use Rattle.std.specs.Fmt.{decimal}
+use Rattle.std.proofs.Common.{◌≡◌, ℕ, ◌+◌, Bool, true, false, List, [], ◌∷◌, ◌++◌, length, map, Option, Some, None}
+use Rattle.std.proofs.Common.{refl, sym, ap, ◌∙◌, subst, option_map, option_and_then}
 use Rattle.std.specs.Str.{chars}
 use Rattle.html_render_dom.specs.Forest.{Forest}
-use Rattle.html_render_parts.specs.Decoration.{Decoration, Round, Start}
+use Rattle.html_render_dom.specs.declared.style.colours.Colour.{Colour}
+use Rattle.html_render_parts.specs.Decoration.{Decoration, Round, Start, link}
 use Rattle.html_render_lines.specs.Line.{Line}
 use Rattle.html_render_lines.specs.Tags.{lines_with}
 use Rattle.html_render_lines.specs.laws.Tags.{style_with}
@@ -10,6 +14,8 @@ use Rattle.html_render_nodes.specs.declared.tree.Estimate.{Estimate}
 use Rattle.html_render_nodes.specs.declared.tree.NodeKind.{NodeKind}
 use Rattle.html_render_nodes.specs.declared.tree.NodeKind.TheVariants.{Text, Container, Break, Block, Div, Emphasis}
 use Rattle.html_render_nodes.specs.declared.tree.NodeKind.TheVariants.{Header, BlockQuote, Ul, Ol, ListItem, Dl, Dt, Dd}
+use Rattle.html_render_nodes.specs.declared.tree.NodeKind.TheVariants.{Strikeout, Superscript, Link, Image, Svg, FragmentStart}
+use Rattle.html_render_nodes.specs.declared.tree.NodeStyle.{NodeStyle}
 use Rattle.html_render_nodes.specs.declared.tree.RenderNode.{RenderNode}
 use Rattle.html_render_estimates.specs.Estimates.{prefix_columns}
 use Rattle.html_render_nodes.specs.laws.Agree.{Agree, Agree-then, Agree-weaken, Agree-along, mapped-Agree, run-agree, visited-agree}
@@ -21,64 +27,78 @@ use Rattle.html_render_blocks.specs.laws.BlockFed.{block_of, block_of-commutes}
 use Rattle.html_render_blocks.specs.BlockMachine as machine
 use Rattle.html_render_blocks.specs.BlockMachine.{MachineBlock}
 use Rattle.html_render_blocks.specs.laws.BlockTags.{block_with, block_with-commutes}
-use Rattle.html_render_blocks.specs.laws.Operations.{Commutes, Commutes-then}
+use Rattle.html_render_blocks.specs.laws.Closing.{finish-with, finish-block, add_closing_lines-with, add_closing_lines-block}
+use Rattle.html_render_blocks.specs.laws.Operations.{Commutes, Commutes-then, map_map}
 use Rattle.html_render_layout.specs.declared.layout.state.Around.{Around}
 use Rattle.html_render_layout.specs.declared.layout.state.Around.TheVariants.{Plain, Bullets, Numbers}
 use Rattle.html_render_layout.specs.declared.layout.state.LayoutState.{LayoutState}
 use Rattle.html_render_layout.specs.declared.layout.state.TextContext.{TextContext}
-use Rattle.html_render_layout.specs.Layout.{on_block, add_text, text_style, under, emphasis_decoration, begun, decorated, restored, onto}
+use Rattle.html_render_layout.specs.declared.settings.LayoutSettings.{LayoutSettings}
+use Rattle.html_render_layout.specs.Images.{shown_title}
+use Rattle.html_render_layout.specs.Ending.{closing_texts, ended}
+use Rattle.html_render_layout.specs.Layout.{on_block, written, add_characters, add_text, text_style, under, striking, onto}
 use Rattle.html_render_layout.specs.Layout.{inner_least, spaces, padded, next_number, numbers, nested, resumed}
 use Rattle.html_render_layout.specs.Layout.{indented, quoted, among, placed}
-use Rattle.html_render_layout.specs.Layout.{kind_steps, steps, kind_inside, placed_inside, inside, shown_after, Defined, defined}
-use Rattle.html_render_layout.specs.Layout.{defined_inside}
+use Rattle.html_render_layout.specs.Layout.{image_round, raised, digits_of, with_target, marked, link_number, annotated, coloured, in_style}
+use Rattle.html_render_layout.specs.Layout.{emphasis_decoration, begun, decorated, titled, image, struck_out, superscript, linked}
+use Rattle.html_render_layout.specs.Layout.{kind_steps, node_steps, steps, superscript_inside, kind_inside, node_inside, placed_inside, inside}
+use Rattle.html_render_layout.specs.Layout.{shown_after, Defined, defined, defined_inside}
 use Rattle.html_render_layout.specs.Opening.{opened}
 use Rattle.html_render_layout.specs.laws.Opening.{opened-inside}
 
 -- ---- blocks
 
 -- seen is what is seen of a stack; f is what is seen of a tag, in whatever will be kept of the annotations
-module _ {I T A V M : Type 0} (f : I → T → V) (seen : List A → V) (now : I) where
+module _ {I T A V : Type 0} (f : I → T → V) (seen : List A → V) (now : I) where
   -- the block to which all was fed, with what is seen of its stacks
-  abbrev seen_block : DefinedBlock (List A) M → MachineBlock V M
+  abbrev seen_block : DefinedBlock (List A) ℕ → MachineBlock V ℕ
   seen_block e = block_with seen (block_of e)
 
-  seen-commutes : Commutes seen_block seen (definition.operations {T = List A} {M = M}) (machine.operations {T = V} {M = M})
+  seen-commutes : Commutes seen_block seen definition.operations machine.operations
   seen-commutes = Commutes-then block_of (λ t. t) (block_with seen)
       seen definition.operations machine.operations machine.operations block_of-commutes (block_with-commutes seen)
 
   -- the block, with what is seen of its tags, is that block
-  abbrev pub Shows : MachineBlock T M → DefinedBlock (List A) M → Type 0
+  abbrev pub Shows : MachineBlock T ℕ → DefinedBlock (List A) ℕ → Type 0
   Shows b e = (i : I) → block_with (f i) b ≡ seen_block e
 
-  operation-shows : (l : MachineBlock T M → Option (MachineBlock T M)) (m : MachineBlock V M → Option (MachineBlock V M))
-      (k : DefinedBlock (List A) M → Option (DefinedBlock (List A) M)) →
-      ((g : T → V) (b : MachineBlock T M) → m (block_with g b) ≡ option_map (block_with g) (l b)) →
-      ((e : DefinedBlock (List A) M) → m (seen_block e) ≡ option_map seen_block (k e)) →
-      (b : MachineBlock T M) (e : DefinedBlock (List A) M) → Shows b e → Agree Shows (l b) (k e)
+  operation-shows : (l : MachineBlock T ℕ → Option (MachineBlock T ℕ)) (m : MachineBlock V ℕ → Option (MachineBlock V ℕ))
+      (k : DefinedBlock (List A) ℕ → Option (DefinedBlock (List A) ℕ)) →
+      ((g : T → V) (b : MachineBlock T ℕ) → m (block_with g b) ≡ option_map (block_with g) (l b)) →
+      ((e : DefinedBlock (List A) ℕ) → m (seen_block e) ≡ option_map seen_block (k e)) →
+      (b : MachineBlock T ℕ) (e : DefinedBlock (List A) ℕ) → Shows b e → Agree Shows (l b) (k e)
   operation-shows l m k tags fed b e h =
       Agree-along (λ i. block_with (f i)) seen_block now (l b) (k e) (λ i. sym (tags (f i) b) ∙ ap m (h i) ∙ fed e)
 
-  pub new_line-shows : (b : MachineBlock T M) (e : DefinedBlock (List A) M) → Shows b e →
+  pub new_line-shows : (b : MachineBlock T ℕ) (e : DefinedBlock (List A) ℕ) → Shows b e →
       Agree Shows (machine.operations.new_line b) (definition.operations.new_line e)
   new_line-shows = operation-shows machine.operations.new_line machine.operations.new_line definition.operations.new_line
       (λ g. (block_with-commutes g).new_line) seen-commutes.new_line
 
-  new_line_hard-shows : (b : MachineBlock T M) (e : DefinedBlock (List A) M) → Shows b e →
+  new_line_hard-shows : (b : MachineBlock T ℕ) (e : DefinedBlock (List A) ℕ) → Shows b e →
       Agree Shows (machine.operations.new_line_hard b) (definition.operations.new_line_hard e)
   new_line_hard-shows = operation-shows machine.operations.new_line_hard machine.operations.new_line_hard
       definition.operations.new_line_hard (λ g. (block_with-commutes g).new_line_hard) seen-commutes.new_line_hard
 
-  start_block-shows : (b : MachineBlock T M) (e : DefinedBlock (List A) M) → Shows b e →
+  start_block-shows : (b : MachineBlock T ℕ) (e : DefinedBlock (List A) ℕ) → Shows b e →
       Agree Shows (machine.operations.start_block b) (definition.operations.start_block e)
   start_block-shows = operation-shows machine.operations.start_block machine.operations.start_block definition.operations.start_block
       (λ g. (block_with-commutes g).start_block) seen-commutes.start_block
 
-  end_block-shows : (b : MachineBlock T M) (e : DefinedBlock (List A) M) → Shows b e →
+  end_block-shows : (b : MachineBlock T ℕ) (e : DefinedBlock (List A) ℕ) → Shows b e →
       Shows (machine.operations.end_block b) (definition.operations.end_block e)
   end_block-shows b e h = λ i. ap machine.operations.end_block (h i)
 
+  add_mark-shows : (m n : ℕ) → m ≡ n → (b : MachineBlock T ℕ) (e : DefinedBlock (List A) ℕ) → Shows b e →
+      Shows (machine.operations.add_mark b m) (definition.operations.add_mark e n)
+  add_mark-shows m n same b e h = λ i.
+      sym ((block_with-commutes (f i)).add_mark b m)
+      ∙ ap (λ c. machine.operations.add_mark c m) (h i)
+      ∙ seen-commutes.add_mark e m
+      ∙ ap (λ k. seen_block (definition.operations.add_mark e k)) same
+
   add_inline_text-shows : (cs : List ℕ) (x : TextContext T) (y : TextContext (List A)) → ((i : I) → f i x.tag ≡ seen y.tag) →
-      x.mode ≡ y.mode → (b : MachineBlock T M) (e : DefinedBlock (List A) M) → Shows b e →
+      x.mode ≡ y.mode → (b : MachineBlock T ℕ) (e : DefinedBlock (List A) ℕ) → Shows b e →
       Agree Shows (machine.operations.add_inline_text b (text_style x) cs) (definition.operations.add_inline_text e (text_style y) cs)
   add_inline_text-shows cs x y t mode b e h =
       Agree-along (λ i. block_with (f i)) seen_block now (machine.operations.add_inline_text b (text_style x) cs)
@@ -90,7 +110,7 @@ module _ {I T A V M : Type 0} (f : I → T → V) (seen : List A → V) (now : I
       ∙ ap (λ c. machine.operations.add_inline_text c (style_with seen (text_style y)) cs) (h i)
       ∙ seen-commutes.add_inline_text e (text_style y) cs)
 
-  pub sub_block-shows : (prefix least : ℕ) (b : MachineBlock T M) (e : DefinedBlock (List A) M) → Shows b e →
+  pub sub_block-shows : (prefix least : ℕ) (b : MachineBlock T ℕ) (e : DefinedBlock (List A) ℕ) → Shows b e →
       Agree Shows (machine.operations.sub_block b prefix least) (definition.operations.sub_block e prefix least)
   sub_block-shows prefix least =
       operation-shows (λ b. machine.operations.sub_block b prefix least) (λ b. machine.operations.sub_block b prefix least)
@@ -98,7 +118,7 @@ module _ {I T A V M : Type 0} (f : I → T → V) (seen : List A → V) (now : I
       (λ e. seen-commutes.sub_block e prefix least)
 
   pub append-shows : (first later : List ℕ) (x : T) (y : List A) → ((i : I) → f i x ≡ seen y) →
-      (b c : MachineBlock T M) (e g : DefinedBlock (List A) M) → Shows b e → Shows c g →
+      (b c : MachineBlock T ℕ) (e g : DefinedBlock (List A) ℕ) → Shows b e → Shows c g →
       Agree Shows (machine.operations.append b c x first later) (definition.operations.append e g y first later)
   append-shows first later x y t b c e g h k =
       Agree-along (λ i. block_with (f i)) seen_block now (machine.operations.append b c x first later)
@@ -108,6 +128,25 @@ module _ {I T A V M : Type 0} (f : I → T → V) (seen : List A → V) (now : I
       ∙ ap (λ z. machine.operations.append z (block_with (f i) c) (seen y) first later) (h i)
       ∙ ap (λ z. machine.operations.append (seen_block e) z (seen y) first later) (k i)
       ∙ seen-commutes.append e g y first later)
+
+  finish-shows : (b : MachineBlock T ℕ) (e : DefinedBlock (List A) ℕ) → Shows b e →
+      Agree Shows (machine.ending.finish b) (definition.ending.finish e)
+  finish-shows = operation-shows machine.ending.finish machine.ending.finish definition.ending.finish
+      (λ g b. finish-with g b)
+      (λ e. finish-with seen (block_of e) ∙ ap (option_map (block_with seen)) (finish-block e)
+      ∙ map_map block_of (block_with seen) (definition.finish e))
+
+  closing-shows : (cut : Bool) (x : T) (y : List A) → ((i : I) → f i x ≡ seen y) → (ts : List (List ℕ)) →
+      (b : MachineBlock T ℕ) (e : DefinedBlock (List A) ℕ) → Shows b e →
+      Agree Shows (machine.ending.add_closing_lines b cut x ts) (definition.ending.add_closing_lines e cut y ts)
+  closing-shows cut x y t ts b e h =
+      Agree-along (λ i. block_with (f i)) seen_block now (machine.add_closing_lines b cut x ts) (definition.add_closing_lines e cut y ts) (λ i.
+      sym (add_closing_lines-with (f i) b cut x ts)
+      ∙ ap (λ z. machine.add_closing_lines (block_with (f i) b) cut z ts) (t i)
+      ∙ ap (λ z. machine.add_closing_lines z cut (seen y) ts) (h i)
+      ∙ add_closing_lines-with seen (block_of e) cut y ts
+      ∙ ap (option_map (block_with seen)) (add_closing_lines-block e cut y ts)
+      ∙ map_map block_of (block_with seen) (definition.add_closing_lines e cut y ts))
 
 -- ---- states
 
@@ -144,6 +183,7 @@ module _ {S A K T V : Type 0} (d : Decoration S A) (push : K → T → A → K �
 
   -- the state of tags represents the state of stacks, and goes on doing so
   pub record Represents (s : Worked) (e : Defined S A) : Type 0 where
+    pub settings : s.settings ≡ e.settings
     pub decorator : s.decorator ≡ e.decorator
     pub text : ShowsText s.stacks s.text e.text
     pub block : ShowsBlock s.stacks s.block e.block
@@ -178,6 +218,7 @@ module _ {S A K T V : Type 0} (d : Decoration S A) (push : K → T → A → K �
   with_block : (s : Worked) (e : Defined S A) (b : MachineBlock T ℕ) (c : DefinedBlock (List A) ℕ) → Represents s e →
       ShowsBlock s.stacks b c → Represents (record s { block = b }) (record e { block = c })
   with_block s e b c h n = record {
+    settings = h.settings;
     decorator = h.decorator;
     text = h.text;
     block = n;
@@ -193,14 +234,26 @@ module _ {S A K T V : Type 0} (d : Decoration S A) (push : K → T → A → K �
       Agree-then (ShowsBlock s.stacks) (Reached s) _ _ (l s.block) (k e.block) a
       (λ b c n. (with_block s e b c h n, stays s.stacks))
 
+  -- characters more, as they are written
+  add_written-represents : (cs ds : List ℕ) (s : Worked) (e : Defined S A) → cs ≡ ds → Represents s e →
+      Agree (Reached s) (on_block (λ b. machine.operations.add_inline_text b (text_style s.text) cs) s)
+      (on_block (λ b. definition.operations.add_inline_text b (text_style e.text) ds) e)
+  add_written-represents cs ds s e same h =
+      subst (λ xs. Agree (Reached s) (on_block (λ b. machine.operations.add_inline_text b (text_style s.text) cs) s)
+      (on_block (λ b. definition.operations.add_inline_text b (text_style e.text) xs) e)) same
+      (on_block-represents (λ b. machine.operations.add_inline_text b (text_style s.text) cs)
+      (λ b. definition.operations.add_inline_text b (text_style e.text) cs) s e h
+      (add_inline_text-shows (seen_since s.stacks) seen (now s.stacks) cs s.text e.text h.text.tag h.text.mode s.block e.block h.block))
+
+  add_characters-represents : (cs ds : List ℕ) (s : Worked) (e : Defined S A) → cs ≡ ds → Represents s e →
+      Agree (Reached s) (add_characters machine.operations cs s) (add_characters definition.operations ds e)
+  add_characters-represents cs ds s e same h =
+      add_written-represents (written s.text.struck_out cs) (written e.text.struck_out ds) s e
+      (ap (λ x. written x cs) h.text.struck_out ∙ ap (λ xs. written e.text.struck_out xs) same) h
+
   add_text-represents : (t u : List ℕ) (s : Worked) (e : Defined S A) → t ≡ u → Represents s e →
       Agree (Reached s) (add_text machine.operations t s) (add_text definition.operations u e)
-  add_text-represents t u s e same h =
-      subst (λ v. Agree (Reached s) (add_text machine.operations t s) (add_text definition.operations v e)) same
-      (on_block-represents (λ b. machine.operations.add_inline_text b (text_style s.text) (chars t))
-      (λ b. definition.operations.add_inline_text b (text_style e.text) (chars t)) s e h
-      (add_inline_text-shows (seen_since s.stacks) seen (now s.stacks) (chars t) s.text e.text h.text.tag h.text.mode s.block e.block
-      h.block))
+  add_text-represents t u s e same h = add_characters-represents (chars t) (chars u) s e (ap chars same) h
 
   new_line-represents : (s : Worked) (e : Defined S A) → Represents s e →
       Agree (Reached s) (on_block machine.operations.new_line s) (on_block definition.operations.new_line e)
@@ -231,6 +284,7 @@ module _ {S A K T V : Type 0} (d : Decoration S A) (push : K → T → A → K �
   under-represents s e a b same h =
       let grown : Later s.stacks (push s.stacks s.text.tag a).0 = pushed s.stacks s.text.tag a in (
         record {
+          settings = h.settings;
           decorator = h.decorator;
           text = record {
             tag = λ i. tag_pushed s.stacks s.text.tag a e.text.tag (λ l g. h.text.tag (l, g)) i.0 i.1
@@ -260,6 +314,112 @@ module _ {S A K T V : Type 0} (d : Decoration S A) (push : K → T → A → K �
       (add_text-represents t w v f (ap (λ (y : Start A). y.text) same) u.0) (λ q r n.
       (n.0, goes s.stacks v.stacks q.stacks u.1 n.1))
 
+  -- ---- styles
+
+  annotated-represents : (a b : Option A) (s : Worked) (e : Defined S A) → a ≡ b → Represents s e →
+      Reached s (annotated push a s) (annotated onto b e)
+  annotated-represents a b s e same h = subst (λ c. Reached s (annotated push a s) (annotated onto c e)) same (by a)
+    where
+      by : (a : Option A) → Reached s (annotated push a s) (annotated onto a e)
+      by None = (h, stays s.stacks)
+      by (Some a) = under-represents s e a a refl h
+
+  coloured-represents : (annotation : S → Colour → Option A) (colour : Option Colour) (s : Worked) (e : Defined S A) → Represents s e →
+      Reached s (coloured push annotation colour s) (coloured onto annotation colour e)
+  coloured-represents annotation None s e h = (h, stays s.stacks)
+  coloured-represents annotation (Some colour) s e h =
+      annotated-represents (annotation s.decorator colour) (annotation e.decorator colour) s e (ap (λ x. annotation x colour) h.decorator) h
+
+  in_style-represents : (style : NodeStyle) (s : Worked) (e : Defined S A) → Represents s e →
+      Reached s (in_style d push style s) (in_style d onto style e)
+  in_style-represents style s e h =
+      let q : Worked = coloured push d.push_colour style.colour s in
+      let u : Defined S A = coloured onto d.push_colour style.colour e in
+      let a : Reached s q u = coloured-represents d.push_colour style.colour s e h in
+      let b = coloured-represents d.push_background style.background q u a.0 in
+      (b.0, goes s.stacks q.stacks (in_style d push style s).stacks a.1 b.1)
+
+  -- ---- struck-out text, images and links
+
+  striking-represents : (x y : Bool) (s : Worked) (e : Defined S A) → x ≡ y → Represents s e →
+      Represents (striking x s) (striking y e)
+  striking-represents x y s e same h = record {
+    settings = h.settings;
+    decorator = h.decorator;
+    text = record { tag = h.text.tag; mode = h.text.mode; preformatted = h.text.preformatted; struck_out = same };
+    block = h.block;
+    around = h.around;
+    targets = h.targets;
+    names = h.names;
+  }
+
+  titled-represents : (source : List ℕ) (title : Option (List ℕ)) (s : Worked) (e : Defined S A) → Represents s e →
+      Agree (Reached s) (titled d push machine.operations source title s) (titled d onto definition.operations source title e)
+  titled-represents source None s e h = (h, stays s.stacks)
+  titled-represents source (Some title) s e h = begun-represents (image_round d source title) s e h
+
+  image-represents : (source title : List ℕ) (s : Worked) (e : Defined S A) → Represents s e →
+      Agree (Reached s) (image d push machine.operations source title s) (image d onto definition.operations source title e)
+  image-represents source title s e h =
+      subst (λ (x : LayoutSettings). Agree (Reached s) (image d push machine.operations source title s)
+      (titled d onto definition.operations source (shown_title x.empty_images source title) e)) h.settings
+      (titled-represents source (shown_title s.settings.empty_images source title) s e h)
+
+  with_target-represents : (target : List ℕ) (s : Worked) (e : Defined S A) → Represents s e →
+      Represents (with_target target s) (with_target target e)
+  with_target-represents target s e h = record {
+    settings = h.settings;
+    decorator = h.decorator;
+    text = h.text;
+    block = h.block;
+    around = h.around;
+    targets = ap (λ xs. xs ++ target ∷ []) h.targets;
+    names = h.names;
+  }
+
+  marked-represents : (name : List ℕ) (s : Worked) (e : Defined S A) → Represents s e →
+      Represents (marked machine.operations name s) (marked definition.operations name e)
+  marked-represents name s e h = record {
+    settings = h.settings;
+    decorator = h.decorator;
+    text = h.text;
+    block = add_mark-shows (seen_since s.stacks) seen (now s.stacks) (length s.names) (length e.names)
+        (ap (λ (xs : List (List ℕ)). length xs) h.names) s.block e.block h.block;
+    around = h.around;
+    targets = h.targets;
+    names = ap (λ xs. xs ++ name ∷ []) h.names;
+  }
+
+  -- among texts that are treated so
+  with_text : (s : Worked) (e : Defined S A) (x : TextContext T) (y : TextContext (List A)) → ShowsText s.stacks x y → Represents s e →
+      Represents (record s { text = x }) (record e { text = y })
+  with_text s e x y t h = record {
+    settings = h.settings;
+    decorator = h.decorator;
+    text = t;
+    block = h.block;
+    around = h.around;
+    targets = h.targets;
+    names = h.names;
+  }
+
+  link_number-represents : (x : TextContext T) (y : TextContext (List A)) (n m : ℕ) (s : Worked) (e : Defined S A) →
+      ShowsText s.stacks x y → n ≡ m → Represents s e →
+      Agree (Reached s) (link_number machine.operations x n s) (link_number definition.operations y m e)
+  link_number-represents x y n m s e t same h =
+      subst (λ (z : LayoutSettings). Agree (Reached s) (link_number machine.operations x n s)
+      (if z.link_footnotes then add_text definition.operations (number m) (record e { text = y }) else Some e)) h.settings
+      (by s.settings.link_footnotes)
+    where
+      number : ℕ → List ℕ
+      number n = codes "[" ++ decimal n ++ codes "]"
+
+      by : (z : Bool) → Agree (Reached s) (if z then add_text machine.operations (number n) (record s { text = x }) else Some s)
+          (if z then add_text definition.operations (number m) (record e { text = y }) else Some e)
+      by true = add_text-represents (number n) (number m) (record s { text = x }) (record e { text = y }) (ap number same)
+          (with_text s e x y t h)
+      by false = (h, stays s.stacks)
+
   -- ---- blocks in blocks
 
   nested-represents : (p q least : ℕ) (s : Worked) (e : Defined S A) → p ≡ q → Represents s e →
@@ -270,6 +430,7 @@ module _ {S A K T V : Type 0} (d : Decoration S A) (push : K → T → A → K �
       (definition.operations.sub_block e.block p least)
       (sub_block-shows (seen_since s.stacks) seen (now s.stacks) p least s.block e.block h.block) (λ b c n. (
         record {
+          settings = h.settings;
           decorator = ap d.subblock h.decorator;
           text = h.text;
           block = n;
@@ -284,6 +445,7 @@ module _ {S A K T V : Type 0} (d : Decoration S A) (push : K → T → A → K �
   with_around : (s : Worked) (e : Defined S A) (a b : Around) → a ≡ b → Represents s e →
       Represents (record s { around = a }) (record e { around = b })
   with_around s e a b same h = record {
+    settings = h.settings;
     decorator = h.decorator;
     text = h.text;
     block = h.block;
@@ -296,6 +458,7 @@ module _ {S A K T V : Type 0} (d : Decoration S A) (push : K → T → A → K �
   resumed-represents : (s r : Worked) (e v : Defined S A) (b : MachineBlock T ℕ) (c : DefinedBlock (List A) ℕ) (x y : Around) →
       x ≡ y → Represents s e → Represents r v → ShowsBlock r.stacks b c → Represents (resumed s b x r) (resumed e c y v)
   resumed-represents s r e v b c x y same h k n = record {
+    settings = k.settings;
     decorator = h.decorator;
     text = k.text;
     block = n;
@@ -371,48 +534,78 @@ module _ {S A K T V : Type 0} (d : Decoration S A) (push : K → T → A → K �
         then-represents q (f q) (g u) _ _ (below q u a) (λ r v k.
         add_text-represents _ _ r v (ap round.end k.decorator) k))
 
-    kind-represents : (k : NodeKind) (m : Estimate) (s : Worked) (e : Defined S A) → Represents s e →
-        Agree (Reached s) (kind_steps d push machine.operations k m f s) (kind_steps d onto definition.operations k m g e)
-    kind-represents (Text t) m s e h = add_text-represents t t s e refl h
-    kind-represents Container m s e h = below s e h
-    kind-represents Break m s e h = new_line_hard-represents s e h
-    kind-represents Block m s e h =
+    struck_out-represents : (s : Worked) (e : Defined S A) → Represents s e →
+        Agree (Reached s) (struck_out d push machine.operations f s) (struck_out d onto definition.operations g e)
+    struck_out-represents s e h =
+        then-represents s _ _ _ _ (begun-represents d.strikeout s e h) (λ q u a.
+        let p : Worked = striking s.settings.unicode_strikeout q in
+        let v : Defined S A = striking e.settings.unicode_strikeout u in
+        then-represents q (f p) (g v) _ _
+        (below p v (striking-represents _ _ q u (ap (λ (x : LayoutSettings). x.unicode_strikeout) h.settings) a)) (λ r w k.
+        add_text-represents _ _ (striking s.text.struck_out r) (striking e.text.struck_out w) (ap d.strikeout.end k.decorator)
+        (striking-represents _ _ r w h.text.struck_out k)))
+
+    superscript-represents : (digits : Option (List ℕ)) (s : Worked) (e : Defined S A) → Represents s e →
+        Agree (Reached s) (superscript d push machine.operations digits f s) (superscript d onto definition.operations digits g e)
+    superscript-represents None s e h = decorated-represents d.superscript s e h
+    superscript-represents (Some digits) s e h = add_characters-represents (map raised digits) (map raised digits) s e refl h
+
+    linked-represents : (target : List ℕ) (s : Worked) (e : Defined S A) → Represents s e →
+        Agree (Reached s) (linked d push machine.operations target f s) (linked d onto definition.operations target g e)
+    linked-represents target s e h =
+        let q : Worked = with_target target s in
+        let u : Defined S A = with_target target e in
+        Agree-then (Reached q) (Reached s) _ _ (decorated d push machine.operations (link d target) f q)
+        (decorated d onto definition.operations (link d target) g u)
+        (decorated-represents (link d target) q u (with_target-represents target s e h)) (λ r v a.
+        Agree-weaken (Reached r) (Reached s) (link_number machine.operations s.text (length s.targets + 1) r)
+        (link_number definition.operations e.text (length e.targets + 1) v)
+        (link_number-represents s.text e.text (length s.targets + 1) (length e.targets + 1) r v
+        (text-later s.stacks r.stacks s.text e.text h.text a.1) (ap (λ (xs : List (List ℕ)). length xs + 1) h.targets) a.0)
+        (λ p w b. (b.0, goes s.stacks r.stacks p.stacks a.1 b.1)))
+
+    kind-represents : (k : NodeKind) (m : Estimate) (trees : Forest RenderNode) (s : Worked) (e : Defined S A) → Represents s e →
+        Agree (Reached s) (kind_steps d push machine.operations k m trees f s)
+        (kind_steps d onto definition.operations k m trees g e)
+    kind-represents (Text t) m trees s e h = add_text-represents t t s e refl h
+    kind-represents Container m trees s e h = below s e h
+    kind-represents Break m trees s e h = new_line_hard-represents s e h
+    kind-represents Block m trees s e h =
         then-represents s _ _ _ _ (start_block-represents s e h) (λ q u a.
         then-represents q (f q) (g u) _ _ (below q u a) end_block-represents)
-    kind-represents Div m s e h =
+    kind-represents Div m trees s e h =
         then-represents s _ _ _ _ (new_line-represents s e h) (λ q u a.
         then-represents q (f q) (g u) _ _ (below q u a) new_line-represents)
-    kind-represents (Emphasis x) m s e h = decorated-represents (emphasis_decoration d x) s e h
-    kind-represents (Header level) m s e h =
+    kind-represents (Emphasis x) m trees s e h = decorated-represents (emphasis_decoration d x) s e h
+    kind-represents (Header level) m trees s e h =
         quoted-represents _ _ (inner_least m) s e (ap (λ x. d.header_prefix x level) h.decorator) h
-    kind-represents BlockQuote m s e h = quoted-represents _ _ (inner_least m) s e (ap d.quote_prefix h.decorator) h
-    kind-represents Ul m s e h = among-represents (Bullets (inner_least m)) (Bullets (inner_least m)) s e refl h
-    kind-represents (Ol first) m s e h =
+    kind-represents BlockQuote m trees s e h = quoted-represents _ _ (inner_least m) s e (ap d.quote_prefix h.decorator) h
+    kind-represents Ul m trees s e h = among-represents (Bullets (inner_least m)) (Bullets (inner_least m)) s e refl h
+    kind-represents (Ol first) m trees s e h =
         among-represents _ _ s e (ap (λ x. numbers d m first x) h.decorator) h
-    kind-represents ListItem m s e h =
+    kind-represents ListItem m trees s e h =
         then-represents s _ _ _ _ (start_block-represents s e h) (λ q u a.
         then-represents q (f q) (g u) _ _ (below q u a) end_block-represents)
-    kind-represents Dl m s e h = then-represents s _ _ _ _ (start_block-represents s e h) below
-    kind-represents Dt m s e h = then-represents s _ _ _ _ (new_line-represents s e h) (decorated-represents d.em)
-    kind-represents Dd m s e h = indented-represents (spaces 2) 2 (inner_least m) s.around e.around s e h.around h
+    kind-represents Dl m trees s e h = then-represents s _ _ _ _ (start_block-represents s e h) below
+    kind-represents Dt m trees s e h = then-represents s _ _ _ _ (new_line-represents s e h) (decorated-represents d.em)
+    kind-represents Dd m trees s e h = indented-represents (spaces 2) 2 (inner_least m) s.around e.around s e h.around h
+    kind-represents Strikeout m trees s e h = struck_out-represents s e h
+    kind-represents Superscript m trees s e h = superscript-represents (digits_of trees) s e h
+    kind-represents (Link target) m trees s e h = linked-represents target s e h
+    kind-represents (Image i) m trees s e h = image-represents i.source i.title s e h
+    kind-represents (Svg title) m trees s e h = image-represents [] title s e h
+    kind-represents (FragmentStart name) m trees s e h = (marked-represents name s e h, stays s.stacks)
 
-    restored-represents : (k : NodeKind) (m : Estimate) (s : Worked) (e : Defined S A) → Represents s e →
-        Agree (Reached s) (restored (kind_steps d push machine.operations k m f) s)
-        (restored (kind_steps d onto definition.operations k m g) e)
-    restored-represents k m s e h =
-        Agree-then (Reached s) (Reached s) _ _ (kind_steps d push machine.operations k m f s)
-        (kind_steps d onto definition.operations k m g e)
-        (kind-represents k m s e h) (λ r u a. (
-          record {
-            decorator = a.0.decorator;
-            text = text-later s.stacks r.stacks s.text e.text h.text a.1;
-            block = a.0.block;
-            around = a.0.around;
-            targets = a.0.targets;
-            names = a.0.names;
-          },
-          a.1,
-        ))
+    node-represents : (n : RenderNode) (trees : Forest RenderNode) (s : Worked) (e : Defined S A) → Represents s e →
+        Agree (Reached s) (node_steps d push machine.operations n trees f s) (node_steps d onto definition.operations n trees g e)
+    node-represents n trees s e h =
+        let q : Worked = in_style d push n.style s in
+        let v : Defined S A = in_style d onto n.style e in
+        let a : Reached s q v = in_style-represents n.style s e h in
+        Agree-then (Reached q) (Reached s) _ _ (kind_steps d push machine.operations n.kind n.estimate trees f q)
+        (kind_steps d onto definition.operations n.kind n.estimate trees g v) (kind-represents n.kind n.estimate trees q v a.0) (λ r u b.
+        let grown : Grows s r = goes s.stacks q.stacks r.stacks a.1 b.1 in
+        (with_text r u s.text e.text (text-later s.stacks r.stacks s.text e.text h.text grown) b.0, grown))
 
   -- whatever is laid out there
   module _ (f : Worked → Option Worked) (g : Defined S A → Option (Defined S A))
@@ -438,10 +631,9 @@ module _ {S A K T V : Type 0} (d : Decoration S A) (push : K → T → A → K �
       Agree (Reached s) (steps d push machine.operations n trees f s) (defined d n trees g e)
   steps-represents n trees f g below s e h =
       subst (λ a. Agree (Reached s) (steps d push machine.operations n trees f s)
-      (placed d definition.operations (λ q. restored (kind_steps d onto definition.operations n.kind n.estimate g) q) e a)) h.around
-      (placed-represents (λ q. restored (kind_steps d push machine.operations n.kind n.estimate f) q)
-      (λ q. restored (kind_steps d onto definition.operations n.kind n.estimate g) q)
-      (restored-represents f g below n.kind n.estimate) s.around s e h)
+      (placed d definition.operations (node_steps d onto definition.operations n trees g) e a)) h.around
+      (placed-represents (node_steps d push machine.operations n trees f) (node_steps d onto definition.operations n trees g)
+      (node-represents f g below n trees) s.around s e h)
 
   run-represents : (t : Forest RenderNode) (s : Worked) (e : Defined S A) → Represents s e →
       Agree (Reached s) (run (steps d push machine.operations) t s) (run (defined d) t e)
@@ -455,48 +647,73 @@ module _ {S A K T V : Type 0} (d : Decoration S A) (push : K → T → A → K �
       Agree (λ q e. Represents q e) l k
   reached-represents s l k a = Agree-weaken (Reached s) (λ q e. Represents q e) l k a (λ q e n. n.0)
 
-  kind_inside-represents : (k : NodeKind) (m : Estimate) (s : Worked) (e : Defined S A) → Represents s e →
-      Agree (λ q e. Represents q e) (kind_inside d push machine.operations k m s) (kind_inside d onto definition.operations k m e)
-  kind_inside-represents (Text t) m s e h = tt
-  kind_inside-represents Container m s e h = h
-  kind_inside-represents Break m s e h = tt
-  kind_inside-represents Block m s e h = reached-represents s _ _ (start_block-represents s e h)
-  kind_inside-represents Div m s e h = reached-represents s _ _ (new_line-represents s e h)
-  kind_inside-represents (Emphasis x) m s e h = reached-represents s _ _ (begun-represents (emphasis_decoration d x) s e h)
-  kind_inside-represents (Header level) m s e h =
+  superscript_inside-represents : (digits : Option (List ℕ)) (s : Worked) (e : Defined S A) → Represents s e →
+      Agree (λ q e. Represents q e) (superscript_inside d push machine.operations digits s)
+      (superscript_inside d onto definition.operations digits e)
+  superscript_inside-represents None s e h = reached-represents s _ _ (begun-represents d.superscript s e h)
+  superscript_inside-represents (Some digits) s e h = tt
+
+  kind_inside-represents : (k : NodeKind) (m : Estimate) (trees : Forest RenderNode) (s : Worked) (e : Defined S A) → Represents s e →
+      Agree (λ q e. Represents q e) (kind_inside d push machine.operations k m trees s)
+      (kind_inside d onto definition.operations k m trees e)
+  kind_inside-represents (Text t) m trees s e h = tt
+  kind_inside-represents Container m trees s e h = h
+  kind_inside-represents Break m trees s e h = tt
+  kind_inside-represents Block m trees s e h = reached-represents s _ _ (start_block-represents s e h)
+  kind_inside-represents Div m trees s e h = reached-represents s _ _ (new_line-represents s e h)
+  kind_inside-represents (Emphasis x) m trees s e h = reached-represents s _ _ (begun-represents (emphasis_decoration d x) s e h)
+  kind_inside-represents (Header level) m trees s e h =
       reached-represents s _ _
       (nested-represents _ _ (inner_least m) s e (ap (λ x. prefix_columns (d.header_prefix x level)) h.decorator) h)
-  kind_inside-represents BlockQuote m s e h =
+  kind_inside-represents BlockQuote m trees s e h =
       reached-represents s _ _ (nested-represents _ _ (inner_least m) s e (ap (λ x. prefix_columns (d.quote_prefix x)) h.decorator) h)
-  kind_inside-represents Ul m s e h = with_around s e (Bullets (inner_least m)) (Bullets (inner_least m)) refl h
-  kind_inside-represents (Ol first) m s e h =
+  kind_inside-represents Ul m trees s e h = with_around s e (Bullets (inner_least m)) (Bullets (inner_least m)) refl h
+  kind_inside-represents (Ol first) m trees s e h =
       with_around s e _ _ (ap (λ x. numbers d m first x) h.decorator) h
-  kind_inside-represents ListItem m s e h = reached-represents s _ _ (start_block-represents s e h)
-  kind_inside-represents Dl m s e h = reached-represents s _ _ (start_block-represents s e h)
-  kind_inside-represents Dt m s e h =
+  kind_inside-represents ListItem m trees s e h = reached-represents s _ _ (start_block-represents s e h)
+  kind_inside-represents Dl m trees s e h = reached-represents s _ _ (start_block-represents s e h)
+  kind_inside-represents Dt m trees s e h =
       reached-represents s _ _ (then-represents s _ _ _ _ (new_line-represents s e h) (begun-represents d.em))
-  kind_inside-represents Dd m s e h = reached-represents s _ _ (nested-represents 2 2 (inner_least m) s e refl h)
+  kind_inside-represents Dd m trees s e h = reached-represents s _ _ (nested-represents 2 2 (inner_least m) s e refl h)
+  kind_inside-represents Strikeout m trees s e h =
+      Agree-then (Reached s) (λ q e. Represents q e) _ _ (begun d push machine.operations d.strikeout s)
+      (begun d onto definition.operations d.strikeout e) (begun-represents d.strikeout s e h) (λ q u a.
+      striking-represents _ _ q u (ap (λ (x : LayoutSettings). x.unicode_strikeout) h.settings) a.0)
+  kind_inside-represents Superscript m trees s e h = superscript_inside-represents (digits_of trees) s e h
+  kind_inside-represents (Link target) m trees s e h =
+      reached-represents (with_target target s) _ _
+      (begun-represents (link d target) (with_target target s) (with_target target e) (with_target-represents target s e h))
+  kind_inside-represents (Image i) m trees s e h = tt
+  kind_inside-represents (Svg title) m trees s e h = tt
+  kind_inside-represents (FragmentStart name) m trees s e h = tt
 
-  placed_inside-represents : (k : NodeKind) (m : Estimate) (a : Around) (s : Worked) (e : Defined S A) → Represents s e →
-      Agree (λ q e. Represents q e) (placed_inside d push machine.operations k m s a) (placed_inside d onto definition.operations k m e a)
-  placed_inside-represents k m Plain s e h = kind_inside-represents k m s e h
-  placed_inside-represents k m (Bullets least) s e h =
+  node_inside-represents : (n : RenderNode) (trees : Forest RenderNode) (s : Worked) (e : Defined S A) → Represents s e →
+      Agree (λ q e. Represents q e) (node_inside d push machine.operations n trees s) (node_inside d onto definition.operations n trees e)
+  node_inside-represents n trees s e h =
+      kind_inside-represents n.kind n.estimate trees (in_style d push n.style s) (in_style d onto n.style e)
+      (in_style-represents n.style s e h).0
+
+  placed_inside-represents : (n : RenderNode) (trees : Forest RenderNode) (a : Around) (s : Worked) (e : Defined S A) → Represents s e →
+      Agree (λ q e. Represents q e) (placed_inside d push machine.operations n trees s a)
+      (placed_inside d onto definition.operations n trees e a)
+  placed_inside-represents n trees Plain s e h = node_inside-represents n trees s e h
+  placed_inside-represents n trees (Bullets least) s e h =
       Agree-then (Reached s) (λ q e. Represents q e) _ _
       (nested d machine.operations (prefix_columns (d.unordered_item_prefix s.decorator)) least s)
       (nested d definition.operations (prefix_columns (d.unordered_item_prefix e.decorator)) least e)
       (nested-represents _ _ least s e (ap (λ x. prefix_columns (d.unordered_item_prefix x)) h.decorator) h)
-      (λ q u a. kind_inside-represents k m q u a.0)
-  placed_inside-represents k m (Numbers least number columns) s e h =
+      (λ q u a. node_inside-represents n trees q u a.0)
+  placed_inside-represents n trees (Numbers least number columns) s e h =
       Agree-then (Reached s) (λ q e. Represents q e) _ _ (nested d machine.operations columns least s)
       (nested d definition.operations columns least e) (nested-represents columns columns least s e refl h)
-      (λ q u a. kind_inside-represents k m q u a.0)
+      (λ q u a. node_inside-represents n trees q u a.0)
 
   inside-represents : (n : RenderNode) (trees : Forest RenderNode) (s : Worked) (e : Defined S A) → Represents s e →
       Agree (λ q e. Represents q e) (inside d push machine.operations n trees s) (defined_inside d n trees e)
   inside-represents n trees s e h =
       subst (λ a. Agree (λ q e. Represents q e) (inside d push machine.operations n trees s)
-      (placed_inside d onto definition.operations n.kind n.estimate e a)) h.around
-      (placed_inside-represents n.kind n.estimate s.around s e h)
+      (placed_inside d onto definition.operations n trees e a)) h.around
+      (placed_inside-represents n trees s.around s e h)
 
   -- the code's walk visits what the definition visits
   pub visited-represented : (t : Forest RenderNode) (s : Worked) (e : Defined S A) → Represents s e →
@@ -511,15 +728,45 @@ module _ {S A K T V : Type 0} (d : Decoration S A) (push : K → T → A → K �
 
   -- ---- what is shown
 
+  -- the end under a tag, where as much is kept of annotations as may be from now on
+  ended-represents : (footnotes cut : Bool) (x : T) (y : List A) (s : Worked) (e : Defined S A) →
+      ((i : Since s.stacks) → shown i.0 x ≡ seen y) → Represents s e →
+      Agree (Reached s) (ended d machine.ending footnotes cut x s) (ended d definition.ending footnotes cut y e)
+  ended-represents footnotes cut x y s e t h =
+      let ts : List (List ℕ) = map chars (closing_texts d footnotes s.decorator s.targets) in
+      let us : List (List ℕ) = map chars (closing_texts d footnotes e.decorator e.targets) in
+      let same : ts ≡ us = ap (λ z. map chars (closing_texts d footnotes z s.targets)) h.decorator
+      ∙ ap (λ z. map chars (closing_texts d footnotes e.decorator z)) h.targets in
+      subst (λ vs. Agree (Reached s) (ended d machine.ending footnotes cut x s)
+      (option_and_then (λ b. option_and_then (λ c. Some (record e { block = c })) (definition.ending.add_closing_lines b cut y vs))
+      (definition.ending.finish e.block))) same
+      (Agree-then (ShowsBlock s.stacks) (Reached s) _ _ (machine.ending.finish s.block) (definition.ending.finish e.block)
+      (finish-shows (seen_since s.stacks) seen (now s.stacks) s.block e.block h.block) (λ b c n.
+      Agree-then (ShowsBlock s.stacks) (Reached s) _ _ (machine.ending.add_closing_lines b cut x ts)
+      (definition.ending.add_closing_lines c cut y ts)
+      (closing-shows (seen_since s.stacks) seen (now s.stacks) cut x y t ts b c n)
+      (λ p q m. (with_block s e p q h m, stays s.stacks))))
+
+  -- the same, as the settings say
+  closed-represents : (s r : Worked) (e f : Defined S A) → Represents s e → Reached s r f →
+      Agree (Reached r) (ended d machine.ending s.settings.link_footnotes s.settings.wrap_links s.text.tag r)
+      (ended d definition.ending e.settings.link_footnotes e.settings.wrap_links e.text.tag f)
+  closed-represents s r e f h a =
+      subst (λ (x : LayoutSettings). Agree (Reached r) (ended d machine.ending s.settings.link_footnotes s.settings.wrap_links s.text.tag r)
+      (ended d definition.ending x.link_footnotes x.wrap_links e.text.tag f)) h.settings
+      (ended-represents s.settings.link_footnotes s.settings.wrap_links s.text.tag e.text.tag r f
+      (text-later s.stacks r.stacks s.text e.text h.text a.1).tag a.0)
+
   -- the lines, with what is seen of their tags, are those of the definition with what is seen of their stacks
   pub lines-represented : (view : Worked → List (Line V ℕ)) → ((r : Worked) → view r ≡ lines_with (shown r.stacks) r.block.lines) →
       (t : Forest RenderNode) (s : Worked) (e : Defined S A) → Represents s e →
-      shown_after d push machine.operations view t s
-      ≡ option_map (lines_with seen) (shown_after d onto definition.operations (λ (r : Defined S A). r.block.lines) t e)
+      shown_after d push machine.operations machine.ending view t s
+      ≡ option_map (lines_with seen) (shown_after d onto definition.operations definition.ending (λ (r : Defined S A). r.block.lines) t e)
   lines-represented view is t s e h =
       mapped-Agree (lines_with seen) _ _
       (Agree-then (Reached s) (λ x y. x ≡ lines_with seen y) _ _ (run (steps d push machine.operations) t s) (run (defined d) t e)
       (run-represents t s e h) (λ r f a.
-      Agree-then (Reached r) (λ x y. x ≡ lines_with seen y) _ _ (on_block machine.operations.new_line r)
-      (on_block definition.operations.new_line f) (new_line-represents r f a.0) (λ q p n.
+      Agree-then (Reached r) (λ x y. x ≡ lines_with seen y) _ _
+      (ended d machine.ending s.settings.link_footnotes s.settings.wrap_links s.text.tag r)
+      (ended d definition.ending e.settings.link_footnotes e.settings.wrap_links e.text.tag f) (closed-represents s r e f h a) (λ q p n.
       is q ∙ ap (λ (x : MachineBlock V ℕ). x.lines) (n.0.block (now q.stacks)))))

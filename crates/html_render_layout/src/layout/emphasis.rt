@@ -1,38 +1,18 @@
-//! Texts, and what is written round an emphasis.
+//! Parts of a line between what the decorator writes round them.
 
 ghost use Rattle.std.specs.Prelude.{◌≡◌, Some, OnOk, IfOk, IfErr, string_bytes};
 ghost use Rattle.html_render_dom.specs.Outcome.{Refuses};
 ghost use Rattle.html_render_blocks.specs.BlockMachine as machine;
-ghost use Rattle.html_render_layout.specs.Layout.{emphasis_decoration, add_text, begun};
+ghost use Rattle.html_render_layout.specs.Layout.{emphasis_decoration, under, add_text, begun};
 
 use super::state::LayoutState;
+use super::texts::add_text;
 use crate::tagging::Tagging;
 use html_render_blocks::block::Block;
 use html_render_dom::Error;
-use html_render_lines::character::TextStyle;
 use html_render_nodes::tree::Emphasis;
 use html_render_parts::decorate::TextDecorator;
 use std::alloc::Global;
-
-/// Adds a text under the tag of what comes.
-///
-/// # Errors
-///
-/// `TooNarrow`, where the text starts a block, and a character before it is too wide. `OutOfMemory`.
-pub fn add_text<D: TextDecorator, G: Tagging<D::Annotation>>(
-    text: &str,
-    state: &mut LayoutState<D, G, G::Tag, Block<G::Tag, usize>>,
-) -> Result<(), Error>
-    ensures ok { OnOk result (add_text machine.operations text.now state.old ≡ Some state.new) }
-    ensures err { IfErr result (λ e. Refuses e (add_text machine.operations text.now state.old)) }
-{
-    let style = TextStyle {
-        mode: state.text.mode,
-        tag: state.text.tag,
-        continuation_tag: state.text.tag,
-    };
-    state.block.add_inline_text(text, style)
-}
 
 /// What is written before an emphasis, and its annotation.
 fn start_of<D: TextDecorator>(
@@ -71,6 +51,27 @@ pub fn end_of<D: TextDecorator>(
     }
 }
 
+/// What is written under an annotation begins: the texts that come have it too, and this is the first.
+///
+/// # Errors
+///
+/// As where a text is added.
+#[tactic(auto, using(html_render_dom::specs::laws::Outcome::refusals))]
+pub fn begin<D: TextDecorator, G: Tagging<D::Annotation>>(
+    alloc: Global,
+    start: (String, D::Annotation),
+    state: &mut LayoutState<D, G, G::Tag, Block<G::Tag, usize>>,
+) -> Result<(), Error>
+    ensures ok { OnOk result (add_text machine.operations (string_bytes start.0)
+        (under (G.annotated state.old.stacks state.old.text.tag start.1) state.old) ≡ Some state.new) }
+    ensures err { IfErr result (λ e. Refuses e (add_text machine.operations (string_bytes start.0)
+        (under (G.annotated state.old.stacks state.old.text.tag start.1) state.old))) }
+{
+    let (text, annotation) = start;
+    state.text.tag = state.stacks.annotate(state.text.tag, annotation)?;
+    add_text(alloc, text.as_str(), state)
+}
+
 /// An emphasis begins.
 ///
 /// # Errors
@@ -85,7 +86,40 @@ pub fn begin_emphasis<D: TextDecorator, G: Tagging<D::Annotation>>(
     ensures ok { OnOk result (begun D.decoration G.annotated machine.operations (emphasis_decoration D.decoration emphasis) state.old ≡ Some state.new) }
     ensures err { IfErr result (λ e. Refuses e (begun D.decoration G.annotated machine.operations (emphasis_decoration D.decoration emphasis) state.old)) }
 {
-    let (text, annotation) = start_of(alloc, &state.decorator, emphasis)?;
-    state.text.tag = state.stacks.annotate(state.text.tag, annotation)?;
-    add_text(text.as_str(), state)
+    let start = start_of(alloc, &state.decorator, emphasis)?;
+    begin(alloc, start, state)
+}
+
+/// A part that is struck out begins.
+///
+/// # Errors
+///
+/// As where a text is added.
+#[tactic(auto, using(html_render_dom::specs::laws::Outcome::refusals))]
+pub fn begin_strikeout<D: TextDecorator, G: Tagging<D::Annotation>>(
+    alloc: Global,
+    state: &mut LayoutState<D, G, G::Tag, Block<G::Tag, usize>>,
+) -> Result<(), Error>
+    ensures ok { OnOk result (begun D.decoration G.annotated machine.operations D.decoration.strikeout state.old ≡ Some state.new) }
+    ensures err { IfErr result (λ e. Refuses e (begun D.decoration G.annotated machine.operations D.decoration.strikeout state.old)) }
+{
+    let start = state.decorator.decorate_strikeout_start(alloc)?;
+    begin(alloc, start, state)
+}
+
+/// A superscript begins.
+///
+/// # Errors
+///
+/// As where a text is added.
+#[tactic(auto, using(html_render_dom::specs::laws::Outcome::refusals))]
+pub fn begin_superscript<D: TextDecorator, G: Tagging<D::Annotation>>(
+    alloc: Global,
+    state: &mut LayoutState<D, G, G::Tag, Block<G::Tag, usize>>,
+) -> Result<(), Error>
+    ensures ok { OnOk result (begun D.decoration G.annotated machine.operations D.decoration.superscript state.old ≡ Some state.new) }
+    ensures err { IfErr result (λ e. Refuses e (begun D.decoration G.annotated machine.operations D.decoration.superscript state.old)) }
+{
+    let start = state.decorator.decorate_superscript_start(alloc)?;
+    begin(alloc, start, state)
 }

@@ -8,7 +8,7 @@ ghost use Rattle.html_render_layout.specs.Layout.{nested, spaces};
 ghost use Rattle.html_render_layout.specs.Opening.{interrupted, indent_closed, quote_closed};
 
 use super::spaces::{FEW, few_spaces, many_spaces};
-use super::state::{Around, Interrupted, LayoutState, Outer, TextContext};
+use super::state::{Around, Interrupted, LayoutState, Outer};
 use crate::tagging::Tagging;
 use html_render_blocks::block::Block;
 use html_render_dom::Error;
@@ -32,7 +32,7 @@ pub fn nest<D: TextDecorator, G: Tagging<D::Annotation>>(
     least: usize,
     behind: Around,
     state: &mut LayoutState<D, G, G::Tag, Block<G::Tag, usize>>,
-) -> Result<Interrupted<D, Block<G::Tag, usize>>, Error>
+) -> Result<Interrupted<D, G::Tag, Block<G::Tag, usize>>, Error>
     ensures ok { OnOk result (nested D.decoration machine.operations columns least state.old ≡ Some state.new) }
     ensures outer { IfOk result (λ outer. outer ≡ interrupted state.old behind prefix columns) }
     ensures err { IfErr result (λ e. Refuses e (nested D.decoration machine.operations columns least state.old)) }
@@ -45,6 +45,7 @@ pub fn nest<D: TextDecorator, G: Tagging<D::Annotation>>(
         around: behind,
         prefix,
         columns,
+        tag: state.text.tag,
     };
     state.around = Around::Plain;
     Interrupted::new(alloc, outer)
@@ -78,12 +79,11 @@ fn append_behind<T: Tag>(
 #[tactic(auto, using(html_render_dom::specs::laws::Outcome::refusals))]
 pub fn close_indent<D: TextDecorator, G: Tagging<D::Annotation>>(
     alloc: Global,
-    text: TextContext<G::Tag>,
-    outer: Interrupted<D, Block<G::Tag, usize>>,
+    outer: Interrupted<D, G::Tag, Block<G::Tag, usize>>,
     state: &mut LayoutState<D, G, G::Tag, Block<G::Tag, usize>>,
 ) -> Result<(), Error>
-    ensures ok { OnOk result (indent_closed machine.operations text outer state.old ≡ Some state.new) }
-    ensures err { IfErr result (λ e. Refuses e (indent_closed machine.operations text outer state.old)) }
+    ensures ok { OnOk result (indent_closed machine.operations outer state.old ≡ Some state.new) }
+    ensures err { IfErr result (λ e. Refuses e (indent_closed machine.operations outer state.old)) }
 {
     let outer = outer.into_outer();
     let sub = mem::replace(&mut state.block, outer.block);
@@ -91,7 +91,7 @@ pub fn close_indent<D: TextDecorator, G: Tagging<D::Annotation>>(
         alloc,
         &mut state.block,
         sub,
-        text.tag,
+        outer.tag,
         outer.prefix.as_str(),
         outer.columns,
     )?;
@@ -107,12 +107,11 @@ pub fn close_indent<D: TextDecorator, G: Tagging<D::Annotation>>(
 /// As for what was indented.
 #[tactic(auto, using(html_render_dom::specs::laws::Outcome::refusals))]
 pub fn close_quote<D: TextDecorator, G: Tagging<D::Annotation>>(
-    text: TextContext<G::Tag>,
-    outer: Interrupted<D, Block<G::Tag, usize>>,
+    outer: Interrupted<D, G::Tag, Block<G::Tag, usize>>,
     state: &mut LayoutState<D, G, G::Tag, Block<G::Tag, usize>>,
 ) -> Result<(), Error>
-    ensures ok { OnOk result (quote_closed machine.operations text outer state.old ≡ Some state.new) }
-    ensures err { IfErr result (λ e. Refuses e (quote_closed machine.operations text outer state.old)) }
+    ensures ok { OnOk result (quote_closed machine.operations outer state.old ≡ Some state.new) }
+    ensures err { IfErr result (λ e. Refuses e (quote_closed machine.operations outer state.old)) }
 {
     let outer = outer.into_outer();
     let prefix = outer.prefix;
@@ -120,7 +119,7 @@ pub fn close_quote<D: TextDecorator, G: Tagging<D::Annotation>>(
     state.block.start_block()?;
     state
         .block
-        .append(sub, text.tag, prefix.as_str(), prefix.as_str())?;
+        .append(sub, outer.tag, prefix.as_str(), prefix.as_str())?;
     state.block.end_block();
     state.decorator = outer.decorator;
     state.around = outer.around;

@@ -1,7 +1,8 @@
 //! Where a layout stands, and what it keeps of a node until its children are laid out.
 
-ghost use Rattle.std.specs.Prelude.{◌≡◌, [], IfOk, IfErr};
+ghost use Rattle.std.specs.Prelude.{◌≡◌, ◌↔◌, [], ◌∷◌, ◌++◌, length, IsTrue, IfOk, IfErr, OnOk};
 
+use crate::settings::LayoutSettings;
 use html_render_dom::Error;
 use html_render_dom::style::WhiteSpace;
 use html_render_dom::text::Text;
@@ -66,11 +67,48 @@ impl TextList {
             texts: Vec::new(alloc),
         }
     }
+
+    /// How many there are.
+    pub fn len(&self) -> usize
+        ensures { result ≡ length self.now }
+    {
+        self.texts.len()
+    }
+
+    /// Whether there is none.
+    pub fn is_empty(&self) -> bool
+        ensures { IsTrue result ↔ (self.now ≡ []) }
+    {
+        self.texts.is_empty()
+    }
+
+    /// All of them.
+    pub fn as_slice(&self) -> &[Text]
+        ensures { result.now ≡ self.now }
+    {
+        self.texts.as_slice()
+    }
+
+    /// Puts a copy of a text behind them.
+    ///
+    /// # Errors
+    ///
+    /// `OutOfMemory`.
+    pub fn push(&mut self, text: &Text) -> Result<(), Error>
+        ensures ok { OnOk result (self.new ≡ self.old ++ text.now ∷ []) }
+        ensures err { IfErr result (λ e. e ≡ Error.OutOfMemory) }
+    {
+        let text = text.clone()?;
+        self.texts.push(text)?;
+        Ok(())
+    }
 }
 
 /// Where a layout stands.
 #[derive(Drop)]
 pub struct LayoutState<D, K, T, B> {
+    /// How nodes are laid out. It doesn't change.
+    pub settings: LayoutSettings,
     /// The decorator of the block.
     pub decorator: D,
     /// What the tags stand for.
@@ -89,7 +127,7 @@ pub struct LayoutState<D, K, T, B> {
 
 /// A block that is interrupted by one inside it, and where its layout goes on once that is over.
 #[derive(Drop)]
-pub struct Outer<D, B> {
+pub struct Outer<D, T, B> {
     /// The decorator of the block.
     pub decorator: D,
     /// The block.
@@ -100,29 +138,31 @@ pub struct Outer<D, B> {
     pub prefix: Text,
     /// The columns of that.
     pub columns: usize,
+    /// Its tag.
+    pub tag: T,
 }
 
 /// The same, held so that it is moved in few bytes.
 #[derive(Drop)]
-pub struct Interrupted<D, B> {
-    outer: Box<Outer<D, B>>,
+pub struct Interrupted<D, T, B> {
+    outer: Box<Outer<D, T, B>>,
 }
 
-impl<D, B> Model for Interrupted<D, B> {
+impl<D, T, B> Model for Interrupted<D, T, B> {
     ghost use Rattle.html_render_layout.specs.declared.layout.state.Outer.{Outer};
 
-    ghost Value = { Outer D B };
+    ghost Value = { Outer D T B };
 
     ghost view = { λ i. i.outer.value };
 }
 
-impl<D: Drop, B: Drop> Interrupted<D, B> {
+impl<D: Drop, T: Drop, B: Drop> Interrupted<D, T, B> {
     /// Holds an interrupted block.
     ///
     /// # Errors
     ///
     /// `OutOfMemory`.
-    pub fn new(alloc: Global, outer: Outer<D, B>) -> Result<Interrupted<D, B>, Error>
+    pub fn new(alloc: Global, outer: Outer<D, T, B>) -> Result<Interrupted<D, T, B>, Error>
         ensures ok { IfOk result (λ i. i ≡ outer) }
         ensures err { IfErr result (λ e. e ≡ Error.OutOfMemory) }
     {
@@ -131,7 +171,7 @@ impl<D: Drop, B: Drop> Interrupted<D, B> {
     }
 
     /// Gives it back.
-    pub fn into_outer(self) -> Outer<D, B>
+    pub fn into_outer(self) -> Outer<D, T, B>
         ensures { result ≡ self }
     {
         Box::into_inner(self.outer)
@@ -142,16 +182,16 @@ impl<D: Drop, B: Drop> Interrupted<D, B> {
 #[derive(Drop)]
 pub struct Closing<D, T, B> {
     /// What the node interrupts, where it is an item of a list.
-    pub item: Option<Interrupted<D, B>>,
+    pub item: Option<Interrupted<D, T, B>>,
     /// How texts were treated before the node.
     pub text: TextContext<T>,
     /// What the node's kind does.
-    pub kind: KindClosing<D, B>,
+    pub kind: KindClosing<D, T, B>,
 }
 
 /// What a kind of node does once its children are laid out.
 #[derive(Drop)]
-pub enum KindClosing<D, B> {
+pub enum KindClosing<D, T, B> {
     /// Nothing.
     Nothing,
     /// The block is at its end.
@@ -163,7 +203,13 @@ pub enum KindClosing<D, B> {
     /// The list ends: the nodes that come stand in nothing that matters to them, as the list did.
     EndList,
     /// The heading or quote ends, and the block that it interrupted goes on.
-    EndQuote(Interrupted<D, B>),
+    EndQuote(Interrupted<D, T, B>),
     /// The same, with what was indented.
-    EndIndent(Interrupted<D, B>),
+    EndIndent(Interrupted<D, T, B>),
+    /// The part that is struck out ends; whether what follows is struck out.
+    EndStrikeout(bool),
+    /// The superscript ends.
+    EndSuperscript,
+    /// The link of this number ends; how texts were treated before it.
+    EndLink(TextContext<T>, usize),
 }

@@ -4,21 +4,29 @@ ghost use Rattle.std.specs.Prelude.{◌≡◌, Some, OnOk, IfOk, IfErr, string_b
 ghost use Rattle.html_render_dom.specs.Outcome.{Refuses};
 ghost use Rattle.html_render_blocks.specs.BlockMachine as machine;
 ghost use Rattle.html_render_nodes.specs.Pass.{way};
-ghost use Rattle.html_render_layout.specs.Layout.{inner_least, numbers};
-ghost use Rattle.html_render_layout.specs.Opening.{place_of, item_begun, item_kept, item_closed, quote_opened, kind_opened, kind_closed};
+ghost use Rattle.html_render_nodes.specs.Preorder.{flatten, forest_of};
+ghost use Rattle.html_render_layout.specs.Layout.{inner_least, numbers, digits_of};
+ghost use Rattle.html_render_layout.specs.Opening.{place_of, item_begun, item_kept, item_closed, quote_opened};
+ghost use Rattle.html_render_layout.specs.Opening.{term_opened, description_opened, strikeout_opened, superscript_opened, link_opened};
+ghost use Rattle.html_render_layout.specs.Opening.{kind_opened, kind_closed, node_opened};
 ghost use Rattle.html_render_layout.specs.Opening.{placed_opened, closed};
 
-use super::emphasis::{add_text, begin_emphasis, end_of};
+use super::colours::begin_style;
+use super::emphasis::{begin_emphasis, begin_strikeout, begin_superscript, end_of};
+use super::images::add_image;
 use super::items::place_of;
+use super::links::{add_mark, begin_link, close_link};
 use super::nesting::{close_indent, close_quote, nest};
-use super::state::{Around, Closing, Interrupted, KindClosing, LayoutState, TextContext};
+use super::state::{Around, Closing, Interrupted, KindClosing, LayoutState};
+use super::superscripts::{digits_of, write_raised};
+use super::texts::add_text;
 use crate::tagging::Tagging;
 use html_render_blocks::block::Block;
 use html_render_dom::Error;
 use html_render_dom::text::Text;
 use html_render_estimates::estimate::number_columns;
 use html_render_estimates::text::columns;
-use html_render_nodes::tree::{Emphasis, Estimate, NodeKind};
+use html_render_nodes::tree::{Emphasis, Entry, Estimate, NodeKind, RenderNode};
 use html_render_parts::decorate::TextDecorator;
 use std::alloc::Global;
 
@@ -36,7 +44,7 @@ fn open_quote<D: TextDecorator, G: Tagging<D::Annotation>>(
     prefix: String,
     estimate: &Estimate,
     state: &mut LayoutState<D, G, G::Tag, Block<G::Tag, usize>>,
-) -> Result<Option<KindClosing<D, Block<G::Tag, usize>>>, Error>
+) -> Result<Option<KindClosing<D, G::Tag, Block<G::Tag, usize>>>, Error>
     ensures ok { IfOk result (λ c. quote_opened D.decoration G.annotated machine.operations (string_bytes prefix) estimate.now state.old
         ≡ Some (way state.new c)) }
     ensures err { IfErr result (λ e. Refuses e (quote_opened D.decoration G.annotated machine.operations (string_bytes prefix) estimate.now state.old)) }
@@ -76,11 +84,10 @@ fn numbers<D: TextDecorator>(
 #[tactic(auto, using(html_render_dom::specs::laws::Outcome::refusals))]
 fn open_term<D: TextDecorator, G: Tagging<D::Annotation>>(
     alloc: Global,
-    estimate: &Estimate,
     state: &mut LayoutState<D, G, G::Tag, Block<G::Tag, usize>>,
-) -> Result<Option<KindClosing<D, Block<G::Tag, usize>>>, Error>
-    ensures ok { IfOk result (λ c. kind_opened D.decoration G.annotated machine.operations NodeKind.Dt estimate.now state.old ≡ Some (way state.new c)) }
-    ensures err { IfErr result (λ e. Refuses e (kind_opened D.decoration G.annotated machine.operations NodeKind.Dt estimate.now state.old)) }
+) -> Result<Option<KindClosing<D, G::Tag, Block<G::Tag, usize>>>, Error>
+    ensures ok { IfOk result (λ c. term_opened D.decoration G.annotated machine.operations state.old ≡ Some (way state.new c)) }
+    ensures err { IfErr result (λ e. Refuses e (term_opened D.decoration G.annotated machine.operations state.old)) }
 {
     state.block.new_line()?;
     begin_emphasis(alloc, Emphasis::Em, state)?;
@@ -93,29 +100,88 @@ fn open_description<D: TextDecorator, G: Tagging<D::Annotation>>(
     alloc: Global,
     estimate: &Estimate,
     state: &mut LayoutState<D, G, G::Tag, Block<G::Tag, usize>>,
-) -> Result<Option<KindClosing<D, Block<G::Tag, usize>>>, Error>
-    ensures ok { IfOk result (λ c. kind_opened D.decoration G.annotated machine.operations NodeKind.Dd estimate.now state.old ≡ Some (way state.new c)) }
-    ensures err { IfErr result (λ e. Refuses e (kind_opened D.decoration G.annotated machine.operations NodeKind.Dd estimate.now state.old)) }
+) -> Result<Option<KindClosing<D, G::Tag, Block<G::Tag, usize>>>, Error>
+    ensures ok { IfOk result (λ c. description_opened D.decoration G.annotated machine.operations estimate.now state.old ≡ Some (way state.new c)) }
+    ensures err { IfErr result (λ e. Refuses e (description_opened D.decoration G.annotated machine.operations estimate.now state.old)) }
 {
     let prefix = Text::new(String::from_str(alloc, "  ")?);
     let outer = nest(alloc, prefix, 2, inner_least(estimate), state.around, state)?;
     Ok(Some(KindClosing::EndIndent(outer)))
 }
 
-/// Opens a node of a kind. With nothing kept the state becomes the one behind it.
+/// A part that is struck out begins.
+#[tactic(auto, using(html_render_dom::specs::laws::Outcome::refusals))]
+fn open_strikeout<D: TextDecorator, G: Tagging<D::Annotation>>(
+    alloc: Global,
+    state: &mut LayoutState<D, G, G::Tag, Block<G::Tag, usize>>,
+) -> Result<Option<KindClosing<D, G::Tag, Block<G::Tag, usize>>>, Error>
+    ensures ok { IfOk result (λ c. strikeout_opened D.decoration G.annotated machine.operations state.old ≡ Some (way state.new c)) }
+    ensures err { IfErr result (λ e. Refuses e (strikeout_opened D.decoration G.annotated machine.operations state.old)) }
+{
+    let before = state.text.struck_out;
+    begin_strikeout(alloc, state)?;
+    state.text.struck_out = state.settings.unicode_strikeout;
+    Ok(Some(KindClosing::EndStrikeout(before)))
+}
+
+/// A superscript begins; one of digits is done.
+#[tactic(auto, using(html_render_dom::specs::laws::Outcome::refusals))]
+fn open_superscript<D: TextDecorator, G: Tagging<D::Annotation>>(
+    alloc: Global,
+    children: &[Entry<RenderNode>],
+    state: &mut LayoutState<D, G, G::Tag, Block<G::Tag, usize>>,
+) -> Result<Option<KindClosing<D, G::Tag, Block<G::Tag, usize>>>, Error>
+    requires { flatten (forest_of children.now) ≡ children.now }
+    ensures ok { IfOk result (λ c. superscript_opened D.decoration G.annotated machine.operations (digits_of (forest_of children.now)) state.old
+        ≡ Some (way state.new c)) }
+    ensures err { IfErr result (λ e. Refuses e (superscript_opened D.decoration G.annotated machine.operations
+        (digits_of (forest_of children.now)) state.old)) }
+{
+    match digits_of(children) {
+        Some(digits) => {
+            write_raised(alloc, digits, state)?;
+            Ok(None)
+        }
+        None => {
+            begin_superscript(alloc, state)?;
+            Ok(Some(KindClosing::EndSuperscript))
+        }
+    }
+}
+
+/// A link begins.
+#[tactic(auto, using(html_render_dom::specs::laws::Outcome::refusals))]
+fn open_link<D: TextDecorator, G: Tagging<D::Annotation>>(
+    alloc: Global,
+    target: &Text,
+    state: &mut LayoutState<D, G, G::Tag, Block<G::Tag, usize>>,
+) -> Result<Option<KindClosing<D, G::Tag, Block<G::Tag, usize>>>, Error>
+    ensures ok { IfOk result (λ c. link_opened D.decoration G.annotated machine.operations target.now state.old ≡ Some (way state.new c)) }
+    ensures err { IfErr result (λ e. Refuses e (link_opened D.decoration G.annotated machine.operations target.now state.old)) }
+{
+    let text = state.text;
+    begin_link(alloc, target, state)?;
+    Ok(Some(KindClosing::EndLink(text, state.targets.len())))
+}
+
+/// Opens a node of a kind over these trees. With nothing kept the state becomes the one behind it.
 #[tactic(auto, using(html_render_dom::specs::laws::Outcome::refusals))]
 fn open_kind<D: TextDecorator, G: Tagging<D::Annotation>>(
     alloc: Global,
     kind: &NodeKind,
     estimate: &Estimate,
+    children: &[Entry<RenderNode>],
     state: &mut LayoutState<D, G, G::Tag, Block<G::Tag, usize>>,
-) -> Result<Option<KindClosing<D, Block<G::Tag, usize>>>, Error>
-    ensures ok { IfOk result (λ c. kind_opened D.decoration G.annotated machine.operations kind.now estimate.now state.old ≡ Some (way state.new c)) }
-    ensures err { IfErr result (λ e. Refuses e (kind_opened D.decoration G.annotated machine.operations kind.now estimate.now state.old)) }
+) -> Result<Option<KindClosing<D, G::Tag, Block<G::Tag, usize>>>, Error>
+    requires { flatten (forest_of children.now) ≡ children.now }
+    ensures ok { IfOk result (λ c. kind_opened D.decoration G.annotated machine.operations kind.now estimate.now (forest_of children.now)
+        state.old ≡ Some (way state.new c)) }
+    ensures err { IfErr result (λ e. Refuses e (kind_opened D.decoration G.annotated machine.operations kind.now estimate.now (forest_of children.now)
+        state.old)) }
 {
     match kind {
         NodeKind::Text(text) => {
-            add_text(text.as_str(), state)?;
+            add_text(alloc, text.as_str(), state)?;
             Ok(None)
         }
         NodeKind::Container => Ok(Some(KindClosing::Nothing)),
@@ -157,21 +223,40 @@ fn open_kind<D: TextDecorator, G: Tagging<D::Annotation>>(
             state.block.start_block()?;
             Ok(Some(KindClosing::Nothing))
         }
-        NodeKind::Dt => open_term(alloc, estimate, state),
+        NodeKind::Dt => open_term(alloc, state),
         NodeKind::Dd => open_description(alloc, estimate, state),
+        NodeKind::Strikeout => open_strikeout(alloc, state),
+        NodeKind::Superscript => open_superscript(alloc, children, state),
+        NodeKind::Link(target) => open_link(alloc, target, state),
+        NodeKind::Image(image) => {
+            add_image(
+                alloc,
+                image.source().as_str(),
+                image.title().as_str(),
+                state,
+            )?;
+            Ok(None)
+        }
+        NodeKind::Svg(title) => {
+            add_image(alloc, "", title.as_str(), state)?;
+            Ok(None)
+        }
+        NodeKind::FragmentStart(name) => {
+            add_mark(name, state)?;
+            Ok(None)
+        }
     }
 }
 
-/// Does what is left of a node of a kind. Texts were treated so before the node.
+/// Does what is left of a node of a kind.
 #[tactic(auto, using(html_render_dom::specs::laws::Outcome::refusals))]
 fn close_kind<D: TextDecorator, G: Tagging<D::Annotation>>(
     alloc: Global,
-    text: TextContext<G::Tag>,
-    closing: KindClosing<D, Block<G::Tag, usize>>,
+    closing: KindClosing<D, G::Tag, Block<G::Tag, usize>>,
     state: &mut LayoutState<D, G, G::Tag, Block<G::Tag, usize>>,
 ) -> Result<(), Error>
-    ensures ok { OnOk result (kind_closed D.decoration G.annotated machine.operations text closing state.old ≡ Some state.new) }
-    ensures err { IfErr result (λ e. Refuses e (kind_closed D.decoration G.annotated machine.operations text closing state.old)) }
+    ensures ok { OnOk result (kind_closed D.decoration G.annotated machine.operations closing state.old ≡ Some state.new) }
+    ensures err { IfErr result (λ e. Refuses e (kind_closed D.decoration G.annotated machine.operations closing state.old)) }
 {
     match closing {
         KindClosing::Nothing => Ok(()),
@@ -184,15 +269,25 @@ fn close_kind<D: TextDecorator, G: Tagging<D::Annotation>>(
             Ok(())
         }
         KindClosing::EndEmphasis(emphasis) => {
-            let text = end_of(alloc, &state.decorator, emphasis)?;
-            add_text(text.as_str(), state)
+            let end = end_of(alloc, &state.decorator, emphasis)?;
+            add_text(alloc, end.as_str(), state)
         }
         KindClosing::EndList => {
             state.around = Around::Plain;
             Ok(())
         }
-        KindClosing::EndQuote(outer) => close_quote(text, outer, state),
-        KindClosing::EndIndent(outer) => close_indent(alloc, text, outer, state),
+        KindClosing::EndQuote(outer) => close_quote(outer, state),
+        KindClosing::EndIndent(outer) => close_indent(alloc, outer, state),
+        KindClosing::EndStrikeout(struck_out) => {
+            let end = state.decorator.decorate_strikeout_end(alloc)?;
+            state.text.struck_out = struck_out;
+            add_text(alloc, end.as_str(), state)
+        }
+        KindClosing::EndSuperscript => {
+            let end = state.decorator.decorate_superscript_end(alloc)?;
+            add_text(alloc, end.as_str(), state)
+        }
+        KindClosing::EndLink(text, number) => close_link(alloc, text, number, state),
     }
 }
 
@@ -205,7 +300,7 @@ fn close_kind<D: TextDecorator, G: Tagging<D::Annotation>>(
 fn begin_placed<D: TextDecorator, G: Tagging<D::Annotation>>(
     alloc: Global,
     state: &mut LayoutState<D, G, G::Tag, Block<G::Tag, usize>>,
-) -> Result<Option<Interrupted<D, Block<G::Tag, usize>>>, Error>
+) -> Result<Option<Interrupted<D, G::Tag, Block<G::Tag, usize>>>, Error>
     ensures ok { OnOk result (item_begun D.decoration machine.operations
         (place_of D.decoration state.old.decorator state.old.around) state.old ≡ Some state.new) }
     ensures item { IfOk result (λ item. item ≡ item_kept (place_of D.decoration state.old.decorator state.old.around) state.old) }
@@ -232,7 +327,7 @@ fn begin_placed<D: TextDecorator, G: Tagging<D::Annotation>>(
 fn begin_item<D: TextDecorator, G: Tagging<D::Annotation>>(
     alloc: Global,
     state: &mut LayoutState<D, G, G::Tag, Block<G::Tag, usize>>,
-) -> Result<Option<Interrupted<D, Block<G::Tag, usize>>>, Error>
+) -> Result<Option<Interrupted<D, G::Tag, Block<G::Tag, usize>>>, Error>
     ensures ok { OnOk result (item_begun D.decoration machine.operations
         (place_of D.decoration state.old.decorator state.old.around) state.old ≡ Some state.new) }
     ensures item { IfOk result (λ item. item ≡ item_kept (place_of D.decoration state.old.decorator state.old.around) state.old) }
@@ -250,16 +345,35 @@ fn begin_item<D: TextDecorator, G: Tagging<D::Annotation>>(
 #[tactic(auto, using(html_render_dom::specs::laws::Outcome::refusals))]
 fn end_item<D: TextDecorator, G: Tagging<D::Annotation>>(
     alloc: Global,
-    item: Option<Interrupted<D, Block<G::Tag, usize>>>,
+    item: Option<Interrupted<D, G::Tag, Block<G::Tag, usize>>>,
     state: &mut LayoutState<D, G, G::Tag, Block<G::Tag, usize>>,
 ) -> Result<(), Error>
     ensures ok { OnOk result (item_closed machine.operations item state.old ≡ Some state.new) }
     ensures err { IfErr result (λ e. Refuses e (item_closed machine.operations item state.old)) }
 {
     match item {
-        Some(outer) => close_indent(alloc, state.text, outer, state),
+        Some(outer) => close_indent(alloc, outer, state),
         None => Ok(()),
     }
+}
+
+/// Opens a node, in its style.
+#[inline]
+#[tactic(auto, using(html_render_dom::specs::laws::Outcome::refusals))]
+fn open_in_style<D: TextDecorator, G: Tagging<D::Annotation>>(
+    alloc: Global,
+    node: &RenderNode,
+    children: &[Entry<RenderNode>],
+    state: &mut LayoutState<D, G, G::Tag, Block<G::Tag, usize>>,
+) -> Result<Option<KindClosing<D, G::Tag, Block<G::Tag, usize>>>, Error>
+    requires { flatten (forest_of children.now) ≡ children.now }
+    ensures ok { IfOk result (λ c. node_opened D.decoration G.annotated machine.operations node.now (forest_of children.now) state.old
+        ≡ Some (way state.new c)) }
+    ensures err { IfErr result (λ e. Refuses e (node_opened D.decoration G.annotated machine.operations node.now (forest_of children.now)
+        state.old)) }
+{
+    begin_style(alloc, &node.style, state)?;
+    open_kind(alloc, &node.kind, &node.estimate, children, state)
 }
 
 /// Opens a node, as what it stands in says, and keeps how texts were treated before it: the state becomes that of its
@@ -272,18 +386,19 @@ fn end_item<D: TextDecorator, G: Tagging<D::Annotation>>(
 #[tactic(auto, using(html_render_dom::specs::laws::Outcome::refusals))]
 pub fn open<D: TextDecorator, G: Tagging<D::Annotation>>(
     alloc: Global,
-    kind: &NodeKind,
-    estimate: &Estimate,
+    node: &RenderNode,
+    children: &[Entry<RenderNode>],
     state: &mut LayoutState<D, G, G::Tag, Block<G::Tag, usize>>,
 ) -> Result<Option<Closing<D, G::Tag, Block<G::Tag, usize>>>, Error>
-    ensures ok { IfOk result (λ c. placed_opened D.decoration G.annotated machine.operations kind.now estimate.now
+    requires { flatten (forest_of children.now) ≡ children.now }
+    ensures ok { IfOk result (λ c. placed_opened D.decoration G.annotated machine.operations node.now (forest_of children.now)
         (place_of D.decoration state.old.decorator state.old.around) state.old ≡ Some (way state.new c)) }
-    ensures err { IfErr result (λ e. Refuses e (placed_opened D.decoration G.annotated machine.operations kind.now estimate.now
+    ensures err { IfErr result (λ e. Refuses e (placed_opened D.decoration G.annotated machine.operations node.now (forest_of children.now)
         (place_of D.decoration state.old.decorator state.old.around) state.old)) }
 {
     let item = begin_item(alloc, state)?;
     let text = state.text;
-    match open_kind(alloc, kind, estimate, state)? {
+    match open_in_style(alloc, node, children, state)? {
         Some(kind) => Ok(Some(Closing { item, text, kind })),
         None => {
             state.text = text;
@@ -308,8 +423,7 @@ pub fn close<D: TextDecorator, G: Tagging<D::Annotation>>(
     ensures ok { OnOk result (closed D.decoration G.annotated machine.operations closing state.old ≡ Some state.new) }
     ensures err { IfErr result (λ e. Refuses e (closed D.decoration G.annotated machine.operations closing state.old)) }
 {
-    let text = closing.text;
-    close_kind(alloc, text, closing.kind, state)?;
-    state.text = text;
+    close_kind(alloc, closing.kind, state)?;
+    state.text = closing.text;
     end_item(alloc, closing.item, state)
 }

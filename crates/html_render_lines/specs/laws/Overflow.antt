@@ -34,7 +34,7 @@ put_characters_same {T} {M} w page (c ∷ cs) q e =
     (put_character (without_overflow w) page c) (put_character (with_overflow w) page c) q e (put_character_same w page c)
     (λ p. put_characters_same w p cs q)
 
-put_items_same : {T M : Type 0} (w : ℕ) (page : Page T M) (xs : List (Item T M)) (q : Page T M) →
+pub put_items_same : {T M : Type 0} (w : ℕ) (page : Page T M) (xs : List (Item T M)) (q : Page T M) →
     put_items (without_overflow w) page xs ≡ Some q → put_items (with_overflow w) page xs ≡ Some q
 put_items_same w page [] q e = e
 put_items_same {T} {M} w page (item.Character c ∷ xs) q e =
@@ -101,7 +101,7 @@ put_characters_some {T} {M} w page (c ∷ cs) =
     some_then (λ (p : Page T M). put_characters (with_overflow w) p cs) (put_character (with_overflow w) page c)
     (put_character_some w page c) (λ p. put_characters_some w p cs)
 
-put_items_some : {T M : Type 0} (w : ℕ) (page : Page T M) (xs : List (Item T M)) → IsSome (put_items (with_overflow w) page xs)
+pub put_items_some : {T M : Type 0} (w : ℕ) (page : Page T M) (xs : List (Item T M)) → IsSome (put_items (with_overflow w) page xs)
 put_items_some w page [] = refl
 put_items_some {T} {M} w page (item.Character c ∷ xs) =
     some_then (λ (p : Page T M). put_items (with_overflow w) p xs) (put_character (with_overflow w) page c) (put_character_some w page c)

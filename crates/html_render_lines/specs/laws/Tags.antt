@@ -140,7 +140,7 @@ module _ {T U M : Type 0} (f : T → U) where
         then_with page_with page_with (λ q. put_characters s q cs) (λ q. put_characters s q (map (character_with f) cs))
         (put_character s p c) _ (put_character-with p c) (λ q. put_characters-with q cs)
 
-    put_items-with : (p : Page T M) (xs : List (Item T M)) →
+    pub put_items-with : (p : Page T M) (xs : List (Item T M)) →
         put_items s (page_with p) (map item_with xs) ≡ option_map page_with (put_items s p xs)
     put_items-with p [] = refl
     put_items-with p (item.Character c ∷ xs) =

@@ -21,11 +21,12 @@ use Rattle.html_render_lines.specs.Paragraph.{page_for_single, put_fitting, put_
 use Rattle.html_render_lines.specs.Paragraph.{first_of, gap_width, gap_width_of, tag_on}
 use Rattle.html_render_lines.specs.laws.Cases.{bind_some, if_cases, page_for_single_cases}
 
-record IsWithin {T M : Type 0} (w : ℕ) (page : Page T M) : Type 0 where
+-- no line of the page is wider
+pub record IsWithin {T M : Type 0} (w : ℕ) (page : Page T M) : Type 0 where
   pub lines : AllWithinWidth w page.lines
   pub line : columns page.line ≤ w
 
-columns-append : {T M : Type 0} (a b : Line T M) → columns (a ++ b) ≡ columns a + columns b
+pub columns-append : {T M : Type 0} (a b : Line T M) → columns (a ++ b) ≡ columns a + columns b
 columns-append {T} {M} a b = sum_by-append (λ (e : Element T M). element_width e) a b
 
 pub columns-marks : (T : Type 0) {M : Type 0} (ms : List M) → columns (marks_line {T = T} ms) ≡ 0
@@ -42,6 +43,9 @@ columns-with_character {T} {M} page c =
       columns-append (marks_line {T = T} page.waiting) last,
       columns-marks T page.waiting,
     )
+
+pub blank_within : {T M : Type 0} (w : ℕ) (marks : List M) → IsWithin {T = T} w (blank_page marks)
+blank_within {T} {M} w marks = record { lines = All-nil (λ (l : Line T M). columns l ≤ w); line = omega arith }
 
 with_line_within : {T M : Type 0} (w : ℕ) (lines : List (Line T M)) (line : Line T M) → AllWithinWidth w lines → columns line ≤ w →
     AllWithinWidth w (with_line lines line)
@@ -91,7 +95,7 @@ put_characters_within {T} {M} w page (c ∷ cs) h =
     bind_some (IsWithin w) (IsWithin w) (λ (p : Page T M). put_characters (without_overflow w) p cs)
     (put_character (without_overflow w) page c) (put_character_within w page c h) (λ p k. put_characters_within w p cs k)
 
-put_items_within : {T M : Type 0} (w : ℕ) (page : Page T M) (xs : List (Item T M)) → IsWithin w page →
+pub put_items_within : {T M : Type 0} (w : ℕ) (page : Page T M) (xs : List (Item T M)) → IsWithin w page →
     IfSome (put_items (without_overflow w) page xs) (IsWithin w)
 put_items_within w page [] h = h
 put_items_within {T} {M} w page (item.Character c ∷ xs) h =
@@ -178,5 +182,5 @@ place_within w page pending (Loose m ∷ ps) h =
 pub paragraph_within : {T M : Type 0} (w : ℕ) (marks : List M) (xs : List (Item T M)) →
     IfSome (paragraph (without_overflow w) marks xs) (λ p. AllWithinWidth w (all_lines p))
 paragraph_within {T} {M} w marks xs = IfSome_then (paragraph (without_overflow w) marks xs)
-    (place_within w (blank_page marks) None (pieces xs) (record { lines = All-nil (λ (l : Line T M). columns l ≤ w); line = omega arith }))
+    (place_within w (blank_page marks) None (pieces xs) (blank_within w marks))
     (λ p h. with_line_within w p.lines p.line h.lines h.line)

@@ -163,7 +163,7 @@ impl<T: Tag, M: Copy> Paragraph<T, M> {
     }
 
     /// Ends the line.
-    fn break_line(&mut self) -> Result<(), AllocError>
+    pub(super) fn break_line(&mut self) -> Result<(), AllocError>
         ensures { OnOk result (self.new ≡ record self.old { page = with_line_break self.old.page }) }
     {
         let line = mem::replace(&mut self.line, Line::new(self.alloc));

@@ -1,0 +1,27 @@
+-- Lines that close a document: each text begins a line of its own.
+use Rattle.std.specs.Prelude.{ℕ, Bool, List, [], ◌∷◌, ◌++◌, Option, Some, map, ◌==◌, if◌then◌else◌}
+use Rattle.html_render_dom.specs.Outcome.{◌>>=◌}
+use Rattle.html_render_lines.specs.CutText.{text_lines}
+use Rattle.html_render_lines.specs.Line.{Line}
+use Rattle.html_render_lines.specs.Paragraph.{Setting}
+use Rattle.html_render_blocks.specs.declared.block.BlockSetting.{BlockSetting}
+
+-- the setting of lines that aren't a paragraph's: the block's own width
+abbrev pub line_setting : BlockSetting → Setting
+line_setting s = record { width = s.width; overflow = s.overflow }
+
+-- a space for a newline
+abbrev pub unbroken : ℕ → ℕ
+unbroken c = if c == 10 then 32 else c
+
+-- a text with a space for each newline
+abbrev pub on_one_line : List ℕ → List ℕ
+on_one_line cs = map unbroken cs
+
+-- the lines of texts, cut where they are full or left whole
+abbrev pub closing_lines : {T M : Type 0} → Setting → (cut : Bool) → T → List (List ℕ) → Option (List (Line T M))
+closing_lines setting cut tag [] = Some []
+closing_lines setting cut tag (t ∷ ts) = do
+  first ← text_lines setting cut tag (on_one_line t)
+  later ← closing_lines setting cut tag ts
+  Some (first ++ later)

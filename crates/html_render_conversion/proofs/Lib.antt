@@ -1,0 +1,6 @@
+pub mod Closings
+pub mod Conversions
+pub mod Numbers
+pub mod Receiving
+pub mod Styles
+pub mod Titles

@@ -1,0 +1,80 @@
+-- The number that a text is, and what `parse` reads; and the first item's number of an ordered list.
+use Rattle.std.proofs.Common.{◌≡◌, ℕ, ◌^◌, inl, inr, Bool, true, false, ◌&&◌, if◌then◌else◌, List, [], ◌∷◌, length, map, find, option_map, Some}
+use Rattle.std.proofs.Common.{None, Result, Ok, Err, unwrap_or, refl, ap, ◌∙◌, nat_lt}
+use Rattle.std.proofs.lemmas.Bool.{cases_Bool, ltb-true, lt-ltb}
+use Rattle.std.proofs.lemmas.Str.Parse.{numerals_by_value, tells_all_ascii_digits}
+use Rattle.std.specs.Int.{w64}
+use Rattle.std.specs.Int.RustNames.{FitsSigned}
+use Rattle.std.specs.Prelude.{ℤ, pos, negsuc, codes, option_and_then, string_bytes}
+use Rattle.std.specs.Result.{result_unwrap_or}
+use Rattle.std.specs.Str.{all_ascii_digits, bytes_eq}
+use Rattle.std.specs.Str.Parse.{IsNumeral, ParsesSigned, without_leading_sign, signed_digits_value}
+use Rattle.html_render_dom.specs.Content.{Property, property_of}
+use Rattle.html_render_dom.specs.declared.dom.names.Attribute.{Attribute}
+use Rattle.html_render_conversion.specs.Conversion.{fits_i64, number_of, start_of}
+
+fits : (z : ℤ) → fits_i64 z ≡ true → FitsSigned w64 z
+fits (pos n) h = record { sfits = ltb-true n (2 ^ 63) h }
+fits (negsuc n) h = record { sfits = ltb-true n (2 ^ 63) h }
+
+fits-test : (z : ℤ) → FitsSigned w64 z → fits_i64 z ≡ true
+fits-test (pos n) h = lt-ltb n (2 ^ 63) h.sfits
+fits-test (negsuc n) h = lt-ltb n (2 ^ 63) h.sfits
+
+each : (a b : Bool) → (a && b) ≡ true → (a ≡ true) × (b ≡ true)
+each true b h = (refl, h)
+each false b h = cc
+
+module _ (written : List ℕ) where
+  abbrev digits : List ℕ
+  digits = without_leading_sign written
+
+  abbrev number : ℤ
+  number = signed_digits_value 10 written
+
+  abbrev test : Bool
+  test = nat_lt 0 (length digits) && all_ascii_digits digits && fits_i64 number
+
+  abbrev IsNumber : Type 0
+  IsNumber = IsNumeral 10 digits × FitsSigned w64 number
+
+  tested : test ≡ true → IsNumber
+  tested h =
+      let parts = each (nat_lt 0 (length digits) && all_ascii_digits digits) (fits_i64 number) h in
+      let first = each (nat_lt 0 (length digits)) (all_ascii_digits digits) parts.0 in
+      let own = numerals_by_value (λ ds. all_ascii_digits ds ≡ true) tells_all_ascii_digits in
+      ((ltb-true 0 (length digits) first.0, own.to digits first.1), fits number parts.1)
+
+  passes : IsNumber → test ≡ true
+  passes h =
+      let own = numerals_by_value (λ ds. all_ascii_digits ds ≡ true) tells_all_ascii_digits in
+      ap (λ b. b && all_ascii_digits digits && fits_i64 number) (lt-ltb 0 (length digits) h.0.0)
+      ∙ ap (λ b. b && fits_i64 number) (own.from digits h.0.1)
+      ∙ fits-test number h.1
+
+  pub parse-number_of : {E : Type 0} (r : Result ℤ E) (d : ℤ) → ParsesSigned w64 10 written r →
+      result_unwrap_or r d ≡ unwrap_or (number_of written) d
+  parse-number_of (Ok x) d h =
+      h.1 ∙ ap (λ b. unwrap_or (if b then Some number else None) d) (let t : true ≡ test = cc (passes h.0) in t)
+  parse-number_of (Err e) d h =
+      elim (cases_Bool test) [
+        | inl t ↦ absurd (h (tested t))
+        | inr t ↦ ap (λ b. unwrap_or (if b then Some number else None) d) (let f : false ≡ test = cc t in f)
+      ]
+
+-- the first of a mapped list that passes
+pub find-map : {X Y : Type 0} (f : X → Y) (test : Y → Bool) (xs : List X) →
+    find test (map f xs) ≡ option_map f (find (λ x. test (f x)) xs)
+find-map f test [] = refl
+find-map f test (x ∷ xs) =
+    elim (cases_Bool (test (f x))) [ inl e ↦ rw e refl | inr e ↦ rw e (find-map f test xs) ]
+
+pub ruleset starts = (find-map)
+
+-- where an attribute says with which number the list starts
+pub start_of-found : (attributes : List Attribute) (start : Attribute) →
+    find (λ a. bytes_eq (string_bytes a.name.local) (codes "start")) attributes ≡ Some start →
+    start_of (map property_of attributes) ≡ unwrap_or (number_of (string_bytes start.value)) (pos 1)
+start_of-found attributes start e =
+    ap (λ o. unwrap_or (option_and_then number_of (option_map (λ (p : Property). p.value) o)) (pos 1))
+    (find-map property_of (λ p. bytes_eq p.name.local (codes "start")) attributes ∙ ap (option_map property_of) e)

@@ -1,0 +1,216 @@
+-- THE DEFINITION of the conversion: which nodes of a render tree the nodes of a document become.
+use Rattle.std.specs.Prelude.{ℕ, ◌^◌, nat_lt, ℤ, pos, negsuc, Bool, true, false, not, ◌&&◌, ◌||◌, List, [], ◌∷◌, length, codes, Option, Some, None, is_some}
+use Rattle.std.specs.Prelude.{option_and_then, option_map, unwrap_or, if◌then◌else◌}
+use Rattle.std.specs.Str.{bytes_eq, all_ascii_digits, trim}
+use Rattle.std.specs.Str.Parse.{without_leading_sign, signed_digits_value}
+use Rattle.std.specs.List.{list_any}
+use Rattle.html_render_dom.specs.declared.style.WhiteSpace.TheVariants.{Normal}
+use Rattle.html_render_dom.specs.Cascade.{value_of}
+use Rattle.html_render_dom.specs.Content.{Property, Space, no_space, html, svg, mathml, other, Content, document, doctype, text, comment, element, instruction}
+use Rattle.html_render_dom.specs.Dom.{Dom, tree_of}
+use Rattle.html_render_dom.specs.ElementStyle.{ElementStyle, element_style}
+use Rattle.html_render_dom.specs.Forest.{Forest, none, node}
+use Rattle.html_render_dom.specs.Rules.{Rule as StyleRule}
+use Rattle.html_render_dom.specs.Selectors.{first_value, is_filled}
+use Rattle.html_render_nodes.specs.declared.tree.Emphasis.TheVariants.{Em, Strong, Code}
+use Rattle.html_render_nodes.specs.declared.tree.ImageParts.{ImageParts}
+use Rattle.html_render_nodes.specs.declared.tree.NodeKind.{NodeKind}
+use Rattle.html_render_nodes.specs.declared.tree.NodeKind.TheVariants.{Text, Container, Break, Block, Div, Emphasis, Header}
+use Rattle.html_render_nodes.specs.declared.tree.NodeKind.TheVariants.{BlockQuote, Ul, Ol, ListItem, Dl, Dt, Dd}
+use Rattle.html_render_nodes.specs.declared.tree.NodeKind.TheVariants.{Strikeout, Superscript, Link, Image, Svg, FragmentStart}
+use Rattle.html_render_nodes.specs.declared.tree.NodeStyle.{NodeStyle}
+use Rattle.html_render_nodes.specs.declared.tree.RenderNode.{RenderNode}
+use Rattle.html_render_nodes.specs.RenderNodes.{unmeasured}
+use Rattle.html_render_conversion.specs.declared.mapping.IfEmpty.{IfEmpty}
+use Rattle.html_render_conversion.specs.declared.mapping.IfEmpty.TheVariants.{Stands, Vanishes}
+use Rattle.html_render_conversion.specs.declared.mapping.Mapping.{Mapping}
+use Rattle.html_render_conversion.specs.declared.mapping.Mapping.TheVariants.{Nothing, Leaf, Parent}
+use Rattle.html_render_conversion.specs.Images.{image_parts, drawing_title}
+use Rattle.html_render_conversion.specs.Marks.{mark_of}
+use Rattle.html_render_conversion.specs.Insertion.{Tree, container, in_front, text_node, with_contents, marked}
+
+abbrev pub is_one_of : List ℕ → List (List ℕ) → Bool
+is_one_of name names = list_any (bytes_eq name) names
+
+-- whether an `i64` can be this number: from -2 ^ 63 up to 2 ^ 63 - 1
+abbrev pub fits_i64 : ℤ → Bool
+fits_i64 (pos n) = nat_lt n (2 ^ 63)
+fits_i64 (negsuc n) = nat_lt n (2 ^ 63)
+
+-- the number that a text is: a sign or none, and then digits alone, one or more
+abbrev pub number_of : List ℕ → Option ℤ
+number_of written =
+    let digits = without_leading_sign written in
+    let number = signed_digits_value 10 written in
+    if nat_lt 0 (length digits) && all_ascii_digits digits && fits_i64 number then Some number else None
+
+-- the number of an ordered list's first item: that of its first attribute `start`, and 1 without such a number
+abbrev pub start_of : List Property → ℤ
+start_of properties = unwrap_or (option_and_then number_of (first_value (codes "start") properties)) (pos 1)
+
+-- what becomes of an element of HTML whose node holds no text, by its name and its attributes
+abbrev pub html_mapping : (name : List ℕ) → List Property → Mapping
+html_mapping name properties =
+    if is_one_of name (codes "html" ∷ codes "body" ∷ []) then Parent Container Stands
+    else if bytes_eq name (codes "p") then Parent Block Vanishes
+    else if bytes_eq name (codes "div") then Parent Div Vanishes
+    else if is_one_of name (codes "em" ∷ codes "i" ∷ codes "ins" ∷ []) then Parent (Emphasis Em) Stands
+    else if is_one_of name (codes "strong" ∷ codes "b" ∷ []) then Parent (Emphasis Strong) Stands
+    else if bytes_eq name (codes "code") then Parent (Emphasis Code) Stands
+    else if bytes_eq name (codes "br") then Leaf Break
+    else if bytes_eq name (codes "h1") then Parent (Header 1) Stands
+    else if bytes_eq name (codes "h2") then Parent (Header 2) Stands
+    else if bytes_eq name (codes "h3") then Parent (Header 3) Stands
+    else if bytes_eq name (codes "h4") then Parent (Header 4) Stands
+    else if bytes_eq name (codes "h5") then Parent (Header 5) Stands
+    else if bytes_eq name (codes "h6") then Parent (Header 6) Stands
+    else if bytes_eq name (codes "blockquote") then Parent BlockQuote Vanishes
+    else if bytes_eq name (codes "ul") then Parent Ul Vanishes
+    else if bytes_eq name (codes "ol") then Parent (Ol (start_of properties)) Vanishes
+    else if bytes_eq name (codes "li") then Parent ListItem Stands
+    else if bytes_eq name (codes "dl") then Parent Dl Vanishes
+    else if bytes_eq name (codes "dt") then Parent Dt Stands
+    else if bytes_eq name (codes "dd") then Parent Dd Stands
+    else if is_one_of name (codes "s" ∷ codes "del" ∷ []) then Parent Strikeout Stands
+    else if bytes_eq name (codes "sup") then Parent Superscript Stands
+    else if is_one_of name (codes "head" ∷ codes "link" ∷ codes "meta" ∷ codes "hr" ∷ codes "script" ∷ codes "style" ∷ []) then Nothing
+    else Parent Container Vanishes
+
+-- an `a` with a target is a link
+abbrev pub link_mapping : (target : Option (List ℕ)) → Mapping
+link_mapping None = Parent Container Stands
+link_mapping (Some target) = Parent (Link target) Vanishes
+
+-- an `img` without a source is nothing
+abbrev pub image_mapping : ImageParts → Mapping
+image_mapping image = if is_filled image.source then Leaf (Image image) else Nothing
+
+-- U+200B, which takes no columns and between whose neighbours a line may end, in UTF-8
+abbrev pub zero_width_space : List ℕ
+zero_width_space = 226 ∷ 128 ∷ 139 ∷ []
+
+-- what becomes of an element of HTML: its link goes to its first attribute `href`
+abbrev pub html_element_mapping : (name : List ℕ) → List Property → Mapping
+html_element_mapping name properties =
+    if bytes_eq name (codes "a") then link_mapping (first_value (codes "href") properties)
+    else if bytes_eq name (codes "img") then image_mapping (image_parts properties)
+    else if bytes_eq name (codes "wbr") then Leaf (Text zero_width_space)
+    else html_mapping name properties
+
+-- what becomes of an element of a namespace, over what stands below it: outside HTML no name but `svg` is special
+abbrev pub element_mapping : Space → (name : List ℕ) → List Property → (below : Forest Content) → Mapping
+element_mapping html name properties below = html_element_mapping name properties
+element_mapping no_space name properties below = Parent Container Vanishes
+element_mapping svg name properties below =
+    if bytes_eq name (codes "svg") then Leaf (Svg (drawing_title below)) else Parent Container Vanishes
+element_mapping mathml name properties below = Parent Container Vanishes
+element_mapping (other address) name properties below = Parent Container Vanishes
+
+-- what an element's style gives the node that it becomes; white space is Normal where nothing else is declared
+abbrev pub node_style : ElementStyle → NodeStyle
+node_style style = record {
+  colour = value_of style.colour;
+  background = value_of style.bg_colour;
+  white_space = unwrap_or (value_of style.white_space) Normal;
+}
+
+-- whether a node is an item of a list, and whether it is a term or what is said of one
+abbrev pub is_item : NodeKind → Bool
+is_item ListItem = true
+is_item _ = false
+
+abbrev pub is_term_or_description : NodeKind → Bool
+is_term_or_description Dt = true
+is_term_or_description Dd = true
+is_term_or_description _ = false
+
+-- whether a node keeps a child's result: an ordered list keeps items, a list of descriptions terms and descriptions, and
+-- any other node whatever it is
+abbrev pub keeps : (parent child : NodeKind) → Bool
+keeps (Ol start) child = is_item child
+keeps Dl child = is_term_or_description child
+keeps _ child = true
+
+-- those of the children's results that a node keeps
+abbrev pub kept : (parent : NodeKind) → Forest RenderNode → Forest RenderNode
+kept parent none = none
+kept parent (node first below beside) =
+    if keeps parent first.kind then node first below (kept parent beside) else kept parent beside
+
+-- whether there are trees
+abbrev pub are_any : Forest RenderNode → Bool
+are_any none = false
+are_any (node first below beside) = true
+
+-- whether nothing but white space is in a text
+abbrev pub is_blank : List ℕ → Bool
+is_blank contents = not (is_filled (trim contents))
+
+-- whether a node shows nothing, as far as is seen without going into its children: a mark and a break, a text, an image
+-- and a drawing of white space alone, and any other node that has no children
+abbrev pub is_shallow_empty : NodeKind → (has_children : Bool) → Bool
+is_shallow_empty (Text contents) has_children = is_blank contents
+is_shallow_empty Break has_children = true
+is_shallow_empty (Image image) has_children = is_blank image.title
+is_shallow_empty (Svg title) has_children = is_blank title
+is_shallow_empty (FragmentStart name) has_children = true
+is_shallow_empty _ has_children = not has_children
+
+-- whether a node counts a child's result as one: a link doesn't where it is shallow-empty
+abbrev pub counts : (parent child : NodeKind) → (has_children : Bool) → Bool
+counts (Link target) child has_children = not (is_shallow_empty child has_children)
+counts _ child has_children = true
+
+-- whether a node counts any of its children's results
+abbrev pub counts_any : (parent : NodeKind) → Forest RenderNode → Bool
+counts_any parent none = false
+counts_any parent (node first below beside) = counts parent first.kind (are_any below) || counts_any parent beside
+
+-- whether an element becomes nothing, whose children have results that count or none
+abbrev pub vanishes : IfEmpty → (has_results : Bool) → Bool
+vanishes Stands has_results = false
+vanishes Vanishes has_results = not has_results
+
+-- a node over those of its children's results that were kept, unless it vanishes
+abbrev pub standing : RenderNode → IfEmpty → (has_results : Bool) → Forest RenderNode → Option Tree
+standing n if_empty has_results children =
+    if vanishes if_empty has_results then None else Some (record { top = n; children = children })
+
+-- a node over its children's results: whether there are any is asked before any are dropped
+abbrev pub over : RenderNode → IfEmpty → Forest RenderNode → Option Tree
+over n if_empty results = standing n if_empty (counts_any n.kind results) (kept n.kind results)
+
+-- what an element becomes under its mapping, from what its children become
+abbrev pub made : Mapping → NodeStyle → Forest RenderNode → Option Tree
+made Nothing style children = None
+made (Leaf kind) style children = over (record { kind = kind; style = style; estimate = unmeasured }) Stands none
+made (Parent kind if_empty) style children = over (record { kind = kind; style = style; estimate = unmeasured }) if_empty children
+
+-- the same under its style too: nothing where `display` is set, since its only value is `none`; else with its contents, and
+-- then with its mark
+abbrev pub styled : Mapping → (mark : Option (List ℕ)) → ElementStyle → Forest RenderNode → Option Tree
+styled mapping mark style children =
+    if is_some style.display then None
+    else marked mark (option_map (with_contents (value_of style.content_before) (value_of style.content_after))
+    (made mapping (node_style style) children))
+
+-- what a node of a document becomes, over what stands below it and what its children become
+abbrev pub result_of : List StyleRule → Content → (below : Forest Content) → Forest RenderNode → Option Tree
+result_of rules document below children = Some (container children)
+result_of rules (text contents) below children = Some (record { top = text_node contents; children = none })
+result_of rules (element name properties template_contents integration_point) below children =
+    styled (element_mapping name.space name.local properties below) (mark_of name properties)
+    (element_style rules name.local properties) children
+result_of rules (doctype name public_id system_id) below children = None
+result_of rules (comment contents) below children = None
+result_of rules (instruction target contents) below children = None
+
+-- what the trees of a document become, in their order
+abbrev pub converted : List StyleRule → Forest Content → Forest RenderNode
+converted rules none = none
+converted rules (node content children beside) =
+    in_front (result_of rules content children (converted rules children)) (converted rules beside)
+
+-- THE RENDER TREE of a document
+abbrev pub render_tree_of : List StyleRule → Dom → Forest RenderNode
+render_tree_of rules dom = converted rules (tree_of dom 0)

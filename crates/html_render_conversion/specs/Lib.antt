@@ -1,0 +1,7 @@
+-- a document becomes a render tree
+pub mod Insertion
+pub mod Images
+pub mod Marks
+pub mod Conversion
+-- where the code stands on its way
+pub mod Converting

@@ -1,0 +1,8 @@
+//! Conversion: the render tree of a document under style rules.
+#![tactic(auto)]
+
+mod attributes;
+pub mod convert;
+mod images;
+mod kinds;
+pub mod mapping;

@@ -1,0 +1,310 @@
+//! Which render node a node of a document becomes.
+
+ghost use Rattle.std.specs.Prelude.{◌≡◌, [], IfOk, IfErr, codes, map, option_map, string_bytes};
+ghost use Rattle.html_render_dom.specs.Cascade.{value_of};
+ghost use Rattle.html_render_dom.specs.Content.{name_of, property_of, space_of};
+ghost use Rattle.html_render_dom.specs.Dom.{IsForest, IsNode, children_at, trees_of};
+ghost use Rattle.html_render_dom.specs.ElementStyle.{element_style, style_by, style_of};
+ghost use Rattle.html_render_dom.specs.Rules.{rule_of};
+ghost use Rattle.html_render_dom.specs.Selectors.{first_value};
+ghost use Rattle.html_render_conversion.specs.Images.{image_parts};
+ghost use Rattle.html_render_conversion.specs.Marks.{mark_of};
+ghost use Rattle.html_render_conversion.specs.Conversion.{html_mapping, html_element_mapping, element_mapping, link_mapping, image_mapping, node_style};
+ghost use Rattle.html_render_conversion.specs.Converting.{mark_alone, styled_outline, outline_at};
+
+use crate::attributes::{first_value, mark_of, start_of};
+use crate::images::{drawing_title, image_parts};
+use html_render_dom::Error;
+use html_render_dom::dom::{Attribute, Handle, Namespace, NodeData, QualName, RcDom};
+use html_render_dom::style::{ComputedStyle, StyleRule, WithSpec, computed_style};
+use html_render_dom::text::Text;
+use html_render_nodes::tree::{Emphasis, Estimate, Image, NodeKind, NodeStyle, RenderNode};
+use std::alloc::Global;
+
+/// What becomes of an element whose children have no results that count.
+#[derive(Clone, Copy, Debug, PartialEq, Eq)]
+pub enum IfEmpty {
+    /// A node without children.
+    Stands,
+    /// Nothing.
+    Vanishes,
+}
+
+/// What becomes of an element, its style aside.
+#[derive(Drop)]
+pub enum Mapping {
+    /// Nothing; what stands in it isn't converted.
+    Nothing,
+    /// A node without children; what stands in it isn't converted.
+    Leaf(NodeKind),
+    /// A node over what its children become.
+    Parent(NodeKind, IfEmpty),
+}
+
+/// What becomes of a node of a document, its children aside.
+#[derive(Drop)]
+pub enum Outline {
+    /// Nothing; what stands in it isn't converted.
+    Nothing,
+    /// A node alone.
+    Alone(RenderNode),
+    /// A node over what its children become, with a mark and a content before these and a content behind them.
+    Over {
+        /// The node.
+        node: RenderNode,
+        /// What becomes of it if its children have no results that count.
+        if_empty: IfEmpty,
+        /// Whether what stands in it is converted.
+        has_children: bool,
+        /// The name of its mark.
+        mark: Option<Text>,
+        /// The content before its children.
+        before: Option<Text>,
+        /// The content behind them.
+        after: Option<Text>,
+    },
+}
+
+/// What becomes of an element of HTML whose node holds no text, by its local name and its attributes.
+fn html_mapping(name: &str, attributes: &[Attribute]) -> Mapping
+    ensures { result ≡ html_mapping name.now (map property_of attributes.now) }
+{
+    match name {
+        "html" | "body" => Mapping::Parent(NodeKind::Container, IfEmpty::Stands),
+        "p" => Mapping::Parent(NodeKind::Block, IfEmpty::Vanishes),
+        "div" => Mapping::Parent(NodeKind::Div, IfEmpty::Vanishes),
+        "em" | "i" | "ins" => Mapping::Parent(NodeKind::Emphasis(Emphasis::Em), IfEmpty::Stands),
+        "strong" | "b" => Mapping::Parent(NodeKind::Emphasis(Emphasis::Strong), IfEmpty::Stands),
+        "code" => Mapping::Parent(NodeKind::Emphasis(Emphasis::Code), IfEmpty::Stands),
+        "br" => Mapping::Leaf(NodeKind::Break),
+        "h1" => Mapping::Parent(NodeKind::Header(1), IfEmpty::Stands),
+        "h2" => Mapping::Parent(NodeKind::Header(2), IfEmpty::Stands),
+        "h3" => Mapping::Parent(NodeKind::Header(3), IfEmpty::Stands),
+        "h4" => Mapping::Parent(NodeKind::Header(4), IfEmpty::Stands),
+        "h5" => Mapping::Parent(NodeKind::Header(5), IfEmpty::Stands),
+        "h6" => Mapping::Parent(NodeKind::Header(6), IfEmpty::Stands),
+        "blockquote" => Mapping::Parent(NodeKind::BlockQuote, IfEmpty::Vanishes),
+        "ul" => Mapping::Parent(NodeKind::Ul, IfEmpty::Vanishes),
+        "ol" => Mapping::Parent(NodeKind::Ol(start_of(attributes)), IfEmpty::Vanishes),
+        "li" => Mapping::Parent(NodeKind::ListItem, IfEmpty::Stands),
+        "dl" => Mapping::Parent(NodeKind::Dl, IfEmpty::Vanishes),
+        "dt" => Mapping::Parent(NodeKind::Dt, IfEmpty::Stands),
+        "dd" => Mapping::Parent(NodeKind::Dd, IfEmpty::Stands),
+        "s" | "del" => Mapping::Parent(NodeKind::Strikeout, IfEmpty::Stands),
+        "sup" => Mapping::Parent(NodeKind::Superscript, IfEmpty::Stands),
+        "head" | "link" | "meta" | "hr" | "script" | "style" => Mapping::Nothing,
+        _ => Mapping::Parent(NodeKind::Container, IfEmpty::Vanishes),
+    }
+}
+
+/// What becomes of an `a`, by its attributes: a link to its first `href`, if it has one.
+fn link_mapping(alloc: Global, attributes: &[Attribute]) -> Result<Mapping, Error>
+    ensures ok { IfOk result (λ mapping. mapping ≡ link_mapping (first_value (codes "href") (map property_of attributes.now))) }
+    ensures err { IfErr result (λ e. e ≡ Error.OutOfMemory) }
+{
+    match first_value(attributes, "href") {
+        Some(target) => {
+            let target = Text::new(String::from_str(alloc, target)?);
+            Ok(Mapping::Parent(NodeKind::Link(target), IfEmpty::Vanishes))
+        }
+        None => Ok(Mapping::Parent(NodeKind::Container, IfEmpty::Stands)),
+    }
+}
+
+/// What becomes of an `img`, by its source and its title: nothing without a source.
+fn image_mapping(alloc: Global, source: &str, title: &str) -> Result<Mapping, Error>
+    ensures ok { IfOk result (λ mapping. mapping ≡ image_mapping (record { source = source.now; title = title.now })) }
+    ensures err { IfErr result (λ e. e ≡ Error.OutOfMemory) }
+{
+    if source.is_empty() {
+        return Ok(Mapping::Nothing);
+    }
+    let source = Text::new(String::from_str(alloc, source)?);
+    let title = Text::new(String::from_str(alloc, title)?);
+    let image = Image::new(alloc, source, title)?;
+    Ok(Mapping::Leaf(NodeKind::Image(image)))
+}
+
+/// What becomes of an element of HTML, by its local name and its attributes.
+fn html_element_mapping(
+    alloc: Global,
+    name: &str,
+    attributes: &[Attribute],
+) -> Result<Mapping, Error>
+    ensures ok { IfOk result (λ mapping. mapping ≡ html_element_mapping name.now (map property_of attributes.now)) }
+    ensures err { IfErr result (λ e. e ≡ Error.OutOfMemory) }
+{
+    match name {
+        "a" => link_mapping(alloc, attributes),
+        "img" => {
+            let (source, title) = image_parts(attributes);
+            image_mapping(alloc, source, title)
+        }
+        "wbr" => {
+            let space = Text::new(String::from_str(alloc, "\u{200b}")?);
+            Ok(Mapping::Leaf(NodeKind::Text(space)))
+        }
+        _ => Ok(html_mapping(name, attributes)),
+    }
+}
+
+/// What becomes of an element of this name and with these attributes. Outside HTML's namespace no name but SVG's `svg`
+/// is special.
+fn element_mapping(
+    alloc: Global,
+    dom: &RcDom,
+    element: Handle,
+    name: &QualName,
+    attributes: &[Attribute],
+) -> Result<Mapping, Error>
+    requires forest { IsForest dom.now }
+    requires node { IsNode dom.now element }
+    ensures ok { IfOk result (λ mapping. mapping ≡ element_mapping (space_of name.now.ns) (string_bytes name.now.local)
+        (map property_of attributes.now) (trees_of dom.now (children_at dom.now element))) }
+    ensures err { IfErr result (λ e. e ≡ Error.OutOfMemory) }
+{
+    match name.ns {
+        Namespace::Html => html_element_mapping(alloc, name.local.as_str(), attributes),
+        Namespace::Svg if name.local.as_str() == "svg" => {
+            let title = drawing_title(alloc, dom, element)?;
+            Ok(Mapping::Leaf(NodeKind::Svg(title)))
+        }
+        _ => Ok(Mapping::Parent(NodeKind::Container, IfEmpty::Vanishes)),
+    }
+}
+
+/// What an element's style gives the node that it becomes.
+fn node_style(style: &ComputedStyle) -> NodeStyle
+    ensures { result ≡ node_style (style_of style.now) }
+{
+    NodeStyle {
+        colour: style.colour.val().copied(),
+        background: style.bg_colour.val().copied(),
+        white_space: style.white_space.val().copied().unwrap_or_default(),
+    }
+}
+
+/// The text of a content, if there is one. It isn't copied.
+fn text_of(content: WithSpec<String>) -> Option<Text>
+    ensures { result ≡ option_map string_bytes (value_of content) }
+{
+    match content.into_val() {
+        Some(text) => Some(Text::new(text)),
+        None => None,
+    }
+}
+
+/// What becomes of an element that becomes nothing: its mark is left.
+fn mark_alone(mark: Option<Text>) -> Outline
+    ensures { result ≡ mark_alone mark }
+{
+    match mark {
+        Some(name) => Outline::Alone(RenderNode::from(NodeKind::FragmentStart(name))),
+        None => Outline::Nothing,
+    }
+}
+
+/// What becomes of an element that has a style, its children aside.
+fn styled_outline(mapping: Mapping, mark: Option<Text>, style: ComputedStyle) -> Outline
+    ensures { result ≡ styled_outline mapping mark (style_of style) }
+{
+    if style.display.val().is_some() {
+        return Outline::Nothing;
+    }
+    let (kind, if_empty, has_children) = match mapping {
+        Mapping::Nothing => return mark_alone(mark),
+        Mapping::Leaf(kind) => (kind, IfEmpty::Stands, false),
+        Mapping::Parent(kind, if_empty) => (kind, if_empty, true),
+    };
+    Outline::Over {
+        node: RenderNode {
+            kind,
+            style: node_style(&style),
+            estimate: Estimate::default(),
+        },
+        if_empty,
+        has_children,
+        mark,
+        before: text_of(style.content_before),
+        after: text_of(style.content_after),
+    }
+}
+
+/// What becomes of an element where there are no rules, its children aside.
+fn unstyled_outline(mapping: Mapping, mark: Option<Text>) -> Outline
+    ensures { result ≡ styled_outline mapping mark (style_by []) }
+{
+    let (kind, if_empty, has_children) = match mapping {
+        Mapping::Nothing => return mark_alone(mark),
+        Mapping::Leaf(kind) => (kind, IfEmpty::Stands, false),
+        Mapping::Parent(kind, if_empty) => (kind, if_empty, true),
+    };
+    Outline::Over {
+        node: RenderNode::from(kind),
+        if_empty,
+        has_children,
+        mark,
+        before: None,
+        after: None,
+    }
+}
+
+/// What becomes of an element, its children aside. Its style is computed only where it counts.
+#[tactic(auto, using(crate::proofs::Styles::without_rules))]
+fn element_outline(
+    alloc: Global,
+    rules: &[StyleRule],
+    mapping: Mapping,
+    name: &QualName,
+    attributes: &[Attribute],
+) -> Result<Outline, Error>
+    ensures ok { IfOk result (λ outline. outline ≡ styled_outline mapping (mark_of (name_of name.now) (map property_of attributes.now))
+        (element_style (map rule_of rules.now) (string_bytes name.now.local) (map property_of attributes.now))) }
+    ensures err { IfErr result (λ e. e ≡ Error.OutOfMemory) }
+{
+    let mark = mark_of(alloc, name, attributes)?;
+    if rules.is_empty() {
+        return Ok(unstyled_outline(mapping, mark));
+    }
+    let style = computed_style(alloc, rules, name.local.as_str(), attributes)?;
+    Ok(styled_outline(mapping, mark, style))
+}
+
+/// What becomes of a node of a document, its children aside.
+///
+/// # Errors
+///
+/// `OutOfMemory`, where a text, a target, a source, a title, a name of a mark or a content can't be copied.
+pub fn outline_of(
+    alloc: Global,
+    rules: &[StyleRule],
+    dom: &RcDom,
+    node: Handle,
+) -> Result<Outline, Error>
+    requires forest { IsForest dom.now }
+    requires node { IsNode dom.now node }
+    ensures ok { IfOk result (λ outline. outline ≡ outline_at (map rule_of rules.now) dom.now node) }
+    ensures err { IfErr result (λ e. e ≡ Error.OutOfMemory) }
+{
+    match dom.data(node) {
+        NodeData::Document => Ok(Outline::Over {
+            node: RenderNode::from(NodeKind::Container),
+            if_empty: IfEmpty::Stands,
+            has_children: true,
+            mark: None,
+            before: None,
+            after: None,
+        }),
+        NodeData::Text { contents } => {
+            let text = Text::new(contents.clone()?);
+            Ok(Outline::Alone(RenderNode::from(NodeKind::Text(text))))
+        }
+        NodeData::Element { name, attrs, .. } => {
+            let mapping = element_mapping(alloc, dom, node, name, attrs.as_slice())?;
+            element_outline(alloc, rules, mapping, name, attrs.as_slice())
+        }
+        NodeData::Doctype { .. }
+        | NodeData::Comment { .. }
+        | NodeData::ProcessingInstruction { .. } => Ok(Outline::Nothing),
+    }
+}

@@ -1,0 +1,46 @@
+-- A document's end: what is kept of its block, and that overflow gives the same.
+use Rattle.std.proofs.Common.{◌≡◌, ℕ, Bool, List, map, Option, Some, None, refl, IfSome}
+use Rattle.std.specs.Option.{IsSomeAnd}
+use Rattle.std.specs.Str.{chars}
+use Rattle.html_render_parts.specs.Decoration.{Decoration}
+use Rattle.html_render_nodes.specs.laws.Images.{Image, image-then}
+use Rattle.html_render_nodes.specs.laws.Runs.{IfSome-then}
+use Rattle.html_render_blocks.specs.Operations.{Ending}
+use Rattle.html_render_blocks.specs.laws.Cases.{then_and}
+use Rattle.html_render_layout.specs.declared.layout.state.LayoutState.{LayoutState}
+use Rattle.html_render_layout.specs.Ending.{closing_texts, ended}
+
+module _ {S A K T B : Type 0} (d : Decoration S A) (end : Ending B T) (link_footnotes wrap_links : Bool) (tag : T) where
+  abbrev texts : LayoutState S K T B → List (List ℕ)
+  texts s = map chars (closing_texts d link_footnotes s.decorator s.targets)
+
+  -- what closing lines make of P, which the finished block has, the block at the end has
+  pub ended-keeps : (P Q : B → Type 0) (s : LayoutState S K T B) → IfSome (end.finish s.block) P →
+      ((b : B) (ts : List (List ℕ)) → P b → IfSome (end.add_closing_lines b wrap_links tag ts) Q) →
+      IfSome (ended d end link_footnotes wrap_links tag s) (λ q. Q q.block)
+  ended-keeps P Q s finished closed =
+      IfSome-then P (λ (q : LayoutState S K T B). Q q.block) (end.finish s.block) _ finished (λ b h.
+      IfSome-then Q (λ (q : LayoutState S K T B). Q q.block) (end.add_closing_lines b wrap_links tag (texts s)) _
+      (closed b (texts s) h) (λ c k. k))
+
+  -- the end has an answer, where both parts of it have one
+  pub ended-succeeds : (P : B → Type 0) (s : LayoutState S K T B) → IsSomeAnd (end.finish s.block) P →
+      ((b : B) (ts : List (List ℕ)) → P b → IsSomeAnd (end.add_closing_lines b wrap_links tag ts) P) →
+      IsSomeAnd (ended d end link_footnotes wrap_links tag s) (λ q. P q.block)
+  ended-succeeds P s finished closed =
+      then_and P (λ (q : LayoutState S K T B). P q.block) _ (end.finish s.block) finished (λ b h.
+      then_and P (λ (q : LayoutState S K T B). P q.block) _ (end.add_closing_lines b wrap_links tag (texts s))
+      (closed b (texts s) h) (λ c k. k))
+
+  -- the end of an image is the image of the end, where it is that for both parts
+  pub ended-image : (f : B → B) → ((b : B) → Image f (end.finish b) (end.finish (f b))) →
+      ((b : B) (ts : List (List ℕ)) → Image f (end.add_closing_lines b wrap_links tag ts) (end.add_closing_lines (f b) wrap_links tag ts)) →
+      (s : LayoutState S K T B) →
+      Image (λ (r : LayoutState S K T B). record r { block = f r.block }) (ended d end link_footnotes wrap_links tag s)
+      (ended d end link_footnotes wrap_links tag (record s { block = f s.block }))
+  ended-image f finished closed s =
+      let mapped : LayoutState S K T B → LayoutState S K T B = λ r. record r { block = f r.block } in
+      image-then f mapped _ _ (end.finish s.block) (end.finish (f s.block)) (finished s.block) (λ b.
+      image-then f mapped (λ c. Some (record s { block = c })) (λ c. Some (record (mapped s) { block = c }))
+      (end.add_closing_lines b wrap_links tag (texts s)) (end.add_closing_lines (f b) wrap_links tag (texts s)) (closed b (texts s))
+      (λ c. refl))

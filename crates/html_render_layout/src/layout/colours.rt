@@ -1,0 +1,50 @@
+//! Colours, which characters are annotated with.
+
+ghost use Rattle.std.specs.Prelude.{◌≡◌, OnOk, IfErr};
+ghost use Rattle.html_render_layout.specs.Layout.{annotated, in_style};
+
+use super::state::LayoutState;
+use crate::tagging::Tagging;
+use html_render_blocks::block::Block;
+use html_render_dom::Error;
+use html_render_nodes::tree::NodeStyle;
+use html_render_parts::decorate::TextDecorator;
+use std::alloc::Global;
+
+/// The texts that come have one annotation more, if there is one.
+fn annotate<D: TextDecorator, G: Tagging<D::Annotation>>(
+    annotation: Option<D::Annotation>,
+    state: &mut LayoutState<D, G, G::Tag, Block<G::Tag, usize>>,
+) -> Result<(), Error>
+    ensures ok { OnOk result (state.new ≡ annotated G.annotated annotation state.old) }
+    ensures err { IfErr result (λ e. e ≡ Error.OutOfMemory) }
+{
+    if let Some(annotation) = annotation {
+        state.text.tag = state.stacks.annotate(state.text.tag, annotation)?;
+    }
+    Ok(())
+}
+
+/// The texts that come have what a node's style gives them: first its colour, then that of its background.
+///
+/// # Errors
+///
+/// `OutOfMemory`.
+pub fn begin_style<D: TextDecorator, G: Tagging<D::Annotation>>(
+    alloc: Global,
+    style: &NodeStyle,
+    state: &mut LayoutState<D, G, G::Tag, Block<G::Tag, usize>>,
+) -> Result<(), Error>
+    ensures ok { OnOk result (state.new ≡ in_style D.decoration G.annotated style.now state.old) }
+    ensures err { IfErr result (λ e. e ≡ Error.OutOfMemory) }
+{
+    if let Some(colour) = style.colour {
+        let annotation = state.decorator.push_colour(alloc, colour)?;
+        annotate(annotation, state)?;
+    }
+    if let Some(colour) = style.background {
+        let annotation = state.decorator.push_bgcolour(alloc, colour)?;
+        annotate(annotation, state)?;
+    }
+    Ok(())
+}

@@ -1,0 +1,85 @@
+//! Texts, as they are written.
+
+ghost use Rattle.std.specs.Prelude.{◌≡◌, [], ◌∷◌, ◌++◌, Some, OnOk, IfOk, IfErr, string_bytes};
+ghost use Rattle.std.specs.Str.{chars, encode_utf8_all};
+ghost use Rattle.html_render_dom.specs.Outcome.{Refuses};
+ghost use Rattle.html_render_blocks.specs.BlockMachine as machine;
+ghost use Rattle.html_render_layout.specs.Layout.{struck, on_block, add_text};
+
+use super::state::LayoutState;
+use crate::tagging::Tagging;
+use html_render_blocks::block::Block;
+use html_render_dom::Error;
+use html_render_lines::character::{TextStyle, is_collapsible};
+use html_render_parts::decorate::TextDecorator;
+use std::alloc::{AllocError, Global};
+
+/// What stands behind a character that is struck out: the combining long stroke overlay.
+const STROKE: char = '\u{336}';
+
+/// Adds a character as it is written where it is struck out.
+fn push_struck(text: &mut String, c: char) -> Result<(), AllocError>
+    ensures { OnOk result (string_bytes text.new ≡ string_bytes text.old ++ encode_utf8_all (struck (c ∷ []))) }
+{
+    text.push(c)?;
+    if !is_collapsible(c) {
+        text.push(STROKE)?;
+    }
+    Ok(())
+}
+
+/// A text with a stroke behind each character that isn't collapsible white space.
+fn struck(alloc: Global, text: &str) -> Result<String, AllocError>
+    ensures { IfOk result (λ written. chars (string_bytes written) ≡ struck (chars text.now)) }
+{
+    let mut written = String::new(alloc);
+    for c in text.chars() {
+        push_struck(&mut written, c)?;
+    }
+    Ok(written)
+}
+
+/// Adds a text that is struck out.
+///
+/// Few texts are, so this is a function of its own.
+#[inline(never)]
+#[tactic(auto, using(html_render_dom::specs::laws::Outcome::refusals))]
+fn add_struck<D: TextDecorator, G: Tagging<D::Annotation>>(
+    alloc: Global,
+    text: &str,
+    style: TextStyle<G::Tag>,
+    state: &mut LayoutState<D, G, G::Tag, Block<G::Tag, usize>>,
+) -> Result<(), Error>
+    ensures ok { OnOk result (on_block (λ b. machine.operations.add_inline_text b style (struck (chars text.now))) state.old ≡ Some state.new) }
+    ensures err { IfErr result (λ e. Refuses e (on_block (λ b. machine.operations.add_inline_text b style (struck (chars text.now))) state.old)) }
+{
+    let struck = struck(alloc, text)?;
+    state.block.add_inline_text(struck.as_str(), style)
+}
+
+/// Adds a text under the tag of what comes.
+///
+/// # Errors
+///
+/// `TooNarrow`, where the text starts a block, and a character before it is too wide. `OutOfMemory`.
+#[inline]
+#[tactic(auto, using(html_render_dom::specs::laws::Outcome::refusals))]
+pub fn add_text<D: TextDecorator, G: Tagging<D::Annotation>>(
+    alloc: Global,
+    text: &str,
+    state: &mut LayoutState<D, G, G::Tag, Block<G::Tag, usize>>,
+) -> Result<(), Error>
+    ensures ok { OnOk result (add_text machine.operations text.now state.old ≡ Some state.new) }
+    ensures err { IfErr result (λ e. Refuses e (add_text machine.operations text.now state.old)) }
+{
+    let style = TextStyle {
+        mode: state.text.mode,
+        tag: state.text.tag,
+        continuation_tag: state.text.tag,
+    };
+    if state.text.struck_out {
+        add_struck(alloc, text, style, state)
+    } else {
+        state.block.add_inline_text(text, style)
+    }
+}

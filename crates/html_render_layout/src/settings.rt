@@ -1,0 +1,84 @@
+//! How a document is laid out, beside its width and its decorator.
+
+ghost use Rattle.std.specs.Prelude.{◌≡◌, IfOk, IfErr};
+
+use html_render_dom::Error;
+use html_render_dom::text::Text;
+
+/// What stands in the place of an image whose title is empty.
+#[derive(Clone, Debug, Default, PartialEq, Eq, Drop)]
+pub enum ImageRenderMode {
+    /// Nothing.
+    #[default]
+    IgnoreEmpty,
+    /// What the decorator writes for an image of an empty title.
+    ShowAlways,
+    /// The image with this title.
+    Replace(Text),
+    /// The image with the part of its address behind the last `/` as its title; nothing where that is empty.
+    Filename,
+}
+
+impl ImageRenderMode {
+    /// An equal mode.
+    ///
+    /// # Errors
+    ///
+    /// `OutOfMemory`.
+    pub fn try_clone(&self) -> Result<ImageRenderMode, Error>
+        ensures ok { IfOk result (λ mode. mode ≡ self.now) }
+        ensures err { IfErr result (λ e. e ≡ Error.OutOfMemory) }
+    {
+        Ok(self.clone()?)
+    }
+}
+
+/// How the nodes of a document are laid out.
+#[derive(Debug, Drop)]
+pub struct LayoutSettings {
+    /// Whether a link is followed by its number, and a line for each closes the document.
+    pub link_footnotes: bool,
+    /// Whether U+0336 stands behind each character that is struck out.
+    pub unicode_strikeout: bool,
+    /// What stands in the place of an image whose title is empty.
+    pub empty_images: ImageRenderMode,
+    /// Whether the lines that close the document are cut at its width.
+    pub wrap_links: bool,
+}
+
+impl Default for LayoutSettings {
+    ghost use Rattle.std.specs.Prelude.{◌≡◌};
+    ghost use Rattle.html_render_layout.specs.Settings.{default_settings};
+
+    ghost is_default = { λ s. s ≡ default_settings };
+
+    /// No numbers behind links; characters that are struck out have U+0336 behind them; images without a title aren't shown;
+    /// the lines that close the document are cut.
+    fn default() -> LayoutSettings {
+        LayoutSettings {
+            link_footnotes: false,
+            unicode_strikeout: true,
+            empty_images: ImageRenderMode::IgnoreEmpty,
+            wrap_links: true,
+        }
+    }
+}
+
+impl LayoutSettings {
+    /// Equal settings.
+    ///
+    /// # Errors
+    ///
+    /// `OutOfMemory`.
+    pub fn try_clone(&self) -> Result<LayoutSettings, Error>
+        ensures ok { IfOk result (λ settings. settings ≡ self.now) }
+        ensures err { IfErr result (λ e. e ≡ Error.OutOfMemory) }
+    {
+        Ok(LayoutSettings {
+            link_footnotes: self.link_footnotes,
+            unicode_strikeout: self.unicode_strikeout,
+            empty_images: self.empty_images.try_clone()?,
+            wrap_links: self.wrap_links,
+        })
+    }
+}

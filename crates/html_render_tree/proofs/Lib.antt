@@ -1,5 +1,0 @@
-pub mod Closings
-pub mod Conversions
-pub mod Numbers
-pub mod Receiving
-pub mod Styles

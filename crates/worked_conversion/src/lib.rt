@@ -1,0 +1,13 @@
+//! Tests of the conversion of documents: which render tree each becomes, without rules and under rules.
+//!
+//! There is nothing to call here.
+#![tactic(auto)]
+
+#[cfg(test)]
+mod documents;
+#[cfg(test)]
+mod rows;
+#[cfg(test)]
+mod shown;
+#[cfg(test)]
+mod styling;
