@@ -1,0 +1,10 @@
+-- lines of tagged strings
+pub mod TaggedLine
+-- THE GROUPING of a line's characters into tagged strings
+pub mod Grouping
+-- a line that is grouped from its front on
+pub mod Progress
+-- lines under a colour map
+pub mod Colouring
+-- what follows from the definitions
+pub mod laws

@@ -1,0 +1,107 @@
+-- A grouped line keeps the columns and the characters, and its strings are the longest.
+use Rattle.std.proofs.Common.{◌≡◌, ℕ, ◌+◌, ◌<◌, Bool, true, false, cond, List, [], ◌∷◌, ◌++◌, length, map, sum_by, Vec, refl, sym, ap, ◌∙◌}
+use Rattle.std.proofs.Common.{add_assoc, add-zero, get_or, arith}
+use Rattle.std.proofs.lemmas.List.Sums.{sum_by-append, sum_by-cons}
+use Rattle.std.specs.Cmp.{IsEquivalence}
+use Rattle.std.specs.declared.alloc.Global.{Global}
+use Rattle.html_render_lines.specs.declared.line.Element.{Element}
+use Rattle.html_render_lines.specs.declared.line.Element.TheVariants as element
+use Rattle.html_render_lines.specs.Character.{width_of}
+use Rattle.html_render_lines.specs.Line.{Line, columns, element_width}
+use Rattle.html_render_lines.specs.TaggedText.{text_columns}
+use Rattle.html_render_tagged.specs.declared.line.TaggedLineElement.{TaggedLineElement}
+use Rattle.html_render_tagged.specs.declared.line.TaggedLineElement.TheVariants as made
+use Rattle.html_render_tagged.specs.TaggedLine.{line_columns, element_columns}
+use Rattle.html_render_tagged.specs.Grouping.{Piece, Str, FragmentStart, in_front, grouped, grouped_lines, piece_of, pieces_of, lines_of}
+use Rattle.html_render_tagged.specs.Grouping.{piece_columns, pieces_columns, ComesOther, AreLongest}
+
+either : {X : Type 0} (P : X → Type 0) (b : Bool) (x y : X) → (b ≡ true → P x) → (b ≡ false → P y) → P (cond b x y)
+either P true x y f g = f refl
+either P false x y f g = g refl
+
+-- ---- columns
+
+pieces-cons : {T : Type 0} (p : Piece T) (ps : List (Piece T)) → pieces_columns (p ∷ ps) ≡ piece_columns p + pieces_columns ps
+pieces-cons {T} p ps = sum_by-cons (λ (x : Piece T). piece_columns x) p ps
+
+columns-cons : {T : Type 0} (e : Element T ℕ) (es : Line T ℕ) → columns (e ∷ es) ≡ element_width e + columns es
+columns-cons {T} e es = sum_by-cons (λ (x : Element T ℕ). element_width x) e es
+
+module _ {T : Type 0} (equal : T → T → Bool) where
+  columns-in_front : (text : List ℕ) (tag : T) (ps : List (Piece T)) →
+      pieces_columns (in_front equal text tag ps) ≡ text_columns text + pieces_columns ps
+  columns-in_front text tag [] = pieces-cons (Str text tag) []
+  columns-in_front text tag (FragmentStart name ∷ ps) = pieces-cons (Str text tag) (FragmentStart name ∷ ps)
+  columns-in_front text tag (Str next other ∷ ps) =
+      either (λ (x : List (Piece T)). pieces_columns x ≡ text_columns text + pieces_columns (Str next other ∷ ps)) (equal tag other) _ _
+      (λ e. pieces-cons (Str (text ++ next) tag) ps
+      ∙ ap (λ n. n + pieces_columns ps) (sum_by-append width_of text next)
+      ∙ add_assoc (text_columns text) (text_columns next) (pieces_columns ps)
+      ∙ ap (λ n. text_columns text + n) (sym (pieces-cons (Str next other) ps)))
+      (λ e. pieces-cons (Str text tag) (Str next other ∷ ps))
+
+  pub columns-grouped : (names : List (List ℕ)) (line : Line T ℕ) → pieces_columns (grouped equal names line) ≡ columns line
+  columns-grouped names [] = refl
+  columns-grouped names (element.Mark m ∷ es) =
+      pieces-cons (FragmentStart (get_or names m [])) (grouped equal names es)
+      ∙ ap (λ n. 0 + n) (columns-grouped names es)
+      ∙ sym (columns-cons (element.Mark m) es)
+  columns-grouped names (element.Character c tag ∷ es) =
+      columns-in_front (c ∷ []) tag (grouped equal names es)
+      ∙ ap (λ n. n + pieces_columns (grouped equal names es)) (sum_by-cons width_of c [] ∙ add-zero (width_of c))
+      ∙ ap (λ n. width_of c + n) (columns-grouped names es)
+      ∙ sym (columns-cons (element.Character c tag) es)
+
+  -- ---- the longest strings
+
+  -- what comes behind a tag comes behind an equal one
+  other-equal : IsEquivalence equal → (tag other : T) (ps : List (Piece T)) → equal tag other ≡ true → ComesOther equal other ps → ComesOther equal tag ps
+  other-equal laws tag other [] e h = tt
+  other-equal laws tag other (FragmentStart name ∷ ps) e h = tt
+  other-equal laws tag other (Str text third ∷ ps) e h = laws.congr tag other third e ∙ h
+
+  longest-in_front : IsEquivalence equal → (c : ℕ) (text : List ℕ) (tag : T) (ps : List (Piece T)) → AreLongest equal ps →
+      AreLongest equal (in_front equal (c ∷ text) tag ps)
+  longest-in_front laws c text tag [] h = (omega arith, tt, tt)
+  longest-in_front laws c text tag (FragmentStart name ∷ ps) h = (omega arith, tt, h)
+  longest-in_front laws c text tag (Str next other ∷ ps) h =
+      either (λ (x : List (Piece T)). AreLongest equal x) (equal tag other) _ _
+      (λ e. (omega arith, other-equal laws tag other ps e h.1, h.2))
+      (λ e. (omega arith, e, h))
+
+  pub longest-grouped : IsEquivalence equal → (names : List (List ℕ)) (line : Line T ℕ) → AreLongest equal (grouped equal names line)
+  longest-grouped laws names [] = tt
+  longest-grouped laws names (element.Mark m ∷ es) = longest-grouped laws names es
+  longest-grouped laws names (element.Character c tag ∷ es) = longest-in_front laws c [] tag (grouped equal names es) (longest-grouped laws names es)
+
+-- ---- the columns of tagged lines
+
+line-cons : {T : Type 0} (e : TaggedLineElement T) (es : List (TaggedLineElement T)) → line_columns (e ∷ es) ≡ element_columns e + line_columns es
+line-cons {T} e es = sum_by-cons (λ (x : TaggedLineElement T). element_columns x) e es
+
+columns-pieces : {A : Type 0} (line : List (TaggedLineElement (Vec A Global))) → line_columns line ≡ pieces_columns (pieces_of line)
+columns-pieces [] = refl
+columns-pieces (made.Str s ∷ es) =
+    line-cons (made.Str s) es
+    ∙ ap (λ n. element_columns (made.Str s) + n) (columns-pieces es)
+    ∙ sym (pieces-cons (piece_of (made.Str s)) (pieces_of es))
+columns-pieces (made.FragmentStart name ∷ es) =
+    line-cons (made.FragmentStart name) es
+    ∙ ap (λ n. 0 + n) (columns-pieces es)
+    ∙ sym (pieces-cons (piece_of (made.FragmentStart name)) (pieces_of es))
+
+all-pieces : {A : Type 0} (lines : List (List (TaggedLineElement (Vec A Global)))) →
+    map line_columns lines ≡ map pieces_columns (lines_of lines)
+all-pieces [] = refl
+all-pieces (l ∷ ls) = rw (columns-pieces l, all-pieces ls) refl
+
+all-grouped : {T : Type 0} (equal : T → T → Bool) (names : List (List ℕ)) (lines : List (Line T ℕ)) →
+    map pieces_columns (grouped_lines equal names lines) ≡ map columns lines
+all-grouped equal names [] = refl
+all-grouped equal names (l ∷ ls) = rw (columns-grouped equal names l, all-grouped equal names ls) refl
+
+-- tagged lines that are grouped from lines have their columns
+pub columns-lines : {A : Type 0} (equal : List A → List A → Bool) (names : List (List ℕ))
+    (made : List (List (TaggedLineElement (Vec A Global)))) (lines : List (Line (List A) ℕ)) →
+    lines_of made ≡ grouped_lines equal names lines → map line_columns made ≡ map columns lines
+columns-lines equal names made lines e = all-pieces made ∙ ap (map pieces_columns) e ∙ all-grouped equal names lines
