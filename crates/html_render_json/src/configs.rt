@@ -1,0 +1,181 @@
+//! Configurations in JSON: an array of calls, each an array of the call's name and of what is given to it. The first
+//! call makes a configuration, and each of the others changes it.
+
+ghost use Rattle.std.specs.Prelude.{◌≡◌, IfOk, IfErr};
+ghost use Rattle.html_render_dom.specs.declared.errors.Error.TheVariants.{OutOfMemory};
+ghost use Rattle.html_render_json.specs.Refusals.{LibraryRefuses};
+ghost use Rattle.html_render_json.specs.Settings.{changed, changed_by};
+
+use crate::answers::Refusal;
+use crate::reading::{begin_named, next, next_read};
+use html_render_tree::config::Config;
+use html_render_tree::decorate::TextDecorator;
+use html_render_tree::style::StyleRule;
+use serde::{Deserialize, Deserializer, Format, Name};
+use std::alloc::Global;
+
+/// A decorator, by its name.
+#[derive(Clone, Copy)]
+pub enum DecoratorName {
+    /// `plain`.
+    Plain,
+    /// `rich`.
+    Rich,
+    /// `grow:N`: quotes stand behind N of `>`, and in a quote behind one more.
+    Grow(usize),
+    /// `odd`: an ordered list's second number is `(two)`.
+    Odd,
+}
+
+/// The call that makes a configuration.
+#[derive(Clone, Copy)]
+pub enum Preset {
+    /// `["plain"]`.
+    Plain,
+    /// `["plain_no_decorate"]`.
+    PlainNoDecorate,
+    /// `["with_decorator",NAME]`.
+    WithDecorator(DecoratorName),
+}
+
+/// A call that changes a configuration.
+#[derive(Drop)]
+pub enum Setting {
+    /// `["allow_width_overflow"]`.
+    AllowWidthOverflow,
+    /// `["do_decorate"]`.
+    DoDecorate,
+    /// `["add_style_rule",RULE]`.
+    AddStyleRule(StyleRule),
+}
+
+/// The calls of a configuration.
+#[derive(Drop)]
+pub struct Calls {
+    /// The first call.
+    pub preset: Preset,
+    /// The calls after it, in order.
+    pub settings: Vec<Setting>,
+}
+
+impl DecoratorName {
+    /// The decorator of a name.
+    fn read(name: &str) -> Option<DecoratorName> {
+        match name {
+            "plain" => Some(DecoratorName::Plain),
+            "rich" => Some(DecoratorName::Rich),
+            "odd" => Some(DecoratorName::Odd),
+            _ => {
+                let level = name.strip_prefix("grow:")?;
+                level.parse::<usize>().ok().map(DecoratorName::Grow)
+            }
+        }
+    }
+}
+
+impl<'de> Deserialize<'de> for DecoratorName {
+    fn deserialize<F: Format>(
+        alloc: Global,
+        from: &mut Deserializer<'de, '_, F>,
+    ) -> Result<DecoratorName, F::Error> {
+        let name = String::deserialize(alloc, from)?;
+        match DecoratorName::read(name.as_str()) {
+            Some(decorator) => Ok(decorator),
+            None => Err(from.unknown_variant()),
+        }
+    }
+}
+
+impl<'de> Deserialize<'de> for Preset {
+    fn deserialize<F: Format>(
+        alloc: Global,
+        from: &mut Deserializer<'de, '_, F>,
+    ) -> Result<Preset, F::Error> {
+        let names = [
+            Name::exact("plain"),
+            Name::exact("plain_no_decorate"),
+            Name::exact("with_decorator"),
+        ];
+        let preset = match begin_named(from, &names)? {
+            0 => Preset::Plain,
+            1 => Preset::PlainNoDecorate,
+            2 => Preset::WithDecorator(next(alloc, from)?),
+            _ => return Err(from.unknown_variant()),
+        };
+        from.expect_end()?;
+        Ok(preset)
+    }
+}
+
+impl<'de> Deserialize<'de> for Setting {
+    fn deserialize<F: Format>(
+        alloc: Global,
+        from: &mut Deserializer<'de, '_, F>,
+    ) -> Result<Setting, F::Error> {
+        let names = [
+            Name::exact("allow_width_overflow"),
+            Name::exact("do_decorate"),
+            Name::exact("add_style_rule"),
+        ];
+        let setting = match begin_named(from, &names)? {
+            0 => Setting::AllowWidthOverflow,
+            1 => Setting::DoDecorate,
+            2 => Setting::AddStyleRule(next_read(alloc, from)?),
+            _ => return Err(from.unknown_variant()),
+        };
+        from.expect_end()?;
+        Ok(setting)
+    }
+}
+
+impl<'de> Deserialize<'de> for Calls {
+    fn deserialize<F: Format>(
+        alloc: Global,
+        from: &mut Deserializer<'de, '_, F>,
+    ) -> Result<Calls, F::Error> {
+        from.begin_seq()?;
+        let preset = next(alloc, from)?;
+        let mut settings = Vec::new(alloc);
+        for _ in 0..u64::MAX {
+            if !from.next_item()? {
+                break;
+            }
+            if settings.push(Setting::deserialize(alloc, from)?).is_err() {
+                return Err(from.no_memory());
+            }
+        }
+        Ok(Calls { preset, settings })
+    }
+}
+
+/// A configuration after a call.
+fn with_setting<D: TextDecorator>(
+    alloc: Global,
+    config: Config<D>,
+    setting: Setting,
+) -> Result<Config<D>, Refusal>
+    ensures ok { IfOk result (λ made. made ≡ changed config setting) }
+    ensures err { IfErr result (LibraryRefuses (λ error. error ≡ OutOfMemory)) }
+{
+    match setting {
+        Setting::AllowWidthOverflow => Ok(config.allow_width_overflow()),
+        Setting::DoDecorate => Ok(config.do_decorate(alloc)?),
+        Setting::AddStyleRule(rule) => Ok(config.add_style_rule(alloc, rule)?),
+    }
+}
+
+/// A configuration after calls.
+pub fn with_settings<D: TextDecorator>(
+    alloc: Global,
+    config: Config<D>,
+    settings: Vec<Setting>,
+) -> Result<Config<D>, Refusal>
+    ensures ok { IfOk result (λ made. made ≡ changed_by config settings.items) }
+    ensures err { IfErr result (LibraryRefuses (λ error. error ≡ OutOfMemory)) }
+{
+    let mut config = config;
+    for setting in settings {
+        config = with_setting(alloc, config, setting)?;
+    }
+    Ok(config)
+}

@@ -1,0 +1,128 @@
+//! Documents in JSON, and the calls that build them.
+
+ghost use Rattle.std.specs.Prelude.{◌≡◌, ◌≤◌, OnOk};
+ghost use Rattle.html_render_dom.specs.Dom.{IsNode, node_count};
+
+use crate::answers::Refusal;
+use crate::reading::{Readable, list};
+use html_render_tree::dom::{
+    Attribute, ElementFlags, Handle, Namespace, NodeOrText, QualName, RcDom,
+};
+use serde::Deserialize;
+use std::alloc::Global;
+
+/// A node below the document.
+#[derive(Drop, Deserialize)]
+#[serde(tag = "t", rename_all = "lowercase", recursive, deny_unknown_fields)]
+pub enum Node {
+    /// An element, of HTML where no namespace is given.
+    #[serde(rename = "el")]
+    Element {
+        #[serde(rename = "ns", default = "html", deserialize_with = "Readable::read")]
+        namespace: Namespace,
+        #[serde(rename = "n")]
+        name: String,
+        #[serde(rename = "a", default, deserialize_with = "list")]
+        attributes: Vec<Attribute>,
+        #[serde(rename = "c", default, recursive)]
+        children: Vec<Node>,
+    },
+    /// A text, which is a node of its own beside other texts.
+    Text {
+        #[serde(rename = "s")]
+        text: String,
+    },
+    /// A comment.
+    Comment {
+        #[serde(rename = "s")]
+        contents: String,
+    },
+    /// A document type.
+    Doctype {
+        #[serde(rename = "n")]
+        name: String,
+    },
+    /// A processing instruction.
+    #[serde(rename = "pi")]
+    Instruction,
+}
+
+/// The namespace of an element that names none.
+fn html() -> Namespace
+    ensures { result ≡ Namespace.Html }
+{
+    Namespace::Html
+}
+
+/// A document in JSON.
+#[derive(Drop, Deserialize)]
+#[serde(tag = "t", deny_unknown_fields)]
+pub enum Document {
+    /// Its nodes, in order.
+    #[serde(rename = "doc")]
+    Document {
+        #[serde(rename = "c", default)]
+        children: Vec<Node>,
+    },
+}
+
+/// Puts a text behind a node's last child, as a node of its own: a comment stands between the two while it is put.
+fn append_text(alloc: Global, dom: &mut RcDom, parent: Handle, text: String) -> Result<(), Refusal>
+    requires { IsNode dom.old parent }
+    ensures grows { node_count dom.old ≤ node_count dom.new }
+{
+    let between = dom.create_comment(alloc, String::new(alloc))?;
+    dom.append(alloc, parent, NodeOrText::AppendNode(between))?;
+    dom.append(alloc, parent, NodeOrText::AppendText(text))?;
+    dom.remove_from_parent(between);
+    Ok(())
+}
+
+/// Puts a node behind another's last child, with all that is below it.
+fn append_node(alloc: Global, dom: &mut RcDom, parent: Handle, node: Node) -> Result<(), Refusal>
+    requires { IsNode dom.old parent }
+    ensures grows { OnOk result (node_count dom.old ≤ node_count dom.new) }
+{
+    match node {
+        Node::Element {
+            namespace,
+            name,
+            attributes,
+            children,
+        } => {
+            let name = QualName {
+                ns: namespace,
+                local: name,
+            };
+            let element = dom.create_element(alloc, name, attributes, ElementFlags::default())?;
+            dom.append(alloc, parent, NodeOrText::AppendNode(element))?;
+            for child in children {
+                append_node(alloc, dom, element, child)?;
+            }
+        }
+        Node::Text { text } => append_text(alloc, dom, parent, text)?,
+        Node::Comment { contents } => {
+            let comment = dom.create_comment(alloc, contents)?;
+            dom.append(alloc, parent, NodeOrText::AppendNode(comment))?;
+        }
+        Node::Doctype { name } => {
+            dom.append_doctype_to_document(alloc, name, String::new(alloc), String::new(alloc))?;
+        }
+        Node::Instruction => {
+            let made = dom.create_pi(alloc, String::new(alloc), String::new(alloc))?;
+            dom.append(alloc, parent, NodeOrText::AppendNode(made))?;
+        }
+    }
+    Ok(())
+}
+
+/// The DOM of a document.
+pub fn built(alloc: Global, document: Document) -> Result<RcDom, Refusal> {
+    let Document::Document { children } = document;
+    let mut dom = RcDom::new(alloc)?;
+    let top = dom.get_document();
+    for child in children {
+        append_node(alloc, &mut dom, top, child)?;
+    }
+    Ok(dom)
+}
