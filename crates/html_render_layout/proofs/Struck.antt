@@ -1,9 +1,9 @@
 -- How characters are written one by one.
-use Rattle.std.proofs.Common.{◌≡◌, ℕ, List, [], ◌∷◌, ◌++◌, Bool, true, false, cond, refl, sym, ap, ◌∙◌, append_assoc}
+use Rattle.std.proofs.Common.{◌≡◌, ℕ, List, [], ◌∷◌, ◌++◌, Bool, true, false, cond, refl, sym, ap, ◌∙◌}
 use Rattle.std.proofs.lemmas.Str.{encodes-append}
 use Rattle.html_render_lines.specs.Character.{is_collapsible}
 use Rattle.html_render_layout.specs.Layout.{struck}
-use lib.Utf8.{encode, encodes}
+use lib.Utf8.{encodes}
 
 both-ways : (b : Bool) (c : ℕ) (all front back : List ℕ) → all ≡ front ++ back →
     cond b (c ∷ all) (c ∷ (822 ∷ all)) ≡ cond b (c ∷ front) (c ∷ (822 ∷ front)) ++ back

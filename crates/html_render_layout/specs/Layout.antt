@@ -413,6 +413,14 @@ layout_lines {S} {A} d settings t decorator width overflow =
     else shown_after d onto definition.operations definition.ending (λ (s : Defined S A). s.block.lines) (estimated d decorator t)
     (empty_state d settings decorator width overflow)
 
+-- THE NAMES of its marks: a mark in the lines is the place of one; none where it is too narrow
+abbrev pub mark_names : {S A : Type 0} → Decoration S A → LayoutSettings → Forest RenderNode → S → (width : ℕ) → (overflow : Bool) →
+    Option (List (List ℕ))
+mark_names {S} {A} d settings t decorator width overflow =
+    if width == 0 then None
+    else shown_after d onto definition.operations definition.ending (λ (s : Defined S A). s.names) (estimated d decorator t)
+    (empty_state d settings decorator width overflow)
+
 abbrev pub no_tag : {X : Type 0} → X → Unit {0}
 no_tag x = tt
 

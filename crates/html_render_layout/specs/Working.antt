@@ -36,6 +36,10 @@ laid_out l = tagged l.stacks l.lines.items
 abbrev pub work_lines : {S A : Type 0} → Decoration S A → Forest RenderNode → Worked S A → Option (List (Line (List A) ℕ))
 work_lines {S} {A} d t s = shown_after d tabled machine.operations machine.ending (λ (r : Worked S A). tagged r.stacks r.block.lines) t s
 
+-- and the names of the marks in them
+abbrev pub work_names : {S A : Type 0} → Decoration S A → Forest RenderNode → Worked S A → Option (List (List ℕ))
+work_names {S} {A} d t s = shown_after d tabled machine.operations machine.ending (λ (r : Worked S A). r.names) t s
+
 -- the state of a layout without annotations
 abbrev pub Untagged : Type 0 → Type 0 → Type 0
 Untagged S K = LayoutState S K (Unit {0}) (MachineBlock (Unit {0}) ℕ)

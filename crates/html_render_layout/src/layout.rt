@@ -10,11 +10,11 @@ ghost use Rattle.html_render_nodes.specs.Counts.{CountsNodes};
 ghost use Rattle.html_render_nodes.specs.Pass.{run, inside_of};
 ghost use Rattle.html_render_estimates.specs.Estimates.{measured};
 ghost use Rattle.html_render_layout.specs.Layout.{steps, begin_with, shown_after, Defined, defined, defined_inside, empty_state};
-ghost use Rattle.html_render_layout.specs.Layout.{min_wrap_width, estimated, layout_lines, untagged_lines};
+ghost use Rattle.html_render_layout.specs.Layout.{min_wrap_width, estimated, layout_lines, mark_names, untagged_lines};
 ghost use Rattle.html_render_layout.specs.Kept.{visited_nodes, KeepsTexts};
 ghost use Rattle.html_render_layout.specs.Opening.{opened, closed};
 ghost use Rattle.html_render_layout.specs.laws.Opening.{steps-told};
-ghost use Rattle.html_render_layout.specs.Working.{tabled, work_lines, laid_out, untagged_work};
+ghost use Rattle.html_render_layout.specs.Working.{tabled, work_lines, work_names, laid_out, untagged_work};
 
 use self::state::{Around, Closing, LayoutState, TextContext, TextList};
 use crate::settings::LayoutSettings;
@@ -49,13 +49,15 @@ mod texts;
 /// The columns that a text needs at least, unless its own are fewer.
 const MIN_WRAP_WIDTH: usize = 3;
 
-/// Lines, and the stacks of annotations that the tags of their characters stand for.
+/// Lines, the stacks of annotations that the tags of their characters stand for, and the names of their marks.
 #[derive(Drop)]
 pub struct LaidOut<A> {
     /// The lines.
     pub lines: Vec<Line<usize, usize>>,
     /// What their tags stand for.
     pub stacks: Stacks<A>,
+    /// The names of their marks: a mark is the place of its name.
+    pub names: TextList,
 }
 
 /// The pass that lays out a tree.
@@ -175,6 +177,7 @@ fn lines_from<D: TextDecorator>(
     meter: &mut Meter,
 ) -> Result<LaidOut<D::Annotation>, Error>
     ensures ok { IfOk result (λ lines. work_lines D.decoration tree.now state ≡ Some (laid_out lines)) }
+    ensures names { IfOk result (λ lines. work_names D.decoration tree.now state ≡ Some lines.names) }
     ensures err { IfErr result (λ e. Refuses e (work_lines D.decoration tree.now state)) }
     ensures counts { CountsNodes result (steps D.decoration tabled machine.operations)
         (inside_of (opened D.decoration tabled machine.operations)) tree.now state meter.old meter.new }
@@ -183,6 +186,7 @@ fn lines_from<D: TextDecorator>(
     Ok(LaidOut {
         lines: state.block.into_lines(),
         stacks: state.stacks,
+        names: state.names,
     })
 }
 
@@ -229,24 +233,25 @@ pub fn lay_out<D: TextDecorator>(
     tree: RenderTree,
     width: usize,
     overflow: bool,
-    settings: LayoutSettings,
+    settings: &LayoutSettings,
     meter: &mut Meter,
 ) -> Result<LaidOut<D::Annotation>, Error>
-    ensures ok { IfOk result (λ lines. layout_lines D.decoration settings tree decorator.now width overflow ≡ Some (laid_out lines)) }
-    ensures err { IfErr result (λ e. Refuses e (layout_lines D.decoration settings tree decorator.now width overflow)) }
+    ensures ok { IfOk result (λ lines. layout_lines D.decoration settings.now tree decorator.now width overflow ≡ Some (laid_out lines)) }
+    ensures names { IfOk result (λ lines. mark_names D.decoration settings.now tree decorator.now width overflow ≡ Some lines.names) }
+    ensures err { IfErr result (λ e. Refuses e (layout_lines D.decoration settings.now tree decorator.now width overflow)) }
 
     // no line is too wide, where closing lines are cut, and with overflow no width is too small but 0, before anything is
     // allocated
-    ensures within { IfOk result (λ lines. overflow ≡ false → settings.wrap_links ≡ true → AllWithinWidth width (laid_out lines)) }
+    ensures within { IfOk result (λ lines. overflow ≡ false → settings.now.wrap_links ≡ true → AllWithinWidth width (laid_out lines)) }
     ensures answered { 0 < width → overflow ≡ true → result ≢ Err Error.TooNarrow }
     ensures no_width { width ≡ 0 → result ≡ Err Error.TooNarrow }
 
     // where overflow off gives lines, they are the answer with overflow on too
     ensures same { IfOk result (λ answer.
-        IfSome (layout_lines D.decoration settings tree decorator.now width false) (λ lines. laid_out answer ≡ lines)) }
+        IfSome (layout_lines D.decoration settings.now tree decorator.now width false) (λ lines. laid_out answer ≡ lines)) }
 
     // no visible character of the texts that are visited is lost
-    ensures kept { IfOk result (λ lines. KeepsTexts (visited_nodes D.decoration settings tree decorator.now width overflow) (laid_out lines)) }
+    ensures kept { IfOk result (λ lines. KeepsTexts (visited_nodes D.decoration settings.now tree decorator.now width overflow) (laid_out lines)) }
 
     // a tree that is laid out leaves the texts that follow, with their annotations, and the decorator of any state as they were
     ensures stacks { (s : Defined D D.Annotation) →
@@ -254,7 +259,7 @@ pub fn lay_out<D: TextDecorator>(
 
     // what was counted, where there are lines, and where there are none
     ensures counts { CountsNodes result (defined D.decoration) (defined_inside D.decoration)
-        (estimated D.decoration decorator.now tree) (empty_state D.decoration settings decorator.now width overflow) meter.old meter.new }
+        (estimated D.decoration decorator.now tree) (empty_state D.decoration settings.now decorator.now width overflow) meter.old meter.new }
 {
     meter.entered = 0;
     meter.left = 0;
@@ -262,10 +267,11 @@ pub fn lay_out<D: TextDecorator>(
     if width == 0 {
         return Err(Error::TooNarrow);
     }
+    let own = settings.try_clone()?;
     let inner = decorator.make_subblock_decorator(alloc)?;
     let tree = estimated(alloc, &inner, tree)?;
     let block = outermost(alloc, width, overflow);
-    let state = begin_with(alloc, settings, inner, Stacks::new(alloc), 0, block);
+    let state = begin_with(alloc, own, inner, Stacks::new(alloc), 0, block);
     lines_from(alloc, &tree, state, meter)
 }
 
@@ -296,25 +302,26 @@ pub fn lay_out_untagged<D: TextDecorator>(
     tree: RenderTree,
     width: usize,
     overflow: bool,
-    settings: LayoutSettings,
+    settings: &LayoutSettings,
 ) -> Result<Vec<Line<(), usize>>, Error>
-    ensures ok { IfOk result (λ lines. untagged_lines D.decoration settings tree decorator.now width overflow ≡ Some lines.items) }
-    ensures err { IfErr result (λ e. Refuses e (untagged_lines D.decoration settings tree decorator.now width overflow)) }
+    ensures ok { IfOk result (λ lines. untagged_lines D.decoration settings.now tree decorator.now width overflow ≡ Some lines.items) }
+    ensures err { IfErr result (λ e. Refuses e (untagged_lines D.decoration settings.now tree decorator.now width overflow)) }
 
     // as for the lines with annotations
-    ensures within { IfOk result (λ lines. overflow ≡ false → settings.wrap_links ≡ true → AllWithinWidth width lines.items) }
+    ensures within { IfOk result (λ lines. overflow ≡ false → settings.now.wrap_links ≡ true → AllWithinWidth width lines.items) }
     ensures answered { 0 < width → overflow ≡ true → result ≢ Err Error.TooNarrow }
     ensures no_width { width ≡ 0 → result ≡ Err Error.TooNarrow }
     ensures same { IfOk result (λ answer.
-        IfSome (untagged_lines D.decoration settings tree decorator.now width false) (λ lines. answer.items ≡ lines)) }
-    ensures kept { IfOk result (λ lines. KeepsTexts (visited_nodes D.decoration settings tree decorator.now width overflow) lines.items) }
+        IfSome (untagged_lines D.decoration settings.now tree decorator.now width false) (λ lines. answer.items ≡ lines)) }
+    ensures kept { IfOk result (λ lines. KeepsTexts (visited_nodes D.decoration settings.now tree decorator.now width overflow) lines.items) }
 {
     if width == 0 {
         return Err(Error::TooNarrow);
     }
+    let own = settings.try_clone()?;
     let inner = decorator.make_subblock_decorator(alloc)?;
     let tree = estimated(alloc, &inner, tree)?;
     let block = outermost(alloc, width, overflow);
-    let state = begin_with(alloc, settings, inner, Untagged, (), block);
+    let state = begin_with(alloc, own, inner, Untagged, (), block);
     untagged_lines_from(alloc, &tree, state)
 }

@@ -66,3 +66,15 @@ module _ {T : Type 0} (equal : T → T → Bool) where
   AreLongest [] = Unit {0}
   AreLongest (Str text tag ∷ ps) = (0 < length text) × ComesOther tag ps × AreLongest ps
   AreLongest (FragmentStart name ∷ ps) = AreLongest ps
+
+-- the characters of a line's strings, in order
+abbrev pub strings_characters : {T : Type 0} → List (Piece T) → List ℕ
+strings_characters [] = []
+strings_characters (Str text tag ∷ ps) = text ++ strings_characters ps
+strings_characters (FragmentStart name ∷ ps) = strings_characters ps
+
+-- the characters of a line that isn't grouped, in order
+abbrev pub line_characters : {T : Type 0} → Line T ℕ → List ℕ
+line_characters [] = []
+line_characters (element.Character c tag ∷ es) = c ∷ line_characters es
+line_characters (element.Mark m ∷ es) = line_characters es

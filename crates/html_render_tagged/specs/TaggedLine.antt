@@ -1,5 +1,5 @@
 -- The strings of a tagged line, and its columns.
-use Rattle.std.specs.Prelude.{ℕ, List, [], ◌∷◌, sum_by, string_bytes}
+use Rattle.std.specs.Prelude.{ℕ, ◌≤◌, List, [], ◌∷◌, All, sum_by, string_bytes}
 use Rattle.std.specs.Str.{chars}
 use Rattle.html_render_lines.specs.TaggedText.{text_columns}
 use Rattle.html_render_tagged.specs.declared.line.TaggedString.{TaggedString}
@@ -19,3 +19,7 @@ element_columns (FragmentStart name) = 0
 
 abbrev pub line_columns : {T : Type 0} → List (TaggedLineElement T) → ℕ
 line_columns {T} line = sum_by (λ (e : TaggedLineElement T). element_columns e) line
+
+-- no line is wider
+abbrev pub AllTaggedWithinWidth : {T : Type 0} → (width : ℕ) → List (List (TaggedLineElement T)) → Type 0
+AllTaggedWithinWidth {T} width lines = All (λ (l : List (TaggedLineElement T)). line_columns l ≤ width) lines

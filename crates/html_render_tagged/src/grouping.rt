@@ -307,8 +307,7 @@ fn tagged_line<A: Eq + Clone + Drop>(
 
 /// The lines of a layout as tagged strings. The strings of a line are the longest runs of characters with equal
 /// annotations, one by one by `Eq`, and no mark between; a string's tag is the annotations of its first character, the
-/// outermost one first. A mark is the number of its name in `names`, from 0, and stands as the beginning of a fragment of
-/// that name, or of an empty one where it has none. Annotations are cloned once for a string.
+/// outermost one first. A mark stands as the beginning of a fragment of its name. Annotations are cloned once for a string.
 ///
 /// # Errors
 ///
@@ -316,15 +315,19 @@ fn tagged_line<A: Eq + Clone + Drop>(
 pub fn tagged_lines<A: Eq + Clone + Drop>(
     alloc: Global,
     layout: LaidOut<A>,
-    names: &[Text],
 ) -> Result<Vec<TaggedLine<Vec<A>>>, Error>
     requires { ClonesAreSame A.is_clone }
-    ensures ok { IfOk result (λ lines. lines_of lines.items ≡ grouped_lines (pointwise A.eq) names.now (laid_out layout)) }
+    ensures ok { IfOk result (λ lines. lines_of lines.items ≡ grouped_lines (pointwise A.eq) layout.names (laid_out layout)) }
     // each line has the columns that it was laid out in
     ensures columns { IfOk result (λ lines. map line_columns lines.items ≡ map columns (laid_out layout)) }
     ensures err { IfErr result (λ e. e ≡ Error.OutOfMemory) }
 {
-    all_tagged(alloc, &layout.stacks, names, &layout.lines)
+    all_tagged(
+        alloc,
+        &layout.stacks,
+        layout.names.as_slice(),
+        &layout.lines,
+    )
 }
 
 /// All lines as tagged strings.

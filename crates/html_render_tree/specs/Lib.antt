@@ -2,6 +2,8 @@
 pub mod Texts
 pub mod Decorations
 pub mod Rendering
+-- laws of the definitions
+pub mod laws
 -- the calls of the program's scripts
 pub mod Scripts
 -- which render tree a document becomes

@@ -1,13 +1,16 @@
 -- What a configuration makes of a render tree.
-use Rattle.std.specs.Prelude.{ℕ, Bool, false, List, [], Option}
+use Rattle.std.specs.Prelude.{ℕ, Bool, false, List, [], Option, Some}
+use Rattle.std.specs.Cmp.Lexicographic.{pointwise}
 use Rattle.html_render_dom.specs.Forest.{Forest}
+use Rattle.html_render_dom.specs.Outcome.{◌>>=◌}
 use Rattle.html_render_dom.specs.Rules.{Rule}
 use Rattle.html_render_lines.specs.Line.{Line}
 use Rattle.html_render_parts.specs.Decoration.{Decoration}
 use Rattle.html_render_nodes.specs.declared.tree.RenderNode.{RenderNode}
 use Rattle.html_render_layout.specs.declared.settings.LayoutSettings.{LayoutSettings}
-use Rattle.html_render_layout.specs.Layout.{untagged_lines}
+use Rattle.html_render_layout.specs.Layout.{layout_lines, mark_names}
 use Rattle.html_render_layout.specs.Settings.{default_settings}
+use Rattle.html_render_tagged.specs.Grouping.{Piece, grouped_lines}
 
 -- the settings of a configuration: its decorator, its rules in the order in which they were added, whether a character
 -- that is wider than a line stands alone on its line, and how nodes are laid out
@@ -21,7 +24,18 @@ pub record Options (S : Type 0) : Type 0 where
 abbrev pub initial_options : {S : Type 0} → S → Options S
 initial_options decorator = record { decorator = decorator; rules = []; overflow = false; nodes = default_settings }
 
--- THE LINES of a render tree in a width, with these settings; none where it is too narrow
-abbrev pub rendered_lines : {S A : Type 0} → Decoration S A → Options S → Forest RenderNode → (width : ℕ) →
-    Option (List (Line (Unit {0}) ℕ))
-rendered_lines d options tree width = untagged_lines d options.nodes tree options.decorator width options.overflow
+module _ {S A : Type 0} (d : Decoration S A) (options : Options S) (tree : Forest RenderNode) (width : ℕ) where
+  -- THE LINES of a render tree in a width, with these settings: each character with its annotations; none where it is too narrow
+  abbrev pub rendered_lines : Option (List (Line (List A) ℕ))
+  rendered_lines = layout_lines d options.nodes tree options.decorator width options.overflow
+
+  -- the names of the marks in them
+  abbrev pub rendered_names : Option (List (List ℕ))
+  rendered_names = mark_names d options.nodes tree options.decorator width options.overflow
+
+  -- the same lines as tagged strings, of characters whose annotations are equal one by one
+  abbrev pub rendered_strings : (A → A → Bool) → Option (List (List (Piece (List A))))
+  rendered_strings eq = do
+    lines ← rendered_lines
+    names ← rendered_names
+    Some (grouped_lines (pointwise eq) names lines)

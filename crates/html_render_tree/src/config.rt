@@ -3,23 +3,17 @@
 //! `plain(alloc)?.allow_width_overflow()` is a configuration; its `dom_to_render_tree(alloc, &dom)?` is a document's
 //! render tree, and `render_to_string(alloc, tree, 80)?` the text of that, in 80 columns.
 
-ghost use Rattle.std.specs.Prelude.{◌≡◌, ◌≢◌, ◌≤◌, ◌∷◌, ◌++◌, [], true, false, Some, Err, IfOk, IfErr, IfSome, option_map, string_bytes};
-ghost use Rattle.html_render_dom.specs.Outcome.{Refuses};
+ghost use Rattle.std.specs.Prelude.{◌≡◌, ◌∷◌, ◌++◌, [], true, false, IfOk, IfErr};
 ghost use Rattle.html_render_dom.specs.Rules.{rule_of};
-ghost use Rattle.html_render_lines.specs.Line.{AllWithinWidth};
-ghost use Rattle.html_render_layout.specs.Kept.{visited_nodes, KeepsTexts};
+ghost use Rattle.html_render_layout.specs.Settings.{default_settings};
 ghost use Rattle.html_render_conversion.specs.Conversion.{render_tree_of};
 ghost use Rattle.html_render_tree.specs.Decorations.{decorations};
-ghost use Rattle.html_render_tree.specs.Rendering.{rendered_lines, initial_options};
-ghost use Rattle.html_render_layout.specs.Settings.{default_settings};
-ghost use Rattle.html_render_tree.specs.Texts.{text_of};
+ghost use Rattle.html_render_tree.specs.Rendering.{initial_options};
 
-use crate::texts::string_of;
 use html_render_conversion::convert;
 use html_render_dom::Error;
 use html_render_dom::dom::RcDom;
 use html_render_dom::style::StyleRule;
-use html_render_layout::layout::lay_out_untagged;
 pub use html_render_layout::settings::ImageRenderMode;
 use html_render_layout::settings::LayoutSettings;
 use html_render_nodes::tree::RenderTree;
@@ -179,43 +173,7 @@ impl<D: TextDecorator> Config<D> {
     {
         convert::dom_to_render_tree(alloc, &self.rules, dom)
     }
-
-    /// The text of a render tree, wrapped to a width in columns. The tree is consumed, also by a refusal.
-    ///
-    /// # Errors
-    ///
-    /// `TooNarrow` at width 0, and, where overflow isn't allowed, where a character is wider than a line or a prefix
-    /// leaves too few columns; otherwise `OutOfMemory`.
-    #[tactic(auto, using(html_render_layout::specs::laws::LayoutLaws::untagged_within, html_render_layout::specs::laws::LayoutVisible::untagged_keeps_texts))]
-    pub fn render_to_string(
-        &self,
-        alloc: Global,
-        tree: RenderTree,
-        width: usize,
-    ) -> Result<String, Error>
-        // the text is each line's characters and a newline; want of memory aside, it is too narrow exactly where there are no lines
-        ensures ok { IfOk result (λ text. option_map text_of (rendered_lines D.decoration self.now tree width) ≡ Some (string_bytes text)) }
-        ensures err { IfErr result (λ e. Refuses e (rendered_lines D.decoration self.now tree width)) }
-        ensures no_width { width ≡ 0 → result ≡ Err Error.TooNarrow }
-
-        // with overflow off and links wrapped no line passes the width; with overflow on nothing is too narrow, and where overflow off gives
-        // lines, the text is theirs
-        ensures within { self.now.overflow ≡ false → self.now.nodes.wrap_links ≡ true → IfSome (rendered_lines D.decoration self.now tree width) (AllWithinWidth width) }
-        ensures wide { self.now.overflow ≡ true → 1 ≤ width → result ≢ Err Error.TooNarrow }
-        ensures same { IfOk result (λ text. IfSome (rendered_lines D.decoration (record self.now { overflow = false }) tree width)
-            (λ lines. string_bytes text ≡ text_of lines)) }
-
-        // no visible character of the texts that are visited is lost
-        ensures kept { IfSome (rendered_lines D.decoration self.now tree width)
-            (KeepsTexts (visited_nodes D.decoration self.now.nodes tree self.now.decorator width self.now.overflow)) }
-    {
-        if width == 0 {
-            return Err(Error::TooNarrow);
-        }
-        let nodes = self.nodes.try_clone()?;
-        let lines = lay_out_untagged(alloc, &self.decorator, tree, width, self.overflow, nodes)?;
-        Ok(string_of(alloc, &lines)?)
-    }
 }
 
 mod decorations;
+mod rendering;

@@ -12,6 +12,13 @@ mod texts;
 pub use html_render_dom::{Error, dom, style, text};
 pub use html_render_parts::{decorate, table, widths};
 
+/// Lines of tagged strings.
+pub mod block {
+    pub use html_render_tagged::line::{
+        LineElements, TaggedLine, TaggedLineElement, TaggedString, TaggedStrings,
+    };
+}
+
 /// What a document becomes before it is wrapped.
 pub mod tree {
     pub use html_render_nodes::tree::RenderTree;

@@ -3,16 +3,13 @@
 ghost use Rattle.std.specs.Prelude.{◌≡◌, length, true, false, IfOk};
 
 use crate::rules::content;
-use html_render_layout::layout::lay_out;
-use html_render_layout::settings::LayoutSettings;
-use html_render_lines::line::Line;
 use html_render_tree::Error;
 use html_render_tree::config::{Config, plain, plain_no_decorate, with_decorator};
 use html_render_tree::decorate::{PlainDecorator, TextDecorator};
 use html_render_tree::dom::{ElementFlags, NodeOrText, QualName, RcDom};
 use html_render_tree::style::{PseudoElement, StyleOrigin};
 use html_render_tree::widths::Meter;
-use std::alloc::{AllocError, Global};
+use std::alloc::Global;
 use std::process::Abort;
 use std::test::Fail;
 
@@ -42,16 +39,6 @@ pub fn shown<D: TextDecorator>(
     config.render_to_string(alloc, tree, 20)
 }
 
-/// Lines as a text.
-fn written(alloc: Global, lines: &[Line<usize, usize>]) -> Result<String, AllocError> {
-    let mut text = String::new(alloc);
-    for line in lines {
-        line.write_to(&mut text)?;
-        text.push('\n')?;
-    }
-    Ok(text)
-}
-
 #[test]
 fn a_deep_document_takes_no_more_stack(rt: HostRuntime) -> Result<(), Fail> {
     let alloc = rt.alloc();
@@ -59,17 +46,8 @@ fn a_deep_document_takes_no_more_stack(rt: HostRuntime) -> Result<(), Fail> {
     let config = plain_no_decorate(alloc);
     let tree = config.dom_to_render_tree(alloc, &dom)?;
     let mut meter = Meter::default();
-    let plain = PlainDecorator::new();
-    let laid_out = lay_out(
-        alloc,
-        &plain,
-        tree,
-        5,
-        false,
-        LayoutSettings::default(),
-        &mut meter,
-    )?;
-    assert_eq!(rt; written(alloc, &laid_out.lines)?.as_str(), "x\n");
+    let lines = config.render_to_lines_metered(alloc, tree, 5, &mut meter)?;
+    assert_eq!(rt; lines.len(), 1);
     assert!(rt; meter.frames >= 100_000);
     let tree = config.dom_to_render_tree(alloc, &dom)?;
     assert_eq!(rt; config.render_to_string(alloc, tree, 5)?.as_str(), "x\n");

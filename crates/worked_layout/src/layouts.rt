@@ -53,7 +53,7 @@ fn annotated(
         tree,
         width,
         overflow,
-        LayoutSettings::default(),
+        &LayoutSettings::default(),
         &mut meter(),
     ) {
         Ok(laid_out) => Ok(shown(alloc, &laid_out.lines)?),
@@ -75,7 +75,7 @@ fn untagged(
         tree,
         width,
         overflow,
-        LayoutSettings::default(),
+        &LayoutSettings::default(),
     ) {
         Ok(lines) => Ok(shown(alloc, &lines)?),
         Err(Error::TooNarrow) => Ok(String::from_str(alloc, "too narrow")?),
@@ -165,7 +165,7 @@ fn shown_behind_stars(alloc: Global, stars: usize) -> Result<String, Error> {
         item(alloc)?,
         stars.saturating_add(4),
         false,
-        LayoutSettings::default(),
+        &LayoutSettings::default(),
     )?;
     Ok(shown(alloc, &lines)?)
 }
@@ -193,7 +193,7 @@ fn counts_its_walk(rt: HostRuntime) -> Result<(), Fail> {
         tree,
         5,
         false,
-        LayoutSettings::default(),
+        &LayoutSettings::default(),
         &mut meter,
     )?;
     let counted = Meter {
@@ -237,7 +237,7 @@ fn emphasis_is_annotated(rt: HostRuntime) -> Result<(), Fail> {
         tree,
         20,
         false,
-        LayoutSettings::default(),
+        &LayoutSettings::default(),
         &mut meter(),
     )?;
     assert_eq!(rt; shown(alloc, &laid_out.lines)?.as_str(), "a[b<(c)>]/");

@@ -3,6 +3,7 @@
 use html_render_dom::Error;
 use html_render_dom::text::Text;
 use html_render_layout::layout::LaidOut;
+use html_render_layout::layout::state::TextList;
 use html_render_layout::stacks::Stacks;
 use html_render_lines::line::{Line, text_columns};
 use html_render_tagged::grouping::tagged_lines;
@@ -69,10 +70,10 @@ pub fn stacks(alloc: Global) -> Result<Stacks<Letter>, Error> {
 }
 
 /// The names of the marks.
-fn names(alloc: Global) -> Result<Vec<Text>, Error> {
-    let mut names = Vec::new(alloc);
+fn names(alloc: Global) -> Result<TextList, Error> {
+    let mut names = TextList::new(alloc);
     for name in ["top", "é"] {
-        names.push(Text::new(String::from_str(alloc, name)?))?;
+        names.push(&Text::new(String::from_str(alloc, name)?))?;
     }
     Ok(names)
 }
@@ -86,9 +87,9 @@ pub fn tagged(alloc: Global, lines: &[&[Part]]) -> Result<Vec<TaggedLine<Vec<Let
     let laid_out = LaidOut {
         lines: made,
         stacks: stacks(alloc)?,
+        names: names(alloc)?,
     };
-    let names = names(alloc)?;
-    Ok(tagged_lines(alloc, laid_out, &names)?)
+    Ok(tagged_lines(alloc, laid_out)?)
 }
 
 /// What a line shows: each string with its annotations before it, and each name in angles.

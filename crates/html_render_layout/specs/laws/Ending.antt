@@ -1,5 +1,5 @@
 -- A document's end: what is kept of its block, and that overflow gives the same.
-use Rattle.std.proofs.Common.{◌≡◌, ℕ, Bool, List, map, Option, Some, None, refl, IfSome}
+use Rattle.std.proofs.Common.{ℕ, Bool, List, map, Some, refl, IfSome}
 use Rattle.std.specs.Option.{IsSomeAnd}
 use Rattle.std.specs.Str.{chars}
 use Rattle.html_render_parts.specs.Decoration.{Decoration}

@@ -26,7 +26,7 @@ use Rattle.html_render_layout.specs.Ending.{ended}
 use Rattle.html_render_layout.specs.Layout.{onto, shown_after, Defined, defined, empty_state, estimated, layout_lines, no_tag}
 use Rattle.html_render_layout.specs.Layout.{untagged_lines}
 use Rattle.html_render_layout.specs.laws.Ending.{ended-keeps, ended-succeeds}
-use Rattle.html_render_layout.specs.laws.LayoutKeeps.{layout-keeps, layout-succeeds}
+use Rattle.html_render_layout.specs.laws.LayoutKeeps.{layout-keeps, layout-returns, layout-succeeds}
 
 then_some : {X Y : Type 0} (P : X → Type 0) (o : Option X) (f : X → Option Y) → IsSomeAnd o P → ((x : X) → P x → IsSome (f x)) →
     IsSome (option_and_then f o)
@@ -90,6 +90,11 @@ module _ {S A : Type 0} (d : Decoration S A) (settings : LayoutSettings) where
           IsSome (cond z None (lines_from (estimated d decorator t) (empty_state d settings decorator w true)))
       by true e = absurd (let zero = eqb-true w 0 e in omega arith)
       by false e = lines-succeed (estimated d decorator t) decorator w
+
+  -- trees that are laid out leave the texts that follow, with their annotations, and the decorator as they were
+  pub layout_leaves : (t : Forest RenderNode) (s : Defined S A) →
+      IfSome (run (defined d) t s) (λ r. (r.text ≡ s.text) × (r.decorator ≡ s.decorator))
+  layout_leaves t = layout-returns d onto definition.operations t
 
   -- ---- the laws, of what a call answers
 

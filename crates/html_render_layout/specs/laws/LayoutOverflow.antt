@@ -39,7 +39,7 @@ use Rattle.html_render_layout.specs.Layout.{inner_least, spaces, padded, next_nu
 use Rattle.html_render_layout.specs.Layout.{image_round, raised, digits_of, with_target, marked, link_number, annotated, coloured, in_style}
 use Rattle.html_render_layout.specs.Layout.{emphasis_decoration, begun, decorated, titled, image, struck_out, superscript, linked}
 use Rattle.html_render_layout.specs.Layout.{numbers, kind_steps, node_steps, steps}
-use Rattle.html_render_layout.specs.Layout.{shown_after, onto, Defined, empty_state, estimated, layout_lines, no_tag, untagged_lines}
+use Rattle.html_render_layout.specs.Layout.{shown_after, onto, Defined, empty_state, estimated, layout_lines, mark_names, no_tag, untagged_lines}
 
 module _ {S A K T B : Type 0} (d : Decoration S A) (push : K → T → A → K × T) (o : Operations B T) (f : B → B) (h : Refines f o) where
   abbrev State : Type 0
@@ -277,6 +277,21 @@ module _ {S A : Type 0} (d : Decoration S A) (settings : LayoutSettings) where
       by false =
           shown-image d onto definition.operations overflowing operations_refine definition.ending finish_stays add_closing_lines_stays (λ (s : Defined S A). s.block.lines) (λ r. refl)
           (estimated d decorator t) (empty_state d settings decorator w false)
+
+  -- and so are the names of their marks
+  pub names_same : (t : Forest RenderNode) (decorator : S) (w : ℕ) →
+      IfSome (mark_names d settings t decorator w false) (λ names. mark_names d settings t decorator w true ≡ Some names)
+  names_same t decorator w = by (w == 0)
+    where
+      names_from : Bool → Option (List (List ℕ))
+      names_from o = shown_after d onto definition.operations definition.ending (λ (s : Defined S A). s.names) (estimated d decorator t)
+          (empty_state d settings decorator w o)
+
+      by : (z : Bool) → IfSome (cond z None (names_from false)) (λ names. cond z None (names_from true) ≡ Some names)
+      by true = tt
+      by false =
+          shown-image d onto definition.operations overflowing operations_refine definition.ending finish_stays add_closing_lines_stays
+          (λ (s : Defined S A). s.names) (λ r. refl) (estimated d decorator t) (empty_state d settings decorator w false)
 
   -- the same of the lines without annotations
   pub untagged_same : (t : Forest RenderNode) (decorator : S) (w : ℕ) →

@@ -21,11 +21,11 @@ use Rattle.html_render_nodes.specs.Pass.{visited, inside_of}
 use Rattle.html_render_nodes.specs.laws.Counts.{counts-same}
 use Rattle.html_render_layout.specs.declared.settings.LayoutSettings.{LayoutSettings}
 use Rattle.html_render_layout.specs.Layout.{onto, steps, shown_after, Defined, defined, defined_inside, begin_with, empty_state}
-use Rattle.html_render_layout.specs.Layout.{estimated, layout_lines, untagged_lines}
+use Rattle.html_render_layout.specs.Layout.{estimated, layout_lines, mark_names, untagged_lines}
 use Rattle.html_render_layout.specs.Opening.{opened}
 use Rattle.html_render_layout.specs.laws.Opening.{layout-asks}
-use Rattle.html_render_layout.specs.Working.{Worked, tabled, work_lines, Untagged, untagged, untagged_work}
-use Rattle.html_render_layout.specs.laws.Representation.{Represents, visited-represented, lines-represented}
+use Rattle.html_render_layout.specs.Working.{Worked, tabled, work_lines, work_names, Untagged, untagged, untagged_work}
+use Rattle.html_render_layout.specs.laws.Representation.{Represents, visited-represented, lines-represented, names-represented}
 
 -- ---- a map of tags that changes none
 
@@ -110,6 +110,24 @@ module _ {S A : Type 0} (d : Decoration S A) (settings : LayoutSettings) where
   layout_lines-works t measured decorator w o s wide m e =
       ap (λ x. work_lines d measured x) e ∙ ap (λ x. work_lines d x (empty_worked decorator w o)) m
       ∙ work_lines-wanted (estimated d decorator t) decorator w o ∙ wanted-lines t decorator w o wide
+
+  -- and so are the names of its marks
+  pub mark_names-works : (t measured : Forest RenderNode) (decorator : S) (w : ℕ) (o : Bool) (s : Worked S A) → w ≢ 0 →
+      measured ≡ estimated d decorator t → s ≡ empty_worked decorator w o → work_names d measured s ≡ mark_names d settings t decorator w o
+  mark_names-works t measured decorator w o s wide m e =
+      ap (λ x. work_names d measured x) e ∙ ap (λ x. work_names d x (empty_worked decorator w o)) m
+      ∙ names-represented d tabled stack_at (λ (s : List A). s) Pushed (λ k. ([], sym (append-nil k))) Pushed-goes
+      (λ k t a. ((stack_at k t ++ a ∷ []) ∷ [], refl)) tag_pushed (estimated d decorator t) (empty_worked decorator w o)
+      (empty_state d settings decorator w o) (begins decorator w o)
+      ∙ by (w == 0) refl
+    where
+      names : Option (List (List ℕ))
+      names = shown_after d onto definition.operations definition.ending (λ (r : Defined S A). r.names) (estimated d decorator t)
+          (empty_state d settings decorator w o)
+
+      by : (z : Bool) → (w == 0) ≡ z → names ≡ cond z None names
+      by true z = absurd (wide (eqb-true w 0 z))
+      by false z = refl
 
   -- of any trees it visits what the definition visits
   counts-wanted : {X : Type 0} (r : Result X Error) (t : Forest RenderNode) (decorator : S) (w : ℕ) (o : Bool) (s : Worked S A)

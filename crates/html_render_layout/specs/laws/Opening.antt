@@ -2,7 +2,6 @@
 use Rattle.std.specs.Prelude.{◌≡◌, ℕ, List, [], map, Option, Some, None, option_and_then, refl}
 use Rattle.std.proofs.Common.{ap, ◌∙◌, sym}
 use Rattle.html_render_dom.specs.Forest.{Forest}
-use Rattle.html_render_dom.specs.declared.style.colours.Colour.{Colour}
 use Rattle.html_render_parts.specs.Decoration.{Decoration, link}
 use Rattle.html_render_estimates.specs.Estimates.{prefix_columns}
 use Rattle.html_render_nodes.specs.declared.tree.Estimate.{Estimate}

@@ -46,6 +46,13 @@ use Rattle.html_render_layout.specs.Layout.{shown_after, Defined, defined, defin
 use Rattle.html_render_layout.specs.Opening.{opened}
 use Rattle.html_render_layout.specs.laws.Opening.{opened-inside}
 
+-- two answers that are the same
+same-answer : {X : Type 0} (o p : Option X) → Agree (λ x y. x ≡ y) o p → o ≡ p
+same-answer None None h = refl
+same-answer (Some x) (Some y) h = ap Some h
+same-answer None (Some y) h = absurd h
+same-answer (Some x) None h = absurd h
+
 -- ---- blocks
 
 -- seen is what is seen of a stack; f is what is seen of a tag, in whatever will be kept of the annotations
@@ -757,6 +764,20 @@ module _ {S A K T V : Type 0} (d : Decoration S A) (push : K → T → A → K �
       (ended-represents s.settings.link_footnotes s.settings.wrap_links s.text.tag e.text.tag r f
       (text-later s.stacks r.stacks s.text e.text h.text a.1).tag a.0)
 
+  -- what is shown of a state that represents one is so related to what the definition shows
+  shown-represented : {X Y : Type 0} (R : X → Y → Type 0) (view : Worked → X) (wanted : Defined S A → Y) →
+      ((r : Worked) (f : Defined S A) → Represents r f → R (view r) (wanted f)) →
+      (t : Forest RenderNode) (s : Worked) (e : Defined S A) → Represents s e →
+      Agree R (shown_after d push machine.operations machine.ending view t s)
+      (shown_after d onto definition.operations definition.ending wanted t e)
+  shown-represented R view wanted related t s e h =
+      Agree-then (Reached s) R _ _ (run (steps d push machine.operations) t s) (run (defined d) t e)
+      (run-represents t s e h) (λ r f a.
+      Agree-then (Reached r) R _ _
+      (ended d machine.ending s.settings.link_footnotes s.settings.wrap_links s.text.tag r)
+      (ended d definition.ending e.settings.link_footnotes e.settings.wrap_links e.text.tag f) (closed-represents s r e f h a) (λ q p n.
+      related q p n.0))
+
   -- the lines, with what is seen of their tags, are those of the definition with what is seen of their stacks
   pub lines-represented : (view : Worked → List (Line V ℕ)) → ((r : Worked) → view r ≡ lines_with (shown r.stacks) r.block.lines) →
       (t : Forest RenderNode) (s : Worked) (e : Defined S A) → Represents s e →
@@ -764,9 +785,12 @@ module _ {S A K T V : Type 0} (d : Decoration S A) (push : K → T → A → K �
       ≡ option_map (lines_with seen) (shown_after d onto definition.operations definition.ending (λ (r : Defined S A). r.block.lines) t e)
   lines-represented view is t s e h =
       mapped-Agree (lines_with seen) _ _
-      (Agree-then (Reached s) (λ x y. x ≡ lines_with seen y) _ _ (run (steps d push machine.operations) t s) (run (defined d) t e)
-      (run-represents t s e h) (λ r f a.
-      Agree-then (Reached r) (λ x y. x ≡ lines_with seen y) _ _
-      (ended d machine.ending s.settings.link_footnotes s.settings.wrap_links s.text.tag r)
-      (ended d definition.ending e.settings.link_footnotes e.settings.wrap_links e.text.tag f) (closed-represents s r e f h a) (λ q p n.
-      is q ∙ ap (λ (x : MachineBlock V ℕ). x.lines) (n.0.block (now q.stacks)))))
+      (shown-represented (λ x y. x ≡ lines_with seen y) view (λ (r : Defined S A). r.block.lines) (λ q p n.
+      is q ∙ ap (λ (x : MachineBlock V ℕ). x.lines) (n.block (now q.stacks))) t s e h)
+
+  -- and marks have the same names
+  pub names-represented : (t : Forest RenderNode) (s : Worked) (e : Defined S A) → Represents s e →
+      shown_after d push machine.operations machine.ending (λ (r : Worked). r.names) t s
+      ≡ shown_after d onto definition.operations definition.ending (λ (r : Defined S A). r.names) t e
+  names-represented t s e h =
+      same-answer _ _ (shown-represented (λ x y. x ≡ y) (λ (r : Worked). r.names) (λ (r : Defined S A). r.names) (λ q p n. n.names) t s e h)

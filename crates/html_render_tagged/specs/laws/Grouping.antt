@@ -1,19 +1,20 @@
 -- A grouped line keeps the columns and the characters, and its strings are the longest.
-use Rattle.std.proofs.Common.{◌≡◌, ℕ, ◌+◌, ◌<◌, Bool, true, false, cond, List, [], ◌∷◌, ◌++◌, length, map, sum_by, Vec, refl, sym, ap, ◌∙◌}
-use Rattle.std.proofs.Common.{add_assoc, add-zero, get_or, arith}
+use Rattle.std.proofs.Common.{◌≡◌, ℕ, ◌+◌, ◌<◌, ◌≤◌, Bool, true, false, cond, List, [], ◌∷◌, ◌++◌, length, map, sum_by, Vec, refl, sym, ap, ◌∙◌, subst}
+use Rattle.std.proofs.Common.{add_assoc, add-zero, append_assoc, get_or, arith}
+use Rattle.std.proofs.lemmas.List.Elements.{All-nil, All-cons, All-head, All-tail}
 use Rattle.std.proofs.lemmas.List.Sums.{sum_by-append, sum_by-cons}
 use Rattle.std.specs.Cmp.{IsEquivalence}
 use Rattle.std.specs.declared.alloc.Global.{Global}
 use Rattle.html_render_lines.specs.declared.line.Element.{Element}
 use Rattle.html_render_lines.specs.declared.line.Element.TheVariants as element
 use Rattle.html_render_lines.specs.Character.{width_of}
-use Rattle.html_render_lines.specs.Line.{Line, columns, element_width}
+use Rattle.html_render_lines.specs.Line.{Line, columns, element_width, AllWithinWidth}
 use Rattle.html_render_lines.specs.TaggedText.{text_columns}
 use Rattle.html_render_tagged.specs.declared.line.TaggedLineElement.{TaggedLineElement}
 use Rattle.html_render_tagged.specs.declared.line.TaggedLineElement.TheVariants as made
-use Rattle.html_render_tagged.specs.TaggedLine.{line_columns, element_columns}
+use Rattle.html_render_tagged.specs.TaggedLine.{line_columns, element_columns, AllTaggedWithinWidth}
 use Rattle.html_render_tagged.specs.Grouping.{Piece, Str, FragmentStart, in_front, grouped, grouped_lines, piece_of, pieces_of, lines_of}
-use Rattle.html_render_tagged.specs.Grouping.{piece_columns, pieces_columns, ComesOther, AreLongest}
+use Rattle.html_render_tagged.specs.Grouping.{piece_columns, pieces_columns, ComesOther, AreLongest, strings_characters, line_characters}
 
 either : {X : Type 0} (P : X → Type 0) (b : Bool) (x y : X) → (b ≡ true → P x) → (b ≡ false → P y) → P (cond b x y)
 either P true x y f g = f refl
@@ -74,6 +75,25 @@ module _ {T : Type 0} (equal : T → T → Bool) where
   longest-grouped laws names (element.Mark m ∷ es) = longest-grouped laws names es
   longest-grouped laws names (element.Character c tag ∷ es) = longest-in_front laws c [] tag (grouped equal names es) (longest-grouped laws names es)
 
+-- ---- characters
+
+module _ {T : Type 0} (equal : T → T → Bool) where
+  characters-in_front : (text : List ℕ) (tag : T) (ps : List (Piece T)) →
+      strings_characters (in_front equal text tag ps) ≡ text ++ strings_characters ps
+  characters-in_front text tag [] = refl
+  characters-in_front text tag (FragmentStart name ∷ ps) = refl
+  characters-in_front text tag (Str next other ∷ ps) =
+      either (λ (x : List (Piece T)). strings_characters x ≡ text ++ strings_characters (Str next other ∷ ps)) (equal tag other) _ _
+      (λ e. append_assoc text next (strings_characters ps))
+      (λ e. refl)
+
+  -- a line's strings hold its characters, in order
+  pub characters-grouped : (names : List (List ℕ)) (line : Line T ℕ) → strings_characters (grouped equal names line) ≡ line_characters line
+  characters-grouped names [] = refl
+  characters-grouped names (element.Mark m ∷ es) = characters-grouped names es
+  characters-grouped names (element.Character c tag ∷ es) =
+      characters-in_front (c ∷ []) tag (grouped equal names es) ∙ ap (λ cs. c ∷ cs) (characters-grouped names es)
+
 -- ---- the columns of tagged lines
 
 line-cons : {T : Type 0} (e : TaggedLineElement T) (es : List (TaggedLineElement T)) → line_columns (e ∷ es) ≡ element_columns e + line_columns es
@@ -105,3 +125,21 @@ pub columns-lines : {A : Type 0} (equal : List A → List A → Bool) (names : L
     (made : List (List (TaggedLineElement (Vec A Global)))) (lines : List (Line (List A) ℕ)) →
     lines_of made ≡ grouped_lines equal names lines → map line_columns made ≡ map columns lines
 columns-lines equal names made lines e = all-pieces made ∙ ap (map pieces_columns) e ∙ all-grouped equal names lines
+
+-- tagged lines are as wide as the lines
+pub within-lines : {T U : Type 0} (width : ℕ) (made : List (List (TaggedLineElement T))) (lines : List (Line U ℕ)) →
+    map line_columns made ≡ map columns lines → AllWithinWidth width lines → AllTaggedWithinWidth width made
+within-lines {T} width [] lines e h = All-nil (λ (l : List (TaggedLineElement T)). line_columns l ≤ width)
+within-lines width (m ∷ ms) [] e h = cc
+within-lines {T} {U} width (m ∷ ms) (l ∷ ls) e h =
+    All-cons (λ (l : List (TaggedLineElement T)). line_columns l ≤ width) m ms
+    (subst (λ n. n ≤ width) (sym (same-first (line_columns m) (columns l) (map line_columns ms) (map columns ls) e))
+    (All-head (λ (l : Line U ℕ). columns l ≤ width) l ls h))
+    (within-lines width ms ls (same-rest (line_columns m) (columns l) (map line_columns ms) (map columns ls) e)
+    (All-tail (λ (l : Line U ℕ). columns l ≤ width) l ls h))
+  where
+    same-first : (a b : ℕ) (xs ys : List ℕ) → ◌≡◌ {A = List ℕ} (a ∷ xs) (b ∷ ys) → a ≡ b
+    same-first a b xs ys e = cc
+
+    same-rest : (a b : ℕ) (xs ys : List ℕ) → ◌≡◌ {A = List ℕ} (a ∷ xs) (b ∷ ys) → xs ≡ ys
+    same-rest a b xs ys e = cc

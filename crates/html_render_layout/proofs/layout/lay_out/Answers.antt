@@ -5,7 +5,7 @@ use Rattle.html_render_blocks.specs.Block as definition
 use Rattle.html_render_layout.specs.Layout.{onto, defined, defined_inside, empty_state, estimated, layout_lines}
 use Rattle.html_render_layout.specs.laws.Opening.{layout-asks}
 use Rattle.html_render_layout.specs.laws.LayoutKeeps.{layout-returns}
-use Rattle.html_render_layout.specs.laws.LayoutWorks.{empty_worked, layout_lines-works, counts-work}
+use Rattle.html_render_layout.specs.laws.LayoutWorks.{empty_worked, layout_lines-works, mark_names-works, counts-work}
 use Rattle.html_render_layout.specs.laws.LayoutLaws.{within-answered, succeeds-answered}
 use Rattle.html_render_layout.specs.laws.LayoutOverflow.{same-answered}
 use Rattle.html_render_layout.specs.laws.LayoutVisible.{keeps-answered}
@@ -15,8 +15,8 @@ use Rattle.html_render_layout.proofs.layout.lay_out.Given.{Over}
 
 -- the state in which the layout begins
 empty : (g : Over) (c : goal.After-drop-tree-inside-2 g) →
-    c.begin_with-state.result ≡ empty_worked g.D.TextDecorator.decoration c.args.settings c.args.decorator.now c.args.width c.args.overflow
-empty g c = cc (c.begin_with-state.ensures, c.in_ok-inner.ensures.ok, c.new.ensures, c.outermost-block.ensures)
+    c.begin_with-state.result ≡ empty_worked g.D.TextDecorator.decoration c.args.settings.now c.args.decorator.now c.args.width c.args.overflow
+empty g c = cc (c.begin_with-state.ensures, c.in_ok-own.ensures.ok, c.in_ok-inner.ensures.ok, c.new.ensures, c.outermost-block.ensures)
 
 -- the tree that is laid out is the measured one
 measured : (g : Over) (c : goal.After-drop-tree-inside-2 g) →
@@ -26,35 +26,41 @@ measured g c = cc (c.in_ok-tree.ensures.ok, c.in_ok-inner.ensures.ok)
 -- what the code does is what is defined
 works : (g : Over) (c : goal.After-drop-tree-inside-2 g) →
     work_lines g.D.TextDecorator.decoration c.in_ok-tree.tree c.begin_with-state.result
-    ≡ layout_lines g.D.TextDecorator.decoration c.args.settings c.args.tree c.args.decorator.now c.args.width c.args.overflow
+    ≡ layout_lines g.D.TextDecorator.decoration c.args.settings.now c.args.tree c.args.decorator.now c.args.width c.args.overflow
 works g c =
-    layout_lines-works g.D.TextDecorator.decoration c.args.settings c.args.tree _ c.args.decorator.now c.args.width c.args.overflow
+    layout_lines-works g.D.TextDecorator.decoration c.args.settings.now c.args.tree _ c.args.decorator.now c.args.width c.args.overflow
     c.begin_with-state.result c.if-width-eq0.false (measured g c) (empty g c)
 
 pub returns-clause-ok : goal.returns-clause-ok
 returns-clause-ok g c = subst (λ o. IfOk c.lines_from.result (λ lines. o ≡ Some (laid_out lines))) (works g c) c.lines_from.ensures.ok
+
+pub returns-clause-names : goal.returns-clause-names
+returns-clause-names g c =
+    subst (λ o. IfOk c.lines_from.result (λ lines. o ≡ Some lines.names))
+    (mark_names-works g.D.TextDecorator.decoration c.args.settings.now c.args.tree _ c.args.decorator.now c.args.width c.args.overflow
+    c.begin_with-state.result c.if-width-eq0.false (measured g c) (empty g c)) c.lines_from.ensures.names
 
 pub returns-clause-err : goal.returns-clause-err
 returns-clause-err g c = subst (λ o. IfErr c.lines_from.result (λ e. Refuses e o)) (works g c) c.lines_from.ensures.err
 
 pub returns-clause-within : goal.returns-clause-within
 returns-clause-within g c =
-    within-answered g.D.TextDecorator.decoration c.args.settings c.args.tree c.args.decorator.now c.args.width c.args.overflow
+    within-answered g.D.TextDecorator.decoration c.args.settings.now c.args.tree c.args.decorator.now c.args.width c.args.overflow
     (λ l. laid_out l) c.lines_from.result (returns-clause-ok g c)
 
 pub returns-clause-answered : goal.returns-clause-answered
 returns-clause-answered g c =
-    succeeds-answered g.D.TextDecorator.decoration c.args.settings c.args.tree c.args.decorator.now c.args.width c.args.overflow c.lines_from.result
+    succeeds-answered g.D.TextDecorator.decoration c.args.settings.now c.args.tree c.args.decorator.now c.args.width c.args.overflow c.lines_from.result
     (returns-clause-err g c)
 
 pub returns-clause-same : goal.returns-clause-same
 returns-clause-same g c =
-    same-answered g.D.TextDecorator.decoration c.args.settings c.args.tree c.args.decorator.now c.args.width c.args.overflow
+    same-answered g.D.TextDecorator.decoration c.args.settings.now c.args.tree c.args.decorator.now c.args.width c.args.overflow
     (λ l. laid_out l) c.lines_from.result (returns-clause-ok g c)
 
 pub returns-clause-kept : goal.returns-clause-kept
 returns-clause-kept g c =
-    keeps-answered g.D.TextDecorator.decoration c.args.settings c.args.tree c.args.decorator.now c.args.width c.args.overflow
+    keeps-answered g.D.TextDecorator.decoration c.args.settings.now c.args.tree c.args.decorator.now c.args.width c.args.overflow
     (λ l. laid_out l) c.lines_from.result (returns-clause-ok g c)
 
 -- annotations and decorator, wherever the call ends
@@ -64,6 +70,11 @@ returns-clause-stacks g c = layout-returns g.D.TextDecorator.decoration onto def
 
 pub returns-then-width-eq0-clause-stacks : goal.returns-then-width-eq0-clause-stacks
 returns-then-width-eq0-clause-stacks g c = layout-returns g.D.TextDecorator.decoration onto definition.operations
+    (estimated g.D.TextDecorator.decoration c.args.decorator.now c.args.tree)
+
+pub returns-in_err-own-clause-stacks : goal.returns-in_err-own-clause-stacks
+returns-in_err-own-clause-stacks g c =
+    layout-returns g.D.TextDecorator.decoration onto definition.operations
     (estimated g.D.TextDecorator.decoration c.args.decorator.now c.args.tree)
 
 pub returns-in_err-inner-clause-stacks : goal.returns-in_err-inner-clause-stacks
@@ -79,26 +90,33 @@ returns-in_err-tree-clause-stacks g c =
 -- what was counted
 pub returns-clause-counts : goal.returns-clause-counts
 returns-clause-counts g c =
-    counts-work g.D.TextDecorator.decoration c.args.settings c.lines_from.result c.args.tree _ c.args.decorator.now c.args.width c.args.overflow
+    counts-work g.D.TextDecorator.decoration c.args.settings.now c.lines_from.result c.args.tree _ c.args.decorator.now c.args.width c.args.overflow
     c.begin_with-state.result _ _ _ (measured g c) (empty g c) refl c.lines_from.ensures.counts
 
 pub returns-then-width-eq0-clause-counts : goal.returns-then-width-eq0-clause-counts
 returns-then-width-eq0-clause-counts g c =
     none-counted _ (λ e. Unit {0}) tt (defined g.D.TextDecorator.decoration) (defined_inside g.D.TextDecorator.decoration)
     (estimated g.D.TextDecorator.decoration c.args.decorator.now c.args.tree)
-    (empty_state g.D.TextDecorator.decoration c.args.settings c.args.decorator.now c.args.width c.args.overflow) _ _
+    (empty_state g.D.TextDecorator.decoration c.args.settings.now c.args.decorator.now c.args.width c.args.overflow) _ _
+    (layout-asks g.D.TextDecorator.decoration onto definition.operations) refl refl refl refl
+
+pub returns-in_err-own-clause-counts : goal.returns-in_err-own-clause-counts
+returns-in_err-own-clause-counts g c =
+    none-counted _ _ c.from_residual.ensures.1 (defined g.D.TextDecorator.decoration) (defined_inside g.D.TextDecorator.decoration)
+    (estimated g.D.TextDecorator.decoration c.args.decorator.now c.args.tree)
+    (empty_state g.D.TextDecorator.decoration c.args.settings.now c.args.decorator.now c.args.width c.args.overflow) _ _
     (layout-asks g.D.TextDecorator.decoration onto definition.operations) refl refl refl refl
 
 pub returns-in_err-inner-clause-counts : goal.returns-in_err-inner-clause-counts
 returns-in_err-inner-clause-counts g c =
-    none-counted _ _ c.from_residual.ensures.1 (defined g.D.TextDecorator.decoration) (defined_inside g.D.TextDecorator.decoration)
+    none-counted _ _ c.from_residual-in_err-inner.ensures.1 (defined g.D.TextDecorator.decoration) (defined_inside g.D.TextDecorator.decoration)
     (estimated g.D.TextDecorator.decoration c.args.decorator.now c.args.tree)
-    (empty_state g.D.TextDecorator.decoration c.args.settings c.args.decorator.now c.args.width c.args.overflow) _ _
+    (empty_state g.D.TextDecorator.decoration c.args.settings.now c.args.decorator.now c.args.width c.args.overflow) _ _
     (layout-asks g.D.TextDecorator.decoration onto definition.operations) refl refl refl refl
 
 pub returns-in_err-tree-clause-counts : goal.returns-in_err-tree-clause-counts
 returns-in_err-tree-clause-counts g c =
     none-counted _ _ c.from_residual-in_err-tree.ensures.1 (defined g.D.TextDecorator.decoration) (defined_inside g.D.TextDecorator.decoration)
     (estimated g.D.TextDecorator.decoration c.args.decorator.now c.args.tree)
-    (empty_state g.D.TextDecorator.decoration c.args.settings c.args.decorator.now c.args.width c.args.overflow) _ _
+    (empty_state g.D.TextDecorator.decoration c.args.settings.now c.args.decorator.now c.args.width c.args.overflow) _ _
     (layout-asks g.D.TextDecorator.decoration onto definition.operations) refl refl refl refl

@@ -1,4 +1,4 @@
-use Rattle.std.proofs.Common.{◌≡◌, ℕ, ◌++◌, List, length, string_bytes}
+use Rattle.std.proofs.Common.{ℕ, ◌++◌, List, length, string_bytes}
 use Rattle.html_render_tagged.specs.Grouping.{lines_of}
 use Rattle.html_render_tagged.specs.Colouring.{IsColoured}
 use Rattle.html_render_tagged.proofs.colours.coloured.Given as goal

@@ -1,5 +1,5 @@
-use Rattle.std.proofs.Common.{◌+◌, Fits, w64, rules, [], ◌∷◌, ◌++◌, length, arith, ap, ◌∙◌, sym}
-use Rattle.html_render_layout.specs.Stacks.{stack_at, stacks_of, ArePushed}
+use Rattle.std.proofs.Common.{◌+◌, Fits, w64, rules, [], ◌∷◌, ◌++◌, length, arith, ap, ◌∙◌}
+use Rattle.html_render_layout.specs.Stacks.{stack_at, stacks_of}
 use Rattle.html_render_layout.specs.laws.Stacks.{stacks_after-push, length-stacks_after, ArePushed-push}
 use Rattle.html_render_layout.proofs.stacks.Stacks.push.Goals as goal
 

@@ -1,4 +1,4 @@
-use Rattle.std.proofs.Common.{◌-◌, ◌∙◌, sym, ap, arith}
+use Rattle.std.proofs.Common.{◌-◌, arith}
 use Rattle.html_render_layout.specs.laws.Stacks.{stack_at-zero, read-at}
 use Rattle.html_render_layout.proofs.stacks.Stacks.top.Goals as goal
 

@@ -1,4 +1,4 @@
-use Rattle.std.proofs.Common.{◌≡◌, ◌++◌, length, reverse}
+use Rattle.std.proofs.Common.{length, reverse}
 use Rattle.html_render_tagged.specs.Progress.{Takes}
 use Rattle.html_render_tagged.proofs.grouping.Progress.push_reversed.Given as goal
 

@@ -1,4 +1,4 @@
-use Rattle.std.proofs.Common.{◌≡◌, ◌++◌, length}
+use Rattle.std.proofs.Common.{length}
 use Rattle.html_render_lines.specs.TaggedText.{Cuts, elements_of}
 use Rattle.html_render_tagged.specs.Progress.{Takes}
 use Rattle.html_render_tagged.proofs.grouping.Progress.push_runs.Given as goal

@@ -1,0 +1,202 @@
+//! The calls of a configuration that render: to a text, to tagged lines, and to a text under a colour map.
+
+ghost use Rattle.std.specs.Prelude.{◌≡◌, ◌≢◌, ◌≤◌, List, true, false, Some, Err, IfOk, IfErr, IfSome, option_map, string_bytes};
+ghost use Rattle.html_render_dom.specs.Outcome.{Refuses};
+ghost use Rattle.html_render_lines.specs.Line.{AllWithinWidth};
+ghost use Rattle.html_render_nodes.specs.Counts.{CountsNodes};
+ghost use Rattle.html_render_nodes.specs.Pass.{run};
+ghost use Rattle.html_render_layout.specs.Kept.{visited_nodes, KeepsTexts};
+ghost use Rattle.html_render_layout.specs.Layout.{Defined, defined, defined_inside, estimated, empty_state};
+ghost use Rattle.html_render_tagged.specs.Colouring.{IsColoured};
+ghost use Rattle.html_render_tagged.specs.Grouping.{Piece, lines_of};
+ghost use Rattle.html_render_tagged.specs.TaggedLine.{AllTaggedWithinWidth};
+ghost use Rattle.html_render_tree.specs.Rendering.{rendered_lines, rendered_strings};
+ghost use Rattle.html_render_tree.specs.Texts.{text_of};
+
+use crate::config::Config;
+use crate::texts::string_of;
+use html_render_dom::Error;
+use html_render_layout::layout::{lay_out, lay_out_untagged};
+use html_render_nodes::tree::RenderTree;
+use html_render_parts::decorate::TextDecorator;
+use html_render_parts::widths::Meter;
+use html_render_tagged::colours::coloured;
+use html_render_tagged::grouping::tagged_lines;
+use html_render_tagged::line::TaggedLine;
+use std::alloc::Global;
+
+impl<D: TextDecorator> Config<D> {
+    /// The text of a render tree, wrapped to a width in columns: each line's characters and a newline. The tree is
+    /// consumed, also by a refusal.
+    ///
+    /// # Errors
+    ///
+    /// `TooNarrow` at width 0, and, where overflow isn't allowed, where a character is wider than a line or a prefix
+    /// leaves too few columns; otherwise `OutOfMemory`.
+    #[tactic(auto, using(crate::specs::laws::Rendering::lines_within, crate::specs::laws::Rendering::lines_keep, crate::specs::laws::Rendering::lines_leave))]
+    pub fn render_to_string(
+        &self,
+        alloc: Global,
+        tree: RenderTree,
+        width: usize,
+    ) -> Result<String, Error>
+        // the text is each line's characters and a newline; want of memory aside, it is too narrow exactly where there are no lines
+        ensures ok { IfOk result (λ text. option_map text_of (rendered_lines D.decoration self.now tree width) ≡ Some (string_bytes text)) }
+        ensures err { IfErr result (λ e. Refuses e (rendered_lines D.decoration self.now tree width)) }
+        ensures no_width { width ≡ 0 → result ≡ Err Error.TooNarrow }
+
+        // with overflow off and links wrapped no line passes the width; with overflow on nothing is too narrow, and where overflow off gives
+        // lines, the text is theirs
+        ensures within { self.now.overflow ≡ false → self.now.nodes.wrap_links ≡ true
+            → IfSome (rendered_lines D.decoration self.now tree width) (AllWithinWidth width) }
+        ensures wide { self.now.overflow ≡ true → 1 ≤ width → result ≢ Err Error.TooNarrow }
+        ensures same { IfOk result (λ text. IfSome (rendered_lines D.decoration (record self.now { overflow = false }) tree width)
+            (λ lines. string_bytes text ≡ text_of lines)) }
+
+        // no visible character of the texts that are visited is lost
+        ensures kept { IfSome (rendered_lines D.decoration self.now tree width)
+            (KeepsTexts (visited_nodes D.decoration self.now.nodes tree self.now.decorator width self.now.overflow)) }
+
+        // a tree that is laid out leaves the texts that follow, with their annotations, and the decorator of any state as they were
+        ensures stacks { (s : Defined D D.Annotation) →
+            IfSome (run (defined D.decoration) (estimated D.decoration self.now.decorator tree) s)
+            (λ r. (r.text ≡ s.text) × (r.decorator ≡ s.decorator)) }
+    {
+        let lines = lay_out_untagged(
+            alloc,
+            &self.decorator,
+            tree,
+            width,
+            self.overflow,
+            &self.nodes,
+        )?;
+        Ok(string_of(alloc, &lines)?)
+    }
+
+    /// The lines of a render tree, wrapped to a width in columns, as tagged strings: the longest runs of characters whose
+    /// annotations are equal, one by one, with no mark between. A string's tag is the annotations of its first character,
+    /// the outermost one first. The tree is consumed, also by a refusal.
+    ///
+    /// # Errors
+    ///
+    /// As [`Config::render_to_string`].
+    #[tactic(auto, using(crate::specs::laws::Rendering::lines_within, crate::specs::laws::Rendering::lines_keep, crate::specs::laws::Rendering::lines_leave))]
+    pub fn render_to_lines(
+        &self,
+        alloc: Global,
+        tree: RenderTree,
+        width: usize,
+    ) -> Result<Vec<TaggedLine<Vec<D::Annotation>>>, Error>
+        // the lines as tagged strings; want of memory aside, it is too narrow exactly where there are no lines
+        ensures ok { IfOk result (λ lines. rendered_strings D.decoration self.now tree width D.Annotation.eq ≡ Some (lines_of lines.items)) }
+        ensures err { IfErr result (λ e. Refuses e (rendered_lines D.decoration self.now tree width)) }
+        ensures no_width { width ≡ 0 → result ≡ Err Error.TooNarrow }
+
+        // as for a text
+        ensures within { self.now.overflow ≡ false → self.now.nodes.wrap_links ≡ true
+            → IfOk result (λ lines. AllTaggedWithinWidth width lines.items) }
+        ensures wide { self.now.overflow ≡ true → 1 ≤ width → result ≢ Err Error.TooNarrow }
+        ensures same { IfOk result (λ answer.
+            IfSome (rendered_strings D.decoration (record self.now { overflow = false }) tree width D.Annotation.eq)
+            (λ lines. lines_of answer.items ≡ lines)) }
+        ensures kept { IfSome (rendered_lines D.decoration self.now tree width)
+            (KeepsTexts (visited_nodes D.decoration self.now.nodes tree self.now.decorator width self.now.overflow)) }
+        ensures stacks { (s : Defined D D.Annotation) →
+            IfSome (run (defined D.decoration) (estimated D.decoration self.now.decorator tree) s)
+            (λ r. (r.text ≡ s.text) × (r.decorator ≡ s.decorator)) }
+    {
+        let mut meter = Meter::default();
+        self.render_to_lines_metered(alloc, tree, width, &mut meter)
+    }
+
+    /// The same, and what the layout visits: `entered` and `left` count the nodes, `frames` is the most nodes that were open
+    /// at once. They count from 0, also where the call refuses; `probes` stays.
+    ///
+    /// # Errors
+    ///
+    /// As [`Config::render_to_string`].
+    #[tactic(auto, using(crate::specs::laws::Rendering::lines_within, crate::specs::laws::Rendering::lines_keep, crate::specs::laws::Rendering::lines_leave))]
+    pub fn render_to_lines_metered(
+        &self,
+        alloc: Global,
+        tree: RenderTree,
+        width: usize,
+        meter: &mut Meter,
+    ) -> Result<Vec<TaggedLine<Vec<D::Annotation>>>, Error>
+        // as without the meter
+        ensures ok { IfOk result (λ lines. rendered_strings D.decoration self.now tree width D.Annotation.eq ≡ Some (lines_of lines.items)) }
+        ensures err { IfErr result (λ e. Refuses e (rendered_lines D.decoration self.now tree width)) }
+        ensures no_width { width ≡ 0 → result ≡ Err Error.TooNarrow }
+        ensures within { self.now.overflow ≡ false → self.now.nodes.wrap_links ≡ true
+            → IfOk result (λ lines. AllTaggedWithinWidth width lines.items) }
+        ensures wide { self.now.overflow ≡ true → 1 ≤ width → result ≢ Err Error.TooNarrow }
+        ensures same { IfOk result (λ answer.
+            IfSome (rendered_strings D.decoration (record self.now { overflow = false }) tree width D.Annotation.eq)
+            (λ lines. lines_of answer.items ≡ lines)) }
+        ensures kept { IfSome (rendered_lines D.decoration self.now tree width)
+            (KeepsTexts (visited_nodes D.decoration self.now.nodes tree self.now.decorator width self.now.overflow)) }
+        ensures stacks { (s : Defined D D.Annotation) →
+            IfSome (run (defined D.decoration) (estimated D.decoration self.now.decorator tree) s)
+            (λ r. (r.text ≡ s.text) × (r.decorator ≡ s.decorator)) }
+
+        // what was counted, where there are lines, and where there are none
+        ensures counts { CountsNodes result (defined D.decoration) (defined_inside D.decoration)
+            (estimated D.decoration self.now.decorator tree)
+            (empty_state D.decoration self.now.nodes self.now.decorator width self.now.overflow) meter.old meter.new }
+    {
+        let laid_out = lay_out(
+            alloc,
+            &self.decorator,
+            tree,
+            width,
+            self.overflow,
+            &self.nodes,
+            meter,
+        )?;
+        tagged_lines(alloc, laid_out)
+    }
+
+    /// The text of a render tree, wrapped to a width in columns, under a colour map: for each line what `colour_map` answers
+    /// for each of its tagged strings, in order, then a newline. The map is given a string's annotations, the outermost one
+    /// first, and its text; it is called once for each string. The tree is consumed, also by a refusal.
+    ///
+    /// The map may be called on all annotations and all texts, and its only error is `OutOfMemory`.
+    ///
+    /// # Errors
+    ///
+    /// As [`Config::render_to_string`]; `OutOfMemory` also where the map answers it.
+    #[tactic(auto, using(crate::specs::laws::Rendering::lines_within, crate::specs::laws::Rendering::lines_keep, crate::specs::laws::Rendering::lines_leave))]
+    pub fn render_coloured<F: Fn(&[D::Annotation], &str) -> Result<String, Error>>(
+        &self,
+        alloc: Global,
+        tree: RenderTree,
+        width: usize,
+        colour_map: F,
+    ) -> Result<String, Error>
+        requires callable { F.IsAlwaysCallable colour_map }
+        requires memory { (tag : _) (string : _) (e : Error) → F.post colour_map tag string (Err e) → e ≡ Error.OutOfMemory }
+
+        // the text of the lines under the map; want of memory aside, it is too narrow exactly where there are no lines
+        ensures ok { IfOk result (λ text. (lines : List (List (Piece (List D.Annotation))))
+            × (rendered_strings D.decoration self.now tree width D.Annotation.eq ≡ Some lines)
+            × IsColoured (F.post colour_map) lines (string_bytes text)) }
+        ensures err { IfErr result (λ e. Refuses e (rendered_lines D.decoration self.now tree width)) }
+        ensures no_width { width ≡ 0 → result ≡ Err Error.TooNarrow }
+
+        // as for a text
+        ensures within { self.now.overflow ≡ false → self.now.nodes.wrap_links ≡ true
+            → IfSome (rendered_lines D.decoration self.now tree width) (AllWithinWidth width) }
+        ensures wide { self.now.overflow ≡ true → 1 ≤ width → result ≢ Err Error.TooNarrow }
+        ensures same { IfOk result (λ text.
+            IfSome (rendered_strings D.decoration (record self.now { overflow = false }) tree width D.Annotation.eq)
+            (λ lines. IsColoured (F.post colour_map) lines (string_bytes text))) }
+        ensures kept { IfSome (rendered_lines D.decoration self.now tree width)
+            (KeepsTexts (visited_nodes D.decoration self.now.nodes tree self.now.decorator width self.now.overflow)) }
+        ensures stacks { (s : Defined D D.Annotation) →
+            IfSome (run (defined D.decoration) (estimated D.decoration self.now.decorator tree) s)
+            (λ r. (r.text ≡ s.text) × (r.decorator ≡ s.decorator)) }
+    {
+        let lines = self.render_to_lines(alloc, tree, width)?;
+        coloured(alloc, &lines, &colour_map)
+    }
+}
