@@ -1,6 +1,5 @@
 //! Documents and their render trees: a case a line.
 
-use crate::documents::document;
 use crate::shown::shown;
 use crate::styling::rules;
 use html_render_conversion::convert::dom_to_render_tree;
@@ -8,11 +7,12 @@ use html_render_dom::Error;
 use std::alloc::Global;
 use std::process::Abort;
 use std::test::Fail;
+use word_documents::document;
 
 /// The nodes that the document of some words becomes under rules.
 fn converted(alloc: Global, styling: &str, words: &str) -> Result<String, Error> {
     let rules = rules(alloc, styling)?;
-    let dom = document(alloc, words)?;
+    let dom = document(alloc, '/', words)?;
     let tree = dom_to_render_tree(alloc, rules.as_slice(), &dom)?;
     Ok(shown(alloc, &tree)?)
 }

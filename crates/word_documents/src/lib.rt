@@ -1,6 +1,9 @@
-//! Documents that words build.
+//! Documents that words build, for tests.
+//!
+//! `document(alloc, '/', "<p/a/<em/b")?` is a document of a `p` that holds `a` and an `em` with `b`.
+#![tactic(auto)]
 
-ghost use Rattle.std.specs.Prelude.{IfOk};
+ghost use Rattle.std.specs.Prelude.{◌≡◌, IfOk, IfErr};
 ghost use Rattle.html_render_dom.specs.Dom.{IsNode};
 
 use html_render_dom::Error;
@@ -80,12 +83,18 @@ fn taken(alloc: Global, dom: &mut RcDom, current: Handle, word: &str) -> Result<
     Ok(current)
 }
 
-/// The document that words build, with `/` between them: `<p` opens an element, `<a@href=u` one with an attribute,
+/// The document that words build, with `between` between them: `<p` opens an element, `<a@href=u` one with an attribute,
 /// `<svg:svg` one of SVG, `>` closes one, `!c` is a comment, and any other word is a text.
-pub fn document(alloc: Global, words: &str) -> Result<RcDom, Error> {
+///
+/// # Errors
+///
+/// `OutOfMemory`.
+pub fn document(alloc: Global, between: char, words: &str) -> Result<RcDom, Error>
+    ensures err { IfErr result (λ e. e ≡ Error.OutOfMemory) }
+{
     let mut dom = RcDom::new(alloc)?;
     let mut current = dom.get_document();
-    for word in words.split('/') {
+    for word in words.split(between) {
         current = taken(alloc, &mut dom, current, word)?;
     }
     Ok(dom)

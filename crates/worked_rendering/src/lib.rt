@@ -1,0 +1,14 @@
+//! Tests of what a configuration renders: tagged lines, coloured text, what each setting changes, decorators of one's own
+//! with annotations, and the example of a terminal viewer.
+//!
+//! There is nothing to call here.
+#![tactic(auto)]
+
+#[cfg(test)]
+mod annotations;
+#[cfg(test)]
+mod lines;
+#[cfg(test)]
+mod settings;
+#[cfg(test)]
+mod viewer;
