@@ -51,13 +51,15 @@ start_of properties = unwrap_or (option_and_then number_of (first_value (codes "
 -- what becomes of an element of HTML whose node holds no text, by its name and its attributes
 abbrev pub html_mapping : (name : List ℕ) → List Property → Mapping
 html_mapping name properties =
-    if is_one_of name (codes "html" ∷ codes "body" ∷ []) then Parent Container Stands
-    else if bytes_eq name (codes "p") then Parent Block Vanishes
-    else if bytes_eq name (codes "div") then Parent Div Vanishes
+    if bytes_eq name (codes "p") then Parent Block Vanishes
+    else if bytes_eq name (codes "li") then Parent ListItem Stands
     else if is_one_of name (codes "em" ∷ codes "i" ∷ codes "ins" ∷ []) then Parent (Emphasis Em) Stands
     else if is_one_of name (codes "strong" ∷ codes "b" ∷ []) then Parent (Emphasis Strong) Stands
     else if bytes_eq name (codes "code") then Parent (Emphasis Code) Stands
     else if bytes_eq name (codes "br") then Leaf Break
+    else if bytes_eq name (codes "div") then Parent Div Vanishes
+    else if bytes_eq name (codes "ul") then Parent Ul Vanishes
+    else if bytes_eq name (codes "ol") then Parent (Ol (start_of properties)) Vanishes
     else if bytes_eq name (codes "h1") then Parent (Header 1) Stands
     else if bytes_eq name (codes "h2") then Parent (Header 2) Stands
     else if bytes_eq name (codes "h3") then Parent (Header 3) Stands
@@ -65,14 +67,12 @@ html_mapping name properties =
     else if bytes_eq name (codes "h5") then Parent (Header 5) Stands
     else if bytes_eq name (codes "h6") then Parent (Header 6) Stands
     else if bytes_eq name (codes "blockquote") then Parent BlockQuote Vanishes
-    else if bytes_eq name (codes "ul") then Parent Ul Vanishes
-    else if bytes_eq name (codes "ol") then Parent (Ol (start_of properties)) Vanishes
-    else if bytes_eq name (codes "li") then Parent ListItem Stands
+    else if is_one_of name (codes "s" ∷ codes "del" ∷ []) then Parent Strikeout Stands
+    else if bytes_eq name (codes "sup") then Parent Superscript Stands
     else if bytes_eq name (codes "dl") then Parent Dl Vanishes
     else if bytes_eq name (codes "dt") then Parent Dt Stands
     else if bytes_eq name (codes "dd") then Parent Dd Stands
-    else if is_one_of name (codes "s" ∷ codes "del" ∷ []) then Parent Strikeout Stands
-    else if bytes_eq name (codes "sup") then Parent Superscript Stands
+    else if is_one_of name (codes "html" ∷ codes "body" ∷ []) then Parent Container Stands
     else if is_one_of name (codes "head" ∷ codes "link" ∷ codes "meta" ∷ codes "hr" ∷ codes "script" ∷ codes "style" ∷ []) then Nothing
     else Parent Container Vanishes
 
