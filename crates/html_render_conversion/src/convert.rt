@@ -101,6 +101,7 @@ fn put_mark(builder: &mut Builder<RenderNode>, mark: Option<Text>) -> Result<(),
 
 /// What a node of the document became, of this kind and with children or without, comes to the innermost open element:
 /// answers whether that keeps it.
+#[inline(always)]
 fn receive(elements: &mut Vec<Open>, kind: &NodeKind, has_children: bool) -> bool
     ensures received { elements.new.items ≡ received kind.now has_children elements.old.items }
     ensures kept { result ≡ is_kept elements.old.items kind.now }
@@ -128,6 +129,7 @@ fn receive_element(elements: &mut Vec<Open>, element: &Open, has_children: bool)
 
 /// A node without children comes to the innermost open element, and is put in front of what has been made, if that keeps
 /// it.
+#[inline(always)]
 fn put_alone(
     node: RenderNode,
     elements: &mut Vec<Open>,
