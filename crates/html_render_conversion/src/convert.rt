@@ -49,6 +49,7 @@ pub struct Open {
 
 impl Open {
     /// A child has become a node of this kind, with children or without: answers whether the element keeps that.
+    #[inline(always)]
     fn receive(&mut self, kind: &NodeKind, has_children: bool) -> bool
         ensures received { self.new ≡ record self.old { has_results = counts self.old.node.kind kind.now has_children || self.old.has_results } }
         ensures kept { result ≡ keeps self.old.node.kind kind.now }
