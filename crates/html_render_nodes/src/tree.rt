@@ -383,3 +383,5 @@ impl RenderTree {
         self.nodes
     }
 }
+
+mod dump;
