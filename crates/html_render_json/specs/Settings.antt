@@ -1,16 +1,21 @@
 -- What the calls of a configuration make of its settings.
-use Rattle.std.specs.Prelude.{true, List, [], ◌∷◌, ◌++◌, fold}
+use Rattle.std.specs.Prelude.{true, false, List, [], ◌∷◌, ◌++◌, fold}
 use Rattle.html_render_dom.specs.Rules.{rule_of}
 use Rattle.html_render_tree.specs.Decorations.{decorations}
 use Rattle.html_render_tree.specs.Rendering.{Options}
 use Rattle.html_render_json.specs.declared.configs.Setting.{Setting}
-use Rattle.html_render_json.specs.declared.configs.Setting.TheVariants.{AllowWidthOverflow, DoDecorate, AddStyleRule}
+use Rattle.html_render_json.specs.declared.configs.Setting.TheVariants.{AllowWidthOverflow, DoDecorate, AddStyleRule, LinkFootnotes}
+use Rattle.html_render_json.specs.declared.configs.Setting.TheVariants.{NoLinkWrapping, UnicodeStrikeout, EmptyImgMode}
 
 -- the settings after a call
 abbrev pub changed : {S : Type 0} → Options S → Setting → Options S
 changed options AllowWidthOverflow = record options { overflow = true }
 changed options DoDecorate = record options { rules = options.rules ++ decorations }
 changed options (AddStyleRule rule) = record options { rules = options.rules ++ rule_of rule ∷ [] }
+changed options (LinkFootnotes numbered) = record options { nodes = record options.nodes { link_footnotes = numbered } }
+changed options NoLinkWrapping = record options { nodes = record options.nodes { wrap_links = false } }
+changed options (UnicodeStrikeout strokes) = record options { nodes = record options.nodes { unicode_strikeout = strokes } }
+changed options (EmptyImgMode mode) = record options { nodes = record options.nodes { empty_images = mode } }
 
 -- the settings after calls, in order
 abbrev pub changed_by : {S : Type 0} → Options S → List Setting → Options S

@@ -8,7 +8,7 @@ ghost use Rattle.html_render_json.specs.Settings.{changed, changed_by};
 
 use crate::answers::Refusal;
 use crate::reading::{begin_named, next, next_read};
-use html_render_tree::config::Config;
+use html_render_tree::config::{Config, ImageRenderMode};
 use html_render_tree::decorate::TextDecorator;
 use html_render_tree::style::StyleRule;
 use serde::{Deserialize, Deserializer, Format, Name};
@@ -34,6 +34,8 @@ pub enum Preset {
     Plain,
     /// `["plain_no_decorate"]`.
     PlainNoDecorate,
+    /// `["rich"]`.
+    Rich,
     /// `["with_decorator",NAME]`.
     WithDecorator(DecoratorName),
 }
@@ -47,6 +49,14 @@ pub enum Setting {
     DoDecorate,
     /// `["add_style_rule",RULE]`.
     AddStyleRule(StyleRule),
+    /// `["link_footnotes",NUMBERED]`.
+    LinkFootnotes(bool),
+    /// `["no_link_wrapping"]`.
+    NoLinkWrapping,
+    /// `["unicode_strikeout",STROKES]`.
+    UnicodeStrikeout(bool),
+    /// `["empty_img_mode",MODE]`.
+    EmptyImgMode(ImageRenderMode),
 }
 
 /// The calls of a configuration.
@@ -94,12 +104,14 @@ impl<'de> Deserialize<'de> for Preset {
         let names = [
             Name::exact("plain"),
             Name::exact("plain_no_decorate"),
+            Name::exact("rich"),
             Name::exact("with_decorator"),
         ];
         let preset = match begin_named(from, &names)? {
             0 => Preset::Plain,
             1 => Preset::PlainNoDecorate,
-            2 => Preset::WithDecorator(next(alloc, from)?),
+            2 => Preset::Rich,
+            3 => Preset::WithDecorator(next(alloc, from)?),
             _ => return Err(from.unknown_variant()),
         };
         from.expect_end()?;
@@ -116,11 +128,19 @@ impl<'de> Deserialize<'de> for Setting {
             Name::exact("allow_width_overflow"),
             Name::exact("do_decorate"),
             Name::exact("add_style_rule"),
+            Name::exact("link_footnotes"),
+            Name::exact("no_link_wrapping"),
+            Name::exact("unicode_strikeout"),
+            Name::exact("empty_img_mode"),
         ];
         let setting = match begin_named(from, &names)? {
             0 => Setting::AllowWidthOverflow,
             1 => Setting::DoDecorate,
             2 => Setting::AddStyleRule(next_read(alloc, from)?),
+            3 => Setting::LinkFootnotes(next(alloc, from)?),
+            4 => Setting::NoLinkWrapping,
+            5 => Setting::UnicodeStrikeout(next(alloc, from)?),
+            6 => Setting::EmptyImgMode(next_read(alloc, from)?),
             _ => return Err(from.unknown_variant()),
         };
         from.expect_end()?;
@@ -161,6 +181,10 @@ fn with_setting<D: TextDecorator>(
         Setting::AllowWidthOverflow => Ok(config.allow_width_overflow()),
         Setting::DoDecorate => Ok(config.do_decorate(alloc)?),
         Setting::AddStyleRule(rule) => Ok(config.add_style_rule(alloc, rule)?),
+        Setting::LinkFootnotes(numbered) => Ok(config.link_footnotes(numbered)),
+        Setting::NoLinkWrapping => Ok(config.no_link_wrapping()),
+        Setting::UnicodeStrikeout(strokes) => Ok(config.unicode_strikeout(strokes)),
+        Setting::EmptyImgMode(mode) => Ok(config.empty_img_mode(mode)),
     }
 }
 

@@ -2,12 +2,14 @@
 //!
 //! `list(alloc, from)?` reads an array of what is [`Readable`], as the attributes of an element are.
 
+use html_render_tree::config::ImageRenderMode;
 use html_render_tree::dom::{Attribute, Namespace, QualName};
 use html_render_tree::style::{
     Colour, Declaration, Display, PseudoElement, Style, StyleOrigin, StyleRule, WhiteSpace,
 };
 use html_render_tree::table::Span;
-use serde::{Deserialize, Deserializer, Format, Name};
+use html_render_tree::text::Text;
+use serde::{Deserialize, Deserializer, Format, Kind, Name};
 use std::alloc::Global;
 
 /// What can be read.
@@ -183,6 +185,49 @@ impl Readable for WhiteSpace {
             &names,
             &[WhiteSpace::Normal, WhiteSpace::Pre, WhiteSpace::PreWrap],
         )
+    }
+}
+
+impl Readable for ImageRenderMode {
+    /// `IgnoreEmpty`, `ShowAlways` or `Filename`, or an array of `Replace` and a text.
+    fn read<F: Format>(
+        alloc: Global,
+        from: &mut Deserializer<'_, '_, F>,
+    ) -> Result<ImageRenderMode, F::Error> {
+        match from.peek()? {
+            Kind::Seq => replacement(alloc, from),
+            _ => mode_of_a_name(from),
+        }
+    }
+}
+
+/// An array of `Replace` and a text.
+fn replacement<F: Format>(
+    alloc: Global,
+    from: &mut Deserializer<'_, '_, F>,
+) -> Result<ImageRenderMode, F::Error> {
+    if begin_named(from, &[Name::exact("Replace")])? != 0 {
+        return Err(from.unknown_variant());
+    }
+    let text = next(alloc, from)?;
+    from.expect_end()?;
+    Ok(ImageRenderMode::Replace(Text::new(text)))
+}
+
+/// A mode without a text.
+fn mode_of_a_name<F: Format>(
+    from: &mut Deserializer<'_, '_, F>,
+) -> Result<ImageRenderMode, F::Error> {
+    let names = [
+        Name::exact("IgnoreEmpty"),
+        Name::exact("ShowAlways"),
+        Name::exact("Filename"),
+    ];
+    match from.variant(&names)? {
+        0 => Ok(ImageRenderMode::IgnoreEmpty),
+        1 => Ok(ImageRenderMode::ShowAlways),
+        2 => Ok(ImageRenderMode::Filename),
+        _ => Err(from.unknown_variant()),
     }
 }
 

@@ -11,7 +11,7 @@ use crate::answers::{Refusal, answered};
 use crate::configs::{Calls, DecoratorName, Preset, Setting, with_settings};
 use crate::decorators::{Grow, Odd};
 use crate::documents::{Document, built};
-use html_render_tree::config::{Config, plain, plain_no_decorate, with_decorator};
+use html_render_tree::config::{Config, plain, plain_no_decorate, rich, with_decorator};
 use html_render_tree::decorate::{PlainDecorator, RichDecorator, TextDecorator};
 use html_render_tree::dom::RcDom;
 use serde::Deserialize;
@@ -23,6 +23,8 @@ use std::alloc::Global;
 pub enum Want {
     /// Its text.
     String,
+    /// What its render tree is displayed as.
+    Tree,
 }
 
 /// A document, and what is wanted of it.
@@ -44,6 +46,7 @@ impl Job {
         let config = with_settings(alloc, config, self.settings)?;
         match self.want {
             Want::String => answered(alloc, &text(alloc, &config, &self.dom, self.width)?),
+            Want::Tree => answered(alloc, &tree(alloc, &config, &self.dom)?),
         }
     }
 }
@@ -64,6 +67,16 @@ fn text<D: TextDecorator>(
     Ok(config.render_to_string(alloc, tree, width)?)
 }
 
+/// What the render tree of a document is displayed as.
+fn tree<D: TextDecorator>(
+    alloc: Global,
+    config: &Config<D>,
+    dom: &RcDom,
+) -> Result<String, Refusal> {
+    let tree = config.dom_to_render_tree(alloc, dom)?;
+    Ok(tree.to_string(alloc)?)
+}
+
 /// A document under the calls of a configuration.
 pub fn answer(
     alloc: Global,
@@ -81,6 +94,7 @@ pub fn answer(
     match calls.preset {
         Preset::Plain => job.answer(alloc, plain(alloc)?),
         Preset::PlainNoDecorate => job.answer(alloc, plain_no_decorate(alloc)),
+        Preset::Rich => job.answer(alloc, rich(alloc)),
         Preset::WithDecorator(name) => match name {
             DecoratorName::Plain => job.answer(alloc, with_decorator(alloc, PlainDecorator::new())),
             DecoratorName::Rich => job.answer(alloc, with_decorator(alloc, RichDecorator::new())),
