@@ -6,7 +6,7 @@ ghost use Rattle.html_render_dom.specs.Dom.{IsNode, node_count};
 use crate::answers::Refusal;
 use crate::reading::{Readable, list};
 use html_render_tree::dom::{
-    Attribute, ElementFlags, Handle, Namespace, NodeOrText, QualName, RcDom,
+    Attribute, ElementFlags, Handle, Namespace, NodeData, NodeOrText, QualName, RcDom,
 };
 use serde::Deserialize;
 use std::alloc::Global;
@@ -66,15 +66,31 @@ pub enum Document {
     },
 }
 
-/// Puts a text behind a node's last child, as a node of its own: a comment stands between the two while it is put.
+/// Whether a node's last child is a text.
+fn ends_in_text(dom: &RcDom, node: Handle) -> bool
+    requires { IsNode dom.now node }
+{
+    match dom.child_list(node).last() {
+        Some(last) => matches!(dom.data(*last), NodeData::Text { .. }),
+        None => false,
+    }
+}
+
+/// Puts a text behind a node's last child, as a node of its own. What would join another text is made below a comment
+/// that hangs nowhere, and moved from there.
 fn append_text(alloc: Global, dom: &mut RcDom, parent: Handle, text: String) -> Result<(), Refusal>
     requires { IsNode dom.old parent }
-    ensures grows { node_count dom.old ≤ node_count dom.new }
+    ensures grows { OnOk result (node_count dom.old ≤ node_count dom.new) }
 {
-    let between = dom.create_comment(alloc, String::new(alloc))?;
-    dom.append(alloc, parent, NodeOrText::AppendNode(between))?;
-    dom.append(alloc, parent, NodeOrText::AppendText(text))?;
-    dom.remove_from_parent(between);
+    if !ends_in_text(dom, parent) {
+        dom.append(alloc, parent, NodeOrText::AppendText(text))?;
+        return Ok(());
+    }
+    // the document is named so that the proof can read that the nodes are a forest
+    let _ = dom.get_document();
+    let apart = dom.create_comment(alloc, String::new(alloc))?;
+    dom.append(alloc, apart, NodeOrText::AppendText(text))?;
+    dom.reparent_children(alloc, apart, parent)?;
     Ok(())
 }
 
