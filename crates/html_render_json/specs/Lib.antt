@@ -1,2 +1,3 @@
 pub mod Refusals
 pub mod Settings
+pub mod Own

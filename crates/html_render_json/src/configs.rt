@@ -7,6 +7,7 @@ ghost use Rattle.html_render_json.specs.Refusals.{LibraryRefuses};
 ghost use Rattle.html_render_json.specs.Settings.{changed, changed_by};
 
 use crate::answers::Refusal;
+use crate::decorators::Own;
 use crate::reading::{begin_named, next, next_read};
 use html_render_tree::config::{Config, ImageRenderMode};
 use html_render_tree::decorate::TextDecorator;
@@ -21,10 +22,8 @@ pub enum DecoratorName {
     Plain,
     /// `rich`.
     Rich,
-    /// `grow:N`: quotes stand behind N of `>`, and in a quote behind one more.
-    Grow(usize),
-    /// `odd`: an ordered list's second number is `(two)`.
-    Odd,
+    /// `grow:N` or `odd`.
+    Own(Own),
 }
 
 /// The call that makes a configuration.
@@ -74,10 +73,11 @@ impl DecoratorName {
         match name {
             "plain" => Some(DecoratorName::Plain),
             "rich" => Some(DecoratorName::Rich),
-            "odd" => Some(DecoratorName::Odd),
+            "odd" => Some(DecoratorName::Own(Own::Odd)),
             _ => {
                 let level = name.strip_prefix("grow:")?;
-                level.parse::<usize>().ok().map(DecoratorName::Grow)
+                let level = level.parse::<usize>().ok()?;
+                Some(DecoratorName::Own(Own::Grow(level)))
             }
         }
     }

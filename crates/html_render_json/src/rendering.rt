@@ -9,7 +9,6 @@ ghost use Rattle.html_render_json.specs.Refusals.{LibraryRefuses};
 
 use crate::answers::{Refusal, answered};
 use crate::configs::{Calls, DecoratorName, Preset, Setting, with_settings};
-use crate::decorators::{Grow, Odd};
 use crate::documents::{Document, built};
 use html_render_tree::config::{Config, plain, plain_no_decorate, rich, with_decorator};
 use html_render_tree::decorate::{PlainDecorator, RichDecorator, TextDecorator};
@@ -98,8 +97,7 @@ pub fn answer(
         Preset::WithDecorator(name) => match name {
             DecoratorName::Plain => job.answer(alloc, with_decorator(alloc, PlainDecorator::new())),
             DecoratorName::Rich => job.answer(alloc, with_decorator(alloc, RichDecorator::new())),
-            DecoratorName::Grow(level) => job.answer(alloc, with_decorator(alloc, Grow { level })),
-            DecoratorName::Odd => job.answer(alloc, with_decorator(alloc, Odd)),
+            DecoratorName::Own(own) => job.answer(alloc, with_decorator(alloc, own)),
         },
     }
 }
