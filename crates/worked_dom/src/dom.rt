@@ -7,8 +7,10 @@ ghost use Rattle.html_render_dom.specs.Edits.{CanAppend};
 mod dumps;
 mod edits;
 mod moves;
+mod pages;
 mod paths;
 
+use self::pages::play;
 use html_render_dom::dom::{
     Attribute, ElementFlags, Handle, Namespace, NodeData, NodeOrText, QualName, RcDom,
 };
@@ -23,29 +25,6 @@ fn string(alloc: Global, text: &str) -> Result<String, AllocError> {
 /// An HTML name.
 fn html_name(alloc: Global, local: &str) -> Result<QualName, AllocError> {
     Ok(QualName::html(string(alloc, local)?))
-}
-
-/// An element of HTML, without attributes, which hangs nowhere.
-fn element(alloc: Global, dom: &mut RcDom, local: &str) -> Result<Handle, Fail> {
-    let name = html_name(alloc, local)?;
-    Ok(dom.create_element(alloc, name, Vec::new(alloc), ElementFlags::default())?)
-}
-
-/// Puts the child last, where it may be put.
-fn put(alloc: Global, dom: &mut RcDom, parent: Handle, child: Handle) -> Result<(), Fail> {
-    if !can_append(dom, parent, child) {
-        return Err(Fail::from("can't be appended"));
-    }
-    Ok(dom.append(alloc, parent, NodeOrText::AppendNode(child))?)
-}
-
-/// Puts a text last.
-fn put_text(alloc: Global, dom: &mut RcDom, parent: Handle, text: &str) -> Result<(), Fail> {
-    if !dom.is_node(parent) {
-        return Err(Fail::from("no node"));
-    }
-    let text = string(alloc, text)?;
-    Ok(dom.append(alloc, parent, NodeOrText::AppendText(text))?)
 }
 
 /// Whether the child may be put last below the parent, by the public tests of conditions.
@@ -74,17 +53,13 @@ fn put_element(
     Ok(child)
 }
 
-/// What the children say, each behind a space: texts, and the local names of elements.
-fn labels(alloc: Global, dom: &RcDom, node: Handle) -> Result<String, Fail> {
-    let mut all = String::new(alloc);
-    if !dom.is_node(node) {
-        return Err(Fail::from("no node"));
+/// Puts so many elements below the document, one in the other, and answers the innermost.
+fn nest(alloc: Global, dom: &mut RcDom, levels: usize) -> Result<Handle, Fail> {
+    let mut innermost = dom.get_document();
+    for _ in 0..levels {
+        innermost = put_element(alloc, dom, innermost, "div")?;
     }
-    for child in dom.child_list(node) {
-        all.push(' ')?;
-        all.push_str(label(dom, *child))?;
-    }
-    Ok(all)
+    Ok(innermost)
 }
 
 /// The text of a text node, and the local name of an element.
@@ -99,121 +74,112 @@ fn label<'a>(dom: &'a RcDom, node: Handle) -> &'a str {
     }
 }
 
+/// A new document.
+const ALONE: &str = "\
+kind document = document
+children document = nothing
+parent document = none
+is_element document = no
+";
+
 #[test]
 fn a_new_document_is_alone(rt: HostRuntime) -> Result<(), Fail> {
-    let dom = RcDom::new(rt.alloc())?;
-    let document = dom.get_document();
-    assert!(rt; matches!(dom.data(document), NodeData::Document));
-    assert!(rt; dom.child_list(document).is_empty());
-    assert_eq!(rt; dom.get_parent(document), None);
-    assert!(rt; !dom.is_element(document));
-    Ok(())
+    play(&rt, rt.alloc(), ALONE)
 }
+
+/// Nodes and texts that are put last.
+const APPENDED: &str = "\
+element body
+put document body
+text body a
+text body b
+element em
+put body em
+text body c
+nodes document = [body]
+children document = [body]
+children body = [ab][em][c]
+nodes body = [?][em][?]
+hangs em = yes
+is_element em = yes
+contains document em = yes
+contains em em = yes
+contains em body = no
+";
 
 #[test]
 fn appended_nodes_and_texts_stand_in_order(rt: HostRuntime) -> Result<(), Fail> {
-    let alloc = rt.alloc();
-    let mut dom = RcDom::new(alloc)?;
-    let document = dom.get_document();
-    let body = dom.create_element(
-        alloc,
-        html_name(alloc, "body")?,
-        Vec::new(alloc),
-        ElementFlags::default(),
-    )?;
-    dom.append(alloc, document, NodeOrText::AppendNode(body))?;
-    dom.append(alloc, body, NodeOrText::AppendText(string(alloc, "a")?))?;
-    dom.append(alloc, body, NodeOrText::AppendText(string(alloc, "b")?))?;
-    let em = dom.create_element(
-        alloc,
-        html_name(alloc, "em")?,
-        Vec::new(alloc),
-        ElementFlags::default(),
-    )?;
-    dom.append(alloc, body, NodeOrText::AppendNode(em))?;
-    dom.append(alloc, body, NodeOrText::AppendText(string(alloc, "c")?))?;
-    assert_eq!(rt; dom.child_list(document), [body].as_slice());
-    let children = dom.children(alloc, body)?;
-    assert_eq!(rt; children.len(), 3);
-    assert_eq!(rt; label(&dom, children[0]), "ab");
-    assert_eq!(rt; label(&dom, children[1]), "em");
-    assert_eq!(rt; label(&dom, children[2]), "c");
-    assert_eq!(rt; children[1], em);
-    assert!(rt; dom.has_parent(em));
-    assert!(rt; dom.is_element(em));
-    assert!(rt; dom.is_inclusive_ancestor(document, em));
-    assert!(rt; dom.is_inclusive_ancestor(em, em));
-    assert!(rt; !dom.is_inclusive_ancestor(em, body));
-    Ok(())
+    play(&rt, rt.alloc(), APPENDED)
 }
+
+/// A template, and its contents.
+const TEMPLATE: &str = "\
+template template
+is_template template = yes
+kind contents = document
+children contents = nothing
+hangs contents = no
+hangs template = no
+add contents p
+children contents = [p]
+children template = nothing
+is_template p = no
+";
 
 #[test]
 fn a_template_has_contents_of_its_own(rt: HostRuntime) -> Result<(), Fail> {
-    let alloc = rt.alloc();
-    let mut dom = RcDom::new(alloc)?;
-    let flags = ElementFlags {
-        template: true,
-        mathml_annotation_xml_integration_point: false,
-    };
-    let template = dom.create_element(
-        alloc,
-        html_name(alloc, "template")?,
-        Vec::new(alloc),
-        flags,
-    )?;
-    if !dom.is_template(template) {
-        return Err(Fail::from("no template"));
-    }
-    let contents = dom.get_template_contents(template);
-    assert!(rt; matches!(dom.data(contents), NodeData::Document));
-    assert!(rt; dom.child_list(contents).is_empty());
-    assert!(rt; !dom.has_parent(contents));
-    assert!(rt; !dom.has_parent(template));
-    let p = put_element(alloc, &mut dom, contents, "p")?;
-    assert_eq!(rt; labels(alloc, &dom, contents)?.as_str(), " p");
-    assert_eq!(rt; labels(alloc, &dom, template)?.as_str(), "");
-    assert!(rt; !dom.is_template(p));
-    Ok(())
+    play(&rt, rt.alloc(), TEMPLATE)
 }
+
+/// An element with a text.
+const NAMES: &str = "\
+add document p
+text p x
+name p = p
+first p text
+name text = none
+";
 
 #[test]
 fn an_element_has_a_name_and_a_text_has_none(rt: HostRuntime) -> Result<(), Fail> {
-    let alloc = rt.alloc();
-    let mut dom = RcDom::new(alloc)?;
-    let document = dom.get_document();
-    let p = put_element(alloc, &mut dom, document, "p")?;
-    put_text(alloc, &mut dom, p, "x")?;
-    if !dom.is_node(p) {
-        return Err(Fail::from("no node"));
-    }
-    let name = dom.element_name(alloc, p)?.ok_or("no name")?;
-    assert_eq!(rt; name.as_str(), "p");
-    let text = *dom.child_list(p).first().ok_or("no child")?;
-    if !dom.is_node(text) {
-        return Err(Fail::from("no node"));
-    }
-    assert!(rt; dom.element_name(alloc, text)?.is_none());
-    Ok(())
+    play(&rt, rt.alloc(), NAMES)
+}
+
+/// Whether other namespaces of these addresses are equal.
+fn are_equal_addresses(alloc: Global, a: &str, b: &str) -> Result<bool, AllocError> {
+    Ok(Namespace::Other(string(alloc, a)?) == Namespace::Other(string(alloc, b)?))
+}
+
+/// Whether these HTML names are equal.
+fn are_equal_names(alloc: Global, a: &str, b: &str) -> Result<bool, AllocError> {
+    Ok(html_name(alloc, a)? == html_name(alloc, b)?)
+}
+
+/// An attribute of this value.
+fn id(alloc: Global, value: &str) -> Result<Attribute, AllocError> {
+    Ok(Attribute {
+        name: html_name(alloc, "id")?,
+        value: string(alloc, value)?,
+    })
+}
+
+/// Whether attributes of these values are equal.
+fn are_equal_ids(alloc: Global, a: &str, b: &str) -> Result<bool, AllocError> {
+    Ok(id(alloc, a)? == id(alloc, b)?)
 }
 
 #[test]
 fn names_are_equal_by_what_they_say(rt: HostRuntime) -> Result<(), Fail> {
-    let alloc = rt.alloc();
-    let other = |address: &str| -> Result<Namespace, AllocError> {
-        Ok(Namespace::Other(string(alloc, address)?))
-    };
-    assert!(rt; other("a")? == other("a")?);
-    assert!(rt; other("a")? != other("b")?);
-    assert!(rt; other("")? != Namespace::None);
-    assert!(rt; Namespace::Svg != Namespace::Html);
-    assert!(rt; html_name(alloc, "p")? == html_name(alloc, "p")?);
-    let id = |value: &str| -> Result<Attribute, AllocError> {
-        Ok(Attribute {
-            name: html_name(alloc, "id")?,
-            value: string(alloc, value)?,
-        })
-    };
-    assert!(rt; id("a")? == id("a")?);
-    assert!(rt; id("a")? != id("b")?);
+    for (a, b) in [("a", "a"), ("a", "b")] {
+        assert_eq!(rt; are_equal_addresses(rt.alloc(), a, b)?, a == b);
+        assert_eq!(rt; are_equal_names(rt.alloc(), a, b)?, a == b);
+        assert_eq!(rt; are_equal_ids(rt.alloc(), a, b)?, a == b);
+    }
     Ok(())
+}
+
+#[test]
+fn namespaces_differ(rt: HostRuntime) {
+    assert!(rt; Namespace::Other(String::new(rt.alloc())) != Namespace::None);
+    assert!(rt; Namespace::Svg != Namespace::Html);
 }
