@@ -15,9 +15,9 @@ ghost use Rattle.html_render_conversion.specs.declared.convert.Open.{Open};
 ghost use Rattle.html_render_nodes.specs.Splits.{SplitAt};
 
 use crate::kinds::{counts, holds_insertions, keeps};
-use crate::mapping::{IfEmpty, Outline, outline_of};
+use crate::mapping::{IfEmpty, Outline, outline_of, text_node};
 use html_render_dom::Error;
-use html_render_dom::dom::{Handle, RcDom};
+use html_render_dom::dom::{Handle, NodeData, RcDom};
 use html_render_dom::style::StyleRule;
 use html_render_dom::text::Text;
 use html_render_nodes::tree::{Builder, NodeKind, RenderNode, RenderTree};
@@ -161,6 +161,10 @@ fn open_node(
         ≡ open_node dom.now handle (outline_at (map rule_of rules.now) dom.now handle) (progress elements.old builder.old)) }
     ensures err { IfErr result (λ e. e ≡ Error.OutOfMemory) }
 {
+    // most nodes are texts, so these take the shortest way
+    if let NodeData::Text { contents } = dom.data(handle) {
+        return put_alone(text_node(contents)?, elements, builder);
+    }
     match outline_of(alloc, rules, dom, handle)? {
         Outline::Nothing => {}
         Outline::Alone(node) => put_alone(node, elements, builder)?,

@@ -8,6 +8,7 @@ ghost use Rattle.html_render_dom.specs.ElementStyle.{element_style, style_by, st
 ghost use Rattle.html_render_dom.specs.Rules.{rule_of};
 ghost use Rattle.html_render_dom.specs.Selectors.{first_value};
 ghost use Rattle.html_render_conversion.specs.Images.{image_parts};
+ghost use Rattle.html_render_conversion.specs.Insertion.{text_node};
 ghost use Rattle.html_render_conversion.specs.Marks.{mark_of};
 ghost use Rattle.html_render_conversion.specs.Conversion.{html_mapping, html_element_mapping, element_mapping, link_mapping, image_mapping, node_style};
 ghost use Rattle.html_render_conversion.specs.Converting.{mark_alone, styled_outline, outline_at};
@@ -270,6 +271,19 @@ fn element_outline(
     Ok(styled_outline(mapping, mark, style))
 }
 
+/// What becomes of a text.
+///
+/// # Errors
+///
+/// `OutOfMemory`.
+pub fn text_node(contents: &String) -> Result<RenderNode, Error>
+    ensures ok { IfOk result (λ node. node ≡ text_node (string_bytes contents.now)) }
+    ensures err { IfErr result (λ e. e ≡ Error.OutOfMemory) }
+{
+    let text = Text::new(contents.clone()?);
+    Ok(RenderNode::from(NodeKind::Text(text)))
+}
+
 /// What becomes of a node of a document, its children aside.
 ///
 /// # Errors
@@ -295,10 +309,7 @@ pub fn outline_of(
             before: None,
             after: None,
         }),
-        NodeData::Text { contents } => {
-            let text = Text::new(contents.clone()?);
-            Ok(Outline::Alone(RenderNode::from(NodeKind::Text(text))))
-        }
+        NodeData::Text { contents } => Ok(Outline::Alone(text_node(contents)?)),
         NodeData::Element { name, attrs, .. } => {
             let mapping = element_mapping(alloc, dom, node, name, attrs.as_slice())?;
             element_outline(alloc, rules, mapping, name, attrs.as_slice())
