@@ -15,11 +15,21 @@ fn push_line<T: Tag, M: Copy>(text: &mut String, line: &Line<T, M>) -> Result<()
     text.push('\n')
 }
 
+/// About as many bytes as the string of some lines takes: one for each column, and a few for each line.
+fn room_for<T: Tag, M: Copy>(lines: &[Line<T, M>]) -> usize {
+    let mut room = 0usize;
+    for line in lines {
+        let columns = line.columns().unwrap_or(0);
+        room = room.saturating_add(columns).saturating_add(4);
+    }
+    room
+}
+
 /// The string of some lines: each line's characters, and a newline.
 pub fn string_of<T: Tag, M: Copy>(alloc: Global, lines: &[Line<T, M>]) -> Result<String, AllocError>
     ensures { IfOk result (λ text. string_bytes text ≡ text_of lines.now) }
 {
-    let mut text = String::new(alloc);
+    let mut text = String::with_capacity(alloc, room_for(lines))?;
     for line in lines {
         push_line(&mut text, line)?;
     }
