@@ -14,12 +14,17 @@ use html_render_dom::text::Text;
 use html_render_parts::decorate::TextDecorator;
 use std::alloc::{AllocError, Global};
 
+/// As many bytes as the number of a link takes in a footnote, with what is round it.
+const NUMBER_ROOM: usize = 24;
+
 /// The number of a link and its target.
 #[tactic(auto, using(crate::proofs::Ending::joined))]
 fn footnote(alloc: Global, number: usize, target: &Text) -> Result<String, AllocError>
     ensures { IfOk result (λ text. string_bytes text ≡ footnote number target.now) }
 {
-    let mut text = format!(in alloc; "[{number}]: ")?;
+    let room = target.as_str().len().saturating_add(NUMBER_ROOM);
+    let mut text = String::with_capacity(alloc, room)?;
+    write!(text, "[{number}]: ")?;
     text.push_str(target.as_str())?;
     Ok(text)
 }
