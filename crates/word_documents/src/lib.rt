@@ -3,7 +3,7 @@
 //! `document(alloc, '/', "<p/a/<em/b")?` is a document of a `p` that holds `a` and an `em` with `b`.
 #![tactic(auto)]
 
-ghost use Rattle.std.specs.Prelude.{◌≡◌, IfOk, IfErr};
+ghost use Rattle.std.specs.Prelude.{IfOk};
 ghost use Rattle.html_render_dom.specs.Dom.{IsNode};
 
 use html_render_dom::Error;
@@ -89,9 +89,7 @@ fn taken(alloc: Global, dom: &mut RcDom, current: Handle, word: &str) -> Result<
 /// # Errors
 ///
 /// `OutOfMemory`.
-pub fn document(alloc: Global, between: char, words: &str) -> Result<RcDom, Error>
-    ensures err { IfErr result (λ e. e ≡ Error.OutOfMemory) }
-{
+pub fn document(alloc: Global, between: char, words: &str) -> Result<RcDom, Error> {
     let mut dom = RcDom::new(alloc)?;
     let mut current = dom.get_document();
     for word in words.split(between) {
