@@ -1,7 +1,7 @@
 //! Decorators of one's own with annotations that may be equal though not the same, and with sub-blocks that answer
 //! otherwise.
 
-ghost use Rattle.std.specs.Prelude.{◌+◌, ◌-◌, ◌^◌, codes, length, min};
+ghost use Rattle.std.specs.Prelude.{◌+◌, ◌-◌, ◌^◌, [], codes, length, min};
 ghost use Rattle.std.proofs.Common.{rules};
 ghost use Rattle.std.specs.List.{repeat};
 ghost use Rattle.html_render_tree.specs.Decorators.{plain};
