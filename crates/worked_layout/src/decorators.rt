@@ -91,42 +91,67 @@ fn innermost<D: TextDecorator>(alloc: Global, decorator: &D) -> Result<D, Error>
         .make_subblock_decorator(alloc)
 }
 
+/// The signs of a decorator: what begins and what ends the parts of a document.
+fn signs<D: TextDecorator>(alloc: Global, decorator: &D) -> Result<String, Fail> {
+    let starts = starts(alloc, decorator)?;
+    let mut signs = shown(alloc, &starts.texts)?;
+    signs.push(' ')?;
+    signs.push_str(ends(alloc, decorator)?.as_str())?;
+    Ok(signs)
+}
+
 #[test]
 fn plain_text_has_signs(rt: HostRuntime) -> Result<(), Fail> {
-    let alloc = rt.alloc();
-    let plain = PlainDecorator::new();
-    let starts = starts(alloc, &plain)?;
-    assert_eq!(rt; shown(alloc, &starts.texts)?.as_str(), "[|||||^{|[t]|");
-    assert_eq!(rt; ends(alloc, &plain)?.as_str(), "]|||||}|");
+    let signs = signs(rt.alloc(), &PlainDecorator::new())?;
+    assert_eq!(rt; signs.as_str(), "[|||||^{|[t]| ]|||||}|");
     Ok(())
+}
+
+#[test]
+fn rich_text_has_signs_of_superscripts_alone(rt: HostRuntime) -> Result<(), Fail> {
+    let signs = signs(rt.alloc(), &RichDecorator::new())?;
+    assert_eq!(rt; signs.as_str(), "|||||^{|t| |||||}|");
+    Ok(())
+}
+
+/// The annotations of rich text, in the order of `starts`.
+fn annotations(alloc: Global) -> Result<Vec<RichAnnotation>, Error> {
+    let mut annotations = Vec::new(alloc);
+    annotations.push(RichAnnotation::Link(text(alloc, "u")?))?;
+    annotations.push(RichAnnotation::Emphasis)?;
+    annotations.push(RichAnnotation::Strong)?;
+    annotations.push(RichAnnotation::Strikeout)?;
+    annotations.push(RichAnnotation::Code)?;
+    annotations.push(RichAnnotation::default())?;
+    annotations.push(RichAnnotation::Image(text(alloc, "s")?))?;
+    Ok(annotations)
 }
 
 #[test]
 fn rich_text_has_annotations(rt: HostRuntime) -> Result<(), Fail> {
     let alloc = rt.alloc();
-    let rich = RichDecorator::new();
-    let starts = starts(alloc, &rich)?;
-    assert_eq!(rt; shown(alloc, &starts.texts)?.as_str(), "|||||^{|t|");
-    let wanted = [
-        RichAnnotation::Link(text(alloc, "u")?),
-        RichAnnotation::Emphasis,
-        RichAnnotation::Strong,
-        RichAnnotation::Strikeout,
-        RichAnnotation::Code,
-        RichAnnotation::default(),
-        RichAnnotation::Image(text(alloc, "s")?),
-    ];
-    assert_eq!(rt; starts.annotations.as_slice(), wanted.as_slice());
-    assert_eq!(rt; ends(alloc, &rich)?.as_str(), "|||||}|");
+    let starts = starts(alloc, &RichDecorator::new())?;
+    assert_eq!(rt;
+        starts.annotations.as_slice(),
+        annotations(alloc)?.as_slice()
+    );
+    Ok(())
+}
+
+/// Prefixes in the order of `prefixes`.
+const PREFIXES: &str = " |### |> |* |10. |-1. |9223372036854775807. |-9223372036854775808. |";
+
+#[test]
+fn plain_text_has_its_prefixes(rt: HostRuntime) -> Result<(), Fail> {
+    let prefixes = prefixes(rt.alloc(), &PlainDecorator::new())?;
+    assert_eq!(rt; prefixes.as_str(), PREFIXES);
     Ok(())
 }
 
 #[test]
-fn both_have_the_same_prefixes(rt: HostRuntime) -> Result<(), Fail> {
-    let alloc = rt.alloc();
-    let wanted = " |### |> |* |10. |-1. |9223372036854775807. |-9223372036854775808. |";
-    assert_eq!(rt; prefixes(alloc, &PlainDecorator::new())?.as_str(), wanted);
-    assert_eq!(rt; prefixes(alloc, &RichDecorator::new())?.as_str(), wanted);
+fn rich_text_has_the_same_prefixes(rt: HostRuntime) -> Result<(), Fail> {
+    let prefixes = prefixes(rt.alloc(), &RichDecorator::new())?;
+    assert_eq!(rt; prefixes.as_str(), PREFIXES);
     Ok(())
 }
 
