@@ -1,10 +1,9 @@
 //! Layouts: the lines of trees, what is counted of the walk, and what characters are annotated with.
 
 mod signs;
-mod trees;
 
 use self::signs::Signs;
-use self::trees::{emphases, item, sample, tree};
+use crate::trees::tree;
 use html_render_dom::Error;
 use html_render_layout::layout::{lay_out, lay_out_untagged};
 use html_render_layout::settings::LayoutSettings;
@@ -83,6 +82,26 @@ fn untagged(
     }
 }
 
+/// The steps that build a tree of a name.
+fn steps(name: &str) -> Result<&'static str, Fail> {
+    Ok(match name {
+        // a block of `ab cd`; a part of a text, a break, a text and a container of a text
+        "sample" => "\"g;container<;\" f ;break;\"e;div<;block(ab cd",
+        "wide" => "\"a世b",
+        // `a`, and strong text of `b` and an emphasis of the code `c`
+        "emphases" => "\"c;code<;em<;\"b;strong<;\"a",
+        "quote" => "\"e;quote(ab cd",
+        "heading" => "\"e;h 2(ab cd",
+        // a list whose item is `ab` and a list of `cd`
+        "lists" => "item(cd;ul<;\"ab;item<;ul<",
+        "item" => "item(ab cd;ul<",
+        "numbers" => "item(cd;item(ab;ol 9<",
+        "largest" => "item(cd;item(ab;ol 9223372036854775807<",
+        "terms" => "dd(cd ef;dt(ab;dl<",
+        _ => return Err(Fail::from("no tree")),
+    })
+}
+
 /// A tree has the lines that a case says, with annotations and without: the tree's name, the width, and `overflow`, where
 /// there is any, stand before `|`, and behind it the lines, each with `/` at its end.
 fn has_its_lines(rt: &impl Abort, alloc: Global, case: &str) -> Result<(), Fail> {
@@ -92,9 +111,10 @@ fn has_its_lines(rt: &impl Abort, alloc: Global, case: &str) -> Result<(), Fail>
         Some((width, _)) => (width.parse()?, true),
         None => (size.parse()?, false),
     };
-    let lines = annotated(alloc, tree(alloc, name)?, width, overflow)?;
+    let steps = steps(name)?;
+    let lines = annotated(alloc, tree(alloc, steps)?, width, overflow)?;
     assert_eq!(rt; lines.as_str(), wanted, "{case}");
-    let lines = untagged(alloc, tree(alloc, name)?, width, overflow)?;
+    let lines = untagged(alloc, tree(alloc, steps)?, width, overflow)?;
     assert_eq!(rt; lines.as_str(), wanted, "without annotations: {case}");
     Ok(())
 }
@@ -157,12 +177,12 @@ fn lines_stand_behind_prefixes(rt: HostRuntime) -> Result<(), Fail> {
 }
 
 /// What the lines of an item `ab cd` say behind so many stars and a space, where one word has room.
-fn shown_behind_stars(alloc: Global, stars: usize) -> Result<String, Error> {
+fn shown_behind_stars(alloc: Global, stars: usize) -> Result<String, Fail> {
     let signs = Signs { stars };
     let lines = lay_out_untagged(
         alloc,
         &signs,
-        item(alloc)?,
+        tree(alloc, steps("item")?)?,
         stars.saturating_add(4),
         false,
         &LayoutSettings::default(),
@@ -185,7 +205,7 @@ fn spaces_are_as_many_as_a_prefix_has_columns(rt: HostRuntime) -> Result<(), Fai
 #[test]
 fn counts_its_walk(rt: HostRuntime) -> Result<(), Fail> {
     let alloc = rt.alloc();
-    let tree = sample(alloc)?;
+    let tree = tree(alloc, steps("sample")?)?;
     let mut meter = meter();
     let _laid_out = lay_out(
         alloc,
@@ -230,7 +250,7 @@ fn tags(alloc: Global, lines: &[Line<usize, usize>]) -> Result<String, Fail> {
 #[test]
 fn emphasis_is_annotated(rt: HostRuntime) -> Result<(), Fail> {
     let alloc = rt.alloc();
-    let tree = emphases(alloc)?;
+    let tree = tree(alloc, steps("emphases")?)?;
     let laid_out = lay_out(
         alloc,
         &SIGNS,

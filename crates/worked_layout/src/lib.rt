@@ -12,4 +12,6 @@ mod estimates;
 #[cfg(test)]
 mod layouts;
 #[cfg(test)]
+mod trees;
+#[cfg(test)]
 mod walks;

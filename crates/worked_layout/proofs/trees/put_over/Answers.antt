@@ -1,5 +1,5 @@
 use Rattle.html_render_dom.specs.Forest.{none, node}
-use Rattle.worked_layout.proofs.layouts.trees.put_over.Goals as goal
+use Rattle.worked_layout.proofs.trees.put_over.Goals as goal
 
 pub enclose-requires : goal.enclose-requires
 enclose-requires c =
