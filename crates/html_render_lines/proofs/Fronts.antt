@@ -1,5 +1,5 @@
 -- Fronts of a text that are put on a line as a whole.
-use Rattle.std.proofs.Common.{◌≡◌, ℕ, ◌+◌, ◌-◌, ◌<◌, true, List, [], ◌∷◌, ◌++◌, map, take, drop, length, ap, ◌∙◌, sym, subst, arith}
+use Rattle.std.proofs.Common.{◌≡◌, ℕ, ◌+◌, ◌-◌, ◌<◌, true, List, [], ◌∷◌, ◌++◌, map, take, drop, length, ap, ◌∙◌, sym, subst, arith, refl, ◌≤◌}
 use Rattle.std.proofs.Common.{option_and_then, length-append}
 use Rattle.std.proofs.lemmas.List.{take-append-drop, take-append-le, take_all, map-append, length-drop}
 use Rattle.std.proofs.lemmas.List.Sums.{sum_by-append}
@@ -11,13 +11,16 @@ use Rattle.std.specs.Str.{chars, IsUtf8, IsCharBoundary}
 use Rattle.html_render_lines.specs.declared.character.Item.TheVariants as item
 use Rattle.html_render_lines.specs.declared.character.TextStyle.{TextStyle}
 use Rattle.html_render_lines.specs.declared.line.Element.TheVariants as element
-use Rattle.html_render_lines.specs.Character.{width_of}
+use Rattle.html_render_dom.specs.declared.style.WhiteSpace.TheVariants.{Normal}
+use Rattle.html_render_lines.specs.Character.{width_of, is_plain}
+use Rattle.std.specs.List.{list_all}
 use Rattle.html_render_lines.specs.Feeding.{IsFront}
 use Rattle.html_render_lines.specs.Paragraph.{Page, Setting, fits, put_items}
 use Rattle.html_render_lines.specs.Stream.{character_of, styled}
 use Rattle.html_render_lines.specs.TaggedText.{text_columns, under, style_tag}
 use Rattle.html_render_lines.proofs.TaggedTexts.{chars-one}
 use Rattle.html_render_lines.proofs.WordColumns.{put_items-append}
+use Rattle.html_render_lines.proofs.Letters.{plain-letters}
 use Rattle.html_render_lines.proofs.Words.{put_items-text}
 
 pub no-front : (bs : List ℕ) → IsUtf8 bs → IsFront bs 0 0
@@ -26,6 +29,29 @@ no-front bs u = record {
   boundary = IsCharBoundary-start bs u;
   columns = sym (ap text_columns chars-nil);
 }
+
+-- a front, and so many bytes of the rest
+pub more-front : (bs : List ℕ) (n k w v : ℕ) → IsUtf8 bs → IsFront bs n w → IsFront (drop n bs) k v → IsFront bs (n + k) (w + v)
+more-front bs n k w v u front rest =
+    let whole : chars (take (n + k) bs) ≡ chars (take n bs) ++ chars (take k (drop n bs)) =
+    ap chars (take-add n k bs) ∙ chars-append (take n bs) (take k (drop n bs)) (IsUtf8-take bs n u front.boundary) in
+    record {
+      within = omega (arith, front.within, rest.within, length-drop n bs);
+      boundary = IsCharBoundary-from_rest bs n k front.within rest.boundary;
+      columns = omega (
+        arith,
+        front.columns,
+        rest.columns,
+        ap text_columns whole,
+        sum_by-append width_of (chars (take n bs)) (chars (take k (drop n bs))),
+      );
+    }
+
+-- printable ASCII characters
+pub plain-front : (bs : List ℕ) (n : ℕ) → IsUtf8 bs → list_all is_plain (take n bs) ≡ true → n ≤ length bs → IsFront bs n n
+plain-front bs n u e within =
+    let letters = plain-letters Normal bs n refl u e within in
+    record { within = letters.within; boundary = letters.boundary; columns = letters.columns }
 
 -- a front with the character behind it
 pub next-front : (bs rest : List ℕ) (n w c v : ℕ) → IsUtf8 bs → IsFront bs n w → drop n bs ≡ encode_utf8 c ++ rest → IsUtf8 rest →

@@ -336,7 +336,7 @@ fn has_space_at(text: &[u8], at: usize) -> bool
 
 /// How many letters of one byte and one column stand in front.
 #[inline]
-fn plain_in_front(text: &[u8]) -> usize
+pub(super) fn plain_in_front(text: &[u8]) -> usize
     ensures within { result ≤ length text.now }
     ensures plain { list_all is_plain (take result text.now) ≡ true }
 {

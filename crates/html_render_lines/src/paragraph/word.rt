@@ -14,6 +14,7 @@ ghost use Rattle.html_render_lines.specs.Feeding.{IsFront, placed_text, put_runs
 
 use crate::character::{Character, TextStyle, width_of};
 use crate::line::{Element, Run, Word, push_word, style_tag};
+use crate::paragraph::feeding::plain_in_front;
 use crate::paragraph::{OpenWord, Paragraph};
 use crate::tag::Tag;
 use html_render_dom::Error;
@@ -316,6 +317,52 @@ pub(super) fn character_of<T: Copy>(c: char, style: TextStyle<T>) -> Character<T
     }
 }
 
+/// The printable ASCII characters at the front of a text, at most so many.
+#[inline]
+fn plain_front(text: &str, room: usize) -> usize
+    ensures front { IsFront text.now result result }
+    ensures fits { result ≤ room }
+{
+    let bytes = text.as_bytes();
+    plain_in_front(&bytes[..room.min(bytes.len())])
+}
+
+/// The first character of a text, if it has at most so many columns.
+fn first_front(text: &str, room: usize) -> Front
+    requires { 0 < length text.now }
+    ensures front { IsFront text.now result.bytes result.columns }
+    ensures fits { result.columns ≤ room }
+{
+    let (c, behind) = split_first_character(text);
+    let width = width_of(c);
+    if width > room {
+        return Front {
+            bytes: 0,
+            columns: 0,
+        };
+    }
+    Front {
+        bytes: text.len() - behind.len(),
+        columns: width,
+    }
+}
+
+/// A front of a text that has at most so many columns: its printable ASCII characters, or else its first character.
+fn next_front(text: &str, room: usize) -> Front
+    requires { 0 < length text.now }
+    ensures front { IsFront text.now result.bytes result.columns }
+    ensures fits { result.columns ≤ room }
+{
+    let plain = plain_front(text, room);
+    if plain == 0 {
+        return first_front(text, room);
+    }
+    Front {
+        bytes: plain,
+        columns: plain,
+    }
+}
+
 /// The longest front of a text that has at most so many columns.
 fn longest_front(text: &str, room: usize) -> Front
     ensures front { IsFront text.now result.bytes result.columns }
@@ -324,13 +371,12 @@ fn longest_front(text: &str, room: usize) -> Front
     let mut bytes = 0;
     let mut columns: usize = 0;
     while bytes < text.len() {
-        let (c, behind) = split_first_character(&text[bytes..]);
-        let width = width_of(c);
-        if width > room - columns {
+        let next = next_front(&text[bytes..], room - columns);
+        if next.bytes == 0 {
             break;
         }
-        columns += width;
-        bytes = text.len() - behind.len();
+        bytes += next.bytes;
+        columns += next.columns;
     }
     Front { bytes, columns }
 }
