@@ -1,2 +1,3 @@
 pub mod Building
 pub mod Walking
+mod Dumps

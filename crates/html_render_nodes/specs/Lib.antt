@@ -2,6 +2,9 @@
 pub mod RenderNodes
 pub mod Preorder
 pub mod Splits
+-- its dump
+pub mod Dump
+pub mod Dumping
 -- the walk: what a pass computes, and what the walk counts
 pub mod Pass
 pub mod Counts

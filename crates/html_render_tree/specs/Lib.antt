@@ -9,6 +9,8 @@ pub mod Scripts
 -- which render tree a document becomes
 pub use Rattle.html_render_conversion.specs.Insertion
 pub use Rattle.html_render_conversion.specs.Conversion
+-- what a render tree is displayed as
+pub use Rattle.html_render_nodes.specs.Dump
 -- what a decorator answers, and what those of plain and of rich text do, for callers that implement one
 pub use Rattle.html_render_parts.specs.Decoration
 pub use Rattle.html_render_parts.specs.Decorators
