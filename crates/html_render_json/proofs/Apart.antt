@@ -1,6 +1,6 @@
 -- A text below a comment that hangs nowhere: the comment is above no older node.
-use Rattle.std.proofs.Common.{◌≡◌, ◌≢◌, ℕ, ◌<◌, ◌≤◌, ◌+◌, List, [], ◌∷◌, ◌++◌, length, Some, None, refl, sym, ap, ◌∙◌, subst, arith, length-append}
-use Rattle.std.proofs.lemmas.List.{get_or_append_left, get_or-append-add, get_or-set_other, length-set}
+use Rattle.std.proofs.Common.{◌≡◌, ℕ, ◌<◌, ◌+◌, List, [], ◌∷◌, ◌++◌, length, Some, refl, sym, ap, ◌∙◌, subst, arith, length-append}
+use Rattle.std.proofs.lemmas.List.{get_or_append_left, get_or-append-add, get_or-set_other}
 use Rattle.html_render_dom.specs.Content.{Content, document, text}
 use Rattle.html_render_dom.specs.Dom.{Node, Dom, IsForest, IsNode, IsInclusiveAncestor, itself, above, lone, node_in, node_count, parent_at}
 use Rattle.html_render_dom.specs.Edits.{attached_new, created, last_text, text_put, with_children}

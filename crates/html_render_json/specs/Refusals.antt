@@ -1,5 +1,4 @@
 -- What a refusal says of what was asked.
-use Rattle.std.specs.Prelude.{ℕ, List}
 use Rattle.html_render_dom.specs.declared.errors.Error.{Error}
 use Rattle.html_render_json.specs.declared.answers.Refusal.{Refusal}
 use Rattle.html_render_json.specs.declared.answers.Refusal.TheVariants.{Library, Form, Request}

@@ -11,7 +11,7 @@ use serde::Serialize;
 use std::alloc::{AllocError, AllocFailed, Global};
 
 /// Why there is no `ok`.
-#[derive(Debug, Drop)]
+#[derive(Drop)]
 pub enum Refusal {
     /// The library refuses, or memory is out.
     Library(Error),

@@ -8,11 +8,11 @@ ghost use Rattle.html_render_json.specs.Settings.{changed, changed_by};
 
 use crate::answers::Refusal;
 use crate::decorators::Own;
-use crate::reading::{begin_named, next, next_read};
+use crate::reading::{Readable, begin_named, last, next, rest};
 use html_render_tree::config::{Config, ImageRenderMode};
 use html_render_tree::decorate::TextDecorator;
 use html_render_tree::style::StyleRule;
-use serde::{Deserialize, Deserializer, Format, Name};
+use serde::{Deserializer, Format, Name};
 use std::alloc::Global;
 
 /// A decorator, by its name.
@@ -69,7 +69,7 @@ pub struct Calls {
 
 impl DecoratorName {
     /// The decorator of a name.
-    fn read(name: &str) -> Option<DecoratorName> {
+    fn of(name: &str) -> Option<DecoratorName> {
         match name {
             "plain" => Some(DecoratorName::Plain),
             "rich" => Some(DecoratorName::Rich),
@@ -83,23 +83,25 @@ impl DecoratorName {
     }
 }
 
-impl<'de> Deserialize<'de> for DecoratorName {
-    fn deserialize<F: Format>(
+impl Readable for DecoratorName {
+    /// A decorator's name.
+    fn read<F: Format>(
         alloc: Global,
-        from: &mut Deserializer<'de, '_, F>,
+        from: &mut Deserializer<'_, '_, F>,
     ) -> Result<DecoratorName, F::Error> {
-        let name = String::deserialize(alloc, from)?;
-        match DecoratorName::read(name.as_str()) {
+        let name = String::read(alloc, from)?;
+        match DecoratorName::of(name.as_str()) {
             Some(decorator) => Ok(decorator),
             None => Err(from.unknown_variant()),
         }
     }
 }
 
-impl<'de> Deserialize<'de> for Preset {
-    fn deserialize<F: Format>(
+impl Readable for Preset {
+    /// An array of the call's name and what is given to it.
+    fn read<F: Format>(
         alloc: Global,
-        from: &mut Deserializer<'de, '_, F>,
+        from: &mut Deserializer<'_, '_, F>,
     ) -> Result<Preset, F::Error> {
         let names = [
             Name::exact("plain"),
@@ -107,22 +109,21 @@ impl<'de> Deserialize<'de> for Preset {
             Name::exact("rich"),
             Name::exact("with_decorator"),
         ];
-        let preset = match begin_named(from, &names)? {
-            0 => Preset::Plain,
-            1 => Preset::PlainNoDecorate,
-            2 => Preset::Rich,
-            3 => Preset::WithDecorator(next(alloc, from)?),
-            _ => return Err(from.unknown_variant()),
-        };
-        from.expect_end()?;
-        Ok(preset)
+        match begin_named(from, &names)? {
+            0 => alone(from, Preset::Plain),
+            1 => alone(from, Preset::PlainNoDecorate),
+            2 => alone(from, Preset::Rich),
+            3 => last(alloc, from).map(Preset::WithDecorator),
+            _ => Err(from.unknown_variant()),
+        }
     }
 }
 
-impl<'de> Deserialize<'de> for Setting {
-    fn deserialize<F: Format>(
+impl Readable for Setting {
+    /// An array of the call's name and what is given to it.
+    fn read<F: Format>(
         alloc: Global,
-        from: &mut Deserializer<'de, '_, F>,
+        from: &mut Deserializer<'_, '_, F>,
     ) -> Result<Setting, F::Error> {
         let names = [
             Name::exact("allow_width_overflow"),
@@ -133,37 +134,34 @@ impl<'de> Deserialize<'de> for Setting {
             Name::exact("unicode_strikeout"),
             Name::exact("empty_img_mode"),
         ];
-        let setting = match begin_named(from, &names)? {
-            0 => Setting::AllowWidthOverflow,
-            1 => Setting::DoDecorate,
-            2 => Setting::AddStyleRule(next_read(alloc, from)?),
-            3 => Setting::LinkFootnotes(next(alloc, from)?),
-            4 => Setting::NoLinkWrapping,
-            5 => Setting::UnicodeStrikeout(next(alloc, from)?),
-            6 => Setting::EmptyImgMode(next_read(alloc, from)?),
-            _ => return Err(from.unknown_variant()),
-        };
-        from.expect_end()?;
-        Ok(setting)
+        match begin_named(from, &names)? {
+            0 => alone(from, Setting::AllowWidthOverflow),
+            1 => alone(from, Setting::DoDecorate),
+            2 => last(alloc, from).map(Setting::AddStyleRule),
+            3 => last(alloc, from).map(Setting::LinkFootnotes),
+            4 => alone(from, Setting::NoLinkWrapping),
+            5 => last(alloc, from).map(Setting::UnicodeStrikeout),
+            6 => last(alloc, from).map(Setting::EmptyImgMode),
+            _ => Err(from.unknown_variant()),
+        }
     }
 }
 
-impl<'de> Deserialize<'de> for Calls {
-    fn deserialize<F: Format>(
+/// The call of an array that has no more items.
+fn alone<T: Drop, F: Format>(from: &mut Deserializer<'_, '_, F>, call: T) -> Result<T, F::Error> {
+    from.expect_end()?;
+    Ok(call)
+}
+
+impl Readable for Calls {
+    /// An array of calls, one at least.
+    fn read<F: Format>(
         alloc: Global,
-        from: &mut Deserializer<'de, '_, F>,
+        from: &mut Deserializer<'_, '_, F>,
     ) -> Result<Calls, F::Error> {
         from.begin_seq()?;
         let preset = next(alloc, from)?;
-        let mut settings = Vec::new(alloc);
-        for _ in 0..u64::MAX {
-            if !from.next_item()? {
-                break;
-            }
-            if settings.push(Setting::deserialize(alloc, from)?).is_err() {
-                return Err(from.no_memory());
-            }
-        }
+        let settings = rest(alloc, from)?;
         Ok(Calls { preset, settings })
     }
 }

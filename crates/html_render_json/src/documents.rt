@@ -3,12 +3,12 @@
 ghost use Rattle.std.specs.Prelude.{◌≡◌, ◌≤◌, OnOk};
 ghost use Rattle.html_render_dom.specs.Dom.{IsNode, node_count};
 
-use crate::answers::Refusal;
-use crate::reading::{Readable, list};
+use crate::answers::{Refusal, answered};
+use crate::reading::{Members, Readable, list, once, read_members};
 use html_render_tree::dom::{
     Attribute, ElementFlags, Handle, Namespace, NodeData, NodeOrText, QualName, RcDom,
 };
-use serde::Deserialize;
+use serde::{Deserialize, Deserializer, Format, Name};
 use std::alloc::Global;
 
 /// A node below the document.
@@ -54,16 +54,55 @@ fn html() -> Namespace
     Namespace::Html
 }
 
-/// A document in JSON.
-#[derive(Drop, Deserialize)]
-#[serde(tag = "t", deny_unknown_fields)]
-pub enum Document {
-    /// Its nodes, in order.
-    #[serde(rename = "doc")]
-    Document {
-        #[serde(rename = "c", default)]
-        children: Vec<Node>,
-    },
+impl Readable for Node {
+    /// An object of the node's parts.
+    fn read<F: Format>(
+        alloc: Global,
+        from: &mut Deserializer<'_, '_, F>,
+    ) -> Result<Node, F::Error> {
+        Node::deserialize(alloc, from)
+    }
+}
+
+/// A document in JSON: its nodes, in order.
+#[derive(Default, Drop)]
+pub struct Document {
+    children: Option<Vec<Node>>,
+}
+
+impl Members for Document {
+    fn read_member<F: Format>(
+        &mut self,
+        alloc: Global,
+        from: &mut Deserializer<'_, '_, F>,
+        member: usize,
+    ) -> Result<(), F::Error> {
+        match member {
+            0 => from.skip(),
+            1 => once(alloc, from, "c", &mut self.children),
+            _ => Err(from.unknown_key()),
+        }
+    }
+}
+
+impl Readable for Document {
+    /// An object whose `t` is `doc`, and whose `c` are its nodes.
+    fn read<F: Format>(
+        alloc: Global,
+        from: &mut Deserializer<'_, '_, F>,
+    ) -> Result<Document, F::Error> {
+        if from.tag("t", &[Name::exact("doc")])? != 0 {
+            return Err(from.unknown_variant());
+        }
+        let mut document = Document::default();
+        read_members(
+            alloc,
+            from,
+            &[Name::exact("t"), Name::exact("c")],
+            &mut document,
+        )?;
+        Ok(document)
+    }
 }
 
 /// Whether a node's last child is a text.
@@ -94,6 +133,39 @@ fn append_text(alloc: Global, dom: &mut RcDom, parent: Handle, text: String) -> 
     Ok(())
 }
 
+/// Puts a comment behind a node's last child.
+fn append_comment(
+    alloc: Global,
+    dom: &mut RcDom,
+    parent: Handle,
+    contents: String,
+) -> Result<(), Refusal>
+    requires { IsNode dom.old parent }
+    ensures grows { OnOk result (node_count dom.old ≤ node_count dom.new) }
+{
+    let comment = dom.create_comment(alloc, contents)?;
+    dom.append(alloc, parent, NodeOrText::AppendNode(comment))?;
+    Ok(())
+}
+
+/// Puts a processing instruction behind a node's last child.
+fn append_instruction(alloc: Global, dom: &mut RcDom, parent: Handle) -> Result<(), Refusal>
+    requires { IsNode dom.old parent }
+    ensures grows { OnOk result (node_count dom.old ≤ node_count dom.new) }
+{
+    let made = dom.create_pi(alloc, String::new(alloc), String::new(alloc))?;
+    dom.append(alloc, parent, NodeOrText::AppendNode(made))?;
+    Ok(())
+}
+
+/// Puts a document type behind the document's last child.
+fn append_doctype(alloc: Global, dom: &mut RcDom, name: String) -> Result<(), Refusal>
+    ensures grows { OnOk result (node_count dom.old ≤ node_count dom.new) }
+{
+    dom.append_doctype_to_document(alloc, name, String::new(alloc), String::new(alloc))?;
+    Ok(())
+}
+
 /// Puts a node behind another's last child, with all that is below it.
 fn append_node(alloc: Global, dom: &mut RcDom, parent: Handle, node: Node) -> Result<(), Refusal>
     requires { IsNode dom.old parent }
@@ -117,28 +189,26 @@ fn append_node(alloc: Global, dom: &mut RcDom, parent: Handle, node: Node) -> Re
             }
         }
         Node::Text { text } => append_text(alloc, dom, parent, text)?,
-        Node::Comment { contents } => {
-            let comment = dom.create_comment(alloc, contents)?;
-            dom.append(alloc, parent, NodeOrText::AppendNode(comment))?;
-        }
-        Node::Doctype { name } => {
-            dom.append_doctype_to_document(alloc, name, String::new(alloc), String::new(alloc))?;
-        }
-        Node::Instruction => {
-            let made = dom.create_pi(alloc, String::new(alloc), String::new(alloc))?;
-            dom.append(alloc, parent, NodeOrText::AppendNode(made))?;
-        }
+        Node::Comment { contents } => append_comment(alloc, dom, parent, contents)?,
+        Node::Doctype { name } => append_doctype(alloc, dom, name)?,
+        Node::Instruction => append_instruction(alloc, dom, parent)?,
     }
     Ok(())
 }
 
 /// The DOM of a document.
 pub fn built(alloc: Global, document: Document) -> Result<RcDom, Refusal> {
-    let Document::Document { children } = document;
     let mut dom = RcDom::new(alloc)?;
     let top = dom.get_document();
+    let children = document.children.unwrap_or(Vec::new(alloc));
     for child in children {
         append_node(alloc, &mut dom, top, child)?;
     }
     Ok(dom)
+}
+
+/// A document as text.
+pub fn answer_dump(alloc: Global, document: Document) -> Result<Vec<u8>, Refusal> {
+    let dom = built(alloc, document)?;
+    answered(alloc, &dom.as_dom_string(alloc)?)
 }

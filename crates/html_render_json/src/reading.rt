@@ -18,13 +18,54 @@ pub trait Readable: Sized + Drop {
     fn read<F: Format>(alloc: Global, from: &mut Deserializer<'_, '_, F>) -> Result<Self, F::Error>;
 }
 
-/// An array of what can be read.
-pub fn list<T: Readable, F: Format>(
+/// What can be read of an object: its members come in any order.
+pub trait Members: Drop {
+    /// Reads the member of a number. Another name has a number behind those of all names.
+    fn read_member<F: Format>(
+        &mut self,
+        alloc: Global,
+        from: &mut Deserializer<'_, '_, F>,
+        member: usize,
+    ) -> Result<(), F::Error>;
+}
+
+/// Reads the members of an object, which have these names.
+pub fn read_members<M: Members, F: Format>(
+    alloc: Global,
+    from: &mut Deserializer<'_, '_, F>,
+    names: &[Name<'_>],
+    members: &mut M,
+) -> Result<(), F::Error> {
+    from.begin_map()?;
+    for _ in 0..u64::MAX {
+        match from.next_key(names)? {
+            Some(member) => members.read_member(alloc, from, member)?,
+            None => break,
+        }
+    }
+    Ok(())
+}
+
+/// Reads a member, which stands once.
+pub fn once<T: Readable, F: Format>(
+    alloc: Global,
+    from: &mut Deserializer<'_, '_, F>,
+    name: &str,
+    member: &mut Option<T>,
+) -> Result<(), F::Error> {
+    if member.is_some() {
+        return Err(from.duplicate(name));
+    }
+    *member = Some(T::read(alloc, from)?);
+    Ok(())
+}
+
+/// The items that an array has left.
+pub fn rest<T: Readable, F: Format>(
     alloc: Global,
     from: &mut Deserializer<'_, '_, F>,
 ) -> Result<Vec<T>, F::Error> {
     let mut items = Vec::new(alloc);
-    from.begin_seq()?;
     for _ in 0..u64::MAX {
         if !from.next_item()? {
             break;
@@ -36,15 +77,13 @@ pub fn list<T: Readable, F: Format>(
     Ok(items)
 }
 
-/// What can be read, or `null`.
-pub fn option<T: Readable, F: Format>(
+/// An array of what can be read.
+pub fn list<T: Readable, F: Format>(
     alloc: Global,
     from: &mut Deserializer<'_, '_, F>,
-) -> Result<Option<T>, F::Error> {
-    if from.take_none()? {
-        return Ok(None);
-    }
-    Ok(Some(T::read(alloc, from)?))
+) -> Result<Vec<T>, F::Error> {
+    from.begin_seq()?;
+    rest(alloc, from)
 }
 
 /// Begins an array whose first item is a name, and answers the name's place among those that may stand there. Another
@@ -59,16 +98,7 @@ pub fn begin_named<F: Format>(
 }
 
 /// The next item of an array.
-pub fn next<'de, T: Deserialize<'de>, F: Format>(
-    alloc: Global,
-    from: &mut Deserializer<'de, '_, F>,
-) -> Result<T, F::Error> {
-    from.expect_item()?;
-    T::deserialize(alloc, from)
-}
-
-/// The next item of an array, which can be read.
-pub fn next_read<T: Readable, F: Format>(
+pub fn next<T: Readable, F: Format>(
     alloc: Global,
     from: &mut Deserializer<'_, '_, F>,
 ) -> Result<T, F::Error> {
@@ -76,8 +106,18 @@ pub fn next_read<T: Readable, F: Format>(
     T::read(alloc, from)
 }
 
+/// The last item of an array.
+pub fn last<T: Readable, F: Format>(
+    alloc: Global,
+    from: &mut Deserializer<'_, '_, F>,
+) -> Result<T, F::Error> {
+    let item = next(alloc, from)?;
+    from.expect_end()?;
+    Ok(item)
+}
+
 /// The value of a name, which stands at the same place.
-fn choice<T: Copy, F: Format>(
+pub fn choice<T: Copy, F: Format>(
     from: &mut Deserializer<'_, '_, F>,
     names: &[Name<'_>],
     values: &[T],
@@ -85,6 +125,66 @@ fn choice<T: Copy, F: Format>(
     match values.get(from.variant(names)?) {
         Some(value) => Ok(*value),
         None => Err(from.unknown_variant()),
+    }
+}
+
+impl Readable for bool {
+    /// `true` or `false`.
+    fn read<F: Format>(
+        alloc: Global,
+        from: &mut Deserializer<'_, '_, F>,
+    ) -> Result<bool, F::Error> {
+        Deserialize::deserialize(alloc, from)
+    }
+}
+
+impl Readable for u8 {
+    /// An integer.
+    fn read<F: Format>(alloc: Global, from: &mut Deserializer<'_, '_, F>) -> Result<u8, F::Error> {
+        Deserialize::deserialize(alloc, from)
+    }
+}
+
+impl Readable for usize {
+    /// An integer.
+    fn read<F: Format>(
+        alloc: Global,
+        from: &mut Deserializer<'_, '_, F>,
+    ) -> Result<usize, F::Error> {
+        Deserialize::deserialize(alloc, from)
+    }
+}
+
+impl Readable for u128 {
+    /// An integer.
+    fn read<F: Format>(
+        alloc: Global,
+        from: &mut Deserializer<'_, '_, F>,
+    ) -> Result<u128, F::Error> {
+        Deserialize::deserialize(alloc, from)
+    }
+}
+
+impl Readable for String {
+    /// A text.
+    fn read<F: Format>(
+        alloc: Global,
+        from: &mut Deserializer<'_, '_, F>,
+    ) -> Result<String, F::Error> {
+        Deserialize::deserialize(alloc, from)
+    }
+}
+
+impl<T: Readable> Readable for Option<T> {
+    /// What is there, or `null`.
+    fn read<F: Format>(
+        alloc: Global,
+        from: &mut Deserializer<'_, '_, F>,
+    ) -> Result<Option<T>, F::Error> {
+        if from.take_none()? {
+            return Ok(None);
+        }
+        Ok(Some(T::read(alloc, from)?))
     }
 }
 
@@ -103,7 +203,9 @@ impl Readable for Span {
         alloc: Global,
         from: &mut Deserializer<'_, '_, F>,
     ) -> Result<Span, F::Error> {
-        let (colspan, rowspan) = Deserialize::deserialize(alloc, from)?;
+        from.begin_seq()?;
+        let colspan = next(alloc, from)?;
+        let rowspan = last(alloc, from)?;
         Ok(Span { colspan, rowspan })
     }
 }
@@ -114,7 +216,9 @@ impl Readable for Attribute {
         alloc: Global,
         from: &mut Deserializer<'_, '_, F>,
     ) -> Result<Attribute, F::Error> {
-        let (local, value) = Deserialize::deserialize(alloc, from)?;
+        from.begin_seq()?;
+        let local = next(alloc, from)?;
+        let value = last(alloc, from)?;
         let name = QualName {
             ns: Namespace::None,
             local,
@@ -129,32 +233,41 @@ impl Readable for Namespace {
         alloc: Global,
         from: &mut Deserializer<'_, '_, F>,
     ) -> Result<Namespace, F::Error> {
-        let name = String::deserialize(alloc, from)?;
+        let name = String::read(alloc, from)?;
         match name.as_str() {
             "html" => Ok(Namespace::Html),
             "svg" => Ok(Namespace::Svg),
             "mathml" => Ok(Namespace::MathMl),
             "none" => Ok(Namespace::None),
-            name => match name.strip_prefix("other:") {
-                Some(other) => match String::from_str(alloc, other) {
-                    Ok(other) => Ok(Namespace::Other(other)),
-                    Err(_) => Err(from.no_memory()),
-                },
-                None => Err(from.unknown_variant()),
-            },
+            name => other_namespace(alloc, from, name),
         }
     }
 }
 
+/// A namespace of a name behind `other:`.
+fn other_namespace<F: Format>(
+    alloc: Global,
+    from: &Deserializer<'_, '_, F>,
+    name: &str,
+) -> Result<Namespace, F::Error> {
+    match name.strip_prefix("other:") {
+        Some(other) => match String::from_str(alloc, other) {
+            Ok(other) => Ok(Namespace::Other(other)),
+            Err(_) => Err(from.no_memory()),
+        },
+        None => Err(from.unknown_variant()),
+    }
+}
+
 impl Readable for Colour {
-    /// The next items of an array: red, green and blue.
+    /// The last items of an array: red, green and blue.
     fn read<F: Format>(
         alloc: Global,
         from: &mut Deserializer<'_, '_, F>,
     ) -> Result<Colour, F::Error> {
         let r = next(alloc, from)?;
         let g = next(alloc, from)?;
-        let b = next(alloc, from)?;
+        let b = last(alloc, from)?;
         Ok(Colour { r, g, b })
     }
 }
@@ -209,9 +322,7 @@ fn replacement<F: Format>(
     if begin_named(from, &[Name::exact("Replace")])? != 0 {
         return Err(from.unknown_variant());
     }
-    let text = next(alloc, from)?;
-    from.expect_end()?;
-    Ok(ImageRenderMode::Replace(Text::new(text)))
+    Ok(ImageRenderMode::Replace(Text::new(last(alloc, from)?)))
 }
 
 /// A mode without a text.
@@ -244,26 +355,37 @@ impl Readable for Style {
             Name::exact("WhiteSpace"),
             Name::exact("Content"),
         ];
-        let style = match begin_named(from, &names)? {
-            0 => Style::Colour(Colour::read(alloc, from)?),
-            1 => Style::BgColour(Colour::read(alloc, from)?),
-            2 => Style::Display(next_read(alloc, from)?),
-            3 => Style::WhiteSpace(next_read(alloc, from)?),
-            4 => Style::Content(next(alloc, from)?),
-            _ => return Err(from.unknown_variant()),
-        };
-        from.expect_end()?;
-        Ok(style)
+        match begin_named(from, &names)? {
+            0 => Colour::read(alloc, from).map(Style::Colour),
+            1 => Colour::read(alloc, from).map(Style::BgColour),
+            2 => last(alloc, from).map(Style::Display),
+            3 => last(alloc, from).map(Style::WhiteSpace),
+            4 => last(alloc, from).map(Style::Content),
+            _ => Err(from.unknown_variant()),
+        }
     }
 }
 
-/// A declaration in JSON.
-#[derive(Drop, Deserialize)]
-#[serde(deny_unknown_fields)]
-struct DeclarationForm {
-    important: bool,
-    #[serde(deserialize_with = "Readable::read")]
-    style: Style,
+/// A declaration's members.
+#[derive(Default, Drop)]
+struct DeclarationMembers {
+    important: Option<bool>,
+    style: Option<Style>,
+}
+
+impl Members for DeclarationMembers {
+    fn read_member<F: Format>(
+        &mut self,
+        alloc: Global,
+        from: &mut Deserializer<'_, '_, F>,
+        member: usize,
+    ) -> Result<(), F::Error> {
+        match member {
+            0 => once(alloc, from, "important", &mut self.important),
+            1 => once(alloc, from, "style", &mut self.style),
+            _ => Err(from.unknown_key()),
+        }
+    }
 }
 
 impl Readable for Declaration {
@@ -272,8 +394,13 @@ impl Readable for Declaration {
         alloc: Global,
         from: &mut Deserializer<'_, '_, F>,
     ) -> Result<Declaration, F::Error> {
-        let DeclarationForm { important, style } = Deserialize::deserialize(alloc, from)?;
-        Ok(Declaration { important, style })
+        let names = [Name::exact("important"), Name::exact("style")];
+        let mut members = DeclarationMembers::default();
+        read_members(alloc, from, &names, &mut members)?;
+        match members.important.zip(members.style) {
+            Some((important, style)) => Ok(Declaration { important, style }),
+            None => Err(from.custom("a declaration has important and style")),
+        }
     }
 }
 
@@ -310,19 +437,51 @@ impl Readable for PseudoElement {
     }
 }
 
-/// A style rule in JSON.
-#[derive(Drop, Deserialize)]
-#[serde(deny_unknown_fields)]
-struct RuleForm {
-    #[serde(deserialize_with = "Readable::read")]
-    origin: StyleOrigin,
-    element: Option<String>,
-    id: Option<String>,
-    classes: Vec<String>,
-    #[serde(deserialize_with = "option")]
-    pseudo: Option<PseudoElement>,
-    #[serde(deserialize_with = "list")]
-    declarations: Vec<Declaration>,
+/// A style rule's members.
+#[derive(Default, Drop)]
+struct RuleMembers {
+    origin: Option<StyleOrigin>,
+    element: Option<Option<String>>,
+    id: Option<Option<String>>,
+    classes: Option<Vec<String>>,
+    pseudo: Option<Option<PseudoElement>>,
+    declarations: Option<Vec<Declaration>>,
+}
+
+impl Members for RuleMembers {
+    fn read_member<F: Format>(
+        &mut self,
+        alloc: Global,
+        from: &mut Deserializer<'_, '_, F>,
+        member: usize,
+    ) -> Result<(), F::Error> {
+        match member {
+            0 => once(alloc, from, "origin", &mut self.origin),
+            1 => once(alloc, from, "element", &mut self.element),
+            2 => once(alloc, from, "id", &mut self.id),
+            3 => once(alloc, from, "classes", &mut self.classes),
+            4 => once(alloc, from, "pseudo", &mut self.pseudo),
+            5 => once(alloc, from, "declarations", &mut self.declarations),
+            _ => Err(from.unknown_key()),
+        }
+    }
+}
+
+impl RuleMembers {
+    /// The rule, if all members that there have to be are there: `element`, `id` and `pseudo` may be left out.
+    fn rule(self) -> Option<StyleRule> {
+        let (origin, (classes, declarations)) = self
+            .origin
+            .zip(self.classes.zip(self.declarations))?;
+        Some(StyleRule {
+            origin,
+            element: self.element.flatten(),
+            id: self.id.flatten(),
+            classes,
+            pseudo: self.pseudo.flatten(),
+            declarations,
+        })
+    }
 }
 
 impl Readable for StyleRule {
@@ -331,14 +490,19 @@ impl Readable for StyleRule {
         alloc: Global,
         from: &mut Deserializer<'_, '_, F>,
     ) -> Result<StyleRule, F::Error> {
-        let form = RuleForm::deserialize(alloc, from)?;
-        Ok(StyleRule {
-            origin: form.origin,
-            element: form.element,
-            id: form.id,
-            classes: form.classes,
-            pseudo: form.pseudo,
-            declarations: form.declarations,
-        })
+        let names = [
+            Name::exact("origin"),
+            Name::exact("element"),
+            Name::exact("id"),
+            Name::exact("classes"),
+            Name::exact("pseudo"),
+            Name::exact("declarations"),
+        ];
+        let mut members = RuleMembers::default();
+        read_members(alloc, from, &names, &mut members)?;
+        match members.rule() {
+            Some(rule) => Ok(rule),
+            None => Err(from.custom("a rule has origin, classes and declarations")),
+        }
     }
 }

@@ -1,8 +1,10 @@
 //! Requests for rendered documents.
 
 ghost use Rattle.std.specs.Prelude.{◌≡◌, Some, IfOk, IfErr, option_map, string_bytes};
+ghost use Rattle.html_render_dom.specs.declared.errors.Error.TheVariants.{OutOfMemory};
 ghost use Rattle.html_render_dom.specs.Outcome.{Refuses};
 ghost use Rattle.html_render_tree.specs.Conversion.{render_tree_of};
+ghost use Rattle.html_render_tree.specs.Dump.{dump};
 ghost use Rattle.html_render_tree.specs.Rendering.{rendered_lines};
 ghost use Rattle.html_render_tree.specs.Texts.{text_of};
 ghost use Rattle.html_render_json.specs.Refusals.{LibraryRefuses};
@@ -10,20 +12,31 @@ ghost use Rattle.html_render_json.specs.Refusals.{LibraryRefuses};
 use crate::answers::{Refusal, answered};
 use crate::configs::{Calls, DecoratorName, Preset, Setting, with_settings};
 use crate::documents::{Document, built};
+use crate::reading::{Readable, choice};
 use html_render_tree::config::{Config, plain, plain_no_decorate, rich, with_decorator};
 use html_render_tree::decorate::{PlainDecorator, RichDecorator, TextDecorator};
 use html_render_tree::dom::RcDom;
-use serde::Deserialize;
+use serde::{Deserializer, Format, Name};
 use std::alloc::Global;
 
 /// What is wanted of a document.
-#[derive(Clone, Copy, Deserialize)]
-#[serde(rename_all = "snake_case")]
+#[derive(Clone, Copy)]
 pub enum Want {
     /// Its text.
     String,
     /// What its render tree is displayed as.
     Tree,
+}
+
+impl Readable for Want {
+    /// `string` or `tree`.
+    fn read<F: Format>(
+        _alloc: Global,
+        from: &mut Deserializer<'_, '_, F>,
+    ) -> Result<Want, F::Error> {
+        let names = [Name::exact("string"), Name::exact("tree")];
+        choice(from, &names, &[Want::String, Want::Tree])
+    }
 }
 
 /// A document, and what is wanted of it.
@@ -43,10 +56,21 @@ impl Job {
         config: Config<D>,
     ) -> Result<Vec<u8>, Refusal> {
         let config = with_settings(alloc, config, self.settings)?;
-        match self.want {
-            Want::String => answered(alloc, &text(alloc, &config, &self.dom, self.width)?),
-            Want::Tree => answered(alloc, &tree(alloc, &config, &self.dom)?),
-        }
+        wanted(alloc, &config, &self.dom, self.width, self.want)
+    }
+}
+
+/// What is wanted of a document, under a configuration.
+fn wanted<D: TextDecorator>(
+    alloc: Global,
+    config: &Config<D>,
+    dom: &RcDom,
+    width: usize,
+    want: Want,
+) -> Result<Vec<u8>, Refusal> {
+    match want {
+        Want::String => answered(alloc, &text(alloc, config, dom, width)?),
+        Want::Tree => answered(alloc, &tree(alloc, config, dom)?),
     }
 }
 
@@ -67,11 +91,10 @@ fn text<D: TextDecorator>(
 }
 
 /// What the render tree of a document is displayed as.
-fn tree<D: TextDecorator>(
-    alloc: Global,
-    config: &Config<D>,
-    dom: &RcDom,
-) -> Result<String, Refusal> {
+fn tree<D: TextDecorator>(alloc: Global, config: &Config<D>, dom: &RcDom) -> Result<String, Refusal>
+    ensures ok { IfOk result (λ text. string_bytes text ≡ dump 0 (render_tree_of config.now.rules dom.now)) }
+    ensures err { IfErr result (LibraryRefuses (λ error. error ≡ OutOfMemory)) }
+{
     let tree = config.dom_to_render_tree(alloc, dom)?;
     Ok(tree.to_string(alloc)?)
 }

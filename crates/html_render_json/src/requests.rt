@@ -1,65 +1,250 @@
 //! The requests, and their answers.
 
-use crate::answers::{Refusal, answered, refused};
+use crate::answers::{Refusal, refused};
 use crate::configs::Calls;
-use crate::cuts::{self, CutForm};
+use crate::cuts::{self, Columns, CutForm};
 use crate::documents::{self, Document};
-use crate::reading::list;
+use crate::reading::{Members, Readable, once, read_members};
 use crate::rendering::{self, Want};
 use crate::{grids, styles};
 use html_render_tree::dom::Attribute;
 use html_render_tree::style::StyleRule;
 use html_render_tree::table::Span;
-use serde::Deserialize;
+use serde::{Deserialize, Deserializer, Format, Name};
 use std::alloc::Global;
 
 /// What a line asks for.
-#[derive(Drop, Deserialize)]
-#[serde(tag = "op", rename_all = "snake_case", deny_unknown_fields)]
-enum Request {
+#[derive(Clone, Copy)]
+enum Op {
     /// A document under a configuration, at a width in columns.
-    Render {
-        config: Calls,
-        dom: Document,
-        width: usize,
-        want: Want,
-    },
+    Render,
     /// The grid of a table's rows, each cell by its colspan and its rowspan.
-    TableGrid {
-        #[serde(deserialize_with = "list")]
-        rows: Vec<Vec<Span>>,
-    },
+    TableGrid,
     /// Whether columns fit into a width.
-    CutFits {
-        minimums: Vec<usize>,
-        shares: Vec<usize>,
-        width: usize,
-    },
+    CutFits,
     /// The widths of columns.
-    ColumnWidths {
-        minimums: Vec<usize>,
-        shares: Vec<usize>,
-        width: usize,
-    },
+    ColumnWidths,
     /// Whether a cut is that of the columns.
-    CheckCut {
-        minimums: Vec<usize>,
-        shares: Vec<usize>,
-        width: usize,
-        cut: CutForm,
-    },
+    CheckCut,
     /// The style of an element under rules.
-    ComputedStyle {
-        #[serde(deserialize_with = "list")]
-        rules: Vec<StyleRule>,
-        element: String,
-        #[serde(deserialize_with = "list")]
-        attrs: Vec<Attribute>,
-    },
+    ComputedStyle,
     /// A document as text.
-    Dump {
-        dom: Document,
-    },
+    Dump,
+}
+
+/// A request: what is asked for, and the members that say of what. Each `op` has some of them.
+#[derive(Drop)]
+struct Request {
+    op: Op,
+    config: Option<Calls>,
+    want: Option<Want>,
+    dom: Option<Document>,
+    width: Option<usize>,
+    minimums: Option<Vec<usize>>,
+    shares: Option<Vec<usize>>,
+    cut: Option<CutForm>,
+    rows: Option<Vec<Vec<Span>>>,
+    rules: Option<Vec<StyleRule>>,
+    element: Option<String>,
+    attrs: Option<Vec<Attribute>>,
+}
+
+impl Op {
+    /// Whether its requests have the member of this number.
+    fn has(self, member: usize) -> bool {
+        match self {
+            Op::Render => matches!(member, 1..=4),
+            Op::Dump => member == 3,
+            Op::CutFits | Op::ColumnWidths => matches!(member, 4..=6),
+            Op::CheckCut => matches!(member, 4..=7),
+            Op::TableGrid => member == 8,
+            Op::ComputedStyle => matches!(member, 9..=11),
+        }
+    }
+}
+
+impl Readable for Op {
+    /// The `op` of the object that comes, which is not read by this.
+    fn read<F: Format>(_alloc: Global, from: &mut Deserializer<'_, '_, F>) -> Result<Op, F::Error> {
+        let names = [
+            Name::exact("render"),
+            Name::exact("table_grid"),
+            Name::exact("cut_fits"),
+            Name::exact("column_widths"),
+            Name::exact("check_cut"),
+            Name::exact("computed_style"),
+            Name::exact("dump"),
+        ];
+        let ops = [
+            Op::Render,
+            Op::TableGrid,
+            Op::CutFits,
+            Op::ColumnWidths,
+            Op::CheckCut,
+            Op::ComputedStyle,
+            Op::Dump,
+        ];
+        match ops.get(from.tag("op", &names)?) {
+            Some(op) => Ok(*op),
+            None => Err(from.unknown_variant()),
+        }
+    }
+}
+
+impl Members for Request {
+    fn read_member<F: Format>(
+        &mut self,
+        alloc: Global,
+        from: &mut Deserializer<'_, '_, F>,
+        member: usize,
+    ) -> Result<(), F::Error> {
+        if member == 0 {
+            return from.skip();
+        }
+        if !self.op.has(member) {
+            return Err(from.unknown_key());
+        }
+        match member {
+            1 => once(alloc, from, "config", &mut self.config),
+            2 => once(alloc, from, "want", &mut self.want),
+            3 => once(alloc, from, "dom", &mut self.dom),
+            4 => once(alloc, from, "width", &mut self.width),
+            5 => once(alloc, from, "minimums", &mut self.minimums),
+            6 => once(alloc, from, "shares", &mut self.shares),
+            7 => once(alloc, from, "cut", &mut self.cut),
+            8 => once(alloc, from, "rows", &mut self.rows),
+            9 => once(alloc, from, "rules", &mut self.rules),
+            10 => once(alloc, from, "element", &mut self.element),
+            _ => once(alloc, from, "attrs", &mut self.attrs),
+        }
+    }
+}
+
+impl<'de> Deserialize<'de> for Request {
+    fn deserialize<F: Format>(
+        alloc: Global,
+        from: &mut Deserializer<'de, '_, F>,
+    ) -> Result<Request, F::Error> {
+        let names = [
+            Name::exact("op"),
+            Name::exact("config"),
+            Name::exact("want"),
+            Name::exact("dom"),
+            Name::exact("width"),
+            Name::exact("minimums"),
+            Name::exact("shares"),
+            Name::exact("cut"),
+            Name::exact("rows"),
+            Name::exact("rules"),
+            Name::exact("element"),
+            Name::exact("attrs"),
+        ];
+        let mut request = Request::new(Op::read(alloc, from)?);
+        read_members(alloc, from, &names, &mut request)?;
+        Ok(request)
+    }
+}
+
+impl Request {
+    /// A request of which no member is read.
+    fn new(op: Op) -> Request {
+        Request {
+            op,
+            config: None,
+            want: None,
+            dom: None,
+            width: None,
+            minimums: None,
+            shares: None,
+            cut: None,
+            rows: None,
+            rules: None,
+            element: None,
+            attrs: None,
+        }
+    }
+
+    /// The answer to it.
+    fn answer(&mut self, alloc: Global) -> Result<Vec<u8>, Refusal> {
+        match self.op {
+            Op::Render => self.answer_render(alloc),
+            Op::TableGrid => self.answer_grid(alloc),
+            Op::CutFits => self.answer_fits(alloc),
+            Op::ColumnWidths => self.answer_widths(alloc),
+            Op::CheckCut => self.answer_check(alloc),
+            Op::ComputedStyle => self.answer_style(alloc),
+            Op::Dump => self.answer_dump(alloc),
+        }
+    }
+
+    fn answer_render(&mut self, alloc: Global) -> Result<Vec<u8>, Refusal> {
+        let document = self.config.take().zip(self.dom.take());
+        match document.zip(self.width.zip(self.want)) {
+            Some(((config, dom), (width, want))) => {
+                rendering::answer(alloc, config, dom, width, want)
+            }
+            None => Err(Refusal::Request("render has config, dom, width and want")),
+        }
+    }
+
+    fn answer_grid(&mut self, alloc: Global) -> Result<Vec<u8>, Refusal> {
+        match self.rows.take() {
+            Some(rows) => grids::answer(alloc, &rows),
+            None => Err(Refusal::Request("table_grid has rows")),
+        }
+    }
+
+    /// The columns that are to be cut.
+    fn columns(&mut self) -> Option<Columns> {
+        let ((minimums, shares), width) = self
+            .minimums
+            .take()
+            .zip(self.shares.take())
+            .zip(self.width)?;
+        Some(Columns {
+            minimums,
+            shares,
+            width,
+        })
+    }
+
+    fn answer_fits(&mut self, alloc: Global) -> Result<Vec<u8>, Refusal> {
+        match self.columns() {
+            Some(columns) => cuts::answer_fits(alloc, &columns),
+            None => Err(Refusal::Request("cut_fits has minimums, shares and width")),
+        }
+    }
+
+    fn answer_widths(&mut self, alloc: Global) -> Result<Vec<u8>, Refusal> {
+        match self.columns() {
+            Some(columns) => cuts::answer_widths(alloc, &columns),
+            None => Err(Refusal::Request("column_widths has minimums, shares and width")),
+        }
+    }
+
+    fn answer_check(&mut self, alloc: Global) -> Result<Vec<u8>, Refusal> {
+        match self.columns().zip(self.cut.take()) {
+            Some((columns, cut)) => cuts::answer_check(alloc, &columns, cut),
+            None => Err(Refusal::Request("check_cut has minimums, shares, width and cut")),
+        }
+    }
+
+    fn answer_style(&mut self, alloc: Global) -> Result<Vec<u8>, Refusal> {
+        let element = self.element.take().zip(self.attrs.take());
+        match self.rules.take().zip(element) {
+            Some((rules, (element, attrs))) => {
+                styles::answer(alloc, &rules, element.as_str(), &attrs)
+            }
+            None => Err(Refusal::Request("computed_style has rules, element and attrs")),
+        }
+    }
+
+    fn answer_dump(&mut self, alloc: Global) -> Result<Vec<u8>, Refusal> {
+        match self.dom.take() {
+            Some(dom) => documents::answer_dump(alloc, dom),
+            None => Err(Refusal::Request("dump has dom")),
+        }
+    }
 }
 
 /// The answer to a line, without a line feed. `None` says that memory is out even for an answer that says so.
@@ -72,39 +257,6 @@ pub fn answer(alloc: Global, line: &[u8]) -> Option<Vec<u8>> {
 
 /// Reads a request, and answers it.
 fn asked(alloc: Global, line: &[u8]) -> Result<Vec<u8>, Refusal> {
-    let request: Request = serde_json::from_slice(alloc, line)?;
-    match request {
-        Request::Render {
-            config,
-            dom,
-            width,
-            want,
-        } => rendering::answer(alloc, config, dom, width, want),
-        Request::TableGrid { rows } => grids::answer(alloc, &rows),
-        Request::CutFits {
-            minimums,
-            shares,
-            width,
-        } => cuts::answer_fits(alloc, &minimums, &shares, width),
-        Request::ColumnWidths {
-            minimums,
-            shares,
-            width,
-        } => cuts::answer_widths(alloc, &minimums, &shares, width),
-        Request::CheckCut {
-            minimums,
-            shares,
-            width,
-            cut,
-        } => cuts::answer_check(alloc, &minimums, &shares, width, cut),
-        Request::ComputedStyle {
-            rules,
-            element,
-            attrs,
-        } => styles::answer(alloc, &rules, element.as_str(), &attrs),
-        Request::Dump { dom } => {
-            let dom = documents::built(alloc, dom)?;
-            answered(alloc, &dom.as_dom_string(alloc)?)
-        }
-    }
+    let mut request: Request = serde_json::from_slice(alloc, line)?;
+    request.answer(alloc)
 }
