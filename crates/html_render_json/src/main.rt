@@ -10,6 +10,7 @@ mod cuts;
 mod decorators;
 mod documents;
 mod grids;
+mod lines;
 mod reading;
 mod rendering;
 mod requests;

@@ -5,18 +5,22 @@ ghost use Rattle.html_render_dom.specs.declared.errors.Error.TheVariants.{OutOfM
 ghost use Rattle.html_render_dom.specs.Outcome.{Refuses};
 ghost use Rattle.html_render_tree.specs.Conversion.{render_tree_of};
 ghost use Rattle.html_render_tree.specs.Dump.{dump};
-ghost use Rattle.html_render_tree.specs.Rendering.{rendered_lines};
+ghost use Rattle.html_render_tree.specs.Rendering.{rendered_lines, rendered_strings};
+ghost use Rattle.html_render_tree.specs.Grouping.{lines_of};
 ghost use Rattle.html_render_tree.specs.Texts.{text_of};
 ghost use Rattle.html_render_json.specs.Refusals.{LibraryRefuses};
 
 use crate::answers::{Refusal, answered};
 use crate::configs::{Calls, DecoratorName, Preset, Setting, with_settings};
 use crate::documents::{Document, built};
+use crate::lines::{Annotation, lines_form};
 use crate::reading::{Readable, choice};
+use html_render_tree::block::TaggedLine;
 use html_render_tree::config::{Config, plain, plain_no_decorate, rich, with_decorator};
 use html_render_tree::decorate::{PlainDecorator, RichDecorator, TextDecorator};
 use html_render_tree::dom::RcDom;
-use serde::{Deserializer, Format, Name};
+use html_render_tree::widths::Meter;
+use serde::{Deserializer, Format, Name, Serialize};
 use std::alloc::Global;
 
 /// What is wanted of a document.
@@ -26,16 +30,26 @@ pub enum Want {
     String,
     /// What its render tree is displayed as.
     Tree,
+    /// Its tagged lines.
+    Lines,
+    /// How many nodes its render tree has, how deep it is, and how many of them the layout visits.
+    Counts,
 }
 
 impl Readable for Want {
-    /// `string` or `tree`.
+    /// `string`, `tree`, `lines` or `counts`.
     fn read<F: Format>(
         _alloc: Global,
         from: &mut Deserializer<'_, '_, F>,
     ) -> Result<Want, F::Error> {
-        let names = [Name::exact("string"), Name::exact("tree")];
-        choice(from, &names, &[Want::String, Want::Tree])
+        let names = [
+            Name::exact("string"),
+            Name::exact("tree"),
+            Name::exact("lines"),
+            Name::exact("counts"),
+        ];
+        let wants = [Want::String, Want::Tree, Want::Lines, Want::Counts];
+        choice(from, &names, &wants)
     }
 }
 
@@ -50,11 +64,10 @@ struct Job {
 
 impl Job {
     /// The answer under a configuration, which the settings change first.
-    fn answer<D: TextDecorator>(
-        self,
-        alloc: Global,
-        config: Config<D>,
-    ) -> Result<Vec<u8>, Refusal> {
+    fn answer<D: TextDecorator>(self, alloc: Global, config: Config<D>) -> Result<Vec<u8>, Refusal>
+    where
+        D::Annotation: Annotation,
+    {
         let config = with_settings(alloc, config, self.settings)?;
         wanted(alloc, &config, &self.dom, self.width, self.want)
     }
@@ -67,10 +80,18 @@ fn wanted<D: TextDecorator>(
     dom: &RcDom,
     width: usize,
     want: Want,
-) -> Result<Vec<u8>, Refusal> {
+) -> Result<Vec<u8>, Refusal>
+where
+    D::Annotation: Annotation,
+{
     match want {
         Want::String => answered(alloc, &text(alloc, config, dom, width)?),
         Want::Tree => answered(alloc, &tree(alloc, config, dom)?),
+        Want::Lines => {
+            let lines = lines(alloc, config, dom, width)?;
+            answered(alloc, &lines_form(alloc, &lines)?)
+        }
+        Want::Counts => answered(alloc, &counted(alloc, config, dom, width)?),
     }
 }
 
@@ -97,6 +118,58 @@ fn tree<D: TextDecorator>(alloc: Global, config: &Config<D>, dom: &RcDom) -> Res
 {
     let tree = config.dom_to_render_tree(alloc, dom)?;
     Ok(tree.to_string(alloc)?)
+}
+
+/// The tagged lines of a document.
+fn lines<D: TextDecorator>(
+    alloc: Global,
+    config: &Config<D>,
+    dom: &RcDom,
+    width: usize,
+) -> Result<Vec<TaggedLine<Vec<D::Annotation>>>, Refusal>
+    ensures ok { IfOk result (λ lines.
+        rendered_strings D.decoration config.now (render_tree_of config.now.rules dom.now) width D.Annotation.eq ≡ Some (lines_of lines.items)) }
+    ensures err { IfErr result (LibraryRefuses (λ error.
+        Refuses error (rendered_lines D.decoration config.now (render_tree_of config.now.rules dom.now) width))) }
+{
+    let tree = config.dom_to_render_tree(alloc, dom)?;
+    Ok(config.render_to_lines(alloc, tree, width)?)
+}
+
+/// How many nodes a render tree has, how deep it is, and how many of them the layout visits.
+#[derive(Drop, Serialize)]
+struct Counts {
+    nodes: usize,
+    depth: usize,
+    entered: usize,
+}
+
+/// The most spaces that a line of a text begins with, and one.
+fn depth_of(text: &str) -> usize {
+    let mut depth: usize = 0;
+    for line in text.lines() {
+        let spaces = line.len() - line.trim_start().len();
+        depth = depth.max(spaces.saturating_add(1));
+    }
+    depth
+}
+
+/// What is counted of a document that is rendered: its nodes are the lines of the display of its render tree.
+fn counted<D: TextDecorator>(
+    alloc: Global,
+    config: &Config<D>,
+    dom: &RcDom,
+    width: usize,
+) -> Result<Counts, Refusal> {
+    let tree = config.dom_to_render_tree(alloc, dom)?;
+    let shown = tree.to_string(alloc)?;
+    let mut meter = Meter::default();
+    let _lines = config.render_to_lines_metered(alloc, tree, width, &mut meter)?;
+    Ok(Counts {
+        nodes: shown.lines().count(),
+        depth: depth_of(&shown),
+        entered: meter.entered,
+    })
 }
 
 /// A document under the calls of a configuration.
