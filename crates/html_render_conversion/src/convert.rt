@@ -297,6 +297,16 @@ fn next_child(dom: &RcDom, elements: &mut Vec<Open>) -> Option<Handle>
     Some(dom.child_list(handle)[ahead])
 }
 
+/// About as many nodes as the render tree of a document has: as many as the document, and more where rules may insert
+/// contents.
+fn room_for(dom: &RcDom, rules: &[StyleRule]) -> usize {
+    if rules.is_empty() {
+        dom.node_count()
+    } else {
+        dom.node_count().saturating_mul(2)
+    }
+}
+
 /// The render tree of a document, whose elements are styled by rules in the order in which these were added. It takes
 /// no more stack for a deep document than for a flat one.
 ///
@@ -312,7 +322,7 @@ pub fn dom_to_render_tree(
     ensures err { IfErr result (λ e. e ≡ Error.OutOfMemory) }
 {
     let mut open = Vec::new(alloc);
-    let mut builder = Builder::new(alloc);
+    let mut builder = Builder::with_capacity(alloc, room_for(dom, rules))?;
     open_node(
         alloc,
         rules,

@@ -106,6 +106,19 @@ impl<N: Drop> Builder<N> {
         }
     }
 
+    /// No tree, with room for so many nodes.
+    ///
+    /// # Errors
+    ///
+    /// `OutOfMemory`.
+    pub fn with_capacity(alloc: Global, nodes: usize) -> Result<Builder<N>, Error>
+        ensures ok { IfOk result (λ b. b ≡ none) }
+        ensures err { IfErr result (λ e. e ≡ Error.OutOfMemory) }
+    {
+        let entries = Vec::with_capacity(alloc, nodes)?;
+        Ok(Builder { entries })
+    }
+
     /// How many nodes there are: the mark for a later [`Builder::enclose`] or [`Builder::truncate`].
     pub fn len(&self) -> usize
         ensures { result ≡ count self.now }

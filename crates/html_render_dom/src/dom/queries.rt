@@ -3,7 +3,7 @@
 ghost use Rattle.std.specs.Prelude.{◌≡◌, ◌↔◌, IsTrue, IsSome, IfOk, IfErr, Some, string_bytes};
 ghost use Rattle.std.specs.Option.{option_map};
 ghost use Rattle.html_render_dom.specs.Content.{name_of};
-ghost use Rattle.html_render_dom.specs.Dom.{IsNode, IsElement, content_at};
+ghost use Rattle.html_render_dom.specs.Dom.{IsNode, IsElement, content_at, node_count};
 ghost use Rattle.html_render_dom.specs.Elements.{name_in, local_name_in, contents_in, is_integration_point};
 
 use super::contents::NodeData;
@@ -19,6 +19,13 @@ impl RcDom {
         ensures { IsTrue result ↔ (x ≡ y) }
     {
         x == y
+    }
+
+    /// How many nodes there are, also those that hang nowhere.
+    pub fn node_count(&self) -> usize
+        ensures { result ≡ node_count self.now }
+    {
+        self.nodes.len()
     }
 
     /// Whether the node is a template: an element with contents of its own; `false` where there is no such node.

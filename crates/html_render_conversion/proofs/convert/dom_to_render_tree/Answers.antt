@@ -12,9 +12,9 @@ converting-init c =
     let dom = c.args.dom.now in
     let rules = map rule_of c.args.rules.now in
     let f = c.get_document.ensures.forest in
-    let p : Progress = record { open_elements = c.new-open.result.items; made_nodes = c.new-builder.result } in
+    let p : Progress = record { open_elements = c.new-open.result.items; made_nodes = c.in_ok-builder.builder } in
     let m : Opening rules dom c.get_document.result p.open_elements p.made_nodes =
-    rw (c.get_document.ensures.document, c.new-open.ensures.items, c.new-builder.ensures) (Opening-start rules dom f.has_document) in
+    rw (c.get_document.ensures.document, c.new-open.ensures.items, c.in_ok-builder.ensures.ok) (Opening-start rules dom f.has_document) in
     subst (λ (q : Progress). Converting rules dom q.open_elements q.made_nodes) (sym c.in_ok-open_node.ensures.ok)
     (Opening-open_node rules dom f c.get_document.result p m)
 
@@ -44,19 +44,19 @@ open_node-requires-in-Some c = record {
   node = (opening-child (goal.at.open_node-requires-in-Some c).In-Some).is_node;
 }
 
-pub converting-preserved-in-Continue-branch-2 : goal.converting-preserved-in-Continue-branch-2
-converting-preserved-in-Continue-branch-2 c =
+pub converting-preserved-in-Continue-branch-3 : goal.converting-preserved-in-Continue-branch-3
+converting-preserved-in-Continue-branch-3 c =
     let dom = c.args.dom.now in
     let rules = map rule_of c.args.rules.now in
     let h = c.in-Some.child in
     let p : Progress = record { open_elements = c.next_child.new.elements.items; made_nodes = c.converting.builder } in
     let m : Opening rules dom h p.open_elements p.made_nodes =
-    opening-child (goal.at.converting-preserved-in-Continue-branch-2 c).In-Some in
+    opening-child (goal.at.converting-preserved-in-Continue-branch-3 c).In-Some in
     subst (λ (q : Progress). Converting rules dom q.open_elements q.made_nodes) (sym c.in_ok-open_node-2.ensures.ok)
     (Opening-open_node rules dom c.get_document.ensures.forest h p m)
 
-pub converting-smaller-in-Continue-branch-2 : goal.converting-smaller-in-Continue-branch-2
-converting-smaller-in-Continue-branch-2 c =
+pub converting-smaller-in-Continue-branch-3 : goal.converting-smaller-in-Continue-branch-3
+converting-smaller-in-Continue-branch-3 c =
     let dom = c.args.dom.now in
     let rules = map rule_of c.args.rules.now in
     let h = c.in-Some.child in
@@ -65,7 +65,7 @@ converting-smaller-in-Continue-branch-2 c =
     let top = Converting-top rules dom c.get_document.ensures.forest next.below next.element c.converting.builder
     (subst (λ es. Converting rules dom es c.converting.builder) next.old_is c.converting.invariant) in
     let within : next.left < length (children_at dom next.element.handle) = omega (arith, top.1, ahead) in
-    let m = opening-child (goal.at.converting-smaller-in-Continue-branch-2 c).In-Some in
+    let m = opening-child (goal.at.converting-smaller-in-Continue-branch-3 c).In-Some in
     let less = work-child dom c.get_document.ensures.forest next.below next.element next.left h
     (outline_at rules dom h) c.converting.builder m.is_node ahead within next.child_is in
     let after : c.open_node-in-Some.new.elements.items
