@@ -92,18 +92,18 @@ left-flatten (node k children beside) ends at es small r =
     let below : left inner (at + 1) (c ++ (b ++ es)) ≡ dump (length o + 1) children ++ left inner end (b ++ es) =
     left-flatten children inner (at + 1) (b ++ es) (omega (arith, size)) round_c
     ∙ ap (λ l. l ++ left inner (at + 1 + length c) (b ++ es)) (dump-depth children _ (length o + 1)
-        (λ some. ap length (still-all (at + 1) end o (omega (arith, some))) ∙ omega arith))
+    (λ some. ap length (still-all (at + 1) end o (omega (arith, some))) ∙ omega arith))
     ∙ ap (λ m. dump (length o + 1) children ++ left inner m (b ++ es)) (omega arith) in
     let next : left inner end (b ++ es) ≡ dump (length o) beside ++ left ends (at + n) es =
     left-flatten beside inner end es (omega (arith, size)) round_b
     ∙ ap (λ l. l ++ left inner (end + length b) es) (dump-depth beside _ (length o)
-        (λ some. ap length (still-over end end o (omega arith) ∙ still-still at end ends (omega arith)
-            ∙ Round-same ends at n end (omega arith) (omega (arith, size, some)) r)))
+    (λ some. ap length (still-over end end o (omega arith) ∙ still-still at end ends (omega arith)
+    ∙ Round-same ends at n end (omega arith) (omega (arith, size, some)) r)))
     ∙ ap (λ l. dump (length o) beside ++ l) (left-same inner ends (end + length b) es
-        (still-over (end + length b) end o (omega arith) ∙ still-still at (end + length b) ends (omega arith)))
+    (still-over (end + length b) end o (omega arith) ∙ still-still at (end + length b) ends (omega arith)))
     ∙ ap (λ m. dump (length o) beside ++ left ends m es) (omega (arith, size)) in
     start ∙ ap (λ l. first ++ l) (below ∙ ap (λ l. dump (length o + 1) children ++ l) next
-        ∙ sym (append_assoc (dump (length o + 1) children) (dump (length o) beside) (left ends (at + n) es)))
+    ∙ sym (append_assoc (dump (length o + 1) children) (dump (length o) beside) (left ends (at + n) es)))
     ∙ sym (append_assoc first (dump (length o + 1) children ++ dump (length o) beside) (left ends (at + n) es))
 
 pub left-whole : (t : Forest RenderNode) → length (flatten t) ≤ 2 ^ 64 - 1 → left [] 0 (flatten t) ≡ dump 0 t

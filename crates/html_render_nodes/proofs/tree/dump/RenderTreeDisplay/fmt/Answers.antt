@@ -23,14 +23,13 @@ loop-at-preserved g c p =
     let next : suc at ≡ at + 1 = omega arith in
     let there : drop at items ≡ e ∷ drop (at + 1) items =
     drop-cons items at e c.loop-at-test.true ∙ ap (λ x. x ∷ drop (suc at) items) (sym c.entry-item.is)
-    ∙ ap (λ n. e ∷ drop n items) next in
-    (
+    ∙ ap (λ n. e ∷ drop n items) next in (
       before.0 ++ piece,
       has_written_append _ _ _ _ _ _ before.1 (search rules),
       append_assoc before.0 piece _
-      ∙ ap (λ l. before.0 ++ l) (ap (λ o. piece ++ left o (at + 1) (drop (at + 1) items)) c.in_ok-depth.ensures.ends
+          ∙ ap (λ l. before.0 ++ l) (ap (λ o. piece ++ left o (at + 1) (drop (at + 1) items)) c.in_ok-depth.ensures.ends
           ∙ sym (ap (left (reverse c.loop-at.ends.items) at) there))
-      ∙ before.2,
+          ∙ before.2,
     )
 
 pub returns-clause-writes : goal.returns-clause-writes
@@ -41,4 +40,4 @@ returns-clause-writes g c p ok =
     let whole : items ≡ flatten tree = c.entries-entry-items.ensures ∙ ap flatten c.self.view_is in
     let over : drop c.loop-at.at items ≡ [] = drop_of_length-le items c.loop-at-test.false in
     has_written_of_eq _ _ _ _ _ (sym (append-nil done.0) ∙ ap (λ l. done.0 ++ left (reverse c.loop-at.ends.items) c.loop-at.at l) (sym over)
-        ∙ done.2 ∙ ap (left [] 0) whole ∙ left-whole tree (omega (arith, ap length whole, c.entries-entry-items.type_inv))) done.1
+    ∙ done.2 ∙ ap (left [] 0) whole ∙ left-whole tree (omega (arith, ap length whole, c.entries-entry-items.type_inv))) done.1
