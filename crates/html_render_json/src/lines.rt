@@ -11,7 +11,7 @@ use std::alloc::{AllocError, Global};
 #[serde(untagged)]
 pub enum AnnotationForm<'a> {
     /// A name alone.
-    Name([&'static str; 1]),
+    Name((&'static str,)),
     /// A name and a text.
     Text(&'static str, &'a str),
     /// A name and a flag.
@@ -28,20 +28,20 @@ pub trait Annotation: Drop {
 
 impl Annotation for () {
     fn form(&self) -> AnnotationForm<'_> {
-        AnnotationForm::Name(["()"])
+        AnnotationForm::Name(("()",))
     }
 }
 
 impl Annotation for RichAnnotation {
     fn form(&self) -> AnnotationForm<'_> {
         match self {
-            RichAnnotation::Default => AnnotationForm::Name(["Default"]),
+            RichAnnotation::Default => AnnotationForm::Name(("Default",)),
             RichAnnotation::Link(target) => AnnotationForm::Text("Link", target.as_str()),
             RichAnnotation::Image(source) => AnnotationForm::Text("Image", source.as_str()),
-            RichAnnotation::Emphasis => AnnotationForm::Name(["Emphasis"]),
-            RichAnnotation::Strong => AnnotationForm::Name(["Strong"]),
-            RichAnnotation::Strikeout => AnnotationForm::Name(["Strikeout"]),
-            RichAnnotation::Code => AnnotationForm::Name(["Code"]),
+            RichAnnotation::Emphasis => AnnotationForm::Name(("Emphasis",)),
+            RichAnnotation::Strong => AnnotationForm::Name(("Strong",)),
+            RichAnnotation::Strikeout => AnnotationForm::Name(("Strikeout",)),
+            RichAnnotation::Code => AnnotationForm::Name(("Code",)),
             RichAnnotation::Preformat(continues) => AnnotationForm::Flag("Preformat", *continues),
             RichAnnotation::Colour(c) => AnnotationForm::Colour("Colour", c.r, c.g, c.b),
             RichAnnotation::BgColour(c) => AnnotationForm::Colour("BgColour", c.r, c.g, c.b),

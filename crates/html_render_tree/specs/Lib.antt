@@ -9,6 +9,10 @@ pub mod Scripts
 -- which render tree a document becomes
 pub use Rattle.html_render_conversion.specs.Insertion
 pub use Rattle.html_render_conversion.specs.Conversion
+-- tagged lines, their strings, and their text under a colour map
+pub use Rattle.html_render_tagged.specs.TaggedLine
+pub use Rattle.html_render_tagged.specs.Grouping
+pub use Rattle.html_render_tagged.specs.Colouring
 -- what a render tree is displayed as
 pub use Rattle.html_render_nodes.specs.Dump
 -- what a decorator answers, and what those of plain and of rich text do, for callers that implement one
