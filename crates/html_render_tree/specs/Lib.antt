@@ -4,8 +4,8 @@ pub mod Decorations
 pub mod Rendering
 -- laws of the definitions
 pub mod laws
--- the calls of the program's scripts
-pub mod Scripts
+-- what the calls of the program's scripts make of a document
+pub use Rattle.html_render_scripts.specs.Scripts
 -- which render tree a document becomes
 pub use Rattle.html_render_conversion.specs.Insertion
 pub use Rattle.html_render_conversion.specs.Conversion

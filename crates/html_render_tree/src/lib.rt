@@ -6,7 +6,6 @@
 
 pub mod config;
 pub mod htree;
-mod script;
 mod texts;
 
 pub use html_render_dom::{Error, dom, style, text};

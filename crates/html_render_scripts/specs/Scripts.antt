@@ -5,8 +5,8 @@ use Rattle.html_render_dom.specs.Content.{Space, no_space, html, svg, element, c
 use Rattle.html_render_dom.specs.Dom.{Dom, node_count, content_at, parent_at, is_element}
 use Rattle.html_render_dom.specs.Edits.{appended, attached_new, with_content}
 use Rattle.html_render_dom.specs.Elements.{completed}
-use Rattle.html_render_tree.specs.declared.script.Call.{Call}
-use Rattle.html_render_tree.specs.declared.script.Call.TheVariants.{Open, OpenSvg, Attribute, Text, Comment, Close}
+use Rattle.html_render_scripts.specs.declared.script.Call.{Call}
+use Rattle.html_render_scripts.specs.declared.script.Call.TheVariants.{Open, OpenSvg, Attribute, Text, Comment, Close}
 
 -- an element more, without attributes: the parent's last child
 abbrev pub with_element : Dom → (parent : ℕ) → Space → (name : List ℕ) → Dom

@@ -1,7 +1,7 @@
 use Rattle.std.proofs.Common.{length}
 use Rattle.std.specs.Str.{IsUtf8}
 use Rattle.html_render_dom.specs.Dom.{IsNode}
-use Rattle.html_render_tree.proofs.htree.built.Given as goal
+use Rattle.html_render_scripts.proofs.building.built.Given as goal
 
 abbrev pub invariant-loop-rest : goal.invariant-loop-rest
 invariant-loop-rest l = IsNode l.dom l.current × IsUtf8 l.rest

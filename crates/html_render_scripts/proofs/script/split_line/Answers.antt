@@ -2,7 +2,7 @@
 use Rattle.std.proofs.Common.{◌≡◌, get_or, arith}
 use Rattle.std.proofs.lemmas.Bool.{eqb-true}
 use Rattle.std.proofs.lemmas.Str.{IsCharBoundary-after_ascii, IsCharBoundary-before_ascii}
-use Rattle.html_render_tree.proofs.script.split_line.Goals as goal
+use Rattle.html_render_scripts.proofs.script.split_line.Goals as goal
 
 pub range-line-requires-clause-end_boundary : goal.range-line-requires-clause-end_boundary
 range-line-requires-clause-end_boundary c =
