@@ -275,8 +275,8 @@ module _ {S A : Type 0} (d : Decoration S A) (settings : LayoutSettings) where
           (λ lines. cond z None (lines_from (estimated d decorator t) (empty_state d settings decorator w true)) ≡ Some lines)
       by true = tt
       by false =
-          shown-image d onto definition.operations overflowing operations_refine definition.ending finish_stays add_closing_lines_stays (λ (s : Defined S A). s.block.lines) (λ r. refl)
-          (estimated d decorator t) (empty_state d settings decorator w false)
+          shown-image d onto definition.operations overflowing operations_refine definition.ending finish_stays add_closing_lines_stays
+          (λ (s : Defined S A). s.block.lines) (λ r. refl) (estimated d decorator t) (empty_state d settings decorator w false)
 
   -- and so are the names of their marks
   pub names_same : (t : Forest RenderNode) (decorator : S) (w : ℕ) →

@@ -49,7 +49,8 @@ module _ {T M : Type 0} (f : T → T) (same : (t : T) → f t ≡ t) where
 module _ {S A : Type 0} (d : Decoration S A) (settings : LayoutSettings) where
   -- what is defined of measured trees, from an empty block
   abbrev wanted : Forest RenderNode → S → ℕ → Bool → Option (List (Line (List A) ℕ))
-  wanted t decorator w o = shown_after d onto definition.operations definition.ending (λ (r : Defined S A). r.block.lines) t (empty_state d settings decorator w o)
+  wanted t decorator w o =
+      shown_after d onto definition.operations definition.ending (λ (r : Defined S A). r.block.lines) t (empty_state d settings decorator w o)
 
   wanted-lines : (t : Forest RenderNode) (decorator : S) (w : ℕ) (o : Bool) → w ≢ 0 →
       wanted (estimated d decorator t) decorator w o ≡ layout_lines d settings t decorator w o
