@@ -114,3 +114,33 @@ fn each_call_changes_what_it_names(rt: HostRuntime) -> Result<(), Fail> {
     }
     Ok(())
 }
+
+/// Calls, a width, a document's words and its text, with `|` between them.
+const LINKS_AND_IMAGES: &str = "\
+plain|20|<p;x;<a@href=u; |x/
+plain|10|<a@href=http://www.example.com/;Hello|[Hello][1]//[1]: http:///www.exam/ple.com//
+plain no_link_wrapping|10|<a@href=http://www.example.com/;Hello|[Hello][1]//[1]: http://www.example.com//
+plain allow_width_overflow|1|<a@href=世;x|[/x/]/[/1/]//[/1/]/:/ /世/
+plain empty_img_mode=Replace|20|<p;<img@src=a/b|[IMG]/
+plain empty_img_mode=Filename|80|<p;Hello x;<img@src=http://www.example.com/path/foo.jpg@alt=;>;y|Hello x[foo.jpg]y/
+plain|10|<s;a b|a\u{336} b\u{336}/
+";
+
+#[test]
+fn links_images_and_strokes_have_their_texts(rt: HostRuntime) -> Result<(), Fail> {
+    let alloc = rt.alloc();
+    for case in LINKS_AND_IMAGES.lines() {
+        let (calls, fields) = case.split_once('|').ok_or("a width")?;
+        let (width, fields) = fields.split_once('|').ok_or("words")?;
+        let (words, wanted) = fields.split_once('|').ok_or("a text")?;
+        let width = width.parse().map_err(|_| "a width")?;
+        assert_eq!(rt;
+            shown(alloc, calls, width, words)?.as_str(),
+            wanted,
+            "{case}"
+        );
+    }
+    let narrow = shown(alloc, "plain", 1, "<a@href=世;x");
+    assert_eq!(rt; narrow.err(), Some(Error::TooNarrow));
+    Ok(())
+}
