@@ -8,7 +8,8 @@ use Rattle.std.specs.List.{list_all}
 use Rattle.std.specs.Str.{chars}
 use Rattle.html_render_dom.specs.Forest.{Forest, none, node}
 use Rattle.html_render_dom.specs.Outcome.{◌>>=◌}
-use Rattle.html_render_dom.specs.declared.style.WhiteSpace.TheVariants.{Normal}
+use Rattle.html_render_dom.specs.declared.style.WhiteSpace.{WhiteSpace}
+use Rattle.html_render_dom.specs.declared.style.WhiteSpace.TheVariants.{Normal, Pre, PreWrap}
 use Rattle.html_render_dom.specs.declared.style.colours.Colour.{Colour}
 use Rattle.html_render_parts.specs.Decoration.{Decoration, Round, link}
 use Rattle.html_render_lines.specs.Character.{is_collapsible}
@@ -202,7 +203,7 @@ abbrev pub link_number : {S K T B : Type 0} → Operations B T → TextContext T
 link_number o text number s =
     if s.settings.link_footnotes then add_text o (codes "[" ++ decimal number ++ codes "]") (record s { text = text }) else Some s
 
--- ---- colours
+-- ---- styles
 
 -- the state with its texts under one annotation more, if there is one
 abbrev pub annotated : {S A K T B : Type 0} → (K → T → A → K × T) → Option A → LayoutState S K T B → LayoutState S K T B
@@ -215,9 +216,20 @@ abbrev pub coloured : {S A K T B : Type 0} → (K → T → A → K × T) → (S
 coloured push annotation None s = s
 coloured push annotation (Some colour) s = annotated push (annotation s.decorator colour) s
 
--- with what a node's style gives them: its colour, and then that of its background
+-- the state with white space of its texts treated so
+abbrev pub with_mode : {S K T B : Type 0} → WhiteSpace → LayoutState S K T B → LayoutState S K T B
+with_mode mode s = record s { text = record s.text { mode = mode } }
+
+-- with white space treated as a style says: Normal changes nothing
+abbrev pub in_white_space : {S K T B : Type 0} → WhiteSpace → LayoutState S K T B → LayoutState S K T B
+in_white_space Normal s = s
+in_white_space Pre s = with_mode Pre s
+in_white_space PreWrap s = with_mode PreWrap s
+
+-- with what a node's style gives them: its colour, then that of its background, and its white space
 abbrev pub in_style : {S A K T B : Type 0} → Decoration S A → (K → T → A → K × T) → NodeStyle → LayoutState S K T B → LayoutState S K T B
-in_style d push style s = coloured push d.push_background style.background (coloured push d.push_colour style.colour s)
+in_style d push style s =
+    in_white_space style.white_space (coloured push d.push_background style.background (coloured push d.push_colour style.colour s))
 
 -- d is what the decorators S answer, with annotations A; push gives the tag T of one annotation more, in the stacks K;
 -- and o are the operations on blocks B

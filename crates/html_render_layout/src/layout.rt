@@ -33,7 +33,6 @@ use html_render_parts::widths::Meter;
 use std::alloc::Global;
 use std::marker::PhantomData;
 
-mod colours;
 mod emphasis;
 mod ending;
 mod images;
@@ -43,6 +42,7 @@ mod nesting;
 mod spaces;
 pub mod state;
 mod steps;
+mod styles;
 mod superscripts;
 mod texts;
 

@@ -1,5 +1,5 @@
-//! Tests of what a configuration renders: tagged lines, coloured text, what each setting changes, decorators of one's own
-//! with annotations, and the example of a terminal viewer.
+//! Tests of what a configuration renders: tagged lines, coloured text, what each setting changes, white space that rules
+//! preserve, decorators of one's own with annotations, and the example of a terminal viewer.
 //!
 //! There is nothing to call here.
 #![tactic(auto)]
@@ -12,3 +12,5 @@ mod lines;
 mod settings;
 #[cfg(test)]
 mod viewer;
+#[cfg(test)]
+mod white_space;

@@ -46,7 +46,7 @@ pub fn configured<D: TextDecorator>(
 }
 
 /// The text of a document in a width, with `/` for each newline.
-fn text_of<D: TextDecorator>(
+pub fn text_of<D: TextDecorator>(
     alloc: Global,
     config: &Config<D>,
     width: usize,

@@ -36,7 +36,10 @@ use Rattle.html_render_layout.specs.Ending.{ended}
 use Rattle.html_render_layout.specs.laws.Ending.{ended-image}
 use Rattle.html_render_layout.specs.Layout.{on_block, written, add_characters, add_text, text_style, under, striking}
 use Rattle.html_render_layout.specs.Layout.{inner_least, spaces, padded, next_number, nested, resumed, indented, quoted, among, placed}
-use Rattle.html_render_layout.specs.Layout.{image_round, raised, digits_of, with_target, marked, link_number, annotated, coloured, in_style}
+use Rattle.html_render_layout.specs.Layout.{image_round, raised, digits_of, with_target, marked, link_number, annotated, coloured}
+use Rattle.html_render_layout.specs.Layout.{in_white_space, in_style}
+use Rattle.html_render_dom.specs.declared.style.WhiteSpace.{WhiteSpace}
+use Rattle.html_render_dom.specs.declared.style.WhiteSpace.TheVariants.{Normal, Pre, PreWrap}
 use Rattle.html_render_layout.specs.Layout.{emphasis_decoration, begun, decorated, titled, image, struck_out, superscript, linked}
 use Rattle.html_render_layout.specs.Layout.{numbers, kind_steps, node_steps, steps}
 use Rattle.html_render_layout.specs.Layout.{shown_after, onto, Defined, empty_state, estimated, layout_lines, mark_names, no_tag, untagged_lines}
@@ -109,10 +112,18 @@ module _ {S A K T B : Type 0} (d : Decoration S A) (push : K → T → A → K �
   coloured-stays annotation None s = refl
   coloured-stays annotation (Some colour) s = annotated-stays (annotation s.decorator colour) s
 
+  in_white_space-stays : (mode : WhiteSpace) (s : State) → in_white_space mode (mapped s) ≡ mapped (in_white_space mode s)
+  in_white_space-stays Normal s = refl
+  in_white_space-stays Pre s = refl
+  in_white_space-stays PreWrap s = refl
+
   in_style-stays : (style : NodeStyle) (s : State) → in_style d push style (mapped s) ≡ mapped (in_style d push style s)
   in_style-stays style s =
-      ap (λ q. coloured push d.push_background style.background q) (coloured-stays d.push_colour style.colour s)
-      ∙ coloured-stays d.push_background style.background (coloured push d.push_colour style.colour s)
+      ap (λ q. in_white_space style.white_space (coloured push d.push_background style.background q)) (coloured-stays d.push_colour style.colour s)
+      ∙ ap (λ q. in_white_space style.white_space q)
+      (coloured-stays d.push_background style.background (coloured push d.push_colour style.colour s))
+      ∙ in_white_space-stays style.white_space
+      (coloured push d.push_background style.background (coloured push d.push_colour style.colour s))
 
   module _ (l m : State → Option State) (below : Stays l m) where
     indented-stays : (prefix : List ℕ) (columns least : ℕ) (behind : Around) →

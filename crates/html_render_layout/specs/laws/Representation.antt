@@ -5,6 +5,8 @@ use Rattle.std.proofs.Common.{◌≡◌, ℕ, ◌+◌, Bool, true, false, List, 
 use Rattle.std.proofs.Common.{refl, sym, ap, ◌∙◌, subst, option_map, option_and_then}
 use Rattle.std.specs.Str.{chars}
 use Rattle.html_render_dom.specs.Forest.{Forest}
+use Rattle.html_render_dom.specs.declared.style.WhiteSpace.{WhiteSpace}
+use Rattle.html_render_dom.specs.declared.style.WhiteSpace.TheVariants.{Normal, Pre, PreWrap}
 use Rattle.html_render_dom.specs.declared.style.colours.Colour.{Colour}
 use Rattle.html_render_parts.specs.Decoration.{Decoration, Round, Start, link}
 use Rattle.html_render_lines.specs.Line.{Line}
@@ -39,7 +41,8 @@ use Rattle.html_render_layout.specs.Ending.{closing_texts, ended}
 use Rattle.html_render_layout.specs.Layout.{on_block, written, add_characters, add_text, text_style, under, striking, onto}
 use Rattle.html_render_layout.specs.Layout.{inner_least, spaces, padded, next_number, numbers, nested, resumed}
 use Rattle.html_render_layout.specs.Layout.{indented, quoted, among, placed}
-use Rattle.html_render_layout.specs.Layout.{image_round, raised, digits_of, with_target, marked, link_number, annotated, coloured, in_style}
+use Rattle.html_render_layout.specs.Layout.{image_round, raised, digits_of, with_target, marked, link_number, annotated, coloured}
+use Rattle.html_render_layout.specs.Layout.{with_mode, in_white_space, in_style}
 use Rattle.html_render_layout.specs.Layout.{emphasis_decoration, begun, decorated, titled, image, struck_out, superscript, linked}
 use Rattle.html_render_layout.specs.Layout.{kind_steps, node_steps, steps, superscript_inside, kind_inside, node_inside, placed_inside, inside}
 use Rattle.html_render_layout.specs.Layout.{shown_after, Defined, defined, defined_inside}
@@ -337,14 +340,38 @@ module _ {S A K T V : Type 0} (d : Decoration S A) (push : K → T → A → K �
   coloured-represents annotation (Some colour) s e h =
       annotated-represents (annotation s.decorator colour) (annotation e.decorator colour) s e (ap (λ x. annotation x colour) h.decorator) h
 
+  with_mode-represents : (mode : WhiteSpace) (s : Worked) (e : Defined S A) → Represents s e →
+      Reached s (with_mode mode s) (with_mode mode e)
+  with_mode-represents mode s e h = (
+    record {
+      settings = h.settings;
+      decorator = h.decorator;
+      text = record { tag = h.text.tag; mode = refl; preformatted = h.text.preformatted; struck_out = h.text.struck_out };
+      block = h.block;
+      around = h.around;
+      targets = h.targets;
+      names = h.names;
+    },
+    stays s.stacks,
+  )
+
+  in_white_space-represents : (mode : WhiteSpace) (s : Worked) (e : Defined S A) → Represents s e →
+      Reached s (in_white_space mode s) (in_white_space mode e)
+  in_white_space-represents Normal s e h = (h, stays s.stacks)
+  in_white_space-represents Pre s e h = with_mode-represents Pre s e h
+  in_white_space-represents PreWrap s e h = with_mode-represents PreWrap s e h
+
   in_style-represents : (style : NodeStyle) (s : Worked) (e : Defined S A) → Represents s e →
       Reached s (in_style d push style s) (in_style d onto style e)
   in_style-represents style s e h =
       let q : Worked = coloured push d.push_colour style.colour s in
       let u : Defined S A = coloured onto d.push_colour style.colour e in
       let a : Reached s q u = coloured-represents d.push_colour style.colour s e h in
-      let b = coloured-represents d.push_background style.background q u a.0 in
-      (b.0, goes s.stacks q.stacks (in_style d push style s).stacks a.1 b.1)
+      let r : Worked = coloured push d.push_background style.background q in
+      let v : Defined S A = coloured onto d.push_background style.background u in
+      let b : Reached q r v = coloured-represents d.push_background style.background q u a.0 in
+      let c = in_white_space-represents style.white_space r v b.0 in
+      (c.0, goes s.stacks r.stacks (in_style d push style s).stacks (goes s.stacks q.stacks r.stacks a.1 b.1) c.1)
 
   -- ---- struck-out text, images and links
 

@@ -11,13 +11,13 @@ ghost use Rattle.html_render_layout.specs.Opening.{term_opened, description_open
 ghost use Rattle.html_render_layout.specs.Opening.{kind_opened, kind_closed, node_opened};
 ghost use Rattle.html_render_layout.specs.Opening.{placed_opened, closed};
 
-use super::colours::begin_style;
 use super::emphasis::{begin_emphasis, begin_strikeout, begin_superscript, end_of};
 use super::images::add_image;
 use super::items::place_of;
 use super::links::{add_mark, begin_link, close_link};
 use super::nesting::{close_indent, close_quote, nest};
 use super::state::{Around, Closing, Interrupted, KindClosing, LayoutState};
+use super::styles::begin_style;
 use super::superscripts::{digits_of, write_raised};
 use super::texts::add_text;
 use crate::tagging::Tagging;

@@ -1,4 +1,4 @@
-//! Colours, which characters are annotated with.
+//! What a node's style gives its texts: colours, which characters are annotated with, and how white space is treated.
 
 ghost use Rattle.std.specs.Prelude.{◌≡◌, OnOk, IfErr};
 ghost use Rattle.html_render_layout.specs.Layout.{annotated, in_style};
@@ -7,6 +7,7 @@ use super::state::LayoutState;
 use crate::tagging::Tagging;
 use html_render_blocks::block::Block;
 use html_render_dom::Error;
+use html_render_dom::style::WhiteSpace;
 use html_render_nodes::tree::NodeStyle;
 use html_render_parts::decorate::TextDecorator;
 use std::alloc::Global;
@@ -25,7 +26,8 @@ fn annotate<D: TextDecorator, G: Tagging<D::Annotation>>(
     Ok(())
 }
 
-/// The texts that come have what a node's style gives them: first its colour, then that of its background.
+/// The texts that come have what a node's style gives them: first its colour, then that of its background, and its white
+/// space, where that isn't Normal.
 ///
 /// # Errors
 ///
@@ -45,6 +47,10 @@ pub fn begin_style<D: TextDecorator, G: Tagging<D::Annotation>>(
     if let Some(colour) = style.background {
         let annotation = state.decorator.push_bgcolour(alloc, colour)?;
         annotate(annotation, state)?;
+    }
+    match style.white_space {
+        WhiteSpace::Normal => {}
+        mode => state.text.mode = mode,
     }
     Ok(())
 }
