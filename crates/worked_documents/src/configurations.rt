@@ -4,12 +4,13 @@ ghost use Rattle.std.specs.Prelude.{◌≡◌, length, true, false, IfOk};
 
 use crate::rules::content;
 use html_render_tree::Error;
+use html_render_tree::block::TaggedLine;
 use html_render_tree::config::{Config, plain, plain_no_decorate, with_decorator};
 use html_render_tree::decorate::{PlainDecorator, TextDecorator};
 use html_render_tree::dom::{ElementFlags, NodeOrText, QualName, RcDom};
 use html_render_tree::style::{PseudoElement, StyleOrigin};
 use html_render_tree::widths::Meter;
-use std::alloc::Global;
+use std::alloc::{AllocError, Global};
 use std::process::Abort;
 use std::test::Fail;
 
@@ -39,6 +40,18 @@ pub fn shown<D: TextDecorator>(
     config.render_to_string(alloc, tree, 20)
 }
 
+/// The strings of lines, and a newline behind each line.
+fn strings(alloc: Global, lines: &[TaggedLine<Vec<()>>]) -> Result<String, AllocError> {
+    let mut text = String::new(alloc);
+    for line in lines {
+        for string in line.tagged_strings() {
+            text.push_str(&string.s)?;
+        }
+        text.push('\n')?;
+    }
+    Ok(text)
+}
+
 #[test]
 fn a_deep_document_takes_no_more_stack(rt: HostRuntime) -> Result<(), Fail> {
     let alloc = rt.alloc();
@@ -47,8 +60,9 @@ fn a_deep_document_takes_no_more_stack(rt: HostRuntime) -> Result<(), Fail> {
     let tree = config.dom_to_render_tree(alloc, &dom)?;
     let mut meter = Meter::default();
     let lines = config.render_to_lines_metered(alloc, tree, 5, &mut meter)?;
-    assert_eq!(rt; lines.len(), 1);
+    assert_eq!(rt; strings(alloc, &lines)?.as_str(), "x\n");
     assert!(rt; meter.frames >= 100_000);
+    assert_eq!(rt; (meter.entered, meter.left), (100_002, 100_002));
     let tree = config.dom_to_render_tree(alloc, &dom)?;
     assert_eq!(rt; config.render_to_string(alloc, tree, 5)?.as_str(), "x\n");
     Ok(())
