@@ -18,6 +18,7 @@ use Rattle.html_render_blocks.specs.declared.block.BlockSetting.{BlockSetting}
 use Rattle.html_render_blocks.specs.Closing.{line_setting, closing_lines}
 use Rattle.html_render_blocks.specs.Joined.{joined, marked_before, marked_behind}
 use Rattle.html_render_blocks.specs.Operations.{Operations, Ending}
+use Rattle.html_render_blocks.specs.Padding.{filled}
 
 -- the columns of a paragraph's lines: those of its block, or fewer
 abbrev pub wrap_width : ℕ → Option ℕ → ℕ
@@ -28,22 +29,24 @@ wrap_width width (Some most) = min width most
 abbrev pub paragraph_setting : BlockSetting → Setting
 paragraph_setting s = record { width = wrap_width s.width s.max_wrap_width; overflow = s.overflow }
 
--- the finished lines, the marks that wait, what was fed to the open paragraph behind them, and whether a block ended
--- here
+-- the tag of the spaces that lines of paragraphs are filled with, if they are; the finished lines, the marks that wait, what
+-- was fed to the open paragraph behind them, and whether a block ended here
 pub record DefinedBlock (T M : Type 0) : Type 0 where
   pub setting : BlockSetting
+  pub padding : Option T
   pub lines : List (Line T M)
   pub marks : List M
   pub fed : List (Item T M)
   pub at_block_end : Bool
 
 -- a block without lines
-abbrev pub empty_block : {T M : Type 0} → BlockSetting → DefinedBlock T M
-empty_block s = record { setting = s; lines = []; marks = []; fed = []; at_block_end = false }
+abbrev pub empty_block : {T M : Type 0} → BlockSetting → (padding : Option T) → DefinedBlock T M
+empty_block s padding = record { setting = s; padding = padding; lines = []; marks = []; fed = []; at_block_end = false }
 
--- the lines of the open paragraph are added to those of the block; marks that no character of it follows wait on
+-- the lines of the open paragraph are added to those of the block, filled up to its width if there is padding; marks that no
+-- character of it follows wait on
 abbrev pub add_page : {T M : Type 0} → DefinedBlock T M → Page T M → DefinedBlock T M
-add_page d p = record d { lines = d.lines ++ all_lines p; marks = p.waiting; fed = [] }
+add_page d p = record d { lines = d.lines ++ filled d.padding d.setting.width (all_lines p); marks = p.waiting; fed = [] }
 
 -- the lines of the open paragraph are finished; none where it is too narrow
 abbrev pub flush : {T M : Type 0} → DefinedBlock T M → Option (DefinedBlock T M)
@@ -107,7 +110,7 @@ inner_width s prefix inner = if s.overflow || nat_le inner (s.width - prefix) th
 
 -- an empty block inside a block, behind a prefix of so many columns
 abbrev pub sub_block : {T M : Type 0} → DefinedBlock T M → ℕ → ℕ → Option (DefinedBlock T M)
-sub_block {T} {M} d prefix inner = option_map (λ (w : ℕ). empty_block (record d.setting { width = w })) (inner_width d.setting prefix inner)
+sub_block {T} {M} d prefix inner = option_map (λ (w : ℕ). empty_block (record d.setting { width = w }) d.padding) (inner_width d.setting prefix inner)
 
 -- marks as a paragraph is fed them
 abbrev pub mark_items : {T M : Type 0} → List M → List (Item T M)

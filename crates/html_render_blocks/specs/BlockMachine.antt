@@ -6,11 +6,12 @@ use Rattle.html_render_dom.specs.Outcome.{◌>>=◌}
 use Rattle.html_render_lines.specs.declared.character.Item.TheVariants.{Mark}
 use Rattle.html_render_lines.specs.declared.character.TextStyle.{TextStyle}
 use Rattle.html_render_lines.specs.Line.{Line, marks_line}
-use Rattle.html_render_lines.specs.Paragraph.{Page, all_lines}
+use Rattle.html_render_lines.specs.Paragraph.{Setting, Page, all_lines}
 use Rattle.html_render_lines.specs.Stream.{State, start, step, after, finished, styled}
 use Rattle.html_render_lines.specs.TaggedText.{under}
 use Rattle.html_render_blocks.specs.declared.block.BlockSetting.{BlockSetting}
 use Rattle.html_render_blocks.specs.Operations.{Operations, Ending}
+use Rattle.html_render_blocks.specs.Padding.{filled}
 use Rattle.html_render_blocks.specs.Closing.{line_setting, closing_lines}
 use Rattle.html_render_blocks.specs.Joined.{joined, marked_before, marked_behind}
 use Rattle.html_render_blocks.specs.Block.{is_blank, paragraph_setting, inner_width, mark_items}
@@ -18,17 +19,25 @@ use Rattle.html_render_blocks.specs.Block.{is_blank, paragraph_setting, inner_wi
 -- a block of the machine; the open paragraph is none once a character was too wide for it
 pub record MachineBlock (T M : Type 0) : Type 0 where
   pub setting : BlockSetting
+  pub padding : Option T
   pub lines : List (Line T M)
   pub paragraph : Option (State T M)
   pub at_block_end : Bool
 
 -- a block without lines
-abbrev pub empty_block : {T M : Type 0} → BlockSetting → MachineBlock T M
-empty_block s = record { setting = s; lines = []; paragraph = Some (start (paragraph_setting s) []); at_block_end = false }
+abbrev pub empty_block : {T M : Type 0} → BlockSetting → (padding : Option T) → MachineBlock T M
+empty_block s padding =
+    record { setting = s; padding = padding; lines = []; paragraph = Some (start (paragraph_setting s) []); at_block_end = false }
 
--- the lines of the open paragraph are added to those of the block, and the marks that wait begin another
+-- the lines of a paragraph, filled, behind other lines, and the next paragraph, which the marks that wait begin
+abbrev pub flushed_filled : {T M : Type 0} → T → (width : ℕ) → Setting → List (Line T M) → Page T M → List (Line T M) × State T M
+flushed_filled tag width setting lines p = (lines ++ filled (Some tag) width (all_lines p), start setting p.waiting)
+
+-- the lines of the open paragraph are added to those of the block, filled up to its width if there is padding, and the marks
+-- that wait begin another
 abbrev pub add_page : {T M : Type 0} → MachineBlock T M → State T M → Page T M → MachineBlock T M
-add_page b q p = record b { lines = b.lines ++ all_lines p; paragraph = Some (start q.setting p.waiting) }
+add_page b q p =
+    record b { lines = b.lines ++ filled b.padding b.setting.width (all_lines p); paragraph = Some (start q.setting p.waiting) }
 
 -- the lines of this paragraph are finished; none where it is too narrow
 abbrev pub flush_paragraph : {T M : Type 0} → MachineBlock T M → Option (State T M) → Option (MachineBlock T M)
@@ -95,7 +104,7 @@ add_mark {T} {M} b m = record b { paragraph = option_and_then (λ (q : State T M
 
 -- an empty block inside a block, behind a prefix of so many columns
 abbrev pub sub_block : {T M : Type 0} → MachineBlock T M → ℕ → ℕ → Option (MachineBlock T M)
-sub_block {T} {M} b prefix inner = option_map (λ (w : ℕ). empty_block (record b.setting { width = w })) (inner_width b.setting prefix inner)
+sub_block {T} {M} b prefix inner = option_map (λ (w : ℕ). empty_block (record b.setting { width = w }) b.padding) (inner_width b.setting prefix inner)
 
 -- marks are fed to the open paragraph
 abbrev pub add_marks : {T M : Type 0} → MachineBlock T M → List M → MachineBlock T M

@@ -2,6 +2,7 @@
 pub mod Operations
 pub mod Joined
 pub mod Closing
+pub mod Padding
 pub mod Block
 pub mod BlockMachine
 -- its visible characters

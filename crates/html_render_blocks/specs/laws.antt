@@ -2,6 +2,8 @@
 pub mod Operations
 -- facts on values that may be missing, and on choices
 pub mod Cases
+-- padding leaves tags, widths and visible characters as they are
+pub mod Padding
 -- the operations don't depend on the tags
 pub mod BlockTags
 -- a block that was fed is the definition's

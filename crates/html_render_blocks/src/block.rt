@@ -22,11 +22,13 @@ use html_render_lines::character::{TextStyle, is_collapsible};
 use html_render_lines::line::{Element, Line, text_columns};
 use html_render_lines::paragraph::Paragraph;
 use html_render_lines::tag::Tag;
+use padding::flush_filled;
 use std::alloc::{AllocError, Global};
 use std::marker::Model;
 use std::mem;
 
 mod closing;
+mod padding;
 
 /// How wide a block is, and whether what is wider is laid out nevertheless.
 #[derive(Clone, Copy, Debug)]
@@ -47,6 +49,8 @@ pub struct Block<T, M> {
     alloc: Global,
     /// How wide it is.
     setting: BlockSetting,
+    /// The tag of the spaces that lines of paragraphs are filled with, if they are.
+    padding: Option<T>,
     /// The finished lines.
     lines: Vec<Line<T, M>>,
     /// The open paragraph, unless a character was too wide for it.
@@ -62,6 +66,7 @@ impl<T, M> Model for Block<T, M> {
 
     ghost view = { λ b. record {
       setting = b.setting;
+      padding = b.padding;
       lines = b.lines.items;
       paragraph = b.paragraph;
       at_block_end = b.at_block_end;
@@ -145,15 +150,16 @@ impl<'a, T: Copy> Prefix<'a, T> {
 
 impl<T: Tag, M: Copy> Block<T, M> {
     /// An empty block. Where a character is wider than a line, it stands alone on one with overflow; without, the block is
-    /// too narrow.
-    pub fn new(alloc: Global, setting: BlockSetting) -> Block<T, M>
-        ensures { result ≡ machine.empty_block setting }
+    /// too narrow. With padding the lines of its paragraphs are filled up to its width with spaces under this tag.
+    pub fn new(alloc: Global, setting: BlockSetting, padding: Option<T>) -> Block<T, M>
+        ensures { result ≡ machine.empty_block setting padding }
     {
         let width = wrap_width(setting.width, setting.max_wrap_width);
         let paragraph = Some(Paragraph::new(alloc, width, setting.overflow));
         Block {
             alloc,
             setting,
+            padding,
             lines: Vec::new(alloc),
             paragraph,
             at_block_end: false,
@@ -165,6 +171,7 @@ impl<T: Tag, M: Copy> Block<T, M> {
     /// # Errors
     ///
     /// `TooNarrow`, where these columns aren't there, with overflow off.
+    #[inline]
     pub fn sub_block(&self, prefix: usize, inner: usize) -> Result<Block<T, M>, Error>
         ensures ok { IfOk result (λ sub. machine.sub_block self.now prefix inner ≡ Some sub) }
         ensures err { IfErr result (λ e. Refuses e (machine.sub_block self.now prefix inner)) }
@@ -177,6 +184,7 @@ impl<T: Tag, M: Copy> Block<T, M> {
                     max_wrap_width: self.setting.max_wrap_width,
                     overflow: self.setting.overflow,
                 },
+                self.padding,
             )),
             None => Err(Error::TooNarrow),
         }
@@ -222,7 +230,8 @@ impl<T: Tag, M: Copy> Block<T, M> {
         }
     }
 
-    /// Adds the lines of the open paragraph, and opens another for the marks that wait.
+    /// Adds the lines of the open paragraph, filled up to the width with spaces where there is padding, and opens another for
+    /// the marks that wait.
     ///
     /// # Errors
     ///
@@ -232,10 +241,15 @@ impl<T: Tag, M: Copy> Block<T, M> {
         ensures ok { OnOk result (machine.flush self.old ≡ Some self.new) }
         ensures err { IfErr result (λ e. Refuses e (machine.flush self.old)) }
     {
+        let padding = self.padding;
+        let width = self.setting.width;
         let Some(paragraph) = &mut self.paragraph else {
             return Err(Error::TooNarrow);
         };
-        paragraph.flush(&mut self.lines)
+        match padding {
+            Some(tag) => flush_filled(self.alloc, paragraph, &mut self.lines, width, tag),
+            None => paragraph.flush(&mut self.lines),
+        }
     }
 
     /// Takes out the marks that wait.

@@ -8,7 +8,7 @@ use Rattle.std.proofs.Math.Seq.{take-suc, take-length}
 use Rattle.html_render_dom.specs.Cascade.{value_of}
 use Rattle.html_render_dom.specs.Content.{Content, document, doctype, text, comment, element, instruction}
 use Rattle.html_render_dom.specs.Dom.{Dom, IsForest, IsNode, node_count, content_at, children_at, below, trees_of, tree_of}
-use Rattle.html_render_dom.specs.ElementStyle.{ElementStyle, element_style}
+use Rattle.html_render_dom.specs.ElementStyle.{ElementStyle}
 use Rattle.html_render_dom.specs.Forest.{Forest, none, node, count, followed_by}
 use Rattle.html_render_dom.specs.Rules.{Rule as StyleRule}
 use Rattle.html_render_dom.specs.laws.Trees.{below-children}
@@ -28,7 +28,7 @@ use Rattle.html_render_conversion.specs.declared.convert.Open.{Open}
 use Rattle.html_render_conversion.proofs.Receiving.{with_received, received-append, is_kept-append}
 use Rattle.html_render_conversion.specs.Insertion.{Tree, container, in_front, leaf, marked, with_contents}
 use Rattle.html_render_conversion.specs.Marks.{mark_of}
-use Rattle.html_render_conversion.specs.Conversion.{element_mapping, node_style, keeps, kept, are_any, counts}
+use Rattle.html_render_conversion.specs.Conversion.{element_mapping, own_style, node_style, keeps, kept, are_any, counts}
 use Rattle.html_render_conversion.specs.Conversion.{counts_any, standing, over, styled, result_of, converted}
 use Rattle.html_render_conversion.specs.Conversion.{render_tree_of}
 use Rattle.html_render_conversion.specs.Converting.{Progress, mark_alone, styled_outline, outline_of, outline_at, put_content}
@@ -81,7 +81,7 @@ outline_result rules document below children = ap (λ c. Some (container c)) (ke
 outline_result rules (text contents) below children = refl
 outline_result rules (element name properties template_contents integration_point) below children =
     styled_result (element_mapping name.space name.local properties below) (mark_of name properties)
-    (element_style rules name.local properties) children
+    (own_style rules name properties) children
 outline_result rules (doctype name public_id system_id) below children = refl
 outline_result rules (comment contents) below children = refl
 outline_result rules (instruction target contents) below children = refl

@@ -1,10 +1,16 @@
--- What the style of an element says where there are no rules, and where it isn't displayed.
-use Rattle.std.proofs.Common.{◌≡◌, ℕ, Bool, true, false, if◌then◌else◌, List, [], ◌∷◌, length, map, Option, is_some, refl, ap, arith}
-use Rattle.html_render_dom.specs.Content.{Property}
-use Rattle.html_render_dom.specs.Cascade.{value_of}
-use Rattle.html_render_dom.specs.ElementStyle.{ElementStyle, element_style, style_by}
+-- What the style of an element says where there are no rules, where it is preformatted, and where it isn't displayed.
+use Rattle.std.proofs.Common.{◌≡◌, ℕ, Bool, true, false, if◌then◌else◌, List, [], ◌∷◌, ◌++◌, length, map, Option, is_some, option_to_list}
+use Rattle.std.proofs.Common.{sym, ap, ◌∙◌, arith}
+use Rattle.html_render_dom.specs.Content.{Name, Property}
+use Rattle.html_render_dom.specs.Cascade.{value_of, winner}
+use Rattle.html_render_dom.specs.ElementStyle.{ElementStyle, style_by}
 use Rattle.html_render_dom.specs.Rules.{rule_of}
+use Rattle.html_render_dom.specs.Specificities.{no_specificity}
+use Rattle.html_render_dom.specs.declared.style.WhiteSpace.{WhiteSpace}
 use Rattle.html_render_dom.specs.declared.style.rules.StyleRule.{StyleRule}
+use Rattle.html_render_dom.specs.declared.style.specificities.Specificity.{Specificity}
+use Rattle.html_render_dom.specs.declared.style.updates.Update.{Update}
+use Rattle.html_render_dom.specs.laws.Winners.{winner-one}
 use Rattle.html_render_nodes.specs.declared.tree.NodeKind.{NodeKind}
 use Rattle.html_render_nodes.specs.RenderNodes.{unmeasured}
 use Rattle.html_render_conversion.specs.declared.mapping.IfEmpty.{IfEmpty}
@@ -13,13 +19,24 @@ use Rattle.html_render_conversion.specs.declared.mapping.Mapping.{Mapping}
 use Rattle.html_render_conversion.specs.declared.mapping.Mapping.TheVariants.{Nothing, Leaf, Parent}
 use Rattle.html_render_conversion.specs.declared.mapping.Outline.TheVariants.{Over}
 use Rattle.html_render_conversion.specs.declared.mapping.Outline.TheVariants as outline
-use Rattle.html_render_conversion.specs.Conversion.{node_style}
+use Rattle.html_render_conversion.specs.Conversion.{is_preformatted, last_white_space, preformatted_style, own_style, node_style}
 use Rattle.html_render_conversion.specs.Converting.{mark_alone, displayed_outline, styled_outline}
 
-pub without_rules : (rules : List StyleRule) (name : List ℕ) (properties : List Property) → length rules ≡ 0 →
-    element_style (map rule_of rules) name properties ≡ style_by []
-without_rules [] name properties e = refl
-without_rules (rule ∷ rules) name properties e = absurd (omega (arith, e))
+pub without_rules : (rules : List StyleRule) (name : Name) (properties : List Property) → length rules ≡ 0 →
+    is_preformatted name.space name.local ≡ false → own_style (map rule_of rules) name properties ≡ style_by []
+without_rules [] name properties e other = ap (λ b. preformatted_style b (style_by [])) other
+without_rules (rule ∷ rules) name properties e other = absurd (omega (arith, e))
+
+-- `pre` gives its style an update of the least specificity behind those of all rules
+pub preformatted : (style : ElementStyle) (least : Specificity) (new : Option (Update WhiteSpace)) → least ≡ no_specificity →
+    ((updates : List (Update WhiteSpace)) → style.white_space ≡ winner updates →
+    new ≡ winner (updates ++ record last_white_space { specificity = least } ∷ [])) →
+    record style { white_space = new; internal_pre = true } ≡ preformatted_style true style
+preformatted style least new e takes =
+    let before = option_to_list style.white_space in
+    ap (λ w. record style { white_space = w; internal_pre = true })
+    (takes before (sym (winner-one style.white_space))
+    ∙ ap (λ s. winner (before ++ record last_white_space { specificity = s } ∷ [])) e)
 
 hidden : (kind : NodeKind) (if_empty : IfEmpty) (has_children : Bool) (mark : Option (List ℕ)) (style : ElementStyle) →
     is_some style.display ≡ true → displayed_outline kind if_empty has_children mark style ≡ outline.Nothing

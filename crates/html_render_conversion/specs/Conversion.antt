@@ -1,17 +1,22 @@
 -- THE DEFINITION of the conversion: which nodes of a render tree the nodes of a document become.
 use Rattle.std.specs.Prelude.{ℕ, ◌^◌, nat_lt, ℤ, pos, negsuc, Bool, true, false, not, ◌&&◌, ◌||◌, List, [], ◌∷◌, length, codes, Option, Some, None, is_some}
-use Rattle.std.specs.Prelude.{option_and_then, option_map, unwrap_or, if◌then◌else◌}
+use Rattle.std.specs.Prelude.{◌++◌, option_and_then, option_map, option_to_list, unwrap_or, if◌then◌else◌}
 use Rattle.std.specs.Str.{bytes_eq, all_ascii_digits, trim}
 use Rattle.std.specs.Str.Parse.{without_leading_sign, signed_digits_value}
 use Rattle.std.specs.List.{list_any}
-use Rattle.html_render_dom.specs.declared.style.WhiteSpace.TheVariants.{Normal}
-use Rattle.html_render_dom.specs.Cascade.{value_of}
-use Rattle.html_render_dom.specs.Content.{Property, Space, no_space, html, svg, mathml, other, Content, document, doctype, text, comment, element, instruction}
+use Rattle.html_render_dom.specs.declared.style.WhiteSpace.{WhiteSpace}
+use Rattle.html_render_dom.specs.declared.style.WhiteSpace.TheVariants.{Normal, Pre}
+use Rattle.html_render_dom.specs.declared.style.origins.StyleOrigin.TheVariants.{Agent}
+use Rattle.html_render_dom.specs.declared.style.updates.Update.{Update}
+use Rattle.html_render_dom.specs.Cascade.{value_of, winner}
+use Rattle.html_render_dom.specs.Content.{Name, Property, Space, no_space, html, svg, mathml, other}
+use Rattle.html_render_dom.specs.Content.{Content, document, doctype, text, comment, element, instruction}
 use Rattle.html_render_dom.specs.Dom.{Dom, tree_of}
 use Rattle.html_render_dom.specs.ElementStyle.{ElementStyle, element_style}
 use Rattle.html_render_dom.specs.Forest.{Forest, none, node}
 use Rattle.html_render_dom.specs.Rules.{Rule as StyleRule}
 use Rattle.html_render_dom.specs.Selectors.{first_value, is_filled}
+use Rattle.html_render_dom.specs.Specificities.{no_specificity}
 use Rattle.html_render_nodes.specs.declared.tree.Emphasis.TheVariants.{Em, Strong, Code}
 use Rattle.html_render_nodes.specs.declared.tree.ImageParts.{ImageParts}
 use Rattle.html_render_nodes.specs.declared.tree.NodeKind.{NodeKind}
@@ -52,6 +57,7 @@ start_of properties = unwrap_or (option_and_then number_of (first_value (codes "
 abbrev pub html_mapping : (name : List ℕ) → List Property → Mapping
 html_mapping name properties =
     if bytes_eq name (codes "p") then Parent Block Vanishes
+    else if bytes_eq name (codes "pre") then Parent Block Stands
     else if bytes_eq name (codes "li") then Parent ListItem Stands
     else if is_one_of name (codes "em" ∷ codes "i" ∷ codes "ins" ∷ []) then Parent (Emphasis Em) Stands
     else if is_one_of name (codes "strong" ∷ codes "b" ∷ []) then Parent (Emphasis Strong) Stands
@@ -106,12 +112,35 @@ element_mapping svg name properties below =
 element_mapping mathml name properties below = Parent Container Vanishes
 element_mapping (other address) name properties below = Parent Container Vanishes
 
+-- whether an element is a `pre` of HTML
+abbrev pub is_preformatted : Space → (name : List ℕ) → Bool
+is_preformatted html name = bytes_eq name (codes "pre")
+is_preformatted _ name = false
+
+-- the update of white space that stands behind those of all rules where an element is preformatted
+abbrev pub last_white_space : Update WhiteSpace
+last_white_space = record { important = false; origin = Agent; specificity = no_specificity; value = Pre }
+
+-- a style as it is, and with the last update where its element is preformatted
+abbrev pub preformatted_style : (preformatted : Bool) → ElementStyle → ElementStyle
+preformatted_style false style = style
+preformatted_style true style = record style {
+  white_space = winner (option_to_list style.white_space ++ last_white_space ∷ []);
+  internal_pre = true;
+}
+
+-- the style of an element: what the rules give it, and what `pre` gives itself
+abbrev pub own_style : List StyleRule → Name → List Property → ElementStyle
+own_style rules name properties =
+    preformatted_style (is_preformatted name.space name.local) (element_style rules name.local properties)
+
 -- what an element's style gives the node that it becomes; white space is Normal where nothing else is declared
 abbrev pub node_style : ElementStyle → NodeStyle
 node_style style = record {
   colour = value_of style.colour;
   background = value_of style.bg_colour;
   white_space = unwrap_or (value_of style.white_space) Normal;
+  preformatted = style.internal_pre;
 }
 
 -- whether a node is an item of a list, and whether it is a term or what is said of one
@@ -200,7 +229,7 @@ result_of rules document below children = Some (container children)
 result_of rules (text contents) below children = Some (record { top = text_node contents; children = none })
 result_of rules (element name properties template_contents integration_point) below children =
     styled (element_mapping name.space name.local properties below) (mark_of name properties)
-    (element_style rules name.local properties) children
+    (own_style rules name properties) children
 result_of rules (doctype name public_id system_id) below children = None
 result_of rules (comment contents) below children = None
 result_of rules (instruction target contents) below children = None

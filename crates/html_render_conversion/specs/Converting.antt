@@ -5,7 +5,7 @@ use Rattle.std.specs.declared.alloc.Global.{Global}
 use Rattle.html_render_dom.specs.Cascade.{value_of}
 use Rattle.html_render_dom.specs.Content.{Content, document, doctype, text, comment, element, instruction}
 use Rattle.html_render_dom.specs.Dom.{Dom, content_at, children_at, trees_of}
-use Rattle.html_render_dom.specs.ElementStyle.{ElementStyle, element_style}
+use Rattle.html_render_dom.specs.ElementStyle.{ElementStyle}
 use Rattle.html_render_dom.specs.Forest.{Forest, none, node, count, followed_by}
 use Rattle.html_render_dom.specs.Rules.{Rule as StyleRule}
 use Rattle.html_render_nodes.specs.declared.tree.NodeKind.{NodeKind}
@@ -22,7 +22,7 @@ use Rattle.html_render_conversion.specs.declared.mapping.Mapping.{Mapping}
 use Rattle.html_render_conversion.specs.declared.mapping.Mapping.TheVariants.{Nothing, Leaf, Parent}
 use Rattle.html_render_conversion.specs.Insertion.{Tree, in_front, holds_insertions, text_node, with_contents, fragment_start, leaf, marked}
 use Rattle.html_render_conversion.specs.Marks.{mark_of}
-use Rattle.html_render_conversion.specs.Conversion.{element_mapping, node_style, keeps, are_any, counts, standing}
+use Rattle.html_render_conversion.specs.Conversion.{element_mapping, own_style, node_style, keeps, are_any, counts, standing}
 
 -- ---- what becomes of a node, its children aside
 
@@ -46,7 +46,7 @@ outline_of rules document below = Over (without_style Container) Stands true Non
 outline_of rules (text contents) below = Alone (text_node contents)
 outline_of rules (element name properties template_contents integration_point) below =
     styled_outline (element_mapping name.space name.local properties below) (mark_of name properties)
-    (element_style rules name.local properties)
+    (own_style rules name properties)
 outline_of rules (doctype name public_id system_id) below = outline.Nothing
 outline_of rules (comment contents) below = outline.Nothing
 outline_of rules (instruction target contents) below = outline.Nothing

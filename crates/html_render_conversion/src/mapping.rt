@@ -1,23 +1,26 @@
 //! Which render node a node of a document becomes.
 
-ghost use Rattle.std.specs.Prelude.{◌≡◌, [], IfOk, IfErr, codes, map, option_map, string_bytes};
+ghost use Rattle.std.specs.Prelude.{◌≡◌, true, [], IfOk, IfErr, codes, map, option_map, string_bytes};
 ghost use Rattle.html_render_dom.specs.Cascade.{value_of};
 ghost use Rattle.html_render_dom.specs.Content.{name_of, property_of, space_of};
 ghost use Rattle.html_render_dom.specs.Dom.{IsForest, IsNode, children_at, trees_of};
-ghost use Rattle.html_render_dom.specs.ElementStyle.{element_style, style_by, style_of};
+ghost use Rattle.html_render_dom.specs.ElementStyle.{style_by, style_of};
 ghost use Rattle.html_render_dom.specs.Rules.{rule_of};
 ghost use Rattle.html_render_dom.specs.Selectors.{first_value};
 ghost use Rattle.html_render_conversion.specs.Images.{image_parts};
 ghost use Rattle.html_render_conversion.specs.Insertion.{text_node};
 ghost use Rattle.html_render_conversion.specs.Marks.{mark_of};
-ghost use Rattle.html_render_conversion.specs.Conversion.{html_mapping, html_element_mapping, element_mapping, link_mapping, image_mapping, node_style};
+ghost use Rattle.html_render_conversion.specs.Conversion.{html_mapping, html_element_mapping, element_mapping, link_mapping, image_mapping};
+ghost use Rattle.html_render_conversion.specs.Conversion.{is_preformatted, preformatted_style, own_style, node_style};
 ghost use Rattle.html_render_conversion.specs.Converting.{mark_alone, styled_outline, outline_at};
 
 use crate::attributes::{first_value, mark_of, start_of};
 use crate::images::{drawing_title, image_parts};
 use html_render_dom::Error;
 use html_render_dom::dom::{Attribute, Handle, Namespace, NodeData, QualName, RcDom};
-use html_render_dom::style::{ComputedStyle, StyleRule, WithSpec, computed_style};
+use html_render_dom::style::{
+    ComputedStyle, Specificity, StyleOrigin, StyleRule, WhiteSpace, WithSpec, computed_style,
+};
 use html_render_dom::text::Text;
 use html_render_nodes::tree::{Emphasis, Estimate, Image, NodeKind, NodeStyle, RenderNode};
 use std::alloc::Global;
@@ -72,6 +75,7 @@ fn html_mapping(name: &str, attributes: &[Attribute]) -> Mapping
 {
     match name {
         "p" => Mapping::Parent(NodeKind::Block, IfEmpty::Vanishes),
+        "pre" => Mapping::Parent(NodeKind::Block, IfEmpty::Stands),
         "li" => Mapping::Parent(NodeKind::ListItem, IfEmpty::Stands),
         "em" | "i" | "ins" => Mapping::Parent(NodeKind::Emphasis(Emphasis::Em), IfEmpty::Stands),
         "strong" | "b" => Mapping::Parent(NodeKind::Emphasis(Emphasis::Strong), IfEmpty::Stands),
@@ -174,6 +178,27 @@ fn element_mapping(
     }
 }
 
+/// Whether an element is a `pre` of HTML.
+fn is_preformatted(name: &QualName) -> bool
+    ensures { result ≡ is_preformatted (space_of name.now.ns) (string_bytes name.now.local) }
+{
+    match name.ns {
+        Namespace::Html => name.local.as_str() == "pre",
+        _ => false,
+    }
+}
+
+/// Gives the style of a `pre` its last update: it keeps white space, unless a rule that wins over this says otherwise.
+fn preformat(style: &mut ComputedStyle)
+    ensures { style_of style.new ≡ preformatted_style true (style_of style.old) }
+{
+    let no_specificity = Specificity::default();
+    style
+        .white_space
+        .maybe_update(false, StyleOrigin::Agent, no_specificity, WhiteSpace::Pre);
+    style.internal_pre = true;
+}
+
 /// What an element's style gives the node that it becomes.
 fn node_style(style: &ComputedStyle) -> NodeStyle
     ensures { result ≡ node_style (style_of style.now) }
@@ -182,6 +207,7 @@ fn node_style(style: &ComputedStyle) -> NodeStyle
         colour: style.colour.val().copied(),
         background: style.bg_colour.val().copied(),
         white_space: style.white_space.val().copied().unwrap_or_default(),
+        preformatted: style.internal_pre,
     }
 }
 
@@ -231,7 +257,7 @@ fn styled_outline(mapping: Mapping, mark: Option<Text>, style: ComputedStyle) ->
     }
 }
 
-/// What becomes of an element where there are no rules, its children aside.
+/// What becomes of an element whose style is that of no declarations, its children aside.
 fn unstyled_outline(mapping: Mapping, mark: Option<Text>) -> Outline
     ensures { result ≡ styled_outline mapping mark (style_by []) }
 {
@@ -260,14 +286,18 @@ fn element_outline(
     attributes: &[Attribute],
 ) -> Result<Outline, Error>
     ensures ok { IfOk result (λ outline. outline ≡ styled_outline mapping (mark_of (name_of name.now) (map property_of attributes.now))
-        (element_style (map rule_of rules.now) (string_bytes name.now.local) (map property_of attributes.now))) }
+        (own_style (map rule_of rules.now) (name_of name.now) (map property_of attributes.now))) }
     ensures err { IfErr result (λ e. e ≡ Error.OutOfMemory) }
 {
     let mark = mark_of(alloc, name, attributes)?;
-    if rules.is_empty() {
+    let preformatted = is_preformatted(name);
+    if rules.is_empty() && !preformatted {
         return Ok(unstyled_outline(mapping, mark));
     }
-    let style = computed_style(alloc, rules, name.local.as_str(), attributes)?;
+    let mut style = computed_style(alloc, rules, name.local.as_str(), attributes)?;
+    if preformatted {
+        preformat(&mut style);
+    }
     Ok(styled_outline(mapping, mark, style))
 }
 

@@ -1,11 +1,12 @@
 -- What the calls of a configuration make of its settings.
-use Rattle.std.specs.Prelude.{true, false, List, [], ◌∷◌, ◌++◌, fold}
+use Rattle.std.specs.Prelude.{Some, true, false, List, [], ◌∷◌, ◌++◌, fold}
 use Rattle.html_render_dom.specs.Rules.{rule_of}
 use Rattle.html_render_tree.specs.Decorations.{decorations}
 use Rattle.html_render_tree.specs.Rendering.{Options}
 use Rattle.html_render_json.specs.declared.configs.Setting.{Setting}
 use Rattle.html_render_json.specs.declared.configs.Setting.TheVariants.{AllowWidthOverflow, DoDecorate, AddStyleRule, LinkFootnotes}
 use Rattle.html_render_json.specs.declared.configs.Setting.TheVariants.{NoLinkWrapping, UnicodeStrikeout, EmptyImgMode}
+use Rattle.html_render_json.specs.declared.configs.Setting.TheVariants.{PadBlockWidth, MaxWrapWidth, MinWrapWidth}
 
 -- the settings after a call
 abbrev pub changed : {S : Type 0} → Options S → Setting → Options S
@@ -16,6 +17,9 @@ changed options (LinkFootnotes numbered) = record options { nodes = record optio
 changed options NoLinkWrapping = record options { nodes = record options.nodes { wrap_links = false } }
 changed options (UnicodeStrikeout strokes) = record options { nodes = record options.nodes { unicode_strikeout = strokes } }
 changed options (EmptyImgMode mode) = record options { nodes = record options.nodes { empty_images = mode } }
+changed options PadBlockWidth = record options { nodes = record options.nodes { pad_block_width = true } }
+changed options (MaxWrapWidth columns) = record options { nodes = record options.nodes { max_wrap_width = Some columns } }
+changed options (MinWrapWidth columns) = record options { nodes = record options.nodes { min_wrap_width = columns } }
 
 -- the settings after calls, in order
 abbrev pub changed_by : {S : Type 0} → Options S → List Setting → Options S

@@ -56,6 +56,12 @@ pub enum Setting {
     UnicodeStrikeout(bool),
     /// `["empty_img_mode",MODE]`.
     EmptyImgMode(ImageRenderMode),
+    /// `["pad_block_width"]`.
+    PadBlockWidth,
+    /// `["max_wrap_width",COLUMNS]`.
+    MaxWrapWidth(usize),
+    /// `["min_wrap_width",COLUMNS]`.
+    MinWrapWidth(usize),
 }
 
 /// The calls of a configuration.
@@ -133,6 +139,9 @@ impl Readable for Setting {
             Name::exact("no_link_wrapping"),
             Name::exact("unicode_strikeout"),
             Name::exact("empty_img_mode"),
+            Name::exact("pad_block_width"),
+            Name::exact("max_wrap_width"),
+            Name::exact("min_wrap_width"),
         ];
         match begin_named(from, &names)? {
             0 => alone(from, Setting::AllowWidthOverflow),
@@ -142,6 +151,9 @@ impl Readable for Setting {
             4 => alone(from, Setting::NoLinkWrapping),
             5 => last(alloc, from).map(Setting::UnicodeStrikeout),
             6 => last(alloc, from).map(Setting::EmptyImgMode),
+            7 => alone(from, Setting::PadBlockWidth),
+            8 => last(alloc, from).map(Setting::MaxWrapWidth),
+            9 => last(alloc, from).map(Setting::MinWrapWidth),
             _ => Err(from.unknown_variant()),
         }
     }
@@ -183,6 +195,9 @@ fn with_setting<D: TextDecorator>(
         Setting::NoLinkWrapping => Ok(config.no_link_wrapping()),
         Setting::UnicodeStrikeout(strokes) => Ok(config.unicode_strikeout(strokes)),
         Setting::EmptyImgMode(mode) => Ok(config.empty_img_mode(mode)),
+        Setting::PadBlockWidth => Ok(config.pad_block_width()),
+        Setting::MaxWrapWidth(columns) => Ok(config.max_wrap_width(columns)),
+        Setting::MinWrapWidth(columns) => Ok(config.min_wrap_width(columns)),
     }
 }
 

@@ -85,6 +85,14 @@ impl TextDecorator for Own {
         PlainDecorator::new().decorate_image(alloc, src, title)
     }
 
+    fn decorate_preformat_first(&self, alloc: Global) -> Result<(), Error> {
+        PlainDecorator::new().decorate_preformat_first(alloc)
+    }
+
+    fn decorate_preformat_cont(&self, alloc: Global) -> Result<(), Error> {
+        PlainDecorator::new().decorate_preformat_cont(alloc)
+    }
+
     fn header_prefix(&self, alloc: Global, level: usize) -> Result<String, Error> {
         PlainDecorator::new().header_prefix(alloc, level)
     }

@@ -18,7 +18,7 @@ use Rattle.html_render_layout.specs.Layout.{defined, defined_inside, estimated, 
 -- the nodes that a layout visits, in order
 abbrev pub visited_nodes : {S A : Type 0} → Decoration S A → LayoutSettings → Forest RenderNode → S → (width : ℕ) → (overflow : Bool) → List RenderNode
 visited_nodes d settings t decorator width overflow =
-    visited (defined d) (defined_inside d) (estimated d decorator t) (empty_state d settings decorator width overflow)
+    visited (defined d) (defined_inside d) (estimated d settings decorator t) (empty_state d settings decorator width overflow)
 
 -- the characters of a node, if it is a text
 abbrev pub node_characters : NodeKind → List ℕ

@@ -1,5 +1,5 @@
 -- THE DEFINITION of the layout, node kind by node kind.
-use Rattle.std.specs.Prelude.{ℕ, ℤ, pos, ◌+◌, ◌+ℤ◌, ◌-◌, ◌==◌, Bool, true, false, List, [], ◌∷◌, ◌++◌, length, map, codes, slice_index_or}
+use Rattle.std.specs.Prelude.{ℕ, ℤ, pos, ◌+◌, ◌+ℤ◌, ◌-◌, ◌==◌, ◌||◌, Bool, true, false, List, [], ◌∷◌, ◌++◌, length, map, codes, slice_index_or}
 use Rattle.std.specs.Prelude.{Option, Some, None, option_map, replicate, if◌then◌else◌}
 use Rattle.std.specs.Char.{is_ascii_digit}
 use Rattle.std.specs.Fmt.{decimal}
@@ -26,6 +26,7 @@ use Rattle.html_render_nodes.specs.declared.tree.NodeStyle.{NodeStyle}
 use Rattle.html_render_nodes.specs.declared.tree.Estimate.{Estimate}
 use Rattle.html_render_nodes.specs.declared.tree.RenderNode.{RenderNode}
 use Rattle.html_render_nodes.specs.Pass.{Steps, Inside, run}
+use Rattle.html_render_blocks.specs.declared.block.BlockSetting.{BlockSetting}
 use Rattle.html_render_blocks.specs.Operations.{Operations, Ending}
 use Rattle.html_render_blocks.specs.Block as definition
 use Rattle.html_render_blocks.specs.Block.{DefinedBlock}
@@ -44,10 +45,6 @@ emphasis_decoration d Em = d.em
 emphasis_decoration d Strong = d.strong
 emphasis_decoration d Code = d.code
 
--- the style of the texts that come
-abbrev pub text_style : {T : Type 0} → TextContext T → TextStyle T
-text_style x = record { mode = x.mode; tag = x.tag; continuation_tag = x.tag }
-
 -- the state with its block after an operation
 abbrev pub on_block : {S K T B : Type 0} → (B → Option B) → LayoutState S K T B → Option (LayoutState S K T B)
 on_block f s = do
@@ -64,13 +61,30 @@ abbrev pub written : (struck_out : Bool) → List ℕ → List ℕ
 written true cs = struck cs
 written false cs = cs
 
+-- the style of texts, with what is kept of annotations then. Preformatted ones have one annotation more on top, and another
+-- one on continuation lines
+abbrev pub text_style : {S A K T : Type 0} → Decoration S A → (K → T → A → K × T) → S → K → TextContext T → (preformatted : Bool) →
+    K × TextStyle T
+text_style d push decorator stacks text false = (stacks, record { mode = text.mode; tag = text.tag; continuation_tag = text.tag })
+text_style d push decorator stacks text true =
+    let first = push stacks text.tag (d.preformat_first decorator) in
+    let continuing = push first.0 text.tag (d.preformat_continuing decorator) in
+    (continuing.0, record { mode = text.mode; tag = first.1; continuation_tag = continuing.1 })
+
+-- the state with characters more in a style
+abbrev pub add_styled : {S K T B : Type 0} → Operations B T → K × TextStyle T → List ℕ → LayoutState S K T B → Option (LayoutState S K T B)
+add_styled o style cs s = on_block (λ b. o.add_inline_text b style.1 cs) (record s { stacks = style.0 })
+
 -- the state with characters more
-abbrev pub add_characters : {S K T B : Type 0} → Operations B T → List ℕ → LayoutState S K T B → Option (LayoutState S K T B)
-add_characters o cs s = on_block (λ b. o.add_inline_text b (text_style s.text) (written s.text.struck_out cs)) s
+abbrev pub add_characters : {S A K T B : Type 0} → Decoration S A → (K → T → A → K × T) → Operations B T → List ℕ →
+    LayoutState S K T B → Option (LayoutState S K T B)
+add_characters d push o cs s =
+    add_styled o (text_style d push s.decorator s.stacks s.text s.text.preformatted) (written s.text.struck_out cs) s
 
 -- and with a text more, in UTF-8
-abbrev pub add_text : {S K T B : Type 0} → Operations B T → List ℕ → LayoutState S K T B → Option (LayoutState S K T B)
-add_text o t s = add_characters o (chars t) s
+abbrev pub add_text : {S A K T B : Type 0} → Decoration S A → (K → T → A → K × T) → Operations B T → List ℕ →
+    LayoutState S K T B → Option (LayoutState S K T B)
+add_text d push o t s = add_characters d push o (chars t) s
 
 -- the state with its texts under another tag
 abbrev pub under : {S K T B : Type 0} → K × T → LayoutState S K T B → LayoutState S K T B
@@ -198,10 +212,10 @@ abbrev pub marked : {S K T B : Type 0} → Operations B T → (name : List ℕ) 
 marked o name s = record s { block = o.add_mark s.block (length s.names); names = s.names ++ name ∷ [] }
 
 -- the number of a link, if there are footnotes, among texts that are treated so
-abbrev pub link_number : {S K T B : Type 0} → Operations B T → TextContext T → (number : ℕ) → LayoutState S K T B →
-    Option (LayoutState S K T B)
-link_number o text number s =
-    if s.settings.link_footnotes then add_text o (codes "[" ++ decimal number ++ codes "]") (record s { text = text }) else Some s
+abbrev pub link_number : {S A K T B : Type 0} → Decoration S A → (K → T → A → K × T) → Operations B T → TextContext T → (number : ℕ) →
+    LayoutState S K T B → Option (LayoutState S K T B)
+link_number d push o text number s =
+    if s.settings.link_footnotes then add_text d push o (codes "[" ++ decimal number ++ codes "]") (record s { text = text }) else Some s
 
 -- ---- styles
 
@@ -226,17 +240,23 @@ in_white_space Normal s = s
 in_white_space Pre s = with_mode Pre s
 in_white_space PreWrap s = with_mode PreWrap s
 
--- with what a node's style gives them: its colour, then that of its background, and its white space
+-- with its texts preformatted, if they are
+abbrev pub preformatting : {S K T B : Type 0} → Bool → LayoutState S K T B → LayoutState S K T B
+preformatting preformatted s = record s { text = record s.text { preformatted = s.text.preformatted || preformatted } }
+
+-- with what a node's style gives them: its colour, then that of its background, its white space, and whether they are
+-- preformatted
 abbrev pub in_style : {S A K T B : Type 0} → Decoration S A → (K → T → A → K × T) → NodeStyle → LayoutState S K T B → LayoutState S K T B
 in_style d push style s =
-    in_white_space style.white_space (coloured push d.push_background style.background (coloured push d.push_colour style.colour s))
+    preformatting style.preformatted
+    (in_white_space style.white_space (coloured push d.push_background style.background (coloured push d.push_colour style.colour s)))
 
 -- d is what the decorators S answer, with annotations A; push gives the tag T of one annotation more, in the stacks K;
 -- and o are the operations on blocks B
 module _ {S A K T B : Type 0} (d : Decoration S A) (push : K → T → A → K × T) (o : Operations B T) where
   -- what stands before a part is written, under its annotation
   abbrev pub begun : Round S A → LayoutState S K T B → Option (LayoutState S K T B)
-  begun round s = add_text o (round.start s.decorator).text (under (push s.stacks s.text.tag (round.start s.decorator).annotation) s)
+  begun round s = add_text d push o (round.start s.decorator).text (under (push s.stacks s.text.tag (round.start s.decorator).annotation) s)
 
   -- a part between what stands round it
   abbrev pub decorated : Round S A → (LayoutState S K T B → Option (LayoutState S K T B)) → LayoutState S K T B →
@@ -244,7 +264,7 @@ module _ {S A K T B : Type 0} (d : Decoration S A) (push : K → T → A → K �
   decorated round children s = do
     q ← begun round s
     r ← children q
-    add_text o (round.end r.decorator) r
+    add_text d push o (round.end r.decorator) r
 
   -- an image, where it has a title to be written
   abbrev pub titled : (source : List ℕ) → (title : Option (List ℕ)) → LayoutState S K T B → Option (LayoutState S K T B)
@@ -259,25 +279,25 @@ module _ {S A K T B : Type 0} (d : Decoration S A) (push : K → T → A → K �
   struck_out children s = do
     q ← begun d.strikeout s
     r ← children (striking s.settings.unicode_strikeout q)
-    add_text o (d.strikeout.end r.decorator) (striking s.text.struck_out r)
+    add_text d push o (d.strikeout.end r.decorator) (striking s.text.struck_out r)
 
   -- a superscript: of digits by their own characters, anything else between what stands round it
   abbrev pub superscript : (digits : Option (List ℕ)) → (LayoutState S K T B → Option (LayoutState S K T B)) →
       LayoutState S K T B → Option (LayoutState S K T B)
   superscript None children s = decorated d.superscript children s
-  superscript (Some digits) children s = add_characters o (map raised digits) s
+  superscript (Some digits) children s = add_characters d push o (map raised digits) s
 
   -- a link between what stands round it, and its number: links are numbered in the order in which they start
   abbrev pub linked : (target : List ℕ) → (LayoutState S K T B → Option (LayoutState S K T B)) → LayoutState S K T B →
       Option (LayoutState S K T B)
   linked target children s = do
     r ← decorated (link d target) children (with_target target s)
-    link_number o s.text (length s.targets + 1) r
+    link_number d push o s.text (length s.targets + 1) r
 
   -- WHAT EACH KIND OF NODE DOES to a state, over these trees, where this is what they do to one; none where it is too narrow
   abbrev pub kind_steps : NodeKind → Estimate → (trees : Forest RenderNode) →
       (children : LayoutState S K T B → Option (LayoutState S K T B)) → LayoutState S K T B → Option (LayoutState S K T B)
-  kind_steps (Text t) e trees children s = add_text o t s
+  kind_steps (Text t) e trees children s = add_text d push o t s
   kind_steps Container e trees children s = children s
   kind_steps Break e trees children s = on_block o.new_line_hard s
   kind_steps Block e trees children s = do
@@ -404,25 +424,30 @@ begin_with settings decorator stacks tag block =
       names = [];
     }
 
+-- how wide the outermost block is, and its paragraphs' lines
+abbrev pub block_setting : LayoutSettings → (width : ℕ) → (overflow : Bool) → BlockSetting
+block_setting settings width overflow = record { width = width; max_wrap_width = settings.max_wrap_width; overflow = overflow }
+
+-- what lines are padded under, where they are
+abbrev pub padding : {T : Type 0} → LayoutSettings → T → Option T
+padding settings tag = if settings.pad_block_width then Some tag else None
+
 -- an empty block in the decorator's sub-block, without annotations
 abbrev pub empty_state : {S A : Type 0} → Decoration S A → LayoutSettings → S → (width : ℕ) → (overflow : Bool) → Defined S A
 empty_state d settings decorator width overflow =
-    begin_with settings (d.subblock decorator) tt [] (definition.empty_block (record { width = width; max_wrap_width = None; overflow = overflow }))
+    begin_with settings (d.subblock decorator) tt [] (definition.empty_block (block_setting settings width overflow) (padding settings []))
 
--- a text needs its own columns, or so many
-abbrev pub min_wrap_width : ℕ
-min_wrap_width = 3
-
--- a tree with the estimate of each node, whose prefixes are those of the decorator of a block inside the root's
-abbrev pub estimated : {S A : Type 0} → Decoration S A → S → Forest RenderNode → Forest RenderNode
-estimated d decorator t = measured d (d.subblock (d.subblock decorator)) min_wrap_width t
+-- a tree with the estimate of each node, whose prefixes are those of the decorator of a block inside the root's: a text needs
+-- its own columns, or as many as it is wrapped to at least
+abbrev pub estimated : {S A : Type 0} → Decoration S A → LayoutSettings → S → Forest RenderNode → Forest RenderNode
+estimated d settings decorator t = measured d (d.subblock (d.subblock decorator)) settings.min_wrap_width t
 
 -- THE LINES of a render tree, each character with its stack of annotations; none where it is too narrow
 abbrev pub layout_lines : {S A : Type 0} → Decoration S A → LayoutSettings → Forest RenderNode → S → (width : ℕ) → (overflow : Bool) →
     Option (List (Line (List A) ℕ))
 layout_lines {S} {A} d settings t decorator width overflow =
     if width == 0 then None
-    else shown_after d onto definition.operations definition.ending (λ (s : Defined S A). s.block.lines) (estimated d decorator t)
+    else shown_after d onto definition.operations definition.ending (λ (s : Defined S A). s.block.lines) (estimated d settings decorator t)
     (empty_state d settings decorator width overflow)
 
 -- THE NAMES of its marks: a mark in the lines is the place of one; none where it is too narrow
@@ -430,7 +455,7 @@ abbrev pub mark_names : {S A : Type 0} → Decoration S A → LayoutSettings →
     Option (List (List ℕ))
 mark_names {S} {A} d settings t decorator width overflow =
     if width == 0 then None
-    else shown_after d onto definition.operations definition.ending (λ (s : Defined S A). s.names) (estimated d decorator t)
+    else shown_after d onto definition.operations definition.ending (λ (s : Defined S A). s.names) (estimated d settings decorator t)
     (empty_state d settings decorator width overflow)
 
 abbrev pub no_tag : {X : Type 0} → X → Unit {0}

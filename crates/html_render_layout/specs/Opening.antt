@@ -133,12 +133,12 @@ module _ {S A K T B : Type 0} (d : Decoration S A) (push : K → T → A → K �
   superscript_opened None s = do
     q ← begun d push o d.superscript s
     Some (Into q EndSuperscript)
-  superscript_opened (Some digits) s = past (add_characters o (map raised digits) s)
+  superscript_opened (Some digits) s = past (add_characters d push o (map raised digits) s)
 
   -- how each kind of node is opened
   abbrev pub kind_opened : NodeKind → Estimate → (trees : Forest RenderNode) → LayoutState S K T B →
       Option (Way (LayoutState S K T B) (KindClosing S T B))
-  kind_opened (Text t) e trees s = past (add_text o t s)
+  kind_opened (Text t) e trees s = past (add_text d push o t s)
   kind_opened Container e trees s = Some (Into s Nothing)
   kind_opened Break e trees s = past (on_block o.new_line_hard s)
   kind_opened Block e trees s = do
@@ -174,15 +174,15 @@ module _ {S A K T B : Type 0} (d : Decoration S A) (push : K → T → A → K �
   kind_closed Nothing r = Some r
   kind_closed EndBlock r = Some (record r { block = o.end_block r.block })
   kind_closed NewLine r = on_block o.new_line r
-  kind_closed (EndEmphasis m) r = add_text o ((emphasis_decoration d m).end r.decorator) r
+  kind_closed (EndEmphasis m) r = add_text d push o ((emphasis_decoration d m).end r.decorator) r
   kind_closed EndList r = Some (record r { around = Plain })
   kind_closed (EndQuote u) r = quote_closed o u r
   kind_closed (EndIndent u) r = indent_closed o u r
-  kind_closed (EndStrikeout struck_out) r = add_text o (d.strikeout.end r.decorator) (striking struck_out r)
-  kind_closed EndSuperscript r = add_text o (d.superscript.end r.decorator) r
+  kind_closed (EndStrikeout struck_out) r = add_text d push o (d.strikeout.end r.decorator) (striking struck_out r)
+  kind_closed EndSuperscript r = add_text d push o (d.superscript.end r.decorator) r
   kind_closed (EndLink text number) r = do
-    q ← add_text o (d.link_end r.decorator) r
-    link_number o text number q
+    q ← add_text d push o (d.link_end r.decorator) r
+    link_number d push o text number q
 
   abbrev pub node_opened : RenderNode → Forest RenderNode → LayoutState S K T B → Option (Way (LayoutState S K T B) (KindClosing S T B))
   node_opened n trees s = kind_opened n.kind n.estimate trees (in_style d push n.style s)

@@ -1,8 +1,17 @@
 -- How documents are laid out, where nothing else is set.
-use Rattle.std.specs.Prelude.{true, false}
+use Rattle.std.specs.Prelude.{None, true, false}
 use Rattle.html_render_layout.specs.declared.settings.ImageRenderMode.TheVariants.{IgnoreEmpty}
 use Rattle.html_render_layout.specs.declared.settings.LayoutSettings.{LayoutSettings}
 
--- links have no numbers, what is struck out has strokes, images without a title aren't shown, closing lines are cut
+-- links have no numbers, what is struck out has strokes, images without a title aren't shown, closing lines are cut, lines
+-- aren't padded and are as wide as their block, which leaves a text three columns at least, or its own if they are fewer
 abbrev pub default_settings : LayoutSettings
-default_settings = record { link_footnotes = false; unicode_strikeout = true; empty_images = IgnoreEmpty; wrap_links = true }
+default_settings = record {
+  link_footnotes = false;
+  unicode_strikeout = true;
+  empty_images = IgnoreEmpty;
+  wrap_links = true;
+  pad_block_width = false;
+  max_wrap_width = None;
+  min_wrap_width = 3;
+}

@@ -10,7 +10,7 @@ ghost use Rattle.html_render_nodes.specs.Counts.{CountsNodes};
 ghost use Rattle.html_render_nodes.specs.Pass.{run, inside_of};
 ghost use Rattle.html_render_estimates.specs.Estimates.{measured};
 ghost use Rattle.html_render_layout.specs.Layout.{steps, begin_with, shown_after, Defined, defined, defined_inside, empty_state};
-ghost use Rattle.html_render_layout.specs.Layout.{min_wrap_width, estimated, layout_lines, mark_names, untagged_lines};
+ghost use Rattle.html_render_layout.specs.Layout.{block_setting, padding, estimated, layout_lines, mark_names, untagged_lines};
 ghost use Rattle.html_render_layout.specs.Kept.{visited_nodes, KeepsTexts};
 ghost use Rattle.html_render_layout.specs.Opening.{opened, closed};
 ghost use Rattle.html_render_layout.specs.laws.Opening.{steps-told};
@@ -45,9 +45,6 @@ mod steps;
 mod styles;
 mod superscripts;
 mod texts;
-
-/// The columns that a text needs at least, unless its own are fewer.
-const MIN_WRAP_WIDTH: usize = 3;
 
 /// Lines, the stacks of annotations that the tags of their characters stand for, and the names of their marks.
 #[derive(Drop)]
@@ -190,31 +187,48 @@ fn lines_from<D: TextDecorator>(
     })
 }
 
-/// A tree with the estimate of each node, whose prefixes are those of a sub-block of this sub-block's decorator.
+/// A tree with the estimate of each node, whose prefixes are those of a sub-block of this sub-block's decorator. A text needs
+/// so many columns at least, unless its own are fewer.
 fn estimated<D: TextDecorator>(
     alloc: Global,
     inner: &D,
+    min_wrap_width: usize,
     tree: RenderTree,
 ) -> Result<RenderTree, Error>
     ensures ok { IfOk result (λ t. t ≡ measured D.decoration (D.decoration.subblock inner.now) min_wrap_width tree) }
     ensures err { IfErr result (λ e. e ≡ Error.OutOfMemory) }
 {
     let innermost = inner.make_subblock_decorator(alloc)?;
-    measure(alloc, &innermost, MIN_WRAP_WIDTH, tree)
+    measure(alloc, &innermost, min_wrap_width, tree)
 }
 
-/// A block that is as wide as the lines.
-fn outermost<T: Tag>(alloc: Global, width: usize, overflow: bool) -> Block<T, usize>
-    ensures { result ≡ machine.empty_block (record { width = width; max_wrap_width = None; overflow = overflow }) }
+/// The tag of the spaces that lines are filled with, if they are.
+fn padding<T: Tag>(settings: &LayoutSettings, tag: T) -> Option<T>
+    ensures { result ≡ padding settings.now tag }
 {
-    Block::new(
-        alloc,
-        BlockSetting {
-            width,
-            max_wrap_width: None,
-            overflow,
-        },
-    )
+    if settings.pad_block_width {
+        Some(tag)
+    } else {
+        None
+    }
+}
+
+/// A block that is as wide as the lines, with padding under this tag, if there is padding.
+fn outermost<T: Tag>(
+    alloc: Global,
+    settings: &LayoutSettings,
+    width: usize,
+    overflow: bool,
+    tag: T,
+) -> Block<T, usize>
+    ensures { result ≡ machine.empty_block (block_setting settings.now width overflow) (padding settings.now tag) }
+{
+    let setting = BlockSetting {
+        width,
+        max_wrap_width: settings.max_wrap_width,
+        overflow,
+    };
+    Block::new(alloc, setting, padding(settings, tag))
 }
 
 /// The lines of a tree, wrapped to `width` columns, with what a sub-block of the decorator's writes. Where a character
@@ -255,11 +269,11 @@ pub fn lay_out<D: TextDecorator>(
 
     // a tree that is laid out leaves the texts that follow, with their annotations, and the decorator of any state as they were
     ensures stacks { (s : Defined D D.Annotation) →
-        IfSome (run (defined D.decoration) (estimated D.decoration decorator.now tree) s) (λ r. (r.text ≡ s.text) × (r.decorator ≡ s.decorator)) }
+        IfSome (run (defined D.decoration) (estimated D.decoration settings.now decorator.now tree) s) (λ r. (r.text ≡ s.text) × (r.decorator ≡ s.decorator)) }
 
     // what was counted, where there are lines, and where there are none
     ensures counts { CountsNodes result (defined D.decoration) (defined_inside D.decoration)
-        (estimated D.decoration decorator.now tree) (empty_state D.decoration settings.now decorator.now width overflow) meter.old meter.new }
+        (estimated D.decoration settings.now decorator.now tree) (empty_state D.decoration settings.now decorator.now width overflow) meter.old meter.new }
 {
     meter.entered = 0;
     meter.left = 0;
@@ -269,8 +283,8 @@ pub fn lay_out<D: TextDecorator>(
     }
     let own = settings.try_clone()?;
     let inner = decorator.make_subblock_decorator(alloc)?;
-    let tree = estimated(alloc, &inner, tree)?;
-    let block = outermost(alloc, width, overflow);
+    let tree = estimated(alloc, &inner, settings.min_wrap_width, tree)?;
+    let block = outermost(alloc, settings, width, overflow, 0);
     let state = begin_with(alloc, own, inner, Stacks::new(alloc), 0, block);
     lines_from(alloc, &tree, state, meter)
 }
@@ -320,8 +334,8 @@ pub fn lay_out_untagged<D: TextDecorator>(
     }
     let own = settings.try_clone()?;
     let inner = decorator.make_subblock_decorator(alloc)?;
-    let tree = estimated(alloc, &inner, tree)?;
-    let block = outermost(alloc, width, overflow);
+    let tree = estimated(alloc, &inner, settings.min_wrap_width, tree)?;
+    let block = outermost(alloc, settings, width, overflow, ());
     let state = begin_with(alloc, own, inner, Untagged, (), block);
     untagged_lines_from(alloc, &tree, state)
 }

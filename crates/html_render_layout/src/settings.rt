@@ -44,6 +44,12 @@ pub struct LayoutSettings {
     pub empty_images: ImageRenderMode,
     /// Whether the lines that close the document are cut at its width.
     pub wrap_links: bool,
+    /// Whether the lines of paragraphs are filled with spaces up to the width of their block.
+    pub pad_block_width: bool,
+    /// The columns that a line of a paragraph has at most, where its block is wider.
+    pub max_wrap_width: Option<usize>,
+    /// The columns that a text needs at least behind what its lines stand behind, unless its own are fewer.
+    pub min_wrap_width: usize,
 }
 
 impl Default for LayoutSettings {
@@ -53,13 +59,17 @@ impl Default for LayoutSettings {
     ghost is_default = { λ s. s ≡ default_settings };
 
     /// No numbers behind links; characters that are struck out have U+0336 behind them; images without a title aren't shown;
-    /// the lines that close the document are cut.
+    /// the lines that close the document are cut; lines aren't filled with spaces, and are as wide as their block; a text needs
+    /// 3 columns.
     fn default() -> LayoutSettings {
         LayoutSettings {
             link_footnotes: false,
             unicode_strikeout: true,
             empty_images: ImageRenderMode::IgnoreEmpty,
             wrap_links: true,
+            pad_block_width: false,
+            max_wrap_width: None,
+            min_wrap_width: 3,
         }
     }
 }
@@ -79,6 +89,9 @@ impl LayoutSettings {
             unicode_strikeout: self.unicode_strikeout,
             empty_images: self.empty_images.try_clone()?,
             wrap_links: self.wrap_links,
+            pad_block_width: self.pad_block_width,
+            max_wrap_width: self.max_wrap_width,
+            min_wrap_width: self.min_wrap_width,
         })
     }
 }

@@ -1,5 +1,5 @@
 -- Nodes of a render tree.
-use Rattle.std.specs.Prelude.{None}
+use Rattle.std.specs.Prelude.{None, false}
 use Rattle.html_render_dom.specs.declared.style.WhiteSpace.TheVariants.{Normal}
 use Rattle.html_render_nodes.specs.declared.tree.Estimate.{Estimate}
 use Rattle.html_render_nodes.specs.declared.tree.NodeKind.{NodeKind}
@@ -8,7 +8,7 @@ use Rattle.html_render_nodes.specs.declared.tree.RenderNode.{RenderNode}
 
 -- the style that gives nothing
 abbrev pub no_style : NodeStyle
-no_style = record { colour = None; background = None; white_space = Normal }
+no_style = record { colour = None; background = None; white_space = Normal; preformatted = false }
 
 -- the estimate of a node that isn't measured
 abbrev pub unmeasured : Estimate

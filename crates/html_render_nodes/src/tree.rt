@@ -299,6 +299,8 @@ pub struct NodeStyle {
     pub background: Option<Colour>,
     /// How white space is treated: under [`WhiteSpace::Normal`] as round the node.
     pub white_space: WhiteSpace,
+    /// Whether the decorator annotates the text as preformatted: that of HTML's `pre`. Where it isn't set, as round the node.
+    pub preformatted: bool,
 }
 
 /// What the layout of a node is given room for. [`Estimate::default`] is that of a node that isn't measured.
@@ -397,4 +399,5 @@ impl RenderTree {
     }
 }
 
+mod copies;
 mod dump;

@@ -23,6 +23,9 @@ pub record Decoration (S A : Type 0) : Type 0 where
   pub superscript : Round S A
   -- what is written in the place of an image
   pub image : S → (source title : List ℕ) → Start A
+  -- what characters are annotated with in a part whose white space is kept: where a line begins there, or continues
+  pub preformat_first : S → A
+  pub preformat_continuing : S → A
   -- what stands before each line of a heading of a level, and of a quote
   pub header_prefix : S → (level : ℕ) → List ℕ
   pub quote_prefix : S → List ℕ

@@ -1,10 +1,11 @@
 -- THE DECORATORS of plain text and of rich text, whatever their values S are.
-use Rattle.std.specs.Prelude.{ℕ, ℤ, List, [], ◌++◌, Some, None, codes}
+use Rattle.std.specs.Prelude.{ℕ, ℤ, true, false, List, [], ◌++◌, Some, None, codes}
 use Rattle.std.specs.Fmt.{signed_decimal}
 use Rattle.std.specs.List.{repeat}
 use Rattle.html_render_parts.specs.Decoration.{Decoration, Round}
 use Rattle.html_render_parts.specs.declared.decorate.rich.RichAnnotation.{RichAnnotation}
-use Rattle.html_render_parts.specs.declared.decorate.rich.RichAnnotation.TheVariants.{Default, Link, Image, Emphasis, Strong, Strikeout, Code, Colour, BgColour}
+use Rattle.html_render_parts.specs.declared.decorate.rich.RichAnnotation.TheVariants.{Default, Link, Image, Emphasis, Strong, Strikeout, Code, Preformat}
+use Rattle.html_render_parts.specs.declared.decorate.rich.RichAnnotation.TheVariants.{Colour, BgColour}
 
 -- a text before a part and one behind it, with an annotation
 abbrev pub between : {S A : Type 0} → (start end : List ℕ) → A → Round S A
@@ -33,6 +34,8 @@ plain a = record {
   code = annotated a;
   superscript = between (codes "^{") (codes "}") a;
   image = λ s source title. record { text = codes "[" ++ title ++ codes "]"; annotation = a };
+  preformat_first = λ s. a;
+  preformat_continuing = λ s. a;
   header_prefix = λ s level. hashes level;
   quote_prefix = λ s. codes "> ";
   unordered_item_prefix = λ s. codes "* ";
@@ -53,6 +56,8 @@ rich = record (plain Default) {
   strikeout = annotated Strikeout;
   code = annotated Code;
   image = λ s source title. record { text = title; annotation = Image source };
+  preformat_first = λ s. Preformat false;
+  preformat_continuing = λ s. Preformat true;
   push_colour = λ s colour. Some (Colour colour);
   push_background = λ s colour. Some (BgColour colour);
 }

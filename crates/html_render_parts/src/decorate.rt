@@ -161,6 +161,25 @@ pub trait TextDecorator: Drop {
         ensures annotation { IfOk result (λ r. r.1 ≡ (decoration.image self.now src.now title.now).annotation) }
         ensures err { IfErr result (λ e. e ≡ Error.OutOfMemory) };
 
+    /// What preformatted characters are annotated with, but for those on continuation lines.
+    ///
+    /// # Errors
+    ///
+    /// `OutOfMemory`.
+    fn decorate_preformat_first(&self, alloc: Global) -> Result<Self::Annotation, Error>
+        ensures ok { IfOk result (λ annotation. annotation ≡ decoration.preformat_first self.now) }
+        ensures err { IfErr result (λ e. e ≡ Error.OutOfMemory) };
+
+    /// What preformatted characters are annotated with on a continuation line: one that was begun because something didn't
+    /// fit on the line before it.
+    ///
+    /// # Errors
+    ///
+    /// `OutOfMemory`.
+    fn decorate_preformat_cont(&self, alloc: Global) -> Result<Self::Annotation, Error>
+        ensures ok { IfOk result (λ annotation. annotation ≡ decoration.preformat_continuing self.now) }
+        ensures err { IfErr result (λ e. e ≡ Error.OutOfMemory) };
+
     /// What stands before each line of a heading of this level.
     ///
     /// # Errors

@@ -3,7 +3,7 @@
 //! `plain(alloc)?.allow_width_overflow()` is a configuration; its `dom_to_render_tree(alloc, &dom)?` is a document's
 //! render tree, and `render_to_string(alloc, tree, 80)?` the text of that, in 80 columns.
 
-ghost use Rattle.std.specs.Prelude.{◌≡◌, ◌∷◌, ◌++◌, [], true, false, IfOk, IfErr};
+ghost use Rattle.std.specs.Prelude.{◌≡◌, ◌∷◌, ◌++◌, [], Some, true, false, IfOk, IfErr};
 ghost use Rattle.html_render_dom.specs.Rules.{rule_of};
 ghost use Rattle.html_render_layout.specs.Settings.{default_settings};
 ghost use Rattle.html_render_conversion.specs.Conversion.{render_tree_of};
@@ -159,6 +159,33 @@ impl<D: TextDecorator> Config<D> {
         ensures { result ≡ record self { nodes = record self.nodes { empty_images = mode } } }
     {
         self.nodes.empty_images = mode;
+        self
+    }
+
+    /// Each line of a paragraph is filled with spaces up to the width of its block: that of the document, less what its lines
+    /// stand behind.
+    pub fn pad_block_width(mut self) -> Config<D>
+        ensures { result ≡ record self { nodes = record self.nodes { pad_block_width = true } } }
+    {
+        self.nodes.pad_block_width = true;
+        self
+    }
+
+    /// A line of a paragraph has no more columns than this, also where its block is wider. Prefixes aren't counted, and the
+    /// lines behind the document are as wide as the document.
+    pub fn max_wrap_width(mut self, columns: usize) -> Config<D>
+        ensures { result ≡ record self { nodes = record self.nodes { max_wrap_width = Some columns } } }
+    {
+        self.nodes.max_wrap_width = Some(columns);
+        self
+    }
+
+    /// A text needs so many columns behind what its lines stand behind, unless its own are fewer; where they aren't there, the
+    /// width is too narrow, or the lines are wider than it with overflow. It is 3 where nothing is said.
+    pub fn min_wrap_width(mut self, columns: usize) -> Config<D>
+        ensures { result ≡ record self { nodes = record self.nodes { min_wrap_width = columns } } }
+    {
+        self.nodes.min_wrap_width = columns;
         self
     }
 

@@ -132,7 +132,7 @@ fn closed(
     block_field: &str,
     texts_field: &str,
 ) -> Result<String, Error> {
-    let mut block = Block::new(alloc, setting);
+    let mut block = Block::new(alloc, setting, None);
     add(&mut block, block_field)?;
     block.finish()?;
     let texts = texts_of(alloc, texts_field)?;
@@ -224,7 +224,7 @@ fn wide_characters_overflow_alone(rt: HostRuntime) -> Result<(), Fail> {
 
 #[test]
 fn an_empty_line_between_blocks_takes_marks(rt: HostRuntime) -> Result<(), Fail> {
-    let mut block: Block<usize, u8> = Block::new(rt.alloc(), columns(9, false));
+    let mut block: Block<usize, u8> = Block::new(rt.alloc(), columns(9, false), None);
     add(&mut block, "a*")?;
     block.end_block();
     add(&mut block, "b")?;

@@ -106,6 +106,23 @@ fn parts_of_lines_are_nodes(rt: HostRuntime) -> Result<(), Fail> {
     have_their_nodes(&rt, rt.alloc(), INLINE)
 }
 
+/// Preformatted blocks: their last update of white space wins over the agent's rule for any element, and over no other.
+const PREFORMATTED: &str = "\
+|<pre/>/<pre/x/>/<p/<pre/>/>/<p/y|8 Block:Pre! Block:Pre!2 (x) Block2 Block:Pre! Block2 (y)
+|<svg:pre/>/<math:pre/>/<PRE/>/<prex/>/<svg:pre/x|3 Container2 (x)
+agent:*.wrap|<pre/x/>/<p/y|5 Block:Pre!2 (x) Block:PreWrap2 (y)
+agent:pre.wrap|<pre/x/>/<svg:pre/y|5 Block:PreWrap!2 (x) Container:PreWrap2 (y)
+*.wrap|<pre|2 Block:PreWrap!
+pre.normal|<pre/x|3 Block!2 (x)
+pre.black pre.before|<pre@id=a|4 Block#:Pre!3 FragmentStart(a) ([)
+pre.none|<pre/x|
+";
+
+#[test]
+fn preformatted_blocks_keep_white_space(rt: HostRuntime) -> Result<(), Fail> {
+    have_their_nodes(&rt, rt.alloc(), PREFORMATTED)
+}
+
 /// Links stand over a child's result that isn't shallow-empty.
 const LINKS: &str = "\
 |<a@href=u/x|3 Link(u)2 (x)

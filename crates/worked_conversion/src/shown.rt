@@ -1,7 +1,8 @@
 //! A render tree as a line of text.
 
+use html_render_dom::style::WhiteSpace;
 use html_render_dom::text::Text;
-use html_render_nodes::tree::{Emphasis, Image, NodeKind, RenderTree};
+use html_render_nodes::tree::{Emphasis, Image, NodeKind, NodeStyle, RenderTree};
 use std::alloc::{AllocError, Global};
 
 /// A kind's name, with a text.
@@ -50,8 +51,29 @@ fn kind_text(alloc: Global, kind: &NodeKind) -> Result<String, AllocError> {
     }
 }
 
-/// The nodes of a tree in pre-order, each with the number of nodes that its tree has, if it has more than one, and `#`
-/// where it has a colour; a text in parentheses.
+/// What is shown of how white space is treated.
+fn white_space_text(white_space: WhiteSpace) -> &'static str {
+    match white_space {
+        WhiteSpace::Normal => "",
+        WhiteSpace::Pre => ":Pre",
+        WhiteSpace::PreWrap => ":PreWrap",
+    }
+}
+
+/// Shows a style: `#` where it has a colour, how it treats white space, and `!` where it is preformatted.
+fn show_style(shown: &mut String, style: &NodeStyle) -> Result<(), AllocError> {
+    if style.colour.is_some() {
+        shown.push('#')?;
+    }
+    shown.push_str(white_space_text(style.white_space))?;
+    if style.preformatted {
+        shown.push('!')?;
+    }
+    Ok(())
+}
+
+/// The nodes of a tree in pre-order, each with its style, and with the number of nodes that its tree has, if it has more
+/// than one; a text in parentheses.
 pub fn shown(alloc: Global, tree: &RenderTree) -> Result<String, AllocError> {
     let mut shown = String::new(alloc);
     for entry in tree.nodes().entries() {
@@ -59,9 +81,7 @@ pub fn shown(alloc: Global, tree: &RenderTree) -> Result<String, AllocError> {
             shown.push(' ')?;
         }
         shown.push_str(kind_text(alloc, &entry.node.kind)?.as_str())?;
-        if entry.node.style.colour.is_some() {
-            shown.push('#')?;
-        }
+        show_style(&mut shown, &entry.node.style)?;
         if entry.size > 1 {
             shown.push_str(format!(in alloc; "{}", entry.size)?.as_str())?;
         }

@@ -1,7 +1,7 @@
 //! Rules that words name.
 
 use html_render_dom::style::{
-    Colour, Declaration, Display, PseudoElement, Style, StyleOrigin, StyleRule,
+    Colour, Declaration, Display, PseudoElement, Style, StyleOrigin, StyleRule, WhiteSpace,
 };
 use std::alloc::{AllocError, Global};
 
@@ -10,19 +10,27 @@ fn content(alloc: Global, text: &str) -> Result<Style, AllocError> {
     Ok(Style::Content(String::from_str(alloc, text)?))
 }
 
-/// What a word asks for: a content before or behind an element, an empty one, a colour, or nothing of it.
+/// What a word asks for: a content before or behind an element, an empty one, a colour, how white space
+/// is treated, or nothing of it.
 fn style(alloc: Global, word: &str) -> Result<(Option<PseudoElement>, Style), AllocError> {
     Ok(match word {
         "before" => (Some(PseudoElement::Before), content(alloc, "[")?),
         "after" => (Some(PseudoElement::After), content(alloc, "]")?),
         "empty" => (Some(PseudoElement::After), content(alloc, "")?),
         "black" => (None, Style::Colour(Colour { r: 0, g: 0, b: 0 })),
+        "normal" => (None, Style::WhiteSpace(WhiteSpace::Normal)),
+        "wrap" => (None, Style::WhiteSpace(WhiteSpace::PreWrap)),
         _ => (None, Style::Display(Display::None)),
     })
 }
 
-/// The rule that a word is: an element's name, a point, and what is asked for.
+/// The rule that a word is: `agent:` if it is the agent's and not the author's, an element's name or `*` for any, a point,
+/// and what is asked for.
 fn rule(alloc: Global, word: &str) -> Result<StyleRule, AllocError> {
+    let (origin, word) = match word.strip_prefix("agent:") {
+        Some(word) => (StyleOrigin::Agent, word),
+        None => (StyleOrigin::Author, word),
+    };
     let (element, asked) = word.split_once('.').unwrap_or((word, ""));
     let (pseudo, style) = style(alloc, asked)?;
     let mut declarations = Vec::new(alloc);
@@ -30,8 +38,12 @@ fn rule(alloc: Global, word: &str) -> Result<StyleRule, AllocError> {
         important: false,
         style,
     })?;
-    let element = String::from_str(alloc, element)?;
-    Ok(StyleRule::for_element(alloc, StyleOrigin::Author, element, pseudo, declarations))
+    let name = String::from_str(alloc, element)?;
+    let mut rule = StyleRule::for_element(alloc, origin, name, pseudo, declarations);
+    if element == "*" {
+        rule.element = None;
+    }
+    Ok(rule)
 }
 
 /// The rules that words are, with spaces between them.

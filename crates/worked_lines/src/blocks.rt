@@ -10,8 +10,11 @@ use std::alloc::Global;
 use std::process::Abort;
 use std::test::Fail;
 
-/// `t` for the tag of a text, `i` and `o` for those of inner and outer prefixes.
+/// `t` for the tag of a text, `i` and `o` for those of inner and outer prefixes, `o` also for that of padding.
 const NAMES: Names = ['t', 'i', 'o'];
+
+/// The tag of padding.
+const PADDING: usize = 2;
 
 /// A style of this mode.
 fn style(mode: WhiteSpace) -> TextStyle<usize> {
@@ -106,6 +109,14 @@ fn setting(words: &str) -> Result<BlockSetting, Fail> {
     })
 }
 
+/// Words behind `padded`, and the tag of the padding; other words as they are.
+fn padding(words: &str) -> (&str, Option<usize>) {
+    match words.strip_prefix("padded ") {
+        Some(rest) => (rest, Some(PADDING)),
+        None => (words, None),
+    }
+}
+
 /// Does with a block what a step says that needs no other block.
 fn take_inside(block: &mut Block<usize, u8>, step: Step<'_>) -> Result<(), Error> {
     match step {
@@ -125,8 +136,9 @@ fn take_inside(block: &mut Block<usize, u8>, step: Step<'_>) -> Result<(), Error
 impl Work {
     /// An empty block.
     fn begin(alloc: Global, words: &str) -> Result<Work, Fail> {
+        let (words, padding) = padding(words);
         let mut blocks = Vec::new(alloc);
-        blocks.push(Block::new(alloc, setting(words)?))?;
+        blocks.push(Block::new(alloc, setting(words)?, padding))?;
         Ok(Work {
             blocks,
             noted: String::new(alloc),
@@ -271,4 +283,18 @@ const WIDTHS: &str = "\
 #[test]
 fn lines_keep_to_their_width_or_overflow(rt: HostRuntime) -> Result<(), Fail> {
     have_their_lines(&rt, rt.alloc(), WIDTHS)
+}
+
+/// Padding: of a paragraph's lines up to their block's width, wherever they wrap, and of no line between them.
+const PADDED: &str = "\
+padded 4|text:ab cd;line;pre:/;flush|to ab  /to cd  /o     /
+padded 4|text:a;end;text:b;break;break;flush|to a   / /to b   / /
+padded 6|open:2 1;text:a;mark:1;close:1,> ,> |iito* > a   /
+padded 9 4|text:ab cd;open:2 1;text:ef gh;close:1,> ,> |to ab       /to cd       /iito > ef     /iito > gh     /
+padded 1 overflow|text:世;flush|t 世/
+";
+
+#[test]
+fn lines_of_paragraphs_are_padded(rt: HostRuntime) -> Result<(), Fail> {
+    have_their_lines(&rt, rt.alloc(), PADDED)
 }

@@ -119,6 +119,14 @@ impl TextDecorator for Letters {
         Ok((text, NOTHING))
     }
 
+    fn decorate_preformat_first(&self, _alloc: Global) -> Result<Letter, Error> {
+        Ok(NOTHING)
+    }
+
+    fn decorate_preformat_cont(&self, _alloc: Global) -> Result<Letter, Error> {
+        Ok(NOTHING)
+    }
+
     fn header_prefix(&self, alloc: Global, level: usize) -> Result<String, Error> {
         PlainDecorator::new().header_prefix(alloc, level)
     }

@@ -7,6 +7,8 @@
 #[cfg(test)]
 mod annotations;
 #[cfg(test)]
+mod copies;
+#[cfg(test)]
 mod lines;
 #[cfg(test)]
 mod settings;

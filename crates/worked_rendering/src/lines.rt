@@ -2,7 +2,7 @@
 
 ghost use Rattle.std.specs.Prelude.{◌≡◌, IfErr};
 
-use crate::settings::configured;
+use crate::settings::{broken, configured};
 use html_render_tree::Error;
 use html_render_tree::block::{TaggedLine, TaggedLineElement};
 use html_render_tree::config::rich;
@@ -24,7 +24,8 @@ fn letter(alloc: Global, annotation: &RichAnnotation) -> Result<String, AllocErr
         RichAnnotation::Strong => String::from_str(alloc, "S"),
         RichAnnotation::Strikeout => String::from_str(alloc, "K"),
         RichAnnotation::Code => String::from_str(alloc, "C"),
-        RichAnnotation::Preformat(_) => String::from_str(alloc, "P"),
+        RichAnnotation::Preformat(false) => String::from_str(alloc, "P"),
+        RichAnnotation::Preformat(true) => String::from_str(alloc, "Q"),
     }
 }
 
@@ -51,10 +52,11 @@ fn push_line(
     Ok(())
 }
 
-/// The tagged lines of a document, in a width.
+/// The tagged lines of a document, in a width; in its words `~` is a newline.
 fn tagged(alloc: Global, calls: &str, width: usize, words: &str) -> Result<String, Fail> {
     let config = configured(alloc, rich(alloc), calls)?;
-    let tree = config.dom_to_render_tree(alloc, &document(alloc, ';', words)?)?;
+    let words = broken(alloc, words)?;
+    let tree = config.dom_to_render_tree(alloc, &document(alloc, ';', words.as_str())?)?;
     let mut text = String::new(alloc);
     for line in &config.render_to_lines(alloc, tree, width)? {
         push_line(alloc, &mut text, line)?;
@@ -99,12 +101,37 @@ const LINES: &str = "\
 |20|<h2@id=;a|<>{}## a/
 link_footnotes|80|<p;Hello, ;<a@href=http://www.example.com/;world|{}Hello, {L(http://www.example.com/)}world{}[1]//{}[1]: http://www.example.com//
 link_footnotes|20|<p;<em;<a@href=u;x|{EL(u)}x{E}[1]//{}[1]: u/
+pad_block_width|5|<em;ab|{E}ab{}   /
+pad_block_width|5|<p;ab;>;<span@id=z|{}ab   <z>/
+";
+
+/// Preformatted texts, their marks, and what stands before them: `P` on a first line, and `Q` on a continuation line.
+const PREFORMATTED: &str = "\
+|10|<pre;ab\tc~0123456789xy|{P}ab      c/{P}0123456789/{Q}xy/
+|20|<pre;a;<em;b|{P}a{EP}b/
+|20|<em;<pre;a|{EP}a/
+|3|<pre;<a@href=u;abcd|{L(u)P}abc/{L(u)Q}d/
+|3|<pre;a;<em;bcd;>;e|{P}a{EP}bc/{EQ}d{Q}e/
+|20|<pre;<ul;<li;a|{}* {P}a/
+|20|<pre;a;>;b|{P}a//{}b/
+|20|<pre;<span@id=z;>; a|<z>{P} a/
+|20|<span@id=z;>;<pre;~;>;x|/<z>/{}x/
+pad_block_width|4|<pre;a|{P}a{}   /
 ";
 
 #[test]
 fn documents_have_their_tagged_lines(rt: HostRuntime) -> Result<(), Fail> {
     let alloc = rt.alloc();
     for case in LINES.lines() {
+        has_its_lines(&rt, alloc, case)?;
+    }
+    Ok(())
+}
+
+#[test]
+fn preformatted_texts_have_their_annotations(rt: HostRuntime) -> Result<(), Fail> {
+    let alloc = rt.alloc();
+    for case in PREFORMATTED.lines() {
         has_its_lines(&rt, alloc, case)?;
     }
     Ok(())

@@ -28,7 +28,23 @@ fn called<D: TextDecorator>(
         }
         "allow_width_overflow" => Ok(config.allow_width_overflow()),
         "do_decorate" => config.do_decorate(alloc),
-        _ => Ok(config),
+        "pad_block_width" => Ok(config.pad_block_width()),
+        _ => Ok(with_columns(config, call)),
+    }
+}
+
+/// A configuration after a call that is given columns, and after any other call as it was.
+fn with_columns<D: TextDecorator>(config: Config<D>, call: &str) -> Config<D> {
+    let Some((name, columns)) = call.split_once('=') else {
+        return config;
+    };
+    let Ok(columns) = columns.parse() else {
+        return config;
+    };
+    match name {
+        "max_wrap_width" => config.max_wrap_width(columns),
+        "min_wrap_width" => config.min_wrap_width(columns),
+        _ => config,
     }
 }
 
@@ -45,14 +61,24 @@ pub fn configured<D: TextDecorator>(
     Ok(config)
 }
 
-/// The text of a document in a width, with `/` for each newline.
+/// A text with a newline for each `~`.
+pub fn broken(alloc: Global, text: &str) -> Result<String, Error> {
+    let mut broken = String::new(alloc);
+    for c in text.chars() {
+        broken.push(if c == '~' { '\n' } else { c })?;
+    }
+    Ok(broken)
+}
+
+/// The text of a document in a width, with `/` for each newline; in its words `~` is one.
 pub fn text_of<D: TextDecorator>(
     alloc: Global,
     config: &Config<D>,
     width: usize,
     words: &str,
 ) -> Result<String, Error> {
-    let tree = config.dom_to_render_tree(alloc, &document(alloc, ';', words)?)?;
+    let words = broken(alloc, words)?;
+    let tree = config.dom_to_render_tree(alloc, &document(alloc, ';', words.as_str())?)?;
     let mut text = String::new(alloc);
     for c in config.render_to_string(alloc, tree, width)?.chars() {
         text.push(if c == '\n' { '/' } else { c })?;
@@ -91,6 +117,9 @@ plain empty_img_mode=ShowAlways|[k][1] x\u{336} [] *e*//[1]: abcdefghijklmno/pqr
 plain empty_img_mode=Filename|[k][1] x\u{336} [d] *e*//[1]: abcdefghijklmno/pqr/
 plain empty_img_mode=Replace|[k][1] x\u{336} [IMG] *e*//[1]: abcdefghijklmno/pqr/
 plain allow_width_overflow|[k][1] x\u{336} *e*//[1]: abcdefghijklmno/pqr/
+plain pad_block_width|[k][1] x\u{336} *e*        //[1]: abcdefghijklmno/pqr/
+plain max_wrap_width=6|[k][1]/x\u{336} *e*//[1]: abcdefghijklmno/pqr/
+plain min_wrap_width=99|[k][1] x\u{336} *e*//[1]: abcdefghijklmno/pqr/
 bare|[k] x\u{336} e/
 bare do_decorate|[k] x\u{336} *e*/
 bare link_footnotes|[k][1] x\u{336} e//[1]: abcdefghijklmno/pqr/
@@ -115,11 +144,29 @@ fn each_call_changes_what_it_names(rt: HostRuntime) -> Result<(), Fail> {
     Ok(())
 }
 
-/// Calls, a width, a document's words and its text, with `|` between them.
+/// Documents have the texts of cases, a line each: calls, a width, a document's words and its text, with `|` between them. Where
+/// it is too narrow, `too narrow` stands for the text.
+pub fn have_their_texts(rt: &impl Abort, alloc: Global, cases: &str) -> Result<(), Fail> {
+    for case in cases.lines() {
+        let (calls, fields) = case.split_once('|').ok_or("a width")?;
+        let (width, fields) = fields.split_once('|').ok_or("words")?;
+        let (words, wanted) = fields.split_once('|').ok_or("a text")?;
+        let width = width.parse().map_err(|_| "a width")?;
+        match shown(alloc, calls, width, words) {
+            Ok(text) => assert_eq!(rt; text.as_str(), wanted, "{case}"),
+            Err(Error::TooNarrow) => assert_eq!(rt; wanted, "too narrow", "{case}"),
+            Err(error) => return Err(error.into()),
+        }
+    }
+    Ok(())
+}
+
+/// Links, images and strokes.
 const LINKS_AND_IMAGES: &str = "\
 plain|20|<p;x;<a@href=u; |x/
 plain|10|<a@href=http://www.example.com/;Hello|[Hello][1]//[1]: http:///www.exam/ple.com//
 plain no_link_wrapping|10|<a@href=http://www.example.com/;Hello|[Hello][1]//[1]: http://www.example.com//
+plain|1|<a@href=世;x|too narrow
 plain allow_width_overflow|1|<a@href=世;x|[/x/]/[/1/]//[/1/]/:/ /世/
 plain empty_img_mode=Replace|20|<p;<img@src=a/b|[IMG]/
 plain empty_img_mode=Filename|80|<p;Hello x;<img@src=http://www.example.com/path/foo.jpg@alt=;>;y|Hello x[foo.jpg]y/
@@ -128,19 +175,49 @@ plain|10|<s;a b|a\u{336} b\u{336}/
 
 #[test]
 fn links_images_and_strokes_have_their_texts(rt: HostRuntime) -> Result<(), Fail> {
-    let alloc = rt.alloc();
-    for case in LINKS_AND_IMAGES.lines() {
-        let (calls, fields) = case.split_once('|').ok_or("a width")?;
-        let (width, fields) = fields.split_once('|').ok_or("words")?;
-        let (words, wanted) = fields.split_once('|').ok_or("a text")?;
-        let width = width.parse().map_err(|_| "a width")?;
-        assert_eq!(rt;
-            shown(alloc, calls, width, words)?.as_str(),
-            wanted,
-            "{case}"
-        );
-    }
-    let narrow = shown(alloc, "plain", 1, "<a@href=世;x");
-    assert_eq!(rt; narrow.err(), Some(Error::TooNarrow));
-    Ok(())
+    have_their_texts(&rt, rt.alloc(), LINKS_AND_IMAGES)
+}
+
+/// Lines that are filled with spaces, and the widths that lines have at most and texts at least.
+const WIDTHS: &str = "\
+bare pad_block_width|5|<p;ab;>;<p;c|ab   //c    /
+bare pad_block_width|8|<blockquote;ab;>;c|> ab    //c       /
+bare pad_block_width|4|<p;<br;>;a|/a   /
+bare pad_block_width|4|<pre;a~~b|a   /    /b   /
+bare pad_block_width max_wrap_width=3|6|<p;ab cd|ab    /cd    /
+plain pad_block_width|12|<a@href=u;x|[x][1]      //[1]: u/
+plain|7|<blockquote;abcdefgh|> abcde/> fgh/
+plain min_wrap_width=6|7|<blockquote;abcdefgh|too narrow
+plain min_wrap_width=6 allow_width_overflow|7|<blockquote;abcdefgh|> abcdef/> gh/
+plain min_wrap_width=0|1|<blockquote;a|too narrow
+plain min_wrap_width=0 allow_width_overflow|1|<blockquote;a|> a/
+plain max_wrap_width=0|5|<p;ab|too narrow
+plain max_wrap_width=0 allow_width_overflow|5|<p;ab|a/b/
+plain max_wrap_width=10|20|<p;This is a bit of text to wrap;>;<p;~ ;>;<ul;~ ;<li;This is a bit of text to wrap too;>;~ |\
+This is a/bit of/text to/wrap//* This is a/  bit of/  text to/  wrap too/
+plain max_wrap_width=3|12|<a@href=abcdefgh;k|[k]/[1]//[1]: abcdefg/h/
+";
+
+#[test]
+fn widths_are_those_of_the_settings(rt: HostRuntime) -> Result<(), Fail> {
+    have_their_texts(&rt, rt.alloc(), WIDTHS)
+}
+
+/// Texts of `pre`.
+const PREFORMATTED: &str = "\
+plain|20|<pre;a  b~ c|a  b/ c/
+plain|20|a;<pre;b;>;c|a//b//c/
+plain|20|a;<pre|a//
+plain|4|<pre;abcdef~g|abcd/ef/g/
+plain|20|<pre;~a~|/a/
+plain|5|<pre;\tx|     /   x/
+plain|20|<pre;<ul;~;<li;a|* /* a/
+plain|20|<pre;a;<em; b ;>;c|a* b *c/
+plain|20|<blockquote;<pre;a~  b|> a/>   b/
+plain|20|a  ;<pre;  b|a//  b/
+";
+
+#[test]
+fn white_space_of_pre_is_kept(rt: HostRuntime) -> Result<(), Fail> {
+    have_their_texts(&rt, rt.alloc(), PREFORMATTED)
 }

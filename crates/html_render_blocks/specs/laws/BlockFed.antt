@@ -12,6 +12,7 @@ use Rattle.html_render_blocks.specs.laws.Operations.{Commutes, map_map}
 use Rattle.html_render_blocks.specs.Block as definition
 use Rattle.html_render_blocks.specs.Block.{DefinedBlock, is_blank, paragraph_setting, inner_width, mark_items}
 use Rattle.html_render_blocks.specs.Joined.{joined}
+use Rattle.html_render_blocks.specs.Padding.{filled}
 use Rattle.html_render_blocks.specs.BlockMachine as machine
 use Rattle.html_render_blocks.specs.BlockMachine.{MachineBlock}
 
@@ -19,6 +20,7 @@ use Rattle.html_render_blocks.specs.BlockMachine.{MachineBlock}
 abbrev pub block_of : {T M : Type 0} → DefinedBlock T M → MachineBlock T M
 block_of d = record {
   setting = d.setting;
+  padding = d.padding;
   lines = d.lines;
   paragraph = after (start (paragraph_setting d.setting) d.marks) d.fed;
   at_block_end = d.at_block_end;
@@ -48,7 +50,10 @@ flush-block {T} {M} d = by (after (start (paragraph_setting d.setting) d.marks) 
     by None e h = ap (λ q. option_map block_of (option_map (λ (p : Page T M). definition.add_page d p) q)) e
     by (Some q) e h =
         ap (λ (s : Setting). option_map
-        (λ (p : Page T M). record (block_of d) { lines = d.lines ++ all_lines p; paragraph = Some (start s p.waiting) }) (finished q)) h
+        (λ (p : Page T M). record (block_of d) {
+          lines = d.lines ++ filled d.padding d.setting.width (all_lines p);
+          paragraph = Some (start s p.waiting);
+        }) (finished q)) h
         ∙ ap (option_map (λ (p : Page T M). block_of (definition.add_page d p))) e
         ∙ sym (map_map (λ (p : Page T M). definition.add_page d p) block_of (paragraph (paragraph_setting d.setting) d.marks d.fed))
 
@@ -111,7 +116,7 @@ add_inline_text-block {T} {M} d style cs =
 sub_block-block : {T M : Type 0} (d : DefinedBlock T M) (prefix inner : ℕ) →
     machine.sub_block (block_of d) prefix inner ≡ option_map block_of (definition.sub_block d prefix inner)
 sub_block-block {T} {M} d prefix inner =
-    sym (map_map (λ (w : ℕ). definition.empty_block {T = T} {M = M} (record d.setting { width = w })) block_of
+    sym (map_map (λ (w : ℕ). definition.empty_block {T = T} {M = M} (record d.setting { width = w }) d.padding) block_of
     (inner_width d.setting prefix inner))
 
 add_marks-block : {T M : Type 0} (d : DefinedBlock T M) (ms : List M) →
@@ -125,7 +130,10 @@ append_lines-block : {T M : Type 0} (d : DefinedBlock T M) (p : Page T M) (first
     ≡ option_map block_of (definition.append_lines (definition.add_page d p) first later ls ms)
 append_lines-block d p first later [] ms = ap Some (add_marks-block (definition.add_page d p) ms)
 append_lines-block {T} {M} d p first later (l ∷ ls) ms =
-    sym (map_map (λ (all : List (Line T M)). record (definition.add_page d p) { lines = (d.lines ++ all_lines p) ++ all; marks = [] }) block_of
+    sym (map_map (λ (all : List (Line T M)). record (definition.add_page d p) {
+      lines = (d.lines ++ filled d.padding d.setting.width (all_lines p)) ++ all;
+      marks = [];
+    }) block_of
     (joined d.setting.width d.setting.overflow p.waiting first later (l ∷ ls) ms))
 
 append-block : {T M : Type 0} (d e : DefinedBlock T M) (t : T) (first later : List ℕ) →
@@ -152,7 +160,7 @@ append-block {T} {M} d e t first later =
         ≡ option_map block_of (option_and_then (λ (c : DefinedBlock T M). joined_by (definition.add_page d p) c)
         (option_map (λ (r : Page T M). definition.add_page e r) q))
     both p None = refl
-    both p (Some r) = append_lines-block d p (under t first) (under t later) (e.lines ++ all_lines r) r.waiting
+    both p (Some r) = append_lines-block d p (under t first) (under t later) (e.lines ++ filled e.padding e.setting.width (all_lines r)) r.waiting
 
     by : (o : Option (Page T M)) →
         option_and_then (λ (b : MachineBlock T M). option_and_then (λ (c : MachineBlock T M). joins b c) (machine.flush (block_of e)))

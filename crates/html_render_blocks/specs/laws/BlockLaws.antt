@@ -14,6 +14,8 @@ use Rattle.html_render_lines.specs.laws.Overflow.{paragraph_some}
 use Rattle.html_render_lines.specs.laws.Cases.{if_cases}
 use Rattle.html_render_blocks.specs.declared.block.BlockSetting.{BlockSetting}
 use Rattle.html_render_blocks.specs.laws.Operations.{Keeps, Succeeds}
+use Rattle.html_render_blocks.specs.laws.Padding.{filled-within}
+use Rattle.html_render_blocks.specs.Padding.{filled}
 use Rattle.html_render_blocks.specs.laws.Cases.{map_if, then_if, map_and, then_and, any}
 use Rattle.html_render_blocks.specs.Joined.{are_within, fitting, joined}
 use Rattle.html_render_blocks.specs.Block.{DefinedBlock, wrap_width, paragraph_setting, empty_block, flush, add_page, add_empty_line}
@@ -53,7 +55,9 @@ pub flush_within : {T M : Type 0} (w : ℕ) (d : DefinedBlock T M) → IsWithin 
 flush_within {T} {M} w d h =
     map_if (λ (p : Page T M). AllWithinWidth w (all_lines p)) (IsWithin w) (λ (p : Page T M). add_page d p)
     (paragraph (paragraph_setting d.setting) d.marks d.fed) (page_within w d h)
-    (λ p k. with_lines w d (add_page d p) h refl (All-append (λ (l : Line T M). columns l ≤ w) d.lines (all_lines p) h.lines k))
+    (λ p k. with_lines w d (add_page d p) h refl (All-append (λ (l : Line T M). columns l ≤ w) d.lines
+    (filled d.padding d.setting.width (all_lines p)) h.lines
+    (subst (λ v. AllWithinWidth w (filled d.padding v (all_lines p))) (sym h.width) (filled-within d.padding w (all_lines p) k))))
 
 add_empty_line_within : {T M : Type 0} (w : ℕ) (d : DefinedBlock T M) → IsWithin w d → IsWithin w (add_empty_line d)
 add_empty_line_within {T} {M} w d h = with_lines w d (add_empty_line d) h refl
@@ -88,15 +92,16 @@ add_inline_text_within w d style cs h =
     (λ _. if_cases (λ o. IfSome o (IsWithin w)) (is_blank style.mode cs) _ _ (λ _. h)
     (λ _. map_if (IsWithin w) (IsWithin w) _ (start_block d) (start_block_within w d h) (λ e k. feed_within w e style cs k))))
 
-pub empty_within : {T M : Type 0} (s : BlockSetting) → s.overflow ≡ false → IsWithin s.width (empty_block {T = T} {M = M} s)
-empty_within {T} {M} s off = record { width = refl; overflow = off; lines = All-nil (λ (l : Line T M). columns l ≤ s.width) }
+pub empty_within : {T M : Type 0} (s : BlockSetting) (padding : Option T) → s.overflow ≡ false →
+    IsWithin s.width (empty_block {T = T} {M = M} s padding)
+empty_within {T} {M} s padding off = record { width = refl; overflow = off; lines = All-nil (λ (l : Line T M). columns l ≤ s.width) }
 
 sub_block_within : {T M : Type 0} (w : ℕ) (d : DefinedBlock T M) (prefix inner : ℕ) → IsWithin w d →
     IfSome (sub_block d prefix inner) (λ e. (v : ℕ) × IsWithin v e)
 sub_block_within {T} {M} w d prefix inner h =
-    map_if (λ v. Unit {0}) (λ e. (v : ℕ) × IsWithin v e) (λ (v : ℕ). empty_block {T = T} {M = M} (record d.setting { width = v }))
+    map_if (λ v. Unit {0}) (λ e. (v : ℕ) × IsWithin v e) (λ (v : ℕ). empty_block {T = T} {M = M} (record d.setting { width = v }) d.padding)
     (inner_width d.setting prefix inner) (any (inner_width d.setting prefix inner))
-    (λ v _. (v, empty_within (record d.setting { width = v }) h.overflow))
+    (λ v _. (v, empty_within (record d.setting { width = v }) d.padding h.overflow))
 
 -- no line is wider, as a test
 pub within-test : {T M : Type 0} (w : ℕ) (ls : List (Line T M)) → are_within w ls ≡ true → AllWithinWidth w ls
@@ -200,7 +205,7 @@ if_overflow false b x e = cc
 sub_block_succeeds : {T M : Type 0} (w : ℕ) (d : DefinedBlock T M) (prefix inner : ℕ) → Overflows w d →
     IsSomeAnd (sub_block d prefix inner) (λ e. (v : ℕ) × Overflows v e)
 sub_block_succeeds {T} {M} w d prefix inner h =
-    map_and (λ v. Unit {0}) (λ e. (v : ℕ) × Overflows v e) (λ (v : ℕ). empty_block {T = T} {M = M} (record d.setting { width = v }))
+    map_and (λ v. Unit {0}) (λ e. (v : ℕ) × Overflows v e) (λ (v : ℕ). empty_block {T = T} {M = M} (record d.setting { width = v }) d.padding)
     (inner_width d.setting prefix inner)
     (if_overflow d.setting.overflow (leb inner (d.setting.width - prefix)) (max (d.setting.width - prefix) inner) h.overflow)
     (λ v _. (v, record { width = refl; overflow = h.overflow }))

@@ -62,8 +62,8 @@ add_inline_text_stays {T} {M} d style cs =
 sub_block_stays : {T M : Type 0} (d : DefinedBlock T M) (prefix inner : ℕ) →
     Stays overflowing (sub_block d prefix inner) (sub_block (overflowing d) prefix inner)
 sub_block_stays {T} {M} d prefix inner =
-    map_stays (λ (w : ℕ). w) overflowing (λ (w : ℕ). empty_block {T = T} {M = M} (record d.setting { width = w }))
-    (λ (w : ℕ). empty_block {T = T} {M = M} (record (overflowing d).setting { width = w }))
+    map_stays (λ (w : ℕ). w) overflowing (λ (w : ℕ). empty_block {T = T} {M = M} (record d.setting { width = w }) d.padding)
+    (λ (w : ℕ). empty_block {T = T} {M = M} (record (overflowing d).setting { width = w }) d.padding)
     (inner_width d.setting prefix inner) (inner_width (overflowing d).setting prefix inner)
     (or_stays d.setting.overflow (leb inner (d.setting.width - prefix)) (max (d.setting.width - prefix) inner)) (λ w. refl)
 

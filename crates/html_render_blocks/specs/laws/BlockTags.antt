@@ -13,6 +13,8 @@ use Rattle.html_render_lines.specs.laws.Tags.{if_with, then_with, map_with, page
 use Rattle.html_render_lines.specs.Tags.{element_with, line_with, lines_with}
 use Rattle.html_render_lines.specs.laws.Tags.{after-with, finished-with, styled-with, all_lines-with, columns-with}
 use Rattle.html_render_blocks.specs.laws.Operations.{Commutes}
+use Rattle.html_render_blocks.specs.laws.Padding.{filled-with}
+use Rattle.html_render_blocks.specs.Padding.{filled}
 use Rattle.html_render_blocks.specs.Joined.{behind, prefixed, marked_behind, are_within, fitting, joined}
 use Rattle.html_render_blocks.specs.Block.{is_blank, inner_width, mark_items}
 use Rattle.html_render_blocks.specs.BlockMachine.{MachineBlock, flush, flush_paragraph, add_page, add_empty_line, separate_behind}
@@ -23,6 +25,7 @@ module _ {T U M : Type 0} (f : T → U) where
   abbrev pub block_with : MachineBlock T M → MachineBlock U M
   block_with b = record {
     setting = b.setting;
+    padding = option_map f b.padding;
     lines = lines_with f b.lines;
     paragraph = option_map (state_with f) b.paragraph;
     at_block_end = b.at_block_end;
@@ -31,7 +34,9 @@ module _ {T U M : Type 0} (f : T → U) where
   add_page-with : (b : MachineBlock T M) (q : State T M) (p : Page T M) →
       add_page (block_with b) (state_with f q) (page_with f p) ≡ block_with (add_page b q p)
   add_page-with b q p = ap (λ ls. record (block_with b) { lines = ls; paragraph = Some (start q.setting p.waiting) })
-      (ap (λ ls. lines_with f b.lines ++ ls) (all_lines-with f p) ∙ sym (map-append (line_with f) b.lines (all_lines p)))
+      (ap (λ ls. lines_with f b.lines ++ filled (option_map f b.padding) b.setting.width ls) (all_lines-with f p)
+      ∙ ap (λ ls. lines_with f b.lines ++ ls) (sym (filled-with f b.padding b.setting.width (all_lines p)))
+      ∙ sym (map-append (line_with f) b.lines (filled b.padding b.setting.width (all_lines p))))
 
   flush_paragraph-with : (b : MachineBlock T M) (o : Option (State T M)) →
       flush_paragraph (block_with b) (option_map (state_with f) o) ≡ option_map block_with (flush_paragraph b o)
@@ -146,7 +151,8 @@ module _ {T U M : Type 0} (f : T → U) where
   sub_block-with : (b : MachineBlock T M) (prefix inner : ℕ) →
       sub_block (block_with b) prefix inner ≡ option_map block_with (sub_block b prefix inner)
   sub_block-with b prefix inner =
-      map_with (λ w. w) block_with (λ w. empty_block (record b.setting { width = w })) (λ w. empty_block (record b.setting { width = w }))
+      map_with (λ w. w) block_with (λ w. empty_block (record b.setting { width = w }) b.padding)
+      (λ w. empty_block (record b.setting { width = w }) (option_map f b.padding))
       (inner_width b.setting prefix inner) _ (sym (same_map (inner_width b.setting prefix inner))) (λ w. refl)
     where
       same_map : {X : Type 0} (o : Option X) → option_map (λ x. x) o ≡ o

@@ -20,6 +20,8 @@ use Rattle.html_render_lines.specs.Visible.{is_visible, if_visible, visible_in_i
 use Rattle.html_render_lines.specs.laws.Cases.{if_cases}
 use Rattle.html_render_lines.specs.laws.Visible.{paragraph_keeps, visible_in_line-append, visible_in_line-marks, visible_in_lines-push}
 use Rattle.html_render_blocks.specs.laws.Operations.{Counts}
+use Rattle.html_render_blocks.specs.laws.Padding.{filled-visible}
+use Rattle.html_render_blocks.specs.Padding.{filled}
 use Rattle.html_render_blocks.specs.laws.Cases.{map_if, then_if, any}
 use Rattle.html_render_blocks.specs.Joined.{behind, prefixed, marked_behind, are_within, fitting, joined}
 use Rattle.html_render_blocks.specs.Block.{DefinedBlock, paragraph_setting, empty_block, flush, add_page, add_empty_line}
@@ -56,8 +58,9 @@ pub flush_same : {T M : Type 0} (d : DefinedBlock T M) → IfSome (flush d) (Sam
 flush_same {T} {M} d =
     map_if (λ (p : Page T M). visible_in_lines (all_lines p) ≡ visible_in_items d.fed) (Same d) (λ (p : Page T M). add_page d p)
     (paragraph (paragraph_setting d.setting) d.marks d.fed) (paragraph_keeps (paragraph_setting d.setting) d.marks d.fed)
-    (λ p h. append-nil (visible_in_lines (d.lines ++ all_lines p)) ∙ lines-append d.lines (all_lines p)
-    ∙ ap (λ r. visible_in_lines d.lines ++ r) h)
+    (λ p h. let ls = filled d.padding d.setting.width (all_lines p) in
+    append-nil (visible_in_lines (d.lines ++ ls)) ∙ lines-append d.lines ls
+    ∙ ap (λ r. visible_in_lines d.lines ++ r) (filled-visible d.padding d.setting.width (all_lines p) ∙ h))
 
 add_empty_line_same : {T M : Type 0} (d : DefinedBlock T M) → Same d (add_empty_line d)
 add_empty_line_same {T} {M} d = ap (λ r. r ++ visible_in_items d.fed) (visible_in_lines-push d.lines (marks_line d.marks)
@@ -251,7 +254,7 @@ add_mark_same d m = ap (λ r. visible_in_lines d.lines ++ r) (items-append d.fed
 sub_block_count : {T M : Type 0} (c : ℕ) (d : DefinedBlock T M) (prefix inner : ℕ) →
     IfSome (sub_block d prefix inner) (λ e. visible_count c e ≡ 0)
 sub_block_count {T} {M} c d prefix inner =
-    map_if (λ v. Unit {0}) (λ e. visible_count c e ≡ 0) (λ (w : ℕ). empty_block {T = T} {M = M} (record d.setting { width = w }))
+    map_if (λ v. Unit {0}) (λ e. visible_count c e ≡ 0) (λ (w : ℕ). empty_block {T = T} {M = M} (record d.setting { width = w }) d.padding)
     (inner_width d.setting prefix inner) (any (inner_width d.setting prefix inner)) (λ w _. refl)
 
 -- THE LAW: a visible character stands in a block as often as it was fed, or more often

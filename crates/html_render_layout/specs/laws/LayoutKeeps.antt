@@ -92,11 +92,13 @@ module _ {S A K T B : Type 0} (d : Decoration S A) (push : K → T → A → K �
     start_block-keeps : (i : I) (s : State) → OfState i s → MatchOption (on_block o.start_block s) N (OfState i)
     start_block-keeps i s p = on_block-keeps o.start_block i s (h.start_block i s.block p)
 
-    characters-keep : (cs : List ℕ) (i : I) (s : State) → OfState i s → MatchOption (add_characters o cs s) N (OfState i)
-    characters-keep cs i s p = on_block-keeps (λ b. o.add_inline_text b (text_style s.text) (written s.text.struck_out cs)) i s
-        (h.add_inline_text i s.block (text_style s.text) (written s.text.struck_out cs) p)
+    characters-keep : (cs : List ℕ) (i : I) (s : State) → OfState i s → MatchOption (add_characters d push o cs s) N (OfState i)
+    characters-keep cs i s p =
+        let x = text_style d push s.decorator s.stacks s.text s.text.preformatted in
+        on_block-keeps (λ b. o.add_inline_text b x.1 (written s.text.struck_out cs)) i (record s { stacks = x.0 })
+        (h.add_inline_text i s.block x.1 (written s.text.struck_out cs) p)
 
-    text-keeps : (t : List ℕ) (i : I) (s : State) → OfState i s → MatchOption (add_text o t s) N (OfState i)
+    text-keeps : (t : List ℕ) (i : I) (s : State) → OfState i s → MatchOption (add_text d push o t s) N (OfState i)
     text-keeps t i s p = characters-keep (chars t) i s p
 
     begun-keeps : (round : Round S A) (i : I) (s : State) → OfState i s → MatchOption (begun d push o round s) N (OfState i)
@@ -112,11 +114,11 @@ module _ {S A K T B : Type 0} (d : Decoration S A) (push : K → T → A → K �
     image-keeps source title i s p = titled-keeps source (shown_title s.settings.empty_images source title) i s p
 
     link_number-keeps : (text : TextContext T) (number : ℕ) (i : I) (s : State) → OfState i s →
-        MatchOption (link_number o text number s) N (OfState i)
+        MatchOption (link_number d push o text number s) N (OfState i)
     link_number-keeps text number i s p = by s.settings.link_footnotes
       where
         by : (z : Bool) →
-            MatchOption (cond z (add_text o (codes "[" ++ decimal number ++ codes "]") (record s { text = text })) (Some s)) N (OfState i)
+            MatchOption (cond z (add_text d push o (codes "[" ++ decimal number ++ codes "]") (record s { text = text })) (Some s)) N (OfState i)
         by true = text-keeps (codes "[" ++ decimal number ++ codes "]") i (record s { text = text }) p
         by false = p
 
@@ -288,10 +290,12 @@ module _ {S A K T B : Type 0} (d : Decoration S A) (push : K → T → A → K �
   then_same s l f h next = IfSome-then (SamePlace s) (SamePlace s) l f h (λ q a.
       IfSome-weaken (SamePlace q) (SamePlace s) (f q) (next q) (λ r b. (b.0 ∙ a.0, λ e. b.1 (a.1 e))))
 
-  characters-same : (cs : List ℕ) (s : State) → IfSome (add_characters o cs s) (SamePlace s)
-  characters-same cs s = on_block-same (λ b. o.add_inline_text b (text_style s.text) (written s.text.struck_out cs)) s
+  characters-same : (cs : List ℕ) (s : State) → IfSome (add_characters d push o cs s) (SamePlace s)
+  characters-same cs s =
+      let x = text_style d push s.decorator s.stacks s.text s.text.preformatted in
+      on_block-same (λ b. o.add_inline_text b x.1 (written s.text.struck_out cs)) (record s { stacks = x.0 })
 
-  text-same : (t : List ℕ) (s : State) → IfSome (add_text o t s) (SamePlace s)
+  text-same : (t : List ℕ) (s : State) → IfSome (add_text d push o t s) (SamePlace s)
   text-same t s = characters-same (chars t) s
 
   begun-same : (round : Round S A) (s : State) → IfSome (begun d push o round s) (SamePlace s)
@@ -305,11 +309,11 @@ module _ {S A K T B : Type 0} (d : Decoration S A) (push : K → T → A → K �
   image-same : (source title : List ℕ) (s : State) → IfSome (image d push o source title s) (SamePlace s)
   image-same source title s = titled-same source (shown_title s.settings.empty_images source title) s
 
-  link_number-same : (text : TextContext T) (number : ℕ) (s : State) → IfSome (link_number o text number s) (SamePlace s)
+  link_number-same : (text : TextContext T) (number : ℕ) (s : State) → IfSome (link_number d push o text number s) (SamePlace s)
   link_number-same text number s = by s.settings.link_footnotes
     where
       by : (z : Bool) →
-          IfSome (cond z (add_text o (codes "[" ++ decimal number ++ codes "]") (record s { text = text })) (Some s)) (SamePlace s)
+          IfSome (cond z (add_text d push o (codes "[" ++ decimal number ++ codes "]") (record s { text = text })) (Some s)) (SamePlace s)
       by true = text-same (codes "[" ++ decimal number ++ codes "]") (record s { text = text })
       by false = (refl, λ e. e)
 

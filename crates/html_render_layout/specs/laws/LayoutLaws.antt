@@ -16,14 +16,13 @@ use Rattle.html_render_lines.specs.laws.Tags.{columns-with}
 use Rattle.html_render_nodes.specs.declared.tree.RenderNode.{RenderNode}
 use Rattle.html_render_nodes.specs.Pass.{run}
 use Rattle.html_render_nodes.specs.laws.Runs.{IfSome-then}
-use Rattle.html_render_blocks.specs.declared.block.BlockSetting.{BlockSetting}
 use Rattle.html_render_blocks.specs.Block as definition
 use Rattle.html_render_blocks.specs.Block.{DefinedBlock}
 use Rattle.html_render_blocks.specs.laws.BlockLaws.{IsWithin, Overflows, empty_within, operations_within, operations_succeed}
 use Rattle.html_render_blocks.specs.laws.Closing.{finish_within, add_closing_lines_within, finish_succeeds, add_closing_lines_succeeds}
 use Rattle.html_render_layout.specs.declared.settings.LayoutSettings.{LayoutSettings}
 use Rattle.html_render_layout.specs.Ending.{ended}
-use Rattle.html_render_layout.specs.Layout.{onto, shown_after, Defined, defined, empty_state, estimated, layout_lines, no_tag}
+use Rattle.html_render_layout.specs.Layout.{onto, shown_after, Defined, defined, block_setting, padding, empty_state, estimated, layout_lines, no_tag}
 use Rattle.html_render_layout.specs.Layout.{untagged_lines}
 use Rattle.html_render_layout.specs.laws.Ending.{ended-keeps, ended-succeeds}
 use Rattle.html_render_layout.specs.laws.LayoutKeeps.{layout-keeps, layout-returns, layout-succeeds}
@@ -46,16 +45,13 @@ module _ {S A : Type 0} (d : Decoration S A) (settings : LayoutSettings) where
   abbrev lines_from : Forest RenderNode → Defined S A → Option (List (Line (List A) ℕ))
   lines_from t s = shown_after d onto definition.operations definition.ending (λ (r : Defined S A). r.block.lines) t s
 
-  abbrev setting : ℕ → Bool → BlockSetting
-  setting w o = record { width = w; max_wrap_width = None; overflow = o }
-
   lines-within : (t : Forest RenderNode) (decorator : S) (w : ℕ) → settings.wrap_links ≡ true →
       IfSome (lines_from t (empty_state d settings decorator w false)) (λ lines. AllWithinWidth w lines)
   lines-within t decorator w wrapped =
       IfSome-then (λ (r : Defined S A). IsWithin w r.block) (λ lines. AllWithinWidth w lines)
       (run (defined d) t (empty_state d settings decorator w false)) _
       (layout-keeps d onto definition.operations IsWithin operations_within t w (empty_state d settings decorator w false)
-      (empty_within (setting w false) refl)) (λ r h.
+      (empty_within (block_setting settings w false) (padding settings []) refl)) (λ r h.
       IfSome-then (λ (q : Defined S A). IsWithin w q.block) (λ lines. AllWithinWidth w lines)
       (ended d definition.ending settings.link_footnotes settings.wrap_links [] r) _
       (subst (λ cut. IfSome (ended d definition.ending settings.link_footnotes cut [] r) (λ q. IsWithin w q.block)) (sym wrapped)
@@ -68,9 +64,9 @@ module _ {S A : Type 0} (d : Decoration S A) (settings : LayoutSettings) where
   layout_within t decorator w wrapped = by (w == 0)
     where
       by : (z : Bool) →
-          IfSome (cond z None (lines_from (estimated d decorator t) (empty_state d settings decorator w false))) (λ lines. AllWithinWidth w lines)
+          IfSome (cond z None (lines_from (estimated d settings decorator t) (empty_state d settings decorator w false))) (λ lines. AllWithinWidth w lines)
       by true = tt
-      by false = lines-within (estimated d decorator t) decorator w wrapped
+      by false = lines-within (estimated d settings decorator t) decorator w wrapped
 
   lines-succeed : (t : Forest RenderNode) (decorator : S) (w : ℕ) → IsSome (lines_from t (empty_state d settings decorator w true))
   lines-succeed t decorator w =
@@ -87,9 +83,9 @@ module _ {S A : Type 0} (d : Decoration S A) (settings : LayoutSettings) where
   layout_succeeds t decorator w h = by (w == 0) refl
     where
       by : (z : Bool) → (w == 0) ≡ z →
-          IsSome (cond z None (lines_from (estimated d decorator t) (empty_state d settings decorator w true)))
+          IsSome (cond z None (lines_from (estimated d settings decorator t) (empty_state d settings decorator w true)))
       by true e = absurd (let zero = eqb-true w 0 e in omega arith)
-      by false e = lines-succeed (estimated d decorator t) decorator w
+      by false e = lines-succeed (estimated d settings decorator t) decorator w
 
   -- trees that are laid out leave the texts that follow, with their annotations, and the decorator as they were
   pub layout_leaves : (t : Forest RenderNode) (s : Defined S A) →

@@ -37,7 +37,7 @@ use Rattle.html_render_layout.specs.laws.Ending.{ended-image}
 use Rattle.html_render_layout.specs.Layout.{on_block, written, add_characters, add_text, text_style, under, striking}
 use Rattle.html_render_layout.specs.Layout.{inner_least, spaces, padded, next_number, nested, resumed, indented, quoted, among, placed}
 use Rattle.html_render_layout.specs.Layout.{image_round, raised, digits_of, with_target, marked, link_number, annotated, coloured}
-use Rattle.html_render_layout.specs.Layout.{in_white_space, in_style}
+use Rattle.html_render_layout.specs.Layout.{in_white_space, preformatting, in_style}
 use Rattle.html_render_dom.specs.declared.style.WhiteSpace.{WhiteSpace}
 use Rattle.html_render_dom.specs.declared.style.WhiteSpace.TheVariants.{Normal, Pre, PreWrap}
 use Rattle.html_render_layout.specs.Layout.{emphasis_decoration, begun, decorated, titled, image, struck_out, superscript, linked}
@@ -67,11 +67,13 @@ module _ {S A K T B : Type 0} (d : Decoration S A) (push : K → T → A → K �
       image-then f mapped (λ b. Some (record s { block = b })) (λ b. Some (record (mapped s) { block = b })) (g s.block) (g (f s.block)) e
       (λ b. refl)
 
-  characters-stay : (cs : List ℕ) → Stays (add_characters o cs) (add_characters o cs)
-  characters-stay cs s = on_block-stays (λ b. o.add_inline_text b (text_style s.text) (written s.text.struck_out cs)) s
-      (h.add_inline_text s.block (text_style s.text) (written s.text.struck_out cs))
+  characters-stay : (cs : List ℕ) → Stays (add_characters d push o cs) (add_characters d push o cs)
+  characters-stay cs s =
+      let x = text_style d push s.decorator s.stacks s.text s.text.preformatted in
+      on_block-stays (λ b. o.add_inline_text b x.1 (written s.text.struck_out cs)) (record s { stacks = x.0 })
+      (h.add_inline_text s.block x.1 (written s.text.struck_out cs))
 
-  text-stays : (t : List ℕ) → Stays (add_text o t) (add_text o t)
+  text-stays : (t : List ℕ) → Stays (add_text d push o t) (add_text d push o t)
   text-stays t = characters-stay (chars t)
 
   nested-stays : (prefix least : ℕ) → Stays (nested d o prefix least) (nested d o prefix least)
@@ -91,14 +93,14 @@ module _ {S A K T B : Type 0} (d : Decoration S A) (push : K → T → A → K �
   image-stays : (source title : List ℕ) → Stays (image d push o source title) (image d push o source title)
   image-stays source title s = titled-stays source (shown_title s.settings.empty_images source title) s
 
-  link_number-stays : (text : TextContext T) (number : ℕ) → Stays (link_number o text number) (link_number o text number)
+  link_number-stays : (text : TextContext T) (number : ℕ) → Stays (link_number d push o text number) (link_number d push o text number)
   link_number-stays text number s = by s.settings.link_footnotes
     where
       digits : List ℕ
       digits = codes "[" ++ decimal number ++ codes "]"
 
-      by : (z : Bool) → Image mapped (if z then add_text o digits (record s { text = text }) else Some s)
-          (if z then add_text o digits (record (mapped s) { text = text }) else Some (mapped s))
+      by : (z : Bool) → Image mapped (if z then add_text d push o digits (record s { text = text }) else Some s)
+          (if z then add_text d push o digits (record (mapped s) { text = text }) else Some (mapped s))
       by true = text-stays digits (record s { text = text })
       by false = refl
 
@@ -118,12 +120,12 @@ module _ {S A K T B : Type 0} (d : Decoration S A) (push : K → T → A → K �
   in_white_space-stays PreWrap s = refl
 
   in_style-stays : (style : NodeStyle) (s : State) → in_style d push style (mapped s) ≡ mapped (in_style d push style s)
-  in_style-stays style s =
+  in_style-stays style s = ap (preformatting style.preformatted) (
       ap (λ q. in_white_space style.white_space (coloured push d.push_background style.background q)) (coloured-stays d.push_colour style.colour s)
       ∙ ap (λ q. in_white_space style.white_space q)
       (coloured-stays d.push_background style.background (coloured push d.push_colour style.colour s))
       ∙ in_white_space-stays style.white_space
-      (coloured push d.push_background style.background (coloured push d.push_colour style.colour s))
+      (coloured push d.push_background style.background (coloured push d.push_colour style.colour s)))
 
   module _ (l m : State → Option State) (below : Stays l m) where
     indented-stays : (prefix : List ℕ) (columns least : ℕ) (behind : Around) →
@@ -282,12 +284,12 @@ module _ {S A : Type 0} (d : Decoration S A) (settings : LayoutSettings) where
       IfSome (layout_lines d settings t decorator w false) (λ lines. layout_lines d settings t decorator w true ≡ Some lines)
   layout_same t decorator w = by (w == 0)
     where
-      by : (z : Bool) → IfSome (cond z None (lines_from (estimated d decorator t) (empty_state d settings decorator w false)))
-          (λ lines. cond z None (lines_from (estimated d decorator t) (empty_state d settings decorator w true)) ≡ Some lines)
+      by : (z : Bool) → IfSome (cond z None (lines_from (estimated d settings decorator t) (empty_state d settings decorator w false)))
+          (λ lines. cond z None (lines_from (estimated d settings decorator t) (empty_state d settings decorator w true)) ≡ Some lines)
       by true = tt
       by false =
           shown-image d onto definition.operations overflowing operations_refine definition.ending finish_stays add_closing_lines_stays
-          (λ (s : Defined S A). s.block.lines) (λ r. refl) (estimated d decorator t) (empty_state d settings decorator w false)
+          (λ (s : Defined S A). s.block.lines) (λ r. refl) (estimated d settings decorator t) (empty_state d settings decorator w false)
 
   -- and so are the names of their marks
   pub names_same : (t : Forest RenderNode) (decorator : S) (w : ℕ) →
@@ -295,14 +297,14 @@ module _ {S A : Type 0} (d : Decoration S A) (settings : LayoutSettings) where
   names_same t decorator w = by (w == 0)
     where
       names_from : Bool → Option (List (List ℕ))
-      names_from o = shown_after d onto definition.operations definition.ending (λ (s : Defined S A). s.names) (estimated d decorator t)
+      names_from o = shown_after d onto definition.operations definition.ending (λ (s : Defined S A). s.names) (estimated d settings decorator t)
           (empty_state d settings decorator w o)
 
       by : (z : Bool) → IfSome (cond z None (names_from false)) (λ names. cond z None (names_from true) ≡ Some names)
       by true = tt
       by false =
           shown-image d onto definition.operations overflowing operations_refine definition.ending finish_stays add_closing_lines_stays
-          (λ (s : Defined S A). s.names) (λ r. refl) (estimated d decorator t) (empty_state d settings decorator w false)
+          (λ (s : Defined S A). s.names) (λ r. refl) (estimated d settings decorator t) (empty_state d settings decorator w false)
 
   -- the same of the lines without annotations
   pub untagged_same : (t : Forest RenderNode) (decorator : S) (w : ℕ) →

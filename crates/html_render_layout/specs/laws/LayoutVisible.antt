@@ -74,21 +74,22 @@ module _ {S A K T B : Type 0} (d : Decoration S A) (push : K → T → A → K �
   keeps-counts g s k =
       on_block-counts (counted s) g s (IfSome-weaken (λ b. v b ≡ v s.block) (λ b. counted s ≤ v b) (g s.block) k (λ b e. omega arith))
 
-  characters-count : (cs : List ℕ) (s : State) → IfSome (add_characters o cs s) (AtLeast (counted s + w cs))
+  characters-count : (cs : List ℕ) (s : State) → IfSome (add_characters d push o cs s) (AtLeast (counted s + w cs))
   characters-count cs s =
       let fed : List ℕ = written s.text.struck_out cs in
-      on_block-counts (counted s + w cs) (λ b. o.add_inline_text b (text_style s.text) fed) s
+      let x = text_style d push s.decorator s.stacks s.text s.text.preformatted in
+      on_block-counts (counted s + w cs) (λ b. o.add_inline_text b x.1 fed) (record s { stacks = x.0 })
       (IfSome-weaken (λ b. v b ≡ v s.block + w fed) (λ b. counted s + w cs ≤ v b)
-      (o.add_inline_text s.block (text_style s.text) fed) (h.add_inline_text s.block (text_style s.text) fed)
+      (o.add_inline_text s.block x.1 fed) (h.add_inline_text s.block x.1 fed)
       (λ b e. let l = no_less s.text.struck_out cs in omega arith))
 
-  text-counts : (t : List ℕ) (s : State) → IfSome (add_text o t s) (AtLeast (counted s + w (chars t)))
+  text-counts : (t : List ℕ) (s : State) → IfSome (add_text d push o t s) (AtLeast (counted s + w (chars t)))
   text-counts t s = characters-count (chars t) s
 
   -- a text of the decoration
-  round-counts : (t : List ℕ) (s : State) → IfSome (add_text o t s) (AtLeast (counted s))
+  round-counts : (t : List ℕ) (s : State) → IfSome (add_text d push o t s) (AtLeast (counted s))
   round-counts t s =
-      IfSome-weaken (AtLeast (counted s + w (chars t))) (AtLeast (counted s)) (add_text o t s) (text-counts t s) (λ r a. omega arith)
+      IfSome-weaken (AtLeast (counted s + w (chars t))) (AtLeast (counted s)) (add_text d push o t s) (text-counts t s) (λ r a. omega arith)
 
   begun-counts : (round : Round S A) (s : State) → IfSome (begun d push o round s) (AtLeast (counted s))
   begun-counts round s = round-counts (round.start s.decorator).text
@@ -101,11 +102,11 @@ module _ {S A K T B : Type 0} (d : Decoration S A) (push : K → T → A → K �
       by None = omega arith
       by (Some shown) = begun-counts (image_round d source shown) s
 
-  link_number-counts : (text : TextContext T) (number : ℕ) (s : State) → IfSome (link_number o text number s) (AtLeast (counted s))
+  link_number-counts : (text : TextContext T) (number : ℕ) (s : State) → IfSome (link_number d push o text number s) (AtLeast (counted s))
   link_number-counts text number s = by s.settings.link_footnotes
     where
       by : (z : Bool) →
-          IfSome (cond z (add_text o (codes "[" ++ decimal number ++ codes "]") (record s { text = text })) (Some s)) (AtLeast (counted s))
+          IfSome (cond z (add_text d push o (codes "[" ++ decimal number ++ codes "]") (record s { text = text })) (Some s)) (AtLeast (counted s))
       by true = round-counts (codes "[" ++ decimal number ++ codes "]") (record s { text = text })
       by false = omega arith
 
@@ -148,7 +149,7 @@ module _ {S A K T B : Type 0} (d : Decoration S A) (push : K → T → A → K �
     decorated-counts : (round : Round S A) (s : State) →
         IfSome (decorated d push o round children s) (AtLeast (counted s + count_from added (begun d push o round s)))
     decorated-counts round s =
-        between-counts (counted s) (begun d push o round s) (λ r. add_text o (round.end r.decorator) r) (begun-counts round s)
+        between-counts (counted s) (begun d push o round s) (λ r. add_text d push o (round.end r.decorator) r) (begun-counts round s)
         (λ r. round-counts (round.end r.decorator) r)
 
     quoted-counts : (prefix : List ℕ) (least : ℕ) (s : State) → IfSome (quoted d o prefix least children s)
@@ -219,20 +220,20 @@ module _ {S A K T B : Type 0} (d : Decoration S A) (push : K → T → A → K �
       where
         by : (q : Option State) → IfSome q (AtLeast (counted s)) →
             IfSome (option_and_then (λ p. option_and_then (λ r.
-            add_text o (d.strikeout.end r.decorator) (striking s.text.struck_out r))
+            add_text d push o (d.strikeout.end r.decorator) (striking s.text.struck_out r))
             (children (striking s.settings.unicode_strikeout p))) q)
             (AtLeast (counted s + count_from added (option_and_then (λ p. Some (striking s.settings.unicode_strikeout p)) q)))
         by None a = tt
         by (Some p) a =
             then-counts (counted s) (striking s.settings.unicode_strikeout p)
-            (λ r. add_text o (d.strikeout.end r.decorator) (striking s.text.struck_out r)) a
+            (λ r. add_text d push o (d.strikeout.end r.decorator) (striking s.text.struck_out r)) a
             (λ r. round-counts (d.strikeout.end r.decorator) (striking s.text.struck_out r))
 
     superscript-counts : (digits : Option (List ℕ)) (s : State) → IfSome (superscript d push o digits children s)
         (AtLeast (counted s + count_from added (superscript_inside d push o digits s)))
     superscript-counts None s = decorated-counts d.superscript s
     superscript-counts (Some digits) s =
-        IfSome-weaken (AtLeast (counted s + w (map raised digits))) (AtLeast (counted s + 0)) (add_characters o (map raised digits) s)
+        IfSome-weaken (AtLeast (counted s + w (map raised digits))) (AtLeast (counted s + 0)) (add_characters d push o (map raised digits) s)
         (characters-count (map raised digits) s) (λ r a. omega arith)
 
     linked-counts : (target : List ℕ) (s : State) → IfSome (linked d push o target children s)
@@ -241,12 +242,12 @@ module _ {S A K T B : Type 0} (d : Decoration S A) (push : K → T → A → K �
         let least = counted s + count_from added (begun d push o (link d target) (with_target target s)) in
         IfSome-then (AtLeast least) (AtLeast least) (decorated d push o (link d target) children (with_target target s)) _
         (decorated-counts (link d target) (with_target target s)) (λ r a.
-        IfSome-weaken (AtLeast (counted r)) (AtLeast least) (link_number o s.text (length s.targets + 1) r)
+        IfSome-weaken (AtLeast (counted r)) (AtLeast least) (link_number d push o s.text (length s.targets + 1) r)
         (link_number-counts s.text (length s.targets + 1) r) (λ t b. omega arith))
 
     kind-counts : (k : NodeKind) (e : Estimate) (trees : Forest RenderNode) (s : State) → Grows k e trees s
     kind-counts (Text t) e trees s =
-        IfSome-weaken (AtLeast (counted s + w (chars t))) (AtLeast (counted s + (w (chars t) + 0))) (add_text o t s) (text-counts t s)
+        IfSome-weaken (AtLeast (counted s + w (chars t))) (AtLeast (counted s + (w (chars t) + 0))) (add_text d push o t s) (text-counts t s)
         (λ r a. omega arith)
     kind-counts Container e trees s = grows Container e trees s refl (below s)
     kind-counts Break e trees s = lone Break e trees s refl refl (keeps-counts o.new_line_hard s (h.new_line_hard s.block))
@@ -401,7 +402,7 @@ module _ {S A : Type 0} (d : Decoration S A) where
       for_each (λ c lines. text_count c (text_characters (visited_nodes d settings t decorator w o)) ≤ count c (visible_in_lines lines))
       (layout_lines d settings t decorator w o) (λ c. by c (w == 0))
     where
-      lines : (c : ℕ) → IfSome (lines_from (estimated d decorator t) (empty_state d settings decorator w o))
+      lines : (c : ℕ) → IfSome (lines_from (estimated d settings decorator t) (empty_state d settings decorator w o))
           (λ lines. text_count c (text_characters (visited_nodes d settings t decorator w o)) ≤ count c (visible_in_lines lines))
       lines c =
           let start = empty_state d settings decorator w o in
@@ -410,10 +411,10 @@ module _ {S A : Type 0} (d : Decoration S A) where
           λ lines. text_count c (text_characters (visited_nodes d settings t decorator w o)) ≤ count c (visible_in_lines lines) in
           let had = visible_count c start.block + sum_by f (visited_nodes d settings t decorator w o) in
           IfSome-then (λ (r : Defined S A). had ≤ visible_count c r.block) wanted
-          (run (defined d) (estimated d decorator t) start) _
+          (run (defined d) (estimated d settings decorator t) start) _
           (layout-grows d onto definition.operations (visible_count c) (text_count c) (operations_keep_visible c) refl
           (written-count c)
-          (estimated d decorator t) start) (λ r a.
+          (estimated d settings decorator t) start) (λ r a.
           IfSome-then (λ (q : Defined S A). visible_count c r.block ≤ count c (visible_in_lines q.block.lines)) wanted
           (ended d definition.ending settings.link_footnotes settings.wrap_links [] r) _
           (ended-keeps d definition.ending settings.link_footnotes settings.wrap_links []
@@ -423,7 +424,7 @@ module _ {S A : Type 0} (d : Decoration S A) where
           (λ e. n ≤ count c (visible_in_lines e.lines))) h.1 (closed_count c b settings.wrap_links [] ts h.0)))
           (λ q e. omega (arith, a, e, texts_count c (visited_nodes d settings t decorator w o))))
 
-      by : (c : ℕ) (z : Bool) → IfSome (cond z None (lines_from (estimated d decorator t) (empty_state d settings decorator w o)))
+      by : (c : ℕ) (z : Bool) → IfSome (cond z None (lines_from (estimated d settings decorator t) (empty_state d settings decorator w o)))
           (λ lines. text_count c (text_characters (visited_nodes d settings t decorator w o)) ≤ count c (visible_in_lines lines))
       by c true = tt
       by c false = lines c

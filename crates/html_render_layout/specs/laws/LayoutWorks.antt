@@ -15,12 +15,14 @@ use Rattle.html_render_lines.specs.Tags.{element_with, line_with, lines_with}
 use Rattle.html_render_nodes.specs.declared.tree.RenderNode.{RenderNode}
 use Rattle.html_render_blocks.specs.Block as definition
 use Rattle.html_render_blocks.specs.BlockMachine as machine
+use Rattle.html_render_blocks.specs.laws.BlockFed.{block_of}
+use Rattle.html_render_blocks.specs.laws.BlockTags.{block_with}
 use Rattle.html_render_layout.specs.Stacks.{stack_at}
 use Rattle.html_render_nodes.specs.Counts.{CountsNodes}
 use Rattle.html_render_nodes.specs.Pass.{visited, inside_of}
 use Rattle.html_render_nodes.specs.laws.Counts.{counts-same}
 use Rattle.html_render_layout.specs.declared.settings.LayoutSettings.{LayoutSettings}
-use Rattle.html_render_layout.specs.Layout.{onto, steps, shown_after, Defined, defined, defined_inside, begin_with, empty_state}
+use Rattle.html_render_layout.specs.Layout.{onto, steps, shown_after, Defined, defined, defined_inside, begin_with, block_setting, padding, empty_state}
 use Rattle.html_render_layout.specs.Layout.{estimated, layout_lines, mark_names, untagged_lines}
 use Rattle.html_render_layout.specs.Opening.{opened}
 use Rattle.html_render_layout.specs.laws.Opening.{layout-asks}
@@ -53,11 +55,11 @@ module _ {S A : Type 0} (d : Decoration S A) (settings : LayoutSettings) where
       shown_after d onto definition.operations definition.ending (λ (r : Defined S A). r.block.lines) t (empty_state d settings decorator w o)
 
   wanted-lines : (t : Forest RenderNode) (decorator : S) (w : ℕ) (o : Bool) → w ≢ 0 →
-      wanted (estimated d decorator t) decorator w o ≡ layout_lines d settings t decorator w o
+      wanted (estimated d settings decorator t) decorator w o ≡ layout_lines d settings t decorator w o
   wanted-lines t decorator w o wide = by (w == 0) refl
     where
       by : (z : Bool) → (w == 0) ≡ z →
-          wanted (estimated d decorator t) decorator w o ≡ cond z None (wanted (estimated d decorator t) decorator w o)
+          wanted (estimated d settings decorator t) decorator w o ≡ cond z None (wanted (estimated d settings decorator t) decorator w o)
       by true z = absurd (wide (eqb-true w 0 z))
       by false z = refl
 
@@ -78,9 +80,20 @@ module _ {S A : Type 0} (d : Decoration S A) (settings : LayoutSettings) where
       ∙ get_or-append_seam k (stack_at k t ++ a ∷ []) g.0 []
       ∙ ap (λ x. x ++ a ∷ []) (h k ([], sym (append-nil k)))
 
+  -- a block that begins, with what is seen of its padding's tag
+  shows-empty : {T V : Type 0} (f : T → V) (seen : List A → V) (tag : T) (stack : List A) (w : ℕ) (o : Bool) → f tag ≡ seen stack →
+      block_with {M = ℕ} f (machine.empty_block (block_setting settings w o) (padding settings tag))
+      ≡ block_with seen (block_of (definition.empty_block (block_setting settings w o) (padding settings stack)))
+  shows-empty {T} {V} f seen tag stack w o same = by settings.pad_block_width
+    where
+      by : (p : Bool) → block_with {M = ℕ} f (machine.empty_block (block_setting settings w o) (cond p (Some tag) None))
+          ≡ block_with seen (block_of (definition.empty_block (block_setting settings w o) (cond p (Some stack) None)))
+      by true = ap (λ v. machine.empty_block (block_setting settings w o) (Some v)) same
+      by false = refl
+
   abbrev pub empty_worked : S → (width : ℕ) → (overflow : Bool) → Worked S A
   empty_worked decorator w o =
-      begin_with settings (d.subblock decorator) ([] ∷ []) 0 (machine.empty_block (record { width = w; max_wrap_width = None; overflow = o }))
+      begin_with settings (d.subblock decorator) ([] ∷ []) 0 (machine.empty_block (block_setting settings w o) (padding settings 0))
 
   begins : (decorator : S) (w : ℕ) (o : Bool) →
       Represents d tabled stack_at (λ (s : List A). s) Pushed (λ k. ([], sym (append-nil k))) Pushed-goes
@@ -89,7 +102,7 @@ module _ {S A : Type 0} (d : Decoration S A) (settings : LayoutSettings) where
     settings = refl;
     decorator = refl;
     text = record { tag = λ i. ap (λ x. stack_at x 0) i.1.1; mode = refl; preformatted = refl; struck_out = refl };
-    block = λ i. refl;
+    block = λ i. shows-empty (stack_at i.0) (λ s. s) 0 [] w o (ap (λ x. stack_at x 0) i.1.1);
     around = refl;
     targets = refl;
     names = refl;
@@ -107,23 +120,23 @@ module _ {S A : Type 0} (d : Decoration S A) (settings : LayoutSettings) where
 
   -- from an empty block of a width that isn't 0, what the code does with the measured trees makes the lines of the tree
   pub layout_lines-works : (t measured : Forest RenderNode) (decorator : S) (w : ℕ) (o : Bool) (s : Worked S A) → w ≢ 0 →
-      measured ≡ estimated d decorator t → s ≡ empty_worked decorator w o → work_lines d measured s ≡ layout_lines d settings t decorator w o
+      measured ≡ estimated d settings decorator t → s ≡ empty_worked decorator w o → work_lines d measured s ≡ layout_lines d settings t decorator w o
   layout_lines-works t measured decorator w o s wide m e =
       ap (λ x. work_lines d measured x) e ∙ ap (λ x. work_lines d x (empty_worked decorator w o)) m
-      ∙ work_lines-wanted (estimated d decorator t) decorator w o ∙ wanted-lines t decorator w o wide
+      ∙ work_lines-wanted (estimated d settings decorator t) decorator w o ∙ wanted-lines t decorator w o wide
 
   -- and so are the names of its marks
   pub mark_names-works : (t measured : Forest RenderNode) (decorator : S) (w : ℕ) (o : Bool) (s : Worked S A) → w ≢ 0 →
-      measured ≡ estimated d decorator t → s ≡ empty_worked decorator w o → work_names d measured s ≡ mark_names d settings t decorator w o
+      measured ≡ estimated d settings decorator t → s ≡ empty_worked decorator w o → work_names d measured s ≡ mark_names d settings t decorator w o
   mark_names-works t measured decorator w o s wide m e =
       ap (λ x. work_names d measured x) e ∙ ap (λ x. work_names d x (empty_worked decorator w o)) m
       ∙ names-represented d tabled stack_at (λ (s : List A). s) Pushed (λ k. ([], sym (append-nil k))) Pushed-goes
-      (λ k t a. ((stack_at k t ++ a ∷ []) ∷ [], refl)) tag_pushed (estimated d decorator t) (empty_worked decorator w o)
+      (λ k t a. ((stack_at k t ++ a ∷ []) ∷ [], refl)) tag_pushed (estimated d settings decorator t) (empty_worked decorator w o)
       (empty_state d settings decorator w o) (begins decorator w o)
       ∙ by (w == 0) refl
     where
       names : Option (List (List ℕ))
-      names = shown_after d onto definition.operations definition.ending (λ (r : Defined S A). r.names) (estimated d decorator t)
+      names = shown_after d onto definition.operations definition.ending (λ (r : Defined S A). r.names) (estimated d settings decorator t)
           (empty_state d settings decorator w o)
 
       by : (z : Bool) → (w == 0) ≡ z → names ≡ cond z None names
@@ -146,19 +159,19 @@ module _ {S A : Type 0} (d : Decoration S A) (settings : LayoutSettings) where
 
   -- and it counts what the definition visits
   pub counts-work : {X : Type 0} (r : Result X Error) (t measured : Forest RenderNode) (decorator : S) (w : ℕ) (o : Bool)
-      (s : Worked S A) (old other new : Meter) → measured ≡ estimated d decorator t → s ≡ empty_worked decorator w o →
+      (s : Worked S A) (old other new : Meter) → measured ≡ estimated d settings decorator t → s ≡ empty_worked decorator w o →
       other.probes ≡ old.probes →
       CountsNodes r (steps d tabled machine.operations) (inside_of (opened d tabled machine.operations)) measured s other new →
-      CountsNodes r (defined d) (defined_inside d) (estimated d decorator t) (empty_state d settings decorator w o) old new
+      CountsNodes r (defined d) (defined_inside d) (estimated d settings decorator t) (empty_state d settings decorator w o) old new
   counts-work r t measured decorator w o s old other new m e probes c =
-      counts-wanted r (estimated d decorator t) decorator w o s old other new e probes
+      counts-wanted r (estimated d settings decorator t) decorator w o s old other new e probes
       (subst (λ x. CountsNodes r (steps d tabled machine.operations) (inside_of (opened d tabled machine.operations)) x s other new) m c)
 
   -- ---- no tags
 
   abbrev pub empty_untagged : {K : Type 0} → K → S → (width : ℕ) → (overflow : Bool) → Untagged S K
   empty_untagged k decorator w o =
-      begin_with settings (d.subblock decorator) k tt (machine.empty_block (record { width = w; max_wrap_width = None; overflow = o }))
+      begin_with settings (d.subblock decorator) k tt (machine.empty_block (block_setting settings w o) (padding settings tt))
 
   untagged_work-wanted : {K : Type 0} (t : Forest RenderNode) (decorator : S) (w : ℕ) (o : Bool) (k : K) →
       untagged_work d t (empty_untagged k decorator w o) ≡ option_map (lines_with (λ (s : List A). tt)) (wanted t decorator w o)
@@ -171,7 +184,7 @@ module _ {S A : Type 0} (d : Decoration S A) (settings : LayoutSettings) where
         settings = refl;
         decorator = refl;
         text = record { tag = λ i. refl; mode = refl; preformatted = refl; struck_out = refl };
-        block = λ i. refl;
+        block = λ i. shows-empty (λ t. t) (λ s. tt) tt [] w o refl;
         around = refl;
         targets = refl;
         names = refl;
@@ -179,9 +192,9 @@ module _ {S A : Type 0} (d : Decoration S A) (settings : LayoutSettings) where
 
   -- the same, without what the characters are annotated with
   pub untagged_lines-works : {K : Type 0} (t measured : Forest RenderNode) (decorator : S) (w : ℕ) (o : Bool) (k : K)
-      (s : Untagged S K) → w ≢ 0 → measured ≡ estimated d decorator t → s ≡ empty_untagged k decorator w o →
+      (s : Untagged S K) → w ≢ 0 → measured ≡ estimated d settings decorator t → s ≡ empty_untagged k decorator w o →
       untagged_work d measured s ≡ untagged_lines d settings t decorator w o
   untagged_lines-works t measured decorator w o k s wide m e =
       ap (λ x. untagged_work d measured x) e ∙ ap (λ x. untagged_work d x (empty_untagged k decorator w o)) m
-      ∙ untagged_work-wanted (estimated d decorator t) decorator w o k
+      ∙ untagged_work-wanted (estimated d settings decorator t) decorator w o k
       ∙ ap (option_map (lines_with (λ (s : List A). tt))) (wanted-lines t decorator w o wide)

@@ -74,13 +74,13 @@ module _ {S A K T B : Type 0} (d : Decoration S A) (push : K → T → A → K �
       superscript d push o digits children s
       ≡ option_and_then (through (kind_closed d push o) children) (superscript_opened d push o digits s)
   superscript-told None children s = and_then_assoc (begun d push o d.superscript s) _ _
-  superscript-told (Some digits) children s = past-told (kind_closed d push o) children (add_characters o (map raised digits) s)
+  superscript-told (Some digits) children s = past-told (kind_closed d push o) children (add_characters d push o (map raised digits) s)
 
   kind-told : (k : NodeKind) (e : Estimate) (trees : Forest RenderNode) (children : State → Option State) (s : State) →
       s.around ≡ Plain →
       kind_steps d push o k e trees children s
       ≡ option_and_then (through (kind_closed d push o) children) (kind_opened d push o k e trees s)
-  kind-told (Text t) e trees children s plain = past-told (kind_closed d push o) children (add_text o t s)
+  kind-told (Text t) e trees children s plain = past-told (kind_closed d push o) children (add_text d push o t s)
   kind-told Container e trees children s plain = and_then_some (children s)
   kind-told Break e trees children s plain = past-told (kind_closed d push o) children (on_block o.new_line_hard s)
   kind-told Block e trees children s plain = and_then_assoc (on_block o.start_block s) _ _
@@ -104,7 +104,7 @@ module _ {S A K T B : Type 0} (d : Decoration S A) (push : K → T → A → K �
   kind-told (Link target) e trees children s plain =
       let start = begun d push o (link d target) (with_target target s) in
       sym (and_then_assoc start _ _)
-      ∙ and_then_same start _ _ (λ q. sym (and_then_assoc (children q) (λ r. add_text o (d.link_end r.decorator) r) _))
+      ∙ and_then_same start _ _ (λ q. sym (and_then_assoc (children q) (λ r. add_text d push o (d.link_end r.decorator) r) _))
       ∙ and_then_assoc start _ _
   kind-told (Image i) e trees children s plain = past-told (kind_closed d push o) children (image d push o i.source i.title s)
   kind-told (Svg title) e trees children s plain = past-told (kind_closed d push o) children (image d push o [] title s)
@@ -178,11 +178,11 @@ module _ {S A K T B : Type 0} (d : Decoration S A) (push : K → T → A → K �
   superscript-inside : (digits : Option (List ℕ)) (s : State) →
       option_and_then (λ w. into w) (superscript_opened d push o digits s) ≡ superscript_inside d push o digits s
   superscript-inside None s = into-inside (KindClosing S T B) (begun d push o d.superscript s) _
-  superscript-inside (Some digits) s = past-inside (KindClosing S T B) (add_characters o (map raised digits) s)
+  superscript-inside (Some digits) s = past-inside (KindClosing S T B) (add_characters d push o (map raised digits) s)
 
   kind-inside : (k : NodeKind) (e : Estimate) (trees : Forest RenderNode) (s : State) →
       option_and_then (λ w. into w) (kind_opened d push o k e trees s) ≡ kind_inside d push o k e trees s
-  kind-inside (Text t) e trees s = past-inside (KindClosing S T B) (add_text o t s)
+  kind-inside (Text t) e trees s = past-inside (KindClosing S T B) (add_text d push o t s)
   kind-inside Container e trees s = refl
   kind-inside Break e trees s = past-inside (KindClosing S T B) (on_block o.new_line_hard s)
   kind-inside Block e trees s = into-inside (KindClosing S T B) (on_block o.start_block s) _

@@ -1,7 +1,7 @@
 -- THE THEOREM: a layout whose characters carry tags represents the layout by stacks, through each node.
 use Rattle.std.specs.Prelude.{codes, if◌then◌else◌}
 use Rattle.std.specs.Fmt.{decimal}
-use Rattle.std.proofs.Common.{◌≡◌, ℕ, ◌+◌, Bool, true, false, List, [], ◌∷◌, ◌++◌, length, map, Option, Some, None}
+use Rattle.std.proofs.Common.{◌≡◌, ℕ, ◌+◌, ◌||◌, Bool, true, false, List, [], ◌∷◌, ◌++◌, length, map, Option, Some, None}
 use Rattle.std.proofs.Common.{refl, sym, ap, ◌∙◌, subst, option_map, option_and_then}
 use Rattle.std.specs.Str.{chars}
 use Rattle.html_render_dom.specs.Forest.{Forest}
@@ -9,6 +9,7 @@ use Rattle.html_render_dom.specs.declared.style.WhiteSpace.{WhiteSpace}
 use Rattle.html_render_dom.specs.declared.style.WhiteSpace.TheVariants.{Normal, Pre, PreWrap}
 use Rattle.html_render_dom.specs.declared.style.colours.Colour.{Colour}
 use Rattle.html_render_parts.specs.Decoration.{Decoration, Round, Start, link}
+use Rattle.html_render_lines.specs.declared.character.TextStyle.{TextStyle}
 use Rattle.html_render_lines.specs.Line.{Line}
 use Rattle.html_render_lines.specs.Tags.{lines_with}
 use Rattle.html_render_lines.specs.laws.Tags.{style_with}
@@ -38,11 +39,11 @@ use Rattle.html_render_layout.specs.declared.layout.state.TextContext.{TextConte
 use Rattle.html_render_layout.specs.declared.settings.LayoutSettings.{LayoutSettings}
 use Rattle.html_render_layout.specs.Images.{shown_title}
 use Rattle.html_render_layout.specs.Ending.{closing_texts, ended}
-use Rattle.html_render_layout.specs.Layout.{on_block, written, add_characters, add_text, text_style, under, striking, onto}
+use Rattle.html_render_layout.specs.Layout.{on_block, written, text_style, add_styled, add_characters, add_text, under, striking, onto}
 use Rattle.html_render_layout.specs.Layout.{inner_least, spaces, padded, next_number, numbers, nested, resumed}
 use Rattle.html_render_layout.specs.Layout.{indented, quoted, among, placed}
 use Rattle.html_render_layout.specs.Layout.{image_round, raised, digits_of, with_target, marked, link_number, annotated, coloured}
-use Rattle.html_render_layout.specs.Layout.{with_mode, in_white_space, in_style}
+use Rattle.html_render_layout.specs.Layout.{with_mode, in_white_space, preformatting, in_style}
 use Rattle.html_render_layout.specs.Layout.{emphasis_decoration, begun, decorated, titled, image, struck_out, superscript, linked}
 use Rattle.html_render_layout.specs.Layout.{kind_steps, node_steps, steps, superscript_inside, kind_inside, node_inside, placed_inside, inside}
 use Rattle.html_render_layout.specs.Layout.{shown_after, Defined, defined, defined_inside}
@@ -57,6 +58,11 @@ same-answer None (Some y) h = absurd h
 same-answer (Some x) None h = absurd h
 
 -- ---- blocks
+
+-- styles of equal tags and modes
+same_style : {T U V : Type 0} (f : T → V) (g : U → V) (x : TextStyle T) (y : TextStyle U) → f x.tag ≡ g y.tag →
+    f x.continuation_tag ≡ g y.continuation_tag → x.mode ≡ y.mode → style_with f x ≡ style_with g y
+same_style f g x y e c m = cc (e, c, m)
 
 -- seen is what is seen of a stack; f is what is seen of a tag, in whatever will be kept of the annotations
 module _ {I T A V : Type 0} (f : I → T → V) (seen : List A → V) (now : I) where
@@ -107,18 +113,16 @@ module _ {I T A V : Type 0} (f : I → T → V) (seen : List A → V) (now : I) 
       ∙ seen-commutes.add_mark e m
       ∙ ap (λ k. seen_block (definition.operations.add_mark e k)) same
 
-  add_inline_text-shows : (cs : List ℕ) (x : TextContext T) (y : TextContext (List A)) → ((i : I) → f i x.tag ≡ seen y.tag) →
-      x.mode ≡ y.mode → (b : MachineBlock T ℕ) (e : DefinedBlock (List A) ℕ) → Shows b e →
-      Agree Shows (machine.operations.add_inline_text b (text_style x) cs) (definition.operations.add_inline_text e (text_style y) cs)
-  add_inline_text-shows cs x y t mode b e h =
-      Agree-along (λ i. block_with (f i)) seen_block now (machine.operations.add_inline_text b (text_style x) cs)
-      (definition.operations.add_inline_text e (text_style y) cs) (λ i.
-      sym ((block_with-commutes (f i)).add_inline_text b (text_style x) cs)
-      ∙ ap (λ s. machine.operations.add_inline_text (block_with (f i) b) (record { mode = x.mode; tag = s; continuation_tag = s }) cs) (t i)
-      ∙ ap (λ m. machine.operations.add_inline_text (block_with (f i) b)
-      (record { mode = m; tag = seen y.tag; continuation_tag = seen y.tag }) cs) mode
-      ∙ ap (λ c. machine.operations.add_inline_text c (style_with seen (text_style y)) cs) (h i)
-      ∙ seen-commutes.add_inline_text e (text_style y) cs)
+  add_inline_text-shows : (cs : List ℕ) (x : TextStyle T) (y : TextStyle (List A)) → ((i : I) → style_with (f i) x ≡ style_with seen y) →
+      (b : MachineBlock T ℕ) (e : DefinedBlock (List A) ℕ) → Shows b e →
+      Agree Shows (machine.operations.add_inline_text b x cs) (definition.operations.add_inline_text e y cs)
+  add_inline_text-shows cs x y same b e h =
+      Agree-along (λ i. block_with (f i)) seen_block now (machine.operations.add_inline_text b x cs)
+      (definition.operations.add_inline_text e y cs) (λ i.
+      sym ((block_with-commutes (f i)).add_inline_text b x cs)
+      ∙ ap (λ s. machine.operations.add_inline_text (block_with (f i) b) s cs) (same i)
+      ∙ ap (λ c. machine.operations.add_inline_text c (style_with seen y) cs) (h i)
+      ∙ seen-commutes.add_inline_text e y cs)
 
   pub sub_block-shows : (prefix least : ℕ) (b : MachineBlock T ℕ) (e : DefinedBlock (List A) ℕ) → Shows b e →
       Agree Shows (machine.operations.sub_block b prefix least) (definition.operations.sub_block e prefix least)
@@ -244,25 +248,73 @@ module _ {S A K T V : Type 0} (d : Decoration S A) (push : K → T → A → K �
       Agree-then (ShowsBlock s.stacks) (Reached s) _ _ (l s.block) (k e.block) a
       (λ b c n. (with_block s e b c h n, stays s.stacks))
 
+  -- when more is kept of annotations
+  with_stacks : (s : Worked) (e : Defined S A) (k : K) → Represents s e → Later s.stacks k → Represents (record s { stacks = k }) e
+  with_stacks s e k h g = record {
+    settings = h.settings;
+    decorator = h.decorator;
+    text = text-later s.stacks k s.text e.text h.text g;
+    block = block-later s.stacks k s.block e.block h.block g;
+    around = h.around;
+    targets = h.targets;
+    names = h.names;
+  }
+
+  -- what is seen of the style of texts
+  abbrev ShowsStyle : K → TextStyle T → TextStyle (List A) → Type 0
+  ShowsStyle k x y = (i : Since k) → style_with (shown i.0) x ≡ style_with seen y
+
+  abbrev styled : Worked → Bool → K × TextStyle T
+  styled s p = text_style d push s.decorator s.stacks s.text p
+
+  abbrev styled_onto : Defined S A → Bool → Unit {0} × TextStyle (List A)
+  styled_onto e p = text_style d onto e.decorator e.stacks e.text p
+
+  text_style-represents : (p : Bool) (s : Worked) (e : Defined S A) → Represents s e →
+      Later s.stacks (styled s p).0 × ShowsStyle (styled s p).0 (styled s p).1 (styled_onto e p).1
+  text_style-represents false s e h =
+      (stays s.stacks, λ i. same_style (shown i.0) seen (styled s false).1 (styled_onto e false).1 (h.text.tag i) (h.text.tag i) h.text.mode)
+  text_style-represents true s e h =
+      let a = d.preformat_first s.decorator in
+      let b = d.preformat_continuing s.decorator in
+      let first = push s.stacks s.text.tag a in
+      let continuing = push first.0 s.text.tag b in
+      let began : Later s.stacks first.0 = pushed s.stacks s.text.tag a in
+      let continued : Later first.0 continuing.0 = pushed first.0 s.text.tag b in (
+        goes s.stacks first.0 continuing.0 began continued,
+        λ i. same_style (shown i.0) seen (styled s true).1 (styled_onto e true).1
+            (tag_pushed s.stacks s.text.tag a e.text.tag (λ l g. h.text.tag (l, g)) i.0 (goes first.0 continuing.0 i.0 continued i.1)
+            ∙ ap (λ x. seen (e.text.tag ++ d.preformat_first x ∷ [])) h.decorator)
+            (tag_pushed first.0 s.text.tag b e.text.tag (λ l g. h.text.tag (l, goes s.stacks first.0 l began g)) i.0 i.1
+            ∙ ap (λ x. seen (e.text.tag ++ d.preformat_continuing x ∷ [])) h.decorator)
+            h.text.mode,
+      )
+
   -- characters more, as they are written
-  add_written-represents : (cs ds : List ℕ) (s : Worked) (e : Defined S A) → cs ≡ ds → Represents s e →
-      Agree (Reached s) (on_block (λ b. machine.operations.add_inline_text b (text_style s.text) cs) s)
-      (on_block (λ b. definition.operations.add_inline_text b (text_style e.text) ds) e)
-  add_written-represents cs ds s e same h =
-      subst (λ xs. Agree (Reached s) (on_block (λ b. machine.operations.add_inline_text b (text_style s.text) cs) s)
-      (on_block (λ b. definition.operations.add_inline_text b (text_style e.text) xs) e)) same
-      (on_block-represents (λ b. machine.operations.add_inline_text b (text_style s.text) cs)
-      (λ b. definition.operations.add_inline_text b (text_style e.text) cs) s e h
-      (add_inline_text-shows (seen_since s.stacks) seen (now s.stacks) cs s.text e.text h.text.tag h.text.mode s.block e.block h.block))
+  add_styled-represents : (cs ds : List ℕ) (p : Bool) (s : Worked) (e : Defined S A) → cs ≡ ds → Represents s e →
+      Agree (Reached s) (add_styled machine.operations (styled s p) cs s) (add_styled definition.operations (styled_onto e p) ds e)
+  add_styled-represents cs ds p s e same h =
+      let x = styled s p in
+      let y = styled_onto e p in
+      let g = text_style-represents p s e h in
+      let q : Worked = record s { stacks = x.0 } in
+      let r : Represents q e = with_stacks s e x.0 h g.0 in
+      subst (λ xs. Agree (Reached s) (add_styled machine.operations x cs s) (add_styled definition.operations y xs e)) same
+      (Agree-then (ShowsBlock x.0) (Reached s) _ _ (machine.operations.add_inline_text s.block x.1 cs)
+      (definition.operations.add_inline_text e.block y.1 cs)
+      (add_inline_text-shows (seen_since x.0) seen (now x.0) cs x.1 y.1 g.1 s.block e.block r.block)
+      (λ b c n. (with_block q e b c r n, g.0)))
 
   add_characters-represents : (cs ds : List ℕ) (s : Worked) (e : Defined S A) → cs ≡ ds → Represents s e →
-      Agree (Reached s) (add_characters machine.operations cs s) (add_characters definition.operations ds e)
+      Agree (Reached s) (add_characters d push machine.operations cs s) (add_characters d onto definition.operations ds e)
   add_characters-represents cs ds s e same h =
-      add_written-represents (written s.text.struck_out cs) (written e.text.struck_out ds) s e
-      (ap (λ x. written x cs) h.text.struck_out ∙ ap (λ xs. written e.text.struck_out xs) same) h
+      subst (λ p. Agree (Reached s) (add_characters d push machine.operations cs s)
+      (add_styled definition.operations (styled_onto e p) (written e.text.struck_out ds) e)) h.text.preformatted
+      (add_styled-represents (written s.text.struck_out cs) (written e.text.struck_out ds) s.text.preformatted s e
+      (ap (λ x. written x cs) h.text.struck_out ∙ ap (λ xs. written e.text.struck_out xs) same) h)
 
   add_text-represents : (t u : List ℕ) (s : Worked) (e : Defined S A) → t ≡ u → Represents s e →
-      Agree (Reached s) (add_text machine.operations t s) (add_text definition.operations u e)
+      Agree (Reached s) (add_text d push machine.operations t s) (add_text d onto definition.operations u e)
   add_text-represents t u s e same h = add_characters-represents (chars t) (chars u) s e (ap chars same) h
 
   new_line-represents : (s : Worked) (e : Defined S A) → Represents s e →
@@ -320,7 +372,7 @@ module _ {S A K T V : Type 0} (d : Decoration S A) (push : K → T → A → K �
       let f : Defined S A = under (onto e.stacks e.text.tag (round.start e.decorator).annotation) e in
       let t = (round.start s.decorator).text in
       let w = (round.start e.decorator).text in
-      Agree-weaken (Reached v) (Reached s) (add_text machine.operations t v) (add_text definition.operations w f)
+      Agree-weaken (Reached v) (Reached s) (add_text d push machine.operations t v) (add_text d onto definition.operations w f)
       (add_text-represents t w v f (ap (λ (y : Start A). y.text) same) u.0) (λ q r n.
       (n.0, goes s.stacks v.stacks q.stacks u.1 n.1))
 
@@ -361,6 +413,18 @@ module _ {S A K T V : Type 0} (d : Decoration S A) (push : K → T → A → K �
   in_white_space-represents Pre s e h = with_mode-represents Pre s e h
   in_white_space-represents PreWrap s e h = with_mode-represents PreWrap s e h
 
+  preformatting-represents : (p : Bool) (s : Worked) (e : Defined S A) → Represents s e →
+      Represents (preformatting p s) (preformatting p e)
+  preformatting-represents p s e h = record {
+    settings = h.settings;
+    decorator = h.decorator;
+    text = record { tag = h.text.tag; mode = h.text.mode; preformatted = ap (λ x. x || p) h.text.preformatted; struck_out = h.text.struck_out };
+    block = h.block;
+    around = h.around;
+    targets = h.targets;
+    names = h.names;
+  }
+
   in_style-represents : (style : NodeStyle) (s : Worked) (e : Defined S A) → Represents s e →
       Reached s (in_style d push style s) (in_style d onto style e)
   in_style-represents style s e h =
@@ -370,8 +434,12 @@ module _ {S A K T V : Type 0} (d : Decoration S A) (push : K → T → A → K �
       let r : Worked = coloured push d.push_background style.background q in
       let v : Defined S A = coloured onto d.push_background style.background u in
       let b : Reached q r v = coloured-represents d.push_background style.background q u a.0 in
-      let c = in_white_space-represents style.white_space r v b.0 in
-      (c.0, goes s.stacks r.stacks (in_style d push style s).stacks (goes s.stacks q.stacks r.stacks a.1 b.1) c.1)
+      let t : Worked = in_white_space style.white_space r in
+      let w : Defined S A = in_white_space style.white_space v in
+      let c : Reached r t w = in_white_space-represents style.white_space r v b.0 in (
+        preformatting-represents style.preformatted t w c.0,
+        goes s.stacks r.stacks t.stacks (goes s.stacks q.stacks r.stacks a.1 b.1) c.1,
+      )
 
   -- ---- struck-out text, images and links
 
@@ -439,17 +507,17 @@ module _ {S A K T V : Type 0} (d : Decoration S A) (push : K → T → A → K �
 
   link_number-represents : (x : TextContext T) (y : TextContext (List A)) (n m : ℕ) (s : Worked) (e : Defined S A) →
       ShowsText s.stacks x y → n ≡ m → Represents s e →
-      Agree (Reached s) (link_number machine.operations x n s) (link_number definition.operations y m e)
+      Agree (Reached s) (link_number d push machine.operations x n s) (link_number d onto definition.operations y m e)
   link_number-represents x y n m s e t same h =
-      subst (λ (z : LayoutSettings). Agree (Reached s) (link_number machine.operations x n s)
-      (if z.link_footnotes then add_text definition.operations (number m) (record e { text = y }) else Some e)) h.settings
+      subst (λ (z : LayoutSettings). Agree (Reached s) (link_number d push machine.operations x n s)
+      (if z.link_footnotes then add_text d onto definition.operations (number m) (record e { text = y }) else Some e)) h.settings
       (by s.settings.link_footnotes)
     where
       number : ℕ → List ℕ
       number n = codes "[" ++ decimal n ++ codes "]"
 
-      by : (z : Bool) → Agree (Reached s) (if z then add_text machine.operations (number n) (record s { text = x }) else Some s)
-          (if z then add_text definition.operations (number m) (record e { text = y }) else Some e)
+      by : (z : Bool) → Agree (Reached s) (if z then add_text d push machine.operations (number n) (record s { text = x }) else Some s)
+          (if z then add_text d onto definition.operations (number m) (record e { text = y }) else Some e)
       by true = add_text-represents (number n) (number m) (record s { text = x }) (record e { text = y }) (ap number same)
           (with_text s e x y t h)
       by false = (h, stays s.stacks)
@@ -592,8 +660,8 @@ module _ {S A K T V : Type 0} (d : Decoration S A) (push : K → T → A → K �
         Agree-then (Reached q) (Reached s) _ _ (decorated d push machine.operations (link d target) f q)
         (decorated d onto definition.operations (link d target) g u)
         (decorated-represents (link d target) q u (with_target-represents target s e h)) (λ r v a.
-        Agree-weaken (Reached r) (Reached s) (link_number machine.operations s.text (length s.targets + 1) r)
-        (link_number definition.operations e.text (length e.targets + 1) v)
+        Agree-weaken (Reached r) (Reached s) (link_number d push machine.operations s.text (length s.targets + 1) r)
+        (link_number d onto definition.operations e.text (length e.targets + 1) v)
         (link_number-represents s.text e.text (length s.targets + 1) (length e.targets + 1) r v
         (text-later s.stacks r.stacks s.text e.text h.text a.1) (ap (λ (xs : List (List ℕ)). length xs + 1) h.targets) a.0)
         (λ p w b. (b.0, goes s.stacks r.stacks p.stacks a.1 b.1)))

@@ -62,9 +62,9 @@ pub fn begin<D: TextDecorator, G: Tagging<D::Annotation>>(
     start: (String, D::Annotation),
     state: &mut LayoutState<D, G, G::Tag, Block<G::Tag, usize>>,
 ) -> Result<(), Error>
-    ensures ok { OnOk result (add_text machine.operations (string_bytes start.0)
+    ensures ok { OnOk result (add_text D.decoration G.annotated machine.operations (string_bytes start.0)
         (under (G.annotated state.old.stacks state.old.text.tag start.1) state.old) ≡ Some state.new) }
-    ensures err { IfErr result (λ e. Refuses e (add_text machine.operations (string_bytes start.0)
+    ensures err { IfErr result (λ e. Refuses e (add_text D.decoration G.annotated machine.operations (string_bytes start.0)
         (under (G.annotated state.old.stacks state.old.text.tag start.1) state.old))) }
 {
     let (text, annotation) = start;

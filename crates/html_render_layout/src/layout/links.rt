@@ -64,8 +64,8 @@ fn add_number<D: TextDecorator, G: Tagging<D::Annotation>>(
     number: usize,
     state: &mut LayoutState<D, G, G::Tag, Block<G::Tag, usize>>,
 ) -> Result<(), Error>
-    ensures ok { OnOk result (link_number machine.operations text number state.old ≡ Some state.new) }
-    ensures err { IfErr result (λ e. Refuses e (link_number machine.operations text number state.old)) }
+    ensures ok { OnOk result (link_number D.decoration G.annotated machine.operations text number state.old ≡ Some state.new) }
+    ensures err { IfErr result (λ e. Refuses e (link_number D.decoration G.annotated machine.operations text number state.old)) }
 {
     if !state.settings.link_footnotes {
         return Ok(());

@@ -17,7 +17,7 @@ pub struct TextContext<T> {
     pub tag: T,
     /// How white space is treated.
     pub mode: WhiteSpace,
-    /// Whether they stand in a part that keeps white space.
+    /// Whether the decorator annotates them as preformatted.
     pub preformatted: bool,
     /// Whether they stand in a part that is struck out.
     pub struck_out: bool,

@@ -1,4 +1,5 @@
-//! What a node's style gives its texts: colours, which characters are annotated with, and how white space is treated.
+//! What a node's style gives its texts: colours, which characters are annotated with, how white space is treated, and
+//! whether they are preformatted.
 
 ghost use Rattle.std.specs.Prelude.{◌≡◌, OnOk, IfErr};
 ghost use Rattle.html_render_layout.specs.Layout.{annotated, in_style};
@@ -26,8 +27,8 @@ fn annotate<D: TextDecorator, G: Tagging<D::Annotation>>(
     Ok(())
 }
 
-/// The texts that come have what a node's style gives them: first its colour, then that of its background, and its white
-/// space, where that isn't Normal.
+/// The texts that come have what a node's style gives them: first its colour, then that of its background, its white space,
+/// where that isn't Normal, and whether they are preformatted.
 ///
 /// # Errors
 ///
@@ -51,6 +52,9 @@ pub fn begin_style<D: TextDecorator, G: Tagging<D::Annotation>>(
     match style.white_space {
         WhiteSpace::Normal => {}
         mode => state.text.mode = mode,
+    }
+    if style.preformatted {
+        state.text.preformatted = true;
     }
     Ok(())
 }

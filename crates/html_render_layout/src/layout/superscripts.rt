@@ -92,8 +92,8 @@ pub fn write_raised<D: TextDecorator, G: Tagging<D::Annotation>>(
     digits: &str,
     state: &mut LayoutState<D, G, G::Tag, Block<G::Tag, usize>>,
 ) -> Result<(), Error>
-    ensures ok { OnOk result (add_characters machine.operations (map raised digits.now) state.old ≡ Some state.new) }
-    ensures err { IfErr result (λ e. Refuses e (add_characters machine.operations (map raised digits.now) state.old)) }
+    ensures ok { OnOk result (add_characters D.decoration G.annotated machine.operations (map raised digits.now) state.old ≡ Some state.new) }
+    ensures err { IfErr result (λ e. Refuses e (add_characters D.decoration G.annotated machine.operations (map raised digits.now) state.old)) }
 {
     let text = raised_text(alloc, digits)?;
     add_text(alloc, text.as_str(), state)

@@ -1,10 +1,10 @@
 //! Texts, as they are written.
 
-ghost use Rattle.std.specs.Prelude.{◌≡◌, [], ◌∷◌, ◌++◌, Some, OnOk, IfOk, IfErr, string_bytes};
+ghost use Rattle.std.specs.Prelude.{◌≡◌, [], ◌∷◌, ◌++◌, true, Some, OnOk, IfOk, IfErr, string_bytes};
 ghost use Rattle.std.specs.Str.{chars, encode_utf8_all};
 ghost use Rattle.html_render_dom.specs.Outcome.{Refuses};
 ghost use Rattle.html_render_blocks.specs.BlockMachine as machine;
-ghost use Rattle.html_render_layout.specs.Layout.{struck, on_block, add_text};
+ghost use Rattle.html_render_layout.specs.Layout.{struck, written, on_block, text_style, add_styled, add_text};
 
 use super::state::LayoutState;
 use crate::tagging::Tagging;
@@ -57,6 +57,70 @@ fn add_struck<D: TextDecorator, G: Tagging<D::Annotation>>(
     state.block.add_inline_text(struck.as_str(), style)
 }
 
+/// Adds a text in a style.
+#[inline]
+fn add_styled<D: TextDecorator, G: Tagging<D::Annotation>>(
+    alloc: Global,
+    text: &str,
+    style: TextStyle<G::Tag>,
+    state: &mut LayoutState<D, G, G::Tag, Block<G::Tag, usize>>,
+) -> Result<(), Error>
+    ensures ok { OnOk result (on_block (λ b. machine.operations.add_inline_text b style (written state.old.text.struck_out (chars text.now))) state.old
+        ≡ Some state.new) }
+    ensures err { IfErr result (λ e. Refuses e
+        (on_block (λ b. machine.operations.add_inline_text b style (written state.old.text.struck_out (chars text.now))) state.old)) }
+{
+    if state.text.struck_out {
+        add_struck(alloc, text, style, state)
+    } else {
+        state.block.add_inline_text(text, style)
+    }
+}
+
+/// The style of preformatted texts: one annotation more on top, and another one on continuation lines.
+fn preformatted_style<D: TextDecorator, G: Tagging<D::Annotation>>(
+    alloc: Global,
+    state: &mut LayoutState<D, G, G::Tag, Block<G::Tag, usize>>,
+) -> Result<TextStyle<G::Tag>, Error>
+    ensures stacks { OnOk result (state.new ≡ record state.old {
+      stacks = (text_style D.decoration G.annotated state.old.decorator state.old.stacks state.old.text true).0;
+    }) }
+    ensures style { IfOk result (λ style.
+        style ≡ (text_style D.decoration G.annotated state.old.decorator state.old.stacks state.old.text true).1) }
+    ensures err { IfErr result (λ e. e ≡ Error.OutOfMemory) }
+{
+    let first = state.decorator.decorate_preformat_first(alloc)?;
+    let first = state.stacks.annotate(state.text.tag, first)?;
+    let continuing = state.decorator.decorate_preformat_cont(alloc)?;
+    let continuing = state.stacks.annotate(state.text.tag, continuing)?;
+    Ok(TextStyle {
+        mode: state.text.mode,
+        tag: first,
+        continuation_tag: continuing,
+    })
+}
+
+/// Adds a text that is preformatted.
+///
+/// Few texts are, so this is a function of its own.
+#[inline(never)]
+#[tactic(auto, using(html_render_dom::specs::laws::Outcome::refusals))]
+fn add_preformatted<D: TextDecorator, G: Tagging<D::Annotation>>(
+    alloc: Global,
+    text: &str,
+    state: &mut LayoutState<D, G, G::Tag, Block<G::Tag, usize>>,
+) -> Result<(), Error>
+    ensures ok { OnOk result (add_styled machine.operations
+        (text_style D.decoration G.annotated state.old.decorator state.old.stacks state.old.text true)
+        (written state.old.text.struck_out (chars text.now)) state.old ≡ Some state.new) }
+    ensures err { IfErr result (λ e. Refuses e (add_styled machine.operations
+        (text_style D.decoration G.annotated state.old.decorator state.old.stacks state.old.text true)
+        (written state.old.text.struck_out (chars text.now)) state.old)) }
+{
+    let style = preformatted_style(alloc, state)?;
+    add_styled(alloc, text, style, state)
+}
+
 /// Adds a text under the tag of what comes.
 ///
 /// # Errors
@@ -69,17 +133,16 @@ pub fn add_text<D: TextDecorator, G: Tagging<D::Annotation>>(
     text: &str,
     state: &mut LayoutState<D, G, G::Tag, Block<G::Tag, usize>>,
 ) -> Result<(), Error>
-    ensures ok { OnOk result (add_text machine.operations text.now state.old ≡ Some state.new) }
-    ensures err { IfErr result (λ e. Refuses e (add_text machine.operations text.now state.old)) }
+    ensures ok { OnOk result (add_text D.decoration G.annotated machine.operations text.now state.old ≡ Some state.new) }
+    ensures err { IfErr result (λ e. Refuses e (add_text D.decoration G.annotated machine.operations text.now state.old)) }
 {
+    if state.text.preformatted {
+        return add_preformatted(alloc, text, state);
+    }
     let style = TextStyle {
         mode: state.text.mode,
         tag: state.text.tag,
         continuation_tag: state.text.tag,
     };
-    if state.text.struck_out {
-        add_struck(alloc, text, style, state)
-    } else {
-        state.block.add_inline_text(text, style)
-    }
+    add_styled(alloc, text, style, state)
 }

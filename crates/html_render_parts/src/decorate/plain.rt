@@ -84,6 +84,14 @@ impl TextDecorator for PlainDecorator {
         Ok((format!(in alloc; "[{title}]")?, ()))
     }
 
+    fn decorate_preformat_first(&self, _alloc: Global) -> Result<(), Error> {
+        Ok(())
+    }
+
+    fn decorate_preformat_cont(&self, _alloc: Global) -> Result<(), Error> {
+        Ok(())
+    }
+
     fn header_prefix(&self, alloc: Global, level: usize) -> Result<String, Error> {
         let mut prefix = "#".repeat(alloc, level)?;
         prefix.push(' ')?;

@@ -118,6 +118,14 @@ impl TextDecorator for RichDecorator {
         Ok((text, RichAnnotation::Image(source)))
     }
 
+    fn decorate_preformat_first(&self, _alloc: Global) -> Result<RichAnnotation, Error> {
+        Ok(RichAnnotation::Preformat(false))
+    }
+
+    fn decorate_preformat_cont(&self, _alloc: Global) -> Result<RichAnnotation, Error> {
+        Ok(RichAnnotation::Preformat(true))
+    }
+
     fn header_prefix(&self, alloc: Global, level: usize) -> Result<String, Error> {
         PlainDecorator.header_prefix(alloc, level)
     }

@@ -128,5 +128,5 @@ module _ {S A : Type 0} (d : Decoration S A) (options : Options S) (tree : Fores
 
   -- a tree that is laid out leaves texts and decorator as they were
   pub lines_leave : (s : Defined S A) →
-      IfSome (run (defined d) (estimated d options.decorator tree) s) (λ r. (r.text ≡ s.text) × (r.decorator ≡ s.decorator))
-  lines_leave = layout_leaves d options.nodes (estimated d options.decorator tree)
+      IfSome (run (defined d) (estimated d options.nodes options.decorator tree) s) (λ r. (r.text ≡ s.text) × (r.decorator ≡ s.decorator))
+  lines_leave = layout_leaves d options.nodes (estimated d options.nodes options.decorator tree)

@@ -59,7 +59,7 @@ impl<D: TextDecorator> Config<D> {
 
         // a tree that is laid out leaves the texts that follow, with their annotations, and the decorator of any state as they were
         ensures stacks { (s : Defined D D.Annotation) →
-            IfSome (run (defined D.decoration) (estimated D.decoration self.now.decorator tree) s)
+            IfSome (run (defined D.decoration) (estimated D.decoration self.now.nodes self.now.decorator tree) s)
             (λ r. (r.text ≡ s.text) × (r.decorator ≡ s.decorator)) }
     {
         let lines = lay_out_untagged(
@@ -102,7 +102,7 @@ impl<D: TextDecorator> Config<D> {
         ensures kept { IfSome (rendered_lines D.decoration self.now tree width)
             (KeepsTexts (visited_nodes D.decoration self.now.nodes tree self.now.decorator width self.now.overflow)) }
         ensures stacks { (s : Defined D D.Annotation) →
-            IfSome (run (defined D.decoration) (estimated D.decoration self.now.decorator tree) s)
+            IfSome (run (defined D.decoration) (estimated D.decoration self.now.nodes self.now.decorator tree) s)
             (λ r. (r.text ≡ s.text) × (r.decorator ≡ s.decorator)) }
     {
         let mut meter = Meter::default();
@@ -136,12 +136,12 @@ impl<D: TextDecorator> Config<D> {
         ensures kept { IfSome (rendered_lines D.decoration self.now tree width)
             (KeepsTexts (visited_nodes D.decoration self.now.nodes tree self.now.decorator width self.now.overflow)) }
         ensures stacks { (s : Defined D D.Annotation) →
-            IfSome (run (defined D.decoration) (estimated D.decoration self.now.decorator tree) s)
+            IfSome (run (defined D.decoration) (estimated D.decoration self.now.nodes self.now.decorator tree) s)
             (λ r. (r.text ≡ s.text) × (r.decorator ≡ s.decorator)) }
 
         // what was counted, where there are lines, and where there are none
         ensures counts { CountsNodes result (defined D.decoration) (defined_inside D.decoration)
-            (estimated D.decoration self.now.decorator tree)
+            (estimated D.decoration self.now.nodes self.now.decorator tree)
             (empty_state D.decoration self.now.nodes self.now.decorator width self.now.overflow) meter.old meter.new }
     {
         let laid_out = lay_out(
@@ -193,7 +193,7 @@ impl<D: TextDecorator> Config<D> {
         ensures kept { IfSome (rendered_lines D.decoration self.now tree width)
             (KeepsTexts (visited_nodes D.decoration self.now.nodes tree self.now.decorator width self.now.overflow)) }
         ensures stacks { (s : Defined D D.Annotation) →
-            IfSome (run (defined D.decoration) (estimated D.decoration self.now.decorator tree) s)
+            IfSome (run (defined D.decoration) (estimated D.decoration self.now.nodes self.now.decorator tree) s)
             (λ r. (r.text ≡ s.text) × (r.decorator ≡ s.decorator)) }
     {
         let lines = self.render_to_lines(alloc, tree, width)?;

@@ -87,6 +87,14 @@ impl TextDecorator for Signs {
         ))
     }
 
+    fn decorate_preformat_first(&self, _alloc: Global) -> Result<u8, Error> {
+        Ok(0)
+    }
+
+    fn decorate_preformat_cont(&self, _alloc: Global) -> Result<u8, Error> {
+        Ok(0)
+    }
+
     fn header_prefix(&self, alloc: Global, level: usize) -> Result<String, Error> {
         PlainDecorator::new().header_prefix(alloc, level)
     }

@@ -20,7 +20,7 @@ empty g c = cc (c.begin_with-state.ensures, c.in_ok-own.ensures.ok, c.in_ok-inne
 
 -- the tree that is laid out is the measured one
 measured : (g : Over) (c : goal.After-drop-tree-inside-2 g) →
-    c.in_ok-tree.tree ≡ estimated g.D.TextDecorator.decoration c.args.decorator.now c.args.tree
+    c.in_ok-tree.tree ≡ estimated g.D.TextDecorator.decoration c.args.settings.now c.args.decorator.now c.args.tree
 measured g c = cc (c.in_ok-tree.ensures.ok, c.in_ok-inner.ensures.ok)
 
 -- what the code does is what is defined
@@ -66,26 +66,26 @@ returns-clause-kept g c =
 -- annotations and decorator, wherever the call ends
 pub returns-clause-stacks : goal.returns-clause-stacks
 returns-clause-stacks g c = layout-returns g.D.TextDecorator.decoration onto definition.operations
-    (estimated g.D.TextDecorator.decoration c.args.decorator.now c.args.tree)
+    (estimated g.D.TextDecorator.decoration c.args.settings.now c.args.decorator.now c.args.tree)
 
 pub returns-then-width-eq0-clause-stacks : goal.returns-then-width-eq0-clause-stacks
 returns-then-width-eq0-clause-stacks g c = layout-returns g.D.TextDecorator.decoration onto definition.operations
-    (estimated g.D.TextDecorator.decoration c.args.decorator.now c.args.tree)
+    (estimated g.D.TextDecorator.decoration c.args.settings.now c.args.decorator.now c.args.tree)
 
 pub returns-in_err-own-clause-stacks : goal.returns-in_err-own-clause-stacks
 returns-in_err-own-clause-stacks g c =
     layout-returns g.D.TextDecorator.decoration onto definition.operations
-    (estimated g.D.TextDecorator.decoration c.args.decorator.now c.args.tree)
+    (estimated g.D.TextDecorator.decoration c.args.settings.now c.args.decorator.now c.args.tree)
 
 pub returns-in_err-inner-clause-stacks : goal.returns-in_err-inner-clause-stacks
 returns-in_err-inner-clause-stacks g c =
     layout-returns g.D.TextDecorator.decoration onto definition.operations
-    (estimated g.D.TextDecorator.decoration c.args.decorator.now c.args.tree)
+    (estimated g.D.TextDecorator.decoration c.args.settings.now c.args.decorator.now c.args.tree)
 
 pub returns-in_err-tree-clause-stacks : goal.returns-in_err-tree-clause-stacks
 returns-in_err-tree-clause-stacks g c =
     layout-returns g.D.TextDecorator.decoration onto definition.operations
-    (estimated g.D.TextDecorator.decoration c.args.decorator.now c.args.tree)
+    (estimated g.D.TextDecorator.decoration c.args.settings.now c.args.decorator.now c.args.tree)
 
 -- what was counted
 pub returns-clause-counts : goal.returns-clause-counts
@@ -96,27 +96,27 @@ returns-clause-counts g c =
 pub returns-then-width-eq0-clause-counts : goal.returns-then-width-eq0-clause-counts
 returns-then-width-eq0-clause-counts g c =
     none-counted _ (λ e. Unit {0}) tt (defined g.D.TextDecorator.decoration) (defined_inside g.D.TextDecorator.decoration)
-    (estimated g.D.TextDecorator.decoration c.args.decorator.now c.args.tree)
+    (estimated g.D.TextDecorator.decoration c.args.settings.now c.args.decorator.now c.args.tree)
     (empty_state g.D.TextDecorator.decoration c.args.settings.now c.args.decorator.now c.args.width c.args.overflow) _ _
     (layout-asks g.D.TextDecorator.decoration onto definition.operations) refl refl refl refl
 
 pub returns-in_err-own-clause-counts : goal.returns-in_err-own-clause-counts
 returns-in_err-own-clause-counts g c =
     none-counted _ _ c.from_residual.ensures.1 (defined g.D.TextDecorator.decoration) (defined_inside g.D.TextDecorator.decoration)
-    (estimated g.D.TextDecorator.decoration c.args.decorator.now c.args.tree)
+    (estimated g.D.TextDecorator.decoration c.args.settings.now c.args.decorator.now c.args.tree)
     (empty_state g.D.TextDecorator.decoration c.args.settings.now c.args.decorator.now c.args.width c.args.overflow) _ _
     (layout-asks g.D.TextDecorator.decoration onto definition.operations) refl refl refl refl
 
 pub returns-in_err-inner-clause-counts : goal.returns-in_err-inner-clause-counts
 returns-in_err-inner-clause-counts g c =
     none-counted _ _ c.from_residual-in_err-inner.ensures.1 (defined g.D.TextDecorator.decoration) (defined_inside g.D.TextDecorator.decoration)
-    (estimated g.D.TextDecorator.decoration c.args.decorator.now c.args.tree)
+    (estimated g.D.TextDecorator.decoration c.args.settings.now c.args.decorator.now c.args.tree)
     (empty_state g.D.TextDecorator.decoration c.args.settings.now c.args.decorator.now c.args.width c.args.overflow) _ _
     (layout-asks g.D.TextDecorator.decoration onto definition.operations) refl refl refl refl
 
 pub returns-in_err-tree-clause-counts : goal.returns-in_err-tree-clause-counts
 returns-in_err-tree-clause-counts g c =
     none-counted _ _ c.from_residual-in_err-tree.ensures.1 (defined g.D.TextDecorator.decoration) (defined_inside g.D.TextDecorator.decoration)
-    (estimated g.D.TextDecorator.decoration c.args.decorator.now c.args.tree)
+    (estimated g.D.TextDecorator.decoration c.args.settings.now c.args.decorator.now c.args.tree)
     (empty_state g.D.TextDecorator.decoration c.args.settings.now c.args.decorator.now c.args.width c.args.overflow) _ _
     (layout-asks g.D.TextDecorator.decoration onto definition.operations) refl refl refl refl

@@ -19,7 +19,7 @@ works g c =
     let empty : c.begin_with-state.result
     ≡ empty_untagged g.D.TextDecorator.decoration c.args.settings.now (record {}) c.args.decorator.now c.args.width c.args.overflow =
     cc (c.begin_with-state.ensures, c.in_ok-own.ensures.ok, c.in_ok-inner.ensures.ok, c.outermost-block.ensures) in
-    let measured : c.in_ok-tree.tree ≡ estimated g.D.TextDecorator.decoration c.args.decorator.now c.args.tree =
+    let measured : c.in_ok-tree.tree ≡ estimated g.D.TextDecorator.decoration c.args.settings.now c.args.decorator.now c.args.tree =
     cc (c.in_ok-tree.ensures.ok, c.in_ok-inner.ensures.ok) in
     untagged_lines-works g.D.TextDecorator.decoration c.args.settings.now c.args.tree _ c.args.decorator.now c.args.width c.args.overflow
     (record {}) c.begin_with-state.result c.if-width-eq0.false measured empty
