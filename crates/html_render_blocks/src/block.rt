@@ -12,14 +12,15 @@ ghost use Rattle.html_render_lines.specs.Character.{is_collapsible};
 ghost use Rattle.html_render_lines.specs.Line.{columns, marks_line};
 ghost use Rattle.html_render_lines.specs.Stream.{after};
 ghost use Rattle.html_render_lines.specs.TaggedText.{counted, text_columns, under};
-ghost use Rattle.html_render_blocks.specs.Joined.{marked_behind, moved};
+ghost use Rattle.html_render_blocks.specs.Joined.{moved};
 ghost use Rattle.html_render_blocks.specs.Block.{is_blank, mark_items, wrap_width, inner_width};
 ghost use Rattle.html_render_blocks.specs.BlockMachine as machine;
 
+use crate::finished::{mark_behind, put_marks_front};
 use html_render_dom::Error;
 use html_render_dom::style::WhiteSpace;
 use html_render_lines::character::{TextStyle, is_collapsible};
-use html_render_lines::line::{Element, Line, text_columns};
+use html_render_lines::line::{Line, text_columns};
 use html_render_lines::paragraph::Paragraph;
 use html_render_lines::tag::Tag;
 use padding::flush_filled;
@@ -492,42 +493,6 @@ fn add_each_mark<T: Tag, M: Copy>(paragraph: &mut Paragraph<T, M>, marks: &[M]) 
 {
     for mark in marks {
         paragraph.add_mark(*mark)?;
-    }
-    Ok(())
-}
-
-/// Puts marks at the end of the last line.
-#[tactic(auto, using(crate::proofs::Moving::ends))]
-fn mark_behind<T: Tag, M: Copy>(lines: &mut Vec<Line<T, M>>, marks: &[M]) -> Result<(), AllocError>
-    ensures { OnOk result (lines.new.items ≡ marked_behind marks.now lines.old.items) }
-{
-    if marks.is_empty() {
-        return Ok(());
-    }
-    let Some(mut line) = lines.pop() else {
-        return Ok(());
-    };
-    push_marks(&mut line, marks)?;
-    lines.push(line)?;
-    Ok(())
-}
-
-/// Puts marks at the end of a line.
-fn push_marks<T: Tag, M: Copy>(line: &mut Line<T, M>, marks: &[M]) -> Result<(), AllocError>
-    ensures { OnOk result (line.new ≡ line.old ++ marks_line marks.now) }
-{
-    for mark in marks {
-        line.push_mark(*mark)?;
-    }
-    Ok(())
-}
-
-/// Puts marks at the front of a line.
-fn put_marks_front<T: Tag, M: Copy>(line: &mut Line<T, M>, marks: &[M]) -> Result<(), AllocError>
-    ensures { OnOk result (line.new ≡ marks_line marks.now ++ line.old) }
-{
-    for mark in marks.iter().rev() {
-        line.push_front(Element::Mark(*mark))?;
     }
     Ok(())
 }

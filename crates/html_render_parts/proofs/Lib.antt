@@ -10,3 +10,6 @@ pub mod NumberTests
 pub mod PlacingRows
 pub mod RisingEnds
 pub mod SideBySide
+pub mod SharesFit
+pub mod Spreading
+pub mod Needs

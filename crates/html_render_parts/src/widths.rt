@@ -11,10 +11,16 @@ mod fit;
 mod laws;
 mod levels;
 mod lowering;
+mod needs;
+mod shares;
+mod spans;
 
 pub use check::check_cut;
 pub use cut::{ColumnCut, column_widths, column_widths_metered};
 pub use fit::cut_fits;
+pub use needs::{CellNeed, column_needs, table_widths};
+pub use shares::{ColumnNeed, stand_side_by_side, widths_across};
+pub use spans::{Span, greatest_values};
 
 /// Counts of the work of one call.
 #[derive(Clone, Copy, Debug, Default, PartialEq, Eq)]

@@ -7,11 +7,12 @@ ghost use Rattle.std.specs.Str.{chars};
 ghost use Rattle.html_render_dom.specs.Outcome.{Refuses};
 ghost use Rattle.html_render_lines.specs.CutText.{text_lines};
 ghost use Rattle.html_render_lines.specs.TaggedText.{under};
-ghost use Rattle.html_render_blocks.specs.Joined.{marked_before, marked_behind};
+ghost use Rattle.html_render_blocks.specs.Joined.{marked_behind};
 ghost use Rattle.html_render_blocks.specs.Closing.{line_setting, unbroken, on_one_line, closing_lines};
 ghost use Rattle.html_render_blocks.specs.BlockMachine as machine;
 
-use super::{Block, BlockSetting, mark_behind, put_marks_front};
+use super::{Block, BlockSetting};
+use crate::finished::{mark_before, mark_behind};
 use html_render_dom::Error;
 use html_render_lines::line::{Line, text_columns};
 use html_render_lines::paragraph::push_cut_text;
@@ -91,16 +92,6 @@ impl<T: Tag, M: Copy> Block<T, M> {
         let lines = closing_lines(self.alloc, self.setting, texts, tag, cut)?;
         self.add_lines(lines)?;
         Ok(())
-    }
-}
-
-/// Puts marks at the front of the first line.
-fn mark_before<T: Tag, M: Copy>(lines: &mut Vec<Line<T, M>>, marks: &[M]) -> Result<(), AllocError>
-    ensures { OnOk result (lines.new.items ≡ marked_before marks.now lines.old.items) }
-{
-    match lines.first_mut() {
-        Some(line) => put_marks_front(line, marks),
-        None => Ok(()),
     }
 }
 

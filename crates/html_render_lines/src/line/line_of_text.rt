@@ -261,6 +261,41 @@ impl<T: Tag, M: Copy> Line<T, M> {
         put
     }
 
+    /// Puts a copy of another line at the end.
+    fn append_copy(&mut self, other: &Line<T, M>) -> Result<(), AllocError>
+        ensures ok { OnOk result (self.new ≡ self.old ++ other.now) }
+        ensures err { OnErr result (self.new ≡ []) }
+    {
+        let count = counted_together(self.count, other.count);
+        let appended = self.text.append(other.front.as_slice(), &other.text);
+        match appended {
+            Ok(()) => self.count = count,
+            // Memory ran out.
+            Err(_) => {
+                self.front.clear();
+                self.text.clear();
+                self.count = Some(0);
+            }
+        }
+        appended
+    }
+
+    /// Puts another line at the end. An empty line takes over the other as it is.
+    ///
+    /// # Errors
+    ///
+    /// `OutOfMemory`. The line is then empty.
+    pub fn append(&mut self, other: Line<T, M>) -> Result<(), AllocError>
+        ensures ok { OnOk result (self.new ≡ self.old ++ other) }
+        ensures err { OnErr result (self.new ≡ []) }
+    {
+        if self.is_empty() {
+            *self = other;
+            return Ok(());
+        }
+        self.append_copy(&other)
+    }
+
     /// Adds its characters to a string.
     ///
     /// # Errors

@@ -3,7 +3,7 @@
 //! A text under one tag has no closed run: the run at the text's end is kept apart from the others, and a run is closed
 //! only where a mark or another tag follows it.
 
-ghost use Rattle.std.specs.Prelude.{◌≡◌, ◌++◌, ◌∷◌, [], Some, None, OnOk, OnErr, IfOk, ◌==◌, cond, length, map};
+ghost use Rattle.std.specs.Prelude.{◌≡◌, ◌++◌, ◌∷◌, [], Some, None, OnOk, OnErr, IfOk, ◌==◌, cond, length, map, reverse};
 ghost use Rattle.std.specs.Bool.{OnTrue};
 ghost use Rattle.std.specs.Str.{chars, IsUtf8};
 ghost use Rattle.std.specs.String.{string_bytes};
@@ -355,6 +355,74 @@ impl<T: Tag, M: Copy> TaggedText<T, M> {
         let cut = word.parts();
         self.push_runs_as(cut.closed, cut.closed_text, continues)?;
         self.push_open_as(cut.tag, cut.open_text, continues)?;
+        Ok(())
+    }
+
+    /// Puts a text under its tag, if it has one.
+    fn push_open(&mut self, tag: Option<T>, text: &str) -> Result<(), AllocError>
+        ensures { OnOk result (self.new.elements ≡ self.old.elements ++ open_elements tag text.now) }
+    {
+        if let Some(tag) = tag {
+            self.push_str(text, tag)?;
+        }
+        Ok(())
+    }
+
+    /// Puts runs with their text.
+    fn push_runs(&mut self, runs: &[Run<T, M>], text: &str) -> Result<(), AllocError>
+        requires { Cuts runs.now text.now }
+        ensures { OnOk result (self.new.elements ≡ self.old.elements ++ elements_of runs.now text.now) }
+    {
+        let mut at = 0;
+        for run in runs {
+            match run {
+                Run::Text(len, tag) => {
+                    let end = at + *len;
+                    self.push_str(&text[at..end], *tag)?;
+                    at = end;
+                }
+                Run::Mark(mark) => self.push_mark(*mark)?,
+            }
+        }
+        Ok(())
+    }
+
+    /// Puts an element.
+    fn push(&mut self, element: Element<T, M>) -> Result<(), AllocError>
+        ensures { OnOk result (self.new.elements ≡ self.old.elements ++ element ∷ []) }
+    {
+        match element {
+            Element::Character(c, tag) => self.push_char(c, tag),
+            Element::Mark(mark) => self.push_mark(mark),
+        }
+    }
+
+    /// Puts elements, the last one first.
+    fn push_reversed(&mut self, elements: &[Element<T, M>]) -> Result<(), AllocError>
+        ensures { OnOk result (self.new.elements ≡ self.old.elements ++ reverse elements.now) }
+    {
+        for element in elements.iter().rev() {
+            self.push(*element)?;
+        }
+        Ok(())
+    }
+
+    /// Puts elements, the last one first, and another text.
+    ///
+    /// # Errors
+    ///
+    /// `OutOfMemory`. A part of them may then stand behind this text.
+    pub fn append(
+        &mut self,
+        front: &[Element<T, M>],
+        text: &TaggedText<T, M>,
+    ) -> Result<(), AllocError>
+        ensures { OnOk result (self.new.elements ≡ self.old.elements ++ (reverse front.now ++ text.now.elements)) }
+    {
+        let parts = text.parts();
+        self.push_reversed(front)?;
+        self.push_runs(parts.closed, parts.closed_text)?;
+        self.push_open(parts.tag, parts.open_text)?;
         Ok(())
     }
 

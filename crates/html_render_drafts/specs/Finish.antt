@@ -1,0 +1,31 @@
+-- A forest with other nodes in their places.
+use Rattle.std.specs.Prelude.{◌≡◌, Option, Some, None}
+use Rattle.html_render_dom.specs.declared.errors.Error.{Error}
+use Rattle.html_render_dom.specs.declared.errors.Error.TheVariants.{TooNarrow, Fail, OutOfMemory}
+use Rattle.html_render_dom.specs.Forest.{Forest, none, node}
+use Rattle.html_render_dom.specs.Outcome.{◌>>=◌}
+
+-- the same trees, with each node as f gives it
+abbrev pub mapped : {K L : Type 0} → (f : K → L) → Forest K → Forest L
+mapped f none = none
+mapped f (node k children beside) = node (f k) (mapped f children) (mapped f beside)
+
+-- what a node is written as under what stands above it, and what stands above the nodes below it; none where the node may
+-- not stand there
+abbrev pub Placed : (K L A : Type 0) → Type 0
+Placed K L A = A → K → Option (L × A)
+
+-- the same trees, with each node as it is written where it stands, or none where one may not stand where it does
+abbrev pub placed : {K L A : Type 0} → Placed K L A → A → Forest K → Option (Forest L)
+placed writes above none = Some none
+placed writes above (node k children beside) = do
+  w ← writes above k
+  inner ← placed writes w.1 children
+  after ← placed writes above beside
+  Some (node w.0 inner after)
+
+-- why nothing is written: a node may not stand where it does, or want of memory, which says nothing of that
+abbrev pub Fails : {X : Type 0} → Error → Option X → Type 0
+Fails Fail wanted = wanted ≡ None
+Fails OutOfMemory wanted = Unit {0}
+Fails TooNarrow wanted = ⊥

@@ -1,0 +1,71 @@
+-- What columns need for their cells.
+use Rattle.std.proofs.Common.{◌≡◌, ℕ, ◌+◌, ◌/◌, Bool, true, false, ◌≤◌, ◌<◌, List, [], ◌∷◌, length, map, cond, sym, ap, ◌∙◌, subst, arith}
+use Rattle.std.specs.Prelude.{slice_index, slice_index_or}
+use Rattle.std.proofs.Math.Nat.{div-mul-le_self, le-div_iff_mul-le}
+use Rattle.std.proofs.lemmas.List.{ext_get_or}
+use Rattle.std.proofs.lemmas.List.Elements.{All-head, All-tail, All-weaker, All-map, All-from_get_or}
+use Rattle.std.proofs.lemmas.List.FromFn.{length-map-range_with_len, get_or-map-range_with_len}
+use Rattle.html_render_parts.specs.declared.widths.needs.CellNeed.{CellNeed}
+use Rattle.html_render_parts.specs.declared.widths.shares.ColumnNeed.{ColumnNeed}
+use Rattle.html_render_parts.specs.declared.widths.spans.Span.{Span}
+use Rattle.html_render_parts.specs.Shares.{AreNeeds}
+use Rattle.html_render_parts.specs.Spans.{covers, given, greatest_at, AreOver, AreGreatest}
+use Rattle.html_render_parts.specs.Needs.{no_need, size_part, least_part, need_at, column_needs, IsCell, AreSome, AreCells}
+
+pub are_some : (columns : ℕ) (cells : List CellNeed) → AreCells columns cells → AreSome cells
+are_some columns cells h = All-weaker (IsCell columns) (λ c. 0 < c.count) (λ c i. i.some) cells h
+
+pub sizes_over : (columns : ℕ) (cells : List CellNeed) → AreCells columns cells → AreOver columns (map size_part cells)
+sizes_over columns cells h =
+    All-map (λ (s : Span). s.start + s.count ≤ columns) size_part cells
+    (All-weaker (IsCell columns) (λ c. c.start + c.count ≤ columns) (λ c i. i.over) cells h)
+
+pub least_over : (columns : ℕ) (cells : List CellNeed) → AreCells columns cells → AreOver columns (map least_part cells)
+least_over columns cells h =
+    All-map (λ (s : Span). s.start + s.count ≤ columns) least_part cells
+    (All-weaker (IsCell columns) (λ c. c.start + c.count ≤ columns) (λ c i. i.over) cells h)
+
+-- the greatest sizes and least widths are what the columns need
+pub needed : (columns : ℕ) (cells : List CellNeed) (sizes least : List ℕ) (needs : List ColumnNeed) →
+    AreGreatest columns (map size_part cells) sizes → AreGreatest columns (map least_part cells) least → length needs ≡ length sizes →
+    ((k : ℕ) → k < length sizes → slice_index_or needs k no_need ≡ record { size = slice_index sizes k; least = slice_index least k }) →
+    needs ≡ column_needs columns cells
+needed columns cells sizes least needs g l len each =
+    ext_get_or no_need needs (column_needs columns cells)
+    (len ∙ g.columns_of ∙ sym (length-map-range_with_len (need_at cells) 0 columns))
+    (λ k inside.
+    let in_sizes : k < length sizes = omega (arith, inside, len) in
+    let in_columns : k < columns = omega (arith, inside, len, g.columns_of) in
+    each k in_sizes
+    ∙ ap (λ n. record { size = n; least = slice_index least k }) (g.each k in_columns)
+    ∙ ap (λ n. record { size = greatest_at (map size_part cells) k; least = n }) (l.each k in_columns)
+    ∙ sym (get_or-map-range_with_len (need_at cells) 0 columns k k no_need in_columns (omega arith)))
+
+-- no column needs more at least than its size
+part-le : (columns : ℕ) (c : CellNeed) (k : ℕ) → IsCell columns c → given (least_part c) k ≤ given (size_part c) k
+part-le columns c k h = by (covers (size_part c) k)
+  where
+    parts : c.least / c.count ≤ c.size / c.count
+    parts =
+        let part = div-mul-le_self c.least c.count in
+        (le-div_iff_mul-le {k = c.count} {x = c.least / c.count} {y = c.size} h.some).1 (let l = h.least in omega (arith, part, l))
+
+    by : (b : Bool) → cond b (c.least / c.count) 0 ≤ cond b (c.size / c.count) 0
+    by true = parts
+    by false = omega arith
+
+greatest-le : (columns : ℕ) (cells : List CellNeed) (k : ℕ) → AreCells columns cells →
+    greatest_at (map least_part cells) k ≤ greatest_at (map size_part cells) k
+greatest-le columns [] k h = omega arith
+greatest-le columns (c ∷ cs) k h =
+    let first = part-le columns c k (All-head (IsCell columns) c cs h) in
+    let rest = greatest-le columns cs k (All-tail (IsCell columns) c cs h) in
+    omega (arith, first, rest)
+
+pub are_needs : (columns : ℕ) (cells : List CellNeed) → AreCells columns cells → AreNeeds (column_needs columns cells)
+are_needs columns cells h =
+    All-from_get_or (λ (n : ColumnNeed). n.least ≤ n.size) (column_needs columns cells) no_need (λ k inside.
+    let in_columns : k < columns = omega (arith, inside, length-map-range_with_len (need_at cells) 0 columns) in
+    subst (λ (n : ColumnNeed). n.least ≤ n.size)
+    (sym (get_or-map-range_with_len (need_at cells) 0 columns k k no_need in_columns (omega arith)))
+    (greatest-le columns cells k h))

@@ -1,0 +1,12 @@
+-- THE DEFINITION of a picture
+pub mod Picture
+-- the picture row by row
+pub mod Drawing
+-- how wide a row is
+pub mod Widths
+-- pictures with other tags
+pub mod Tags
+-- the visible characters of rows
+pub mod Visible
+-- what follows from the definitions
+pub mod laws

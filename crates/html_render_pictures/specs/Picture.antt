@@ -1,0 +1,140 @@
+-- The picture of a table whose cells stand side by side: the lines of its rows, and the borders above, between and below them.
+use Rattle.std.specs.Prelude.{ℕ, ◌-◌, ◌++◌, Bool, true, false, not, ◌&&◌, ◌||◌, ◌==◌, List, [], ◌∷◌, length, map, max, fold, get_or}
+use Rattle.std.specs.Prelude.{flat_map, replicate, Some, if◌then◌else◌}
+use Rattle.std.specs.List.{range_with_len, list_any}
+use Rattle.html_render_lines.specs.declared.line.Element.{Element}
+use Rattle.html_render_lines.specs.declared.line.Element.TheVariants.{Character}
+use Rattle.html_render_lines.specs.Line.{Line}
+use Rattle.html_render_blocks.specs.Joined.{marked_before, marked_behind}
+use Rattle.html_render_blocks.specs.Padding.{filled}
+use Rattle.html_render_pictures.specs.declared.picture.Frame.{Frame}
+
+-- a cell that is kept: its columns, its lines, and the marks that wait behind them
+pub record KeptCell (T M : Type 0) : Type 0 where
+  pub width : ℕ
+  pub lines : List (Line T M)
+  pub marks : List M
+
+-- a row: its kept cells, and whether a placeholder is among all of its cells
+pub record TableRow (T M : Type 0) : Type 0 where
+  pub cells : List (KeptCell T M)
+  pub has_placeholder : Bool
+
+-- ---- which rows are drawn, and which marks stand before them
+
+abbrev pub is_empty : {X : Type 0} → List X → Bool
+is_empty xs = length xs == 0
+
+abbrev pub has_lines : {T M : Type 0} → List (KeptCell T M) → Bool
+has_lines {T} {M} cells = list_any (λ (c : KeptCell T M). not (is_empty c.lines)) cells
+
+-- a row is drawn if a kept cell has lines, or if a placeholder is among its cells and a cell is kept
+abbrev pub is_drawn : {T M : Type 0} → TableRow T M → Bool
+is_drawn row = has_lines row.cells || (row.has_placeholder && not (is_empty row.cells))
+
+-- the marks of a cell without lines wait for a line
+abbrev pub waiting_of : {T M : Type 0} → KeptCell T M → List M
+waiting_of c = if is_empty c.lines then c.marks else []
+
+-- those of cells, from left to right
+abbrev pub waiting_in : {T M : Type 0} → List (KeptCell T M) → List M
+waiting_in {T} {M} cells = flat_map (λ (c : KeptCell T M). waiting_of c) cells
+
+-- a row that is drawn, with the marks that stand before it
+pub record DrawnRow (T M : Type 0) : Type 0 where
+  pub marks : List M
+  pub cells : List (KeptCell T M)
+
+-- the drawn rows; the marks of the other rows wait for the next one
+abbrev pub drawn_rows : {T M : Type 0} → (waiting : List M) → List (TableRow T M) → List (DrawnRow T M)
+drawn_rows waiting [] = []
+drawn_rows waiting (r ∷ rs) =
+    if is_drawn r
+    then record { marks = waiting ++ waiting_in r.cells; cells = r.cells } ∷ drawn_rows [] rs
+    else drawn_rows (waiting ++ waiting_in r.cells) rs
+
+-- the marks that still wait behind the last drawn row
+abbrev pub left_waiting : {T M : Type 0} → (waiting : List M) → List (TableRow T M) → List M
+left_waiting waiting [] = waiting
+left_waiting waiting (r ∷ rs) = left_waiting (if is_drawn r then [] else waiting ++ waiting_in r.cells) rs
+
+-- ---- where the separators of a row stand
+
+-- for each column of a row whether a separator stands there: one does between two cells
+abbrev pub separators_of : {T M : Type 0} → List (KeptCell T M) → List Bool
+separators_of [] = []
+separators_of {T} {M} (c ∷ cs) = replicate c.width false ++ flat_map (λ (d : KeptCell T M). true ∷ replicate d.width false) cs
+
+-- those of the first of these rows; none where there is no row
+abbrev pub next_separators : {T M : Type 0} → List (DrawnRow T M) → List Bool
+next_separators [] = []
+next_separators (d ∷ ds) = separators_of d.cells
+
+-- what a border has at a column, by whether the row above and the row below have a separator there
+abbrev pub joint : (above below : Bool) → ℕ
+joint true true = 0x253C
+joint true false = 0x2534
+joint false true = 0x252C
+joint false false = 0x2500
+
+-- ---- lines
+
+-- a row is as high as its highest cell, and at least 1
+abbrev pub height : {T M : Type 0} → List (KeptCell T M) → ℕ
+height {T} {M} cells = fold (λ h (c : KeptCell T M). max h (length c.lines)) 1 cells
+
+-- what stands between cells
+abbrev pub separator : {T : Type 0} → Frame T → ℕ
+separator frame = if frame.borders then 0x2502 else 0x20
+
+-- the top border is drawn where the table has a width, also above no row
+abbrev pub has_top : {T : Type 0} → Frame T → Bool
+has_top frame = frame.borders && not (frame.width == 0)
+
+module _ {T M : Type 0} (frame : Frame T) where
+  -- a character of the frame
+  abbrev pub drawn : ℕ → Element T M
+  drawn c = Character c frame.tag
+
+  -- a border, as wide as the wider of its neighbours
+  abbrev pub border : (above below : List Bool) → Line T M
+  border above below =
+      map (λ x. drawn (joint (get_or above x false) (get_or below x false))) (range_with_len 0 (max (length above) (length below)))
+
+  -- a cell's lines, the last with the marks at its end, and empty lines below them; each is filled up to the cell's width
+  abbrev pub cell_lines : (height : ℕ) → KeptCell T M → List (Line T M)
+  cell_lines height c = filled (Some frame.tag) c.width (marked_behind c.marks c.lines ++ replicate (height - length c.lines) [])
+
+  -- lines beside others, with a separator between them
+  abbrev pub beside : List (Line T M) → List (Line T M) → List (Line T M)
+  beside [] rights = []
+  beside (l ∷ ls) [] = l ∷ ls
+  beside (l ∷ ls) (r ∷ rs) = (l ++ drawn (separator frame) ∷ r) ∷ beside ls rs
+
+  -- the lines of a row: those of its cells beside each other, from left to right
+  abbrev pub row_lines : List (KeptCell T M) → List (Line T M)
+  row_lines [] = []
+  row_lines (c ∷ cs) = fold beside (cell_lines (height (c ∷ cs)) c) (map (cell_lines (height (c ∷ cs))) cs)
+
+  -- the rows, each with the border below it
+  abbrev pub rows_lines : List (DrawnRow T M) → List (Line T M)
+  rows_lines [] = []
+  rows_lines (d ∷ ds) =
+      marked_before d.marks (row_lines d.cells)
+      ++ (if frame.borders then border (separators_of d.cells) (next_separators ds) ∷ [] else [])
+      ++ rows_lines ds
+
+  -- the border above the first row
+  abbrev pub top_border : List (DrawnRow T M) → Line T M
+  top_border ds = border (replicate frame.width false) (next_separators ds)
+
+  -- the picture's lines
+  abbrev pub picture_lines : (waiting : List M) → List (TableRow T M) → List (Line T M)
+  picture_lines waiting rows =
+      if has_top frame
+      then marked_before waiting (top_border (drawn_rows [] rows) ∷ rows_lines (drawn_rows [] rows))
+      else rows_lines (drawn_rows waiting rows)
+
+  -- THE PICTURE of rows behind marks that wait: its lines, and the marks that wait behind them
+  abbrev pub picture : (waiting : List M) → List (TableRow T M) → List (Line T M) × List M
+  picture waiting rows = (picture_lines waiting rows, left_waiting (if has_top frame then [] else waiting) rows)

@@ -1,0 +1,12 @@
+-- the characters of the frame have one column
+pub mod Glyphs
+-- row by row the picture is drawn
+pub mod Rows
+-- each cell of a row has as many lines as the row
+pub mod Heights
+-- how wide the lines are
+pub mod Widths
+-- a map of tags commutes with the picture
+pub mod Tags
+-- no visible character is lost
+pub mod Visible

@@ -1,0 +1,439 @@
+//! The picture of a table: its rows' lines, with borders above, between and below them.
+
+ghost use Rattle.std.specs.Prelude.{◌≡◌, List, ◌++◌, ◌∷◌, false, get_or, replicate, OnOk, IfOk, IfErr};
+ghost use Rattle.html_render_pictures.specs.Picture as definition;
+ghost use Rattle.html_render_pictures.specs.Picture.{TableRow};
+ghost use Rattle.html_render_pictures.specs.Drawing as drawing;
+
+use crate::line::fill_block;
+use html_render_blocks::finished::{mark_before, put_marks_front};
+use html_render_dom::Error;
+use html_render_lines::line::Line;
+use html_render_lines::tag::Tag;
+use std::alloc::{AllocError, Global};
+use std::marker::Model;
+use std::mem;
+
+/// How a table is framed.
+#[derive(Clone, Copy, Debug)]
+pub struct Frame<T> {
+    /// Whether borders are drawn.
+    pub borders: bool,
+    /// The table's width, which the top border has at least.
+    pub width: usize,
+    /// The tag of all that is drawn round the cells' lines.
+    pub tag: T,
+}
+
+/// A cell that is kept, laid out.
+#[derive(Drop)]
+pub struct Cell<T, M> {
+    /// Its columns.
+    pub width: usize,
+    /// Its lines.
+    pub lines: Vec<Line<T, M>>,
+    /// The marks that wait behind its lines.
+    pub marks: Vec<M>,
+}
+
+impl<T, M> Model for Cell<T, M> {
+    ghost use Rattle.html_render_pictures.specs.Picture.{KeptCell};
+
+    ghost Value = { KeptCell T M };
+
+    ghost view = { λ c. record { width = c.width; lines = c.lines.items; marks = c.marks.items } };
+}
+
+/// A row of a table.
+#[derive(Drop)]
+pub struct Row<T, M> {
+    /// Its kept cells.
+    pub cells: Vec<Cell<T, M>>,
+    /// Whether a placeholder is among all of its cells.
+    pub has_placeholder: bool,
+}
+
+impl<T, M> Model for Row<T, M> {
+    ghost use Rattle.html_render_pictures.specs.Picture.{TableRow};
+
+    ghost Value = { TableRow T M };
+
+    ghost view = { λ r. record { cells = r.cells.items; has_placeholder = r.has_placeholder } };
+}
+
+/// A row is as high as its highest cell, and at least 1.
+fn height<T, M>(cells: &[Cell<T, M>]) -> usize
+    ensures { result ≡ definition.height cells.now }
+{
+    let mut height = 1;
+    for cell in cells {
+        height = height.max(cell.lines.len());
+    }
+    height
+}
+
+/// Whether a cell has lines.
+fn has_lines<T, M>(cells: &[Cell<T, M>]) -> bool
+    ensures { result ≡ definition.has_lines cells.now }
+{
+    for cell in cells {
+        if !cell.lines.is_empty() {
+            return true;
+        }
+    }
+    false
+}
+
+/// Whether a row is drawn.
+fn is_drawn<T, M>(row: &Row<T, M>) -> bool
+    ensures { result ≡ definition.is_drawn row.now }
+{
+    has_lines(row.cells.as_slice()) || (row.has_placeholder && !row.cells.is_empty())
+}
+
+/// Adds the marks of a cell without lines to those that wait.
+fn wait_for_line<T, M: Copy>(waiting: &mut Vec<M>, cell: &Cell<T, M>) -> Result<(), AllocError>
+    ensures { OnOk result (waiting.new.items ≡ waiting.old.items ++ definition.waiting_of cell.now) }
+{
+    if cell.lines.is_empty() {
+        waiting.extend_from_slice(cell.marks.as_slice())?;
+    }
+    Ok(())
+}
+
+/// Adds the marks of cells without lines to those that wait, from left to right.
+fn wait_for_lines<T, M: Copy>(waiting: &mut Vec<M>, cells: &[Cell<T, M>]) -> Result<(), AllocError>
+    ensures { OnOk result (waiting.new.items ≡ waiting.old.items ++ definition.waiting_in cells.now) }
+{
+    for cell in cells {
+        wait_for_line(waiting, cell)?;
+    }
+    Ok(())
+}
+
+/// Adds columns without a separator.
+fn add_columns(separators: &mut Vec<bool>, width: usize) -> Result<(), AllocError>
+    ensures { OnOk result (separators.new.items ≡ separators.old.items ++ replicate width false) }
+{
+    separators.reserve(width)?;
+    for _k in 0..width {
+        separators.push(false)?;
+    }
+    Ok(())
+}
+
+/// For each column of a row whether a separator stands there.
+fn separators_of<T, M>(alloc: Global, cells: &[Cell<T, M>]) -> Result<Vec<bool>, AllocError>
+    ensures { IfOk result (λ v. v.items ≡ definition.separators_of cells.now) }
+{
+    let mut separators = Vec::new(alloc);
+    if let [first, others @ ..] = cells {
+        add_columns(&mut separators, first.width)?;
+        for cell in others {
+            separators.push(true)?;
+            add_columns(&mut separators, cell.width)?;
+        }
+    }
+    Ok(separators)
+}
+
+/// What a border has at a column, by whether the row above and the row below have a separator there.
+fn joint(above: bool, below: bool) -> char
+    ensures { result ≡ definition.joint above below }
+{
+    match (above, below) {
+        (true, true) => '┼',
+        (true, false) => '┴',
+        (false, true) => '┬',
+        (false, false) => '─',
+    }
+}
+
+/// Whether a separator stands at a column.
+fn separator_at(separators: &[bool], column: usize) -> bool
+    ensures { result ≡ get_or separators.now column false }
+{
+    separators.get(column).copied().unwrap_or(false)
+}
+
+impl<T: Tag> Frame<T> {
+    /// What stands between cells.
+    fn separator(&self) -> char
+        ensures { result ≡ definition.separator self.now }
+    {
+        if self.borders { '│' } else { ' ' }
+    }
+
+    /// A border between rows with these separators.
+    #[tactic(auto, using(crate::specs::laws::Glyphs::joint_width))]
+    fn border<M: Copy>(
+        &self,
+        alloc: Global,
+        above: &[bool],
+        below: &[bool],
+    ) -> Result<Line<T, M>, AllocError>
+        ensures { IfOk result (λ l. l ≡ definition.border self.now above.now below.now) }
+    {
+        let width = above.len().max(below.len());
+        let mut line = Line::new(alloc);
+        for column in 0..width {
+            let shown = joint(separator_at(above, column), separator_at(below, column));
+            line.push_char(shown, 1, self.tag)?;
+        }
+        Ok(line)
+    }
+
+    /// The lines of a cell, as many as its row is high.
+    fn cell_lines<M: Copy>(
+        &self,
+        alloc: Global,
+        cell: Cell<T, M>,
+        height: usize,
+    ) -> Result<Vec<Line<T, M>>, AllocError>
+        ensures { IfOk result (λ v. v.items ≡ definition.cell_lines self.now height cell) }
+    {
+        let Cell {
+            width,
+            mut lines,
+            marks,
+        } = cell;
+        let empty = height.saturating_sub(lines.len());
+        fill_block(alloc, &mut lines, marks.as_slice(), empty, width, self.tag)?;
+        Ok(lines)
+    }
+
+    /// Puts a line beside another, behind a separator.
+    #[tactic(auto, using(crate::proofs::LawSets::besides))]
+    fn put_beside<M: Copy>(
+        &self,
+        line: &mut Line<T, M>,
+        right: Line<T, M>,
+    ) -> Result<(), AllocError>
+        ensures { OnOk result (line.new ≡ line.old ++ definition.drawn self.now (definition.separator self.now) ∷ right) }
+    {
+        line.push_char(self.separator(), 1, self.tag)?;
+        line.append(right)?;
+        Ok(())
+    }
+
+    /// Puts lines beside others.
+    fn put_all_beside<M: Copy>(
+        &self,
+        lines: &mut [Line<T, M>],
+        rights: Vec<Line<T, M>>,
+    ) -> Result<(), AllocError>
+        ensures { OnOk result (lines.new ≡ definition.beside self.now lines.old rights.items) }
+    {
+        let mut rights = rights.into_iter();
+        for line in lines.iter_mut() {
+            if let Some(right) = rights.next() {
+                self.put_beside(line, right)?;
+            }
+        }
+        Ok(())
+    }
+
+    /// The lines of a row.
+    fn row_lines<M: Copy>(
+        &self,
+        alloc: Global,
+        cells: Vec<Cell<T, M>>,
+    ) -> Result<Vec<Line<T, M>>, AllocError>
+        ensures { IfOk result (λ v. v.items ≡ definition.row_lines self.now cells.items) }
+    {
+        let height = height(cells.as_slice());
+        let mut others = cells.into_iter();
+        let Some(first) = others.next() else {
+            return Ok(Vec::new(alloc));
+        };
+        let mut lines = self.cell_lines(alloc, first, height)?;
+        for cell in others {
+            let rights = self.cell_lines(alloc, cell, height)?;
+            self.put_all_beside(lines.as_mut_slice(), rights)?;
+        }
+        Ok(lines)
+    }
+}
+
+/// A border that is due: the marks before it, and the separators above it.
+#[derive(Drop)]
+struct Border<M> {
+    marks: Vec<M>,
+    above: Vec<bool>,
+}
+
+impl<M> Model for Border<M> {
+    ghost use Rattle.html_render_pictures.specs.Drawing.{DueBorder};
+
+    ghost Value = { DueBorder M };
+
+    ghost view = { λ b. record { marks = b.marks.items; above = b.above.items } };
+}
+
+impl<T: Tag> Frame<T> {
+    /// The lines that a border makes that is due.
+    fn add_due<M: Copy>(
+        &self,
+        alloc: Global,
+        lines: &mut Vec<Line<T, M>>,
+        due: Option<Border<M>>,
+        below: &[bool],
+    ) -> Result<(), AllocError>
+        ensures { OnOk result (lines.new.items ≡ lines.old.items ++ drawing.due_lines self.now due below.now) }
+    {
+        match due {
+            Some(Border { marks, above }) => {
+                let mut line = self.border(alloc, above.as_slice(), below)?;
+                put_marks_front(&mut line, marks.as_slice())?;
+                lines.push(line)?;
+                Ok(())
+            }
+            None => Ok(()),
+        }
+    }
+
+    /// The border below a row.
+    fn due_below<M: Copy>(&self, alloc: Global, above: Vec<bool>) -> Option<Border<M>>
+        ensures { result ≡ drawing.due_below self.now above.items }
+    {
+        if self.borders {
+            Some(Border {
+                marks: Vec::new(alloc),
+                above,
+            })
+        } else {
+            None
+        }
+    }
+}
+
+/// The picture of a table as its rows come: the lines so far, the marks that wait behind them, and the border that is due.
+#[derive(Drop)]
+pub struct Picture<T, M> {
+    alloc: Global,
+    frame: Frame<T>,
+    lines: Vec<Line<T, M>>,
+    waiting: Vec<M>,
+    due: Option<Border<M>>,
+}
+
+impl<T, M> Model for Picture<T, M> {
+    ghost use Rattle.html_render_pictures.specs.Drawing.{Drawing};
+
+    ghost Value = { Drawing T M };
+
+    ghost view = { λ p. record { frame = p.frame; lines = p.lines.items; waiting = p.waiting.items; due = p.due } };
+}
+
+/// A picture that is drawn.
+#[derive(Drop)]
+pub struct Drawn<T, M> {
+    /// Its lines.
+    pub lines: Vec<Line<T, M>>,
+    /// The marks that wait behind it.
+    pub waiting: Vec<M>,
+}
+
+impl<T: Tag, M: Copy> Picture<T, M> {
+    /// A picture without rows, behind marks that wait.
+    ///
+    /// # Errors
+    ///
+    /// `OutOfMemory`.
+    pub fn new(alloc: Global, frame: Frame<T>, waiting: Vec<M>) -> Result<Picture<T, M>, Error>
+        ensures ok { IfOk result (λ p. p ≡ drawing.begun frame waiting.items) }
+        ensures err { IfErr result (λ e. e ≡ Error.OutOfMemory) }
+    {
+        let lines = Vec::new(alloc);
+        if !frame.borders || frame.width == 0 {
+            return Ok(Picture {
+                alloc,
+                frame,
+                lines,
+                waiting,
+                due: None,
+            });
+        }
+        let mut above = Vec::new(alloc);
+        add_columns(&mut above, frame.width)?;
+        Ok(Picture {
+            alloc,
+            frame,
+            lines,
+            waiting: Vec::new(alloc),
+            due: Some(Border {
+                marks: waiting,
+                above,
+            }),
+        })
+    }
+
+    /// Adds a row: its lines, behind the border that is due, or, where it isn't drawn, its marks to those that wait.
+    ///
+    /// # Errors
+    ///
+    /// `OutOfMemory`.
+    pub fn add_row(&mut self, row: Row<T, M>) -> Result<(), Error>
+        ensures ok { OnOk result (self.new ≡ drawing.with_row self.old row) }
+        ensures err { IfErr result (λ e. e ≡ Error.OutOfMemory) }
+    {
+        if is_drawn(&row) {
+            self.draw_row(row.cells)?;
+        } else {
+            wait_for_lines(&mut self.waiting, row.cells.as_slice())?;
+        }
+        Ok(())
+    }
+
+    /// The separators of a row, where a border may show them.
+    fn shown_separators(&self, cells: &[Cell<T, M>]) -> Result<Vec<bool>, AllocError>
+        ensures above { IfOk result (λ v. drawing.due_lines {M = M} self.now.frame self.now.due v.items
+            ≡ drawing.due_lines self.now.frame self.now.due (definition.separators_of cells.now)) }
+        ensures below { IfOk result (λ v. drawing.due_below {M = M} self.now.frame v.items
+            ≡ drawing.due_below self.now.frame (definition.separators_of cells.now)) }
+    {
+        if !self.frame.borders && self.due.is_none() {
+            return Ok(Vec::new(self.alloc));
+        }
+        separators_of(self.alloc, cells)
+    }
+
+    /// Adds the lines of a row, behind the border that is due.
+    fn draw_row(&mut self, cells: Vec<Cell<T, M>>) -> Result<(), AllocError>
+        ensures { OnOk result (self.new ≡ drawing.with_cells self.old cells.items) }
+    {
+        let separators = self.shown_separators(cells.as_slice())?;
+        let due = mem::replace(&mut self.due, None);
+        self.frame
+            .add_due(self.alloc, &mut self.lines, due, separators.as_slice())?;
+        wait_for_lines(&mut self.waiting, cells.as_slice())?;
+        let mut lines = self.frame.row_lines(self.alloc, cells)?;
+        mark_before(&mut lines, self.waiting.as_slice())?;
+        self.waiting.clear();
+        self.lines.append(&mut lines)?;
+        self.due = self.frame.due_below(self.alloc, separators);
+        Ok(())
+    }
+
+    /// The picture of all rows that were added, once the last border is drawn.
+    ///
+    /// # Errors
+    ///
+    /// `OutOfMemory`.
+    pub fn finish(self) -> Result<Drawn<T, M>, Error>
+        ensures ok { IfOk result (λ d. (d.lines.items, d.waiting.items) ≡ drawing.finished self) }
+        ensures picture { (waiting : List M) (rows : List (TableRow T M)) → self ≡ drawing.with_rows (drawing.begun self.frame waiting) rows
+            → IfOk result (λ d. (d.lines.items, d.waiting.items) ≡ definition.picture self.frame waiting rows) }
+        ensures err { IfErr result (λ e. e ≡ Error.OutOfMemory) }
+    {
+        let Picture {
+            alloc,
+            frame,
+            mut lines,
+            waiting,
+            due,
+        } = self;
+        frame.add_due(alloc, &mut lines, due, &[])?;
+        Ok(Drawn { lines, waiting })
+    }
+}

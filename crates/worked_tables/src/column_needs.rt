@@ -1,0 +1,89 @@
+//! What columns need for their cells, and how wide they are then.
+
+use html_render_parts::widths::{CellNeed, Span, greatest_values, table_widths};
+use std::alloc::Global;
+use std::process::Abort;
+use std::test::Fail;
+
+#[test]
+fn the_greatest_value_over_each_column_counts(rt: HostRuntime) -> Result<(), Fail> {
+    let spans = [
+        Span {
+            start: 0,
+            count: 7,
+            value: 1,
+        },
+        Span {
+            start: 2,
+            count: 3,
+            value: 5,
+        },
+        Span {
+            start: 4,
+            count: 3,
+            value: 4,
+        },
+        Span {
+            start: 6,
+            count: 1,
+            value: 9,
+        },
+        Span {
+            start: 1,
+            count: 1,
+            value: 2,
+        },
+    ];
+    let values = greatest_values(rt.alloc(), 8, &spans)?;
+    assert_eq!(rt; values.as_slice(), [1, 2, 5, 5, 5, 4, 9, 0].as_slice());
+    Ok(())
+}
+
+/// The cells of two columns: one in each, and one over both.
+const CELLS: [CellNeed; 3] = [
+    CellNeed {
+        start: 0,
+        count: 1,
+        size: 9,
+        least: 3,
+    },
+    CellNeed {
+        start: 1,
+        count: 1,
+        size: 3,
+        least: 3,
+    },
+    CellNeed {
+        start: 0,
+        count: 2,
+        size: 9,
+        least: 4,
+    },
+];
+
+/// The widths of these columns, and none where they don't fit.
+fn have_widths(
+    rt: &impl Abort,
+    alloc: Global,
+    width: usize,
+    wanted: Option<[usize; 2]>,
+) -> Result<(), Fail> {
+    match table_widths(alloc, 2, &CELLS, width)? {
+        Some(widths) => assert_eq!(rt;
+            Some(widths.as_slice()),
+            wanted.as_ref().map(|w| w.as_slice())
+        ),
+        None => assert!(rt; wanted.is_none()),
+    }
+    Ok(())
+}
+
+#[test]
+fn columns_share_the_width_by_what_their_cells_need(rt: HostRuntime) -> Result<(), Fail> {
+    let alloc = rt.alloc();
+    have_widths(&rt, alloc, 0, None)?;
+    have_widths(&rt, alloc, 6, None)?;
+    have_widths(&rt, alloc, 7, Some([3, 3]))?;
+    have_widths(&rt, alloc, 9, Some([5, 3]))?;
+    have_widths(&rt, alloc, 40, Some([9, 4]))
+}
