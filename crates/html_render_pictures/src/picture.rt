@@ -271,7 +271,7 @@ impl<M> Model for Border<M> {
 }
 
 impl<T: Tag> Frame<T> {
-    /// The lines that a border makes that is due.
+    /// Adds the border that is due, above a row with these separators.
     fn add_due<M: Copy>(
         &self,
         alloc: Global,
@@ -372,7 +372,7 @@ impl<T: Tag, M: Copy> Picture<T, M> {
     ///
     /// # Errors
     ///
-    /// `OutOfMemory`.
+    /// `OutOfMemory`. Part of the row may then be drawn.
     pub fn add_row(&mut self, row: Row<T, M>) -> Result<(), Error>
         ensures ok { OnOk result (self.new ≡ drawing.with_row self.old row) }
         ensures err { IfErr result (λ e. e ≡ Error.OutOfMemory) }

@@ -1,6 +1,9 @@
 //! What columns need for their cells, and how wide they are then.
 
-use html_render_parts::widths::{CellNeed, Span, greatest_values, table_widths};
+use html_render_parts::widths::{
+    CellNeed, ColumnNeed, Span, column_needs, greatest_values, stand_side_by_side, table_widths,
+    widths_across,
+};
 use std::alloc::Global;
 use std::process::Abort;
 use std::test::Fail;
@@ -86,4 +89,29 @@ fn columns_share_the_width_by_what_their_cells_need(rt: HostRuntime) -> Result<(
     have_widths(&rt, alloc, 7, Some([3, 3]))?;
     have_widths(&rt, alloc, 9, Some([5, 3]))?;
     have_widths(&rt, alloc, 40, Some([9, 4]))
+}
+
+/// What the columns of these cells need: the greater of their own cell's part and that of the cell over both.
+const NEEDS: [ColumnNeed; 2] = [
+    ColumnNeed { size: 9, least: 3 },
+    ColumnNeed { size: 4, least: 3 },
+];
+
+#[test]
+fn columns_need_the_greatest_part_of_a_cell(rt: HostRuntime) -> Result<(), Fail> {
+    let needs = column_needs(rt.alloc(), 2, &CELLS)?;
+    assert_eq!(rt; needs.as_slice(), NEEDS.as_slice());
+    Ok(())
+}
+
+#[test]
+fn columns_stand_side_by_side_where_they_fit(rt: HostRuntime) -> Result<(), Fail> {
+    assert!(rt; !stand_side_by_side(&NEEDS, 6));
+    assert!(rt; stand_side_by_side(&NEEDS, 7));
+    assert!(rt; widths_across(rt.alloc(), &NEEDS, 6)?.is_none());
+    let Some(widths) = widths_across(rt.alloc(), &NEEDS, 9)? else {
+        return Err("the columns fit".into());
+    };
+    assert_eq!(rt; widths.as_slice(), [5, 3].as_slice());
+    Ok(())
 }

@@ -1,9 +1,10 @@
 //! The greatest of the values that stand over each column, where a value may stand over many columns.
 
-ghost use Rattle.std.specs.Prelude.{◌≡◌, ◌≤◌, ◌<◌, ◌+◌, ◌-◌, ◌*◌, ◌==◌, ℕ, length, max, slice_index, if◌then◌else◌, IfOk};
+ghost use Rattle.std.specs.Prelude.{◌≡◌, ◌≤◌, ◌<◌, ◌+◌, ◌-◌, ◌*◌, ◌==◌, ℕ, length, max, slice_index, if◌then◌else◌, IfOk, IfErr};
 ghost use Rattle.html_render_parts.specs.Spans.{AreOver, AreGreatest};
 ghost use Rattle.html_render_parts.specs.SpanSteps.{IsSpread, split_at, raised_at};
 
+use html_render_dom::Error;
 use std::alloc::{AllocError, Global};
 
 /// A value over columns beside each other.
@@ -103,13 +104,10 @@ fn add_all(values: &mut Vec<usize>, spans: &[Span], columns: usize, longer: usiz
 ///
 /// `OutOfMemory`.
 #[tactic(auto, using(crate::proofs::Spreading::begun, crate::proofs::Spreading::split_spread, crate::proofs::Spreading::ended))]
-pub fn greatest_values(
-    alloc: Global,
-    columns: usize,
-    spans: &[Span],
-) -> Result<Vec<usize>, AllocError>
+pub fn greatest_values(alloc: Global, columns: usize, spans: &[Span]) -> Result<Vec<usize>, Error>
     requires { AreOver columns spans.now }
-    ensures { IfOk result (λ values. AreGreatest columns spans.now values.items) }
+    ensures ok { IfOk result (λ values. AreGreatest columns spans.now values.items) }
+    ensures err { IfErr result (λ e. e ≡ Error.OutOfMemory) }
 {
     let mut values = zeros(alloc, columns)?;
     let mut longer = columns + 1;

@@ -15,8 +15,8 @@ add_all-requires-clause-spread c =
     (omega (arith, c.loop-longer-test.true)) (omega (arith, c.loop-longer-test.true)) (omega (arith, c.loop-longer-test.true)) places
     c.split.ensures.each spread)
 
-pub returns : goal.returns
-returns c =
+pub returns-clause-ok : goal.returns-clause-ok
+returns-clause-ok c =
     let spread = c.loop-longer.invariant in
     let one : c.loop-longer.longer ≡ 1 = omega (arith, c.loop-longer-test.false, spread.1) in
     ended c.args.columns c.args.spans.now c.loop-longer.values.items
