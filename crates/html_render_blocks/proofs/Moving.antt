@@ -2,24 +2,8 @@
 use Rattle.std.proofs.Common.{◌≡◌, ℕ, Bool, true, false, cond, leb, ◌||◌, ◌&&◌, List, [], ◌∷◌, ◌++◌, Option, Some, None, option_map, refl}
 use Rattle.std.proofs.Common.{ap, ◌∙◌, sym}
 use Rattle.std.proofs.Common.{append_assoc, append-nil}
-use Rattle.html_render_lines.specs.Line.{Line, columns, marks_line}
-use Rattle.html_render_blocks.specs.Joined.{behind, prefixed, marked_behind, are_within, fitting}
-
-pub marked_behind-end : {T M : Type 0} (ms : List M) (ls : List (Line T M)) (l : Line T M) →
-    marked_behind ms (ls ++ l ∷ []) ≡ ls ++ (l ++ marks_line ms) ∷ []
-marked_behind-end ms [] l = refl
-marked_behind-end ms (k ∷ []) l = refl
-marked_behind-end ms (k ∷ j ∷ ls) l = ap (λ x. k ∷ x) (marked_behind-end ms (j ∷ ls) l)
-
-pub marked_behind-none : {T M : Type 0} (ms : List M) (ls : List (Line T M)) → ms ≡ [] → marked_behind ms ls ≡ ls
-marked_behind-none ms ls none = ap (λ ns. marked_behind ns ls) none ∙ by ls
-  where
-    by : {T M : Type 0} (ls : List (Line T M)) → marked_behind {M = M} [] ls ≡ ls
-    by [] = refl
-    by (l ∷ []) = ap (λ x. x ∷ []) (append-nil l)
-    by (l ∷ k ∷ ls) = ap (λ x. l ∷ x) (by (k ∷ ls))
-
-pub ruleset ends = (marked_behind-end, marked_behind-none)
+use Rattle.html_render_lines.specs.Line.{Line, columns}
+use Rattle.html_render_blocks.specs.Joined.{behind, prefixed, are_within, fitting}
 
 -- the lines done, and more behind prefixes, one by one
 abbrev pub added : {T M : Type 0} → ℕ → Bool → Line T M → Line T M → List (Line T M) → List (Line T M) → Option (List (Line T M))

@@ -1,6 +1,6 @@
 -- THE DEFINITION of a block: its finished lines, and all that was fed to its open paragraph. The block that the code
 -- keeps has operations of the same names, in BlockMachine.
-use Rattle.std.specs.Prelude.{ℕ, ◌-◌, max, min, nat_le, Bool, true, false, not, ◌||◌, List, [], ◌∷◌, ◌++◌, map, length, ◌==◌}
+use Rattle.std.specs.Prelude.{ℕ, ◌-◌, max, min, nat_le, Bool, true, false, not, ◌||◌, ◌&&◌, List, [], ◌∷◌, ◌++◌, map, length, ◌==◌}
 use Rattle.std.specs.Prelude.{Option, Some, None, option_map, if◌then◌else◌}
 use Rattle.std.specs.List.{list_all}
 use Rattle.html_render_dom.specs.Outcome.{◌>>=◌}
@@ -16,9 +16,19 @@ use Rattle.html_render_lines.specs.Stream.{styled}
 use Rattle.html_render_lines.specs.TaggedText.{under}
 use Rattle.html_render_blocks.specs.declared.block.BlockSetting.{BlockSetting}
 use Rattle.html_render_blocks.specs.Closing.{line_setting, closing_lines}
-use Rattle.html_render_blocks.specs.Joined.{joined, marked_before, marked_behind}
+use Rattle.html_render_blocks.specs.Joined.{joined}
+use Rattle.html_render_pictures.specs.Marked.{marked_before, marked_behind}
 use Rattle.html_render_blocks.specs.Operations.{Operations, Ending}
-use Rattle.html_render_blocks.specs.Padding.{filled}
+use Rattle.html_render_blocks.specs.declared.block.tables.OpenTable.{OpenTable}
+use Rattle.html_render_blocks.specs.declared.block.tables.OpenTable.TheVariants.{Across, Stacked}
+use Rattle.html_render_blocks.specs.OpenRows.{with_cell}
+use Rattle.html_render_blocks.specs.Tables.{Rows, defined_pictures, frame_of, rule, stacked_border, with_row_open, next_cell_width, skipped}
+use Rattle.html_render_blocks.specs.Tables.{with_open}
+use Rattle.html_render_parts.specs.declared.widths.needs.CellNeed.{CellNeed}
+use Rattle.html_render_parts.specs.Needs.{standing_widths}
+use Rattle.html_render_nodes.specs.declared.tree.Slot.{Slot}
+use Rattle.html_render_pictures.specs.Padding.{filled}
+use Rattle.html_render_pictures.specs.Picture.{KeptCell, is_empty}
 
 -- the columns of a paragraph's lines: those of its block, or fewer
 abbrev pub wrap_width : ℕ → Option ℕ → ℕ
@@ -30,7 +40,7 @@ abbrev pub paragraph_setting : BlockSetting → Setting
 paragraph_setting s = record { width = wrap_width s.width s.max_wrap_width; overflow = s.overflow }
 
 -- the tag of the spaces that lines of paragraphs are filled with, if they are; the finished lines, the marks that wait, what
--- was fed to the open paragraph behind them, and whether a block ended here
+-- was fed to the open paragraph behind them, whether a block ended here, and the table that is open, if one is
 pub record DefinedBlock (T M : Type 0) : Type 0 where
   pub setting : BlockSetting
   pub padding : Option T
@@ -38,10 +48,11 @@ pub record DefinedBlock (T M : Type 0) : Type 0 where
   pub marks : List M
   pub fed : List (Item T M)
   pub at_block_end : Bool
+  pub table : Option (OpenTable (Rows T M) T M)
 
 -- a block without lines
 abbrev pub empty_block : {T M : Type 0} → BlockSetting → (padding : Option T) → DefinedBlock T M
-empty_block s padding = record { setting = s; padding = padding; lines = []; marks = []; fed = []; at_block_end = false }
+empty_block s padding = record { setting = s; padding = padding; lines = []; marks = []; fed = []; at_block_end = false; table = None }
 
 -- the lines of the open paragraph are added to those of the block, filled up to its width if there is padding; marks that no
 -- character of it follows wait on
@@ -128,11 +139,114 @@ append_lines {T} {M} d first later (l ∷ ls) ms =
     option_map (λ (all : List (Line T M)). record d { lines = d.lines ++ all; marks = [] })
     (joined d.setting.width d.setting.overflow d.marks first later (l ∷ ls) ms)
 
+-- ---- tables
+
+-- a picture's lines behind those of the block; the marks that wait behind it wait on
+abbrev pub with_picture : {T M : Type 0} → DefinedBlock T M → List (Line T M) × List M → DefinedBlock T M
+with_picture d p = add_marks (record d { lines = d.lines ++ p.0; table = None }) p.1
+
+-- the table that is open is over, if one is
+abbrev pub end_open : {T M : Type 0} → DefinedBlock T M → Option (OpenTable (Rows T M) T M) → DefinedBlock T M
+end_open d None = d
+end_open d (Some (Across picture widths row)) = with_picture d (defined_pictures.finished (with_open defined_pictures picture row))
+end_open d (Some (Stacked border has_lines)) = record d { table = None }
+
+abbrev pub end_table : {T M : Type 0} → DefinedBlock T M → DefinedBlock T M
+end_table d = end_open d d.table
+
+-- lines that are added as they are: the marks that wait stand at the front of the first
+abbrev pub add_lines : {T M : Type 0} → DefinedBlock T M → List (Line T M) → DefinedBlock T M
+add_lines d ls = record d { lines = d.lines ++ marked_before d.marks ls; marks = [] }
+
+-- a line of one character, as wide as the block
+abbrev pub add_rule : {T M : Type 0} → DefinedBlock T M → T → (character : ℕ) → DefinedBlock T M
+add_rule d tag character = add_lines d (rule tag character d.setting.width ∷ [])
+
+-- a border, if borders are drawn
+abbrev pub add_border : {T M : Type 0} → DefinedBlock T M → Option T → (character : ℕ) → DefinedBlock T M
+add_border d None character = d
+add_border d (Some tag) character = add_rule d tag character
+
+-- a flushed block with a table whose cells stand one below another, and with one whose columns have these widths
+abbrev pub stacked_begun : {T M : Type 0} → DefinedBlock T M → Option T → DefinedBlock T M
+stacked_begun d border = record (add_border d border 0x2500) { table = Some (Stacked border false) }
+
+abbrev pub table_begun : {T M : Type 0} → DefinedBlock T M → T → (borders : Bool) → Option (List ℕ) → DefinedBlock T M
+table_begun d tag borders None = stacked_begun d (stacked_border tag borders d.setting.width)
+table_begun d tag borders (Some widths) =
+    record d { marks = []; table = Some (Across (defined_pictures.begun (frame_of tag borders widths) d.marks) widths None) }
+
+-- a table of so many columns begins, with borders under this tag if there are any. Its cells need so much, and stand one below
+-- another where the columns can't stand side by side, or where they are to
+abbrev pub begin_table : {T M : Type 0} → DefinedBlock T M → T → (borders stacked : Bool) → (columns : ℕ) → List CellNeed →
+    Option (DefinedBlock T M)
+begin_table {T} {M} d tag borders stacked columns cells = option_map
+    (λ (e : DefinedBlock T M). table_begun e tag borders (if stacked then None else standing_widths columns cells e.setting.width))
+    (flush (end_table d))
+
+-- a row begins, in which this stands
+abbrev pub begin_row : {T M : Type 0} → DefinedBlock T M → List Slot → DefinedBlock T M
+begin_row d slots = record d { table = option_map (with_row_open slots) d.table }
+
+-- an empty block for the row's next cell; none where the cell is skipped
+abbrev pub cell_block : {T M : Type 0} → DefinedBlock T M → Option (DefinedBlock T M)
+cell_block {T} {M} d =
+    option_map (λ (w : ℕ). empty_block (record d.setting { width = w }) d.padding) (next_cell_width d.setting.width d.table)
+
+-- the next cell is skipped
+abbrev pub skip_cell : {T M : Type 0} → DefinedBlock T M → DefinedBlock T M
+skip_cell d = record d { table = option_map skipped d.table }
+
+-- a flushed block as a cell
+abbrev pub kept_cell : {T M : Type 0} → DefinedBlock T M → KeptCell T M
+kept_cell d = record { width = d.setting.width; lines = d.lines; marks = d.marks }
+
+-- the lines of a flushed block behind the block's own
+abbrev pub put_below : {T M : Type 0} → DefinedBlock T M → DefinedBlock T M → Option (DefinedBlock T M)
+put_below d cell = append_lines d [] [] cell.lines cell.marks
+
+-- a cell below others of its row: where there are lines above it and it has some more, a line of `/` stands between them
+abbrev pub put_stacked : {T M : Type 0} → DefinedBlock T M → Option T → (has_lines more : Bool) → DefinedBlock T M → Option (DefinedBlock T M)
+put_stacked {T} {M} d border has_lines more cell = option_map
+    (λ (e : DefinedBlock T M). record e { table = Some (Stacked border (has_lines || more)) })
+    (put_below (if has_lines && more then add_border d border 0x2F else d) cell)
+
+-- the next cell is this flushed block
+abbrev pub cell_added : {T M : Type 0} → DefinedBlock T M → Option (OpenTable (Rows T M) T M) → DefinedBlock T M → Option (DefinedBlock T M)
+cell_added d None cell = do
+  e ← flush d
+  put_below e cell
+cell_added d (Some (Across picture widths None)) cell = do
+  e ← flush d
+  put_below e cell
+cell_added d (Some (Across picture widths (Some row))) cell =
+    Some (record d { table = Some (Across picture widths (Some (with_cell row (kept_cell cell ∷ [])))) })
+cell_added d (Some (Stacked border has_lines)) cell = do
+  e ← flush d
+  put_stacked e border has_lines (not (is_empty cell.lines)) cell
+
+-- the next cell is this block
+abbrev pub add_cell : {T M : Type 0} → DefinedBlock T M → DefinedBlock T M → Option (DefinedBlock T M)
+add_cell d cell = do
+  c ← flush (end_table cell)
+  cell_added d d.table c
+
+-- the row that is open is over: below a row of cells one below another that have lines, there is a border
+abbrev pub row_ended : {T M : Type 0} → DefinedBlock T M → Option (OpenTable (Rows T M) T M) → Option (DefinedBlock T M)
+row_ended d None = Some d
+row_ended d (Some (Across picture widths row)) = Some (record d { table = Some (Across (with_open defined_pictures picture row) widths None) })
+row_ended {T} {M} d (Some (Stacked border true)) =
+    option_map (λ (e : DefinedBlock T M). record (add_border e border 0x2500) { table = Some (Stacked border false) }) (flush d)
+row_ended d (Some (Stacked border false)) = Some d
+
+abbrev pub end_row : {T M : Type 0} → DefinedBlock T M → Option (DefinedBlock T M)
+end_row d = row_ended d d.table
+
 -- both blocks are flushed, and each line of the other stands behind its prefix
 abbrev pub append : {T M : Type 0} → DefinedBlock T M → DefinedBlock T M → T → List ℕ → List ℕ → Option (DefinedBlock T M)
 append d other tag first later = do
   d ← flush d
-  other ← flush other
+  other ← flush (end_table other)
   append_lines d (under tag first) (under tag later) other.lines other.marks
 
 -- ---- a document's end
@@ -144,11 +258,7 @@ end_behind d (l ∷ ls) = record d { lines = marked_behind d.marks (l ∷ ls); m
 
 -- the end: flushed, with the marks that wait at the end of the last line
 abbrev pub finish : {T M : Type 0} → DefinedBlock T M → Option (DefinedBlock T M)
-finish {T} {M} d = option_map (λ (e : DefinedBlock T M). end_behind e e.lines) (flush d)
-
--- lines that are added as they are: the marks that wait stand at the front of the first
-abbrev pub add_lines : {T M : Type 0} → DefinedBlock T M → List (Line T M) → DefinedBlock T M
-add_lines d ls = record d { lines = d.lines ++ marked_before d.marks ls; marks = [] }
+finish {T} {M} d = option_map (λ (e : DefinedBlock T M). end_behind e e.lines) (flush (end_table d))
 
 -- texts that close the document, if there are any: a block of lines, cut at the block's width or left whole
 abbrev pub add_closing_lines : {T M : Type 0} → DefinedBlock T M → (cut : Bool) → T → List (List ℕ) → Option (DefinedBlock T M)
@@ -169,6 +279,13 @@ operations = record {
   end_block = end_block;
   sub_block = sub_block;
   append = append;
+  begin_table = begin_table;
+  begin_row = begin_row;
+  cell_block = cell_block;
+  add_cell = add_cell;
+  skip_cell = skip_cell;
+  end_row = end_row;
+  end_table = end_table;
 }
 
 -- those that a document ends with

@@ -1,6 +1,6 @@
 -- THE MACHINE: a block whose open paragraph is fed character by character, which is what the code's block is. Its
 -- operations have the names of those of the definition on whole lists, in Block.
-use Rattle.std.specs.Prelude.{ℕ, Bool, true, false, not, List, [], ◌∷◌, ◌++◌, length, ◌==◌}
+use Rattle.std.specs.Prelude.{ℕ, Bool, true, false, not, ◌||◌, ◌&&◌, List, [], ◌∷◌, ◌++◌, length, ◌==◌}
 use Rattle.std.specs.Prelude.{Option, Some, None, option_map, option_and_then, if◌then◌else◌}
 use Rattle.html_render_dom.specs.Outcome.{◌>>=◌}
 use Rattle.html_render_lines.specs.declared.character.Item.TheVariants.{Mark}
@@ -11,23 +11,35 @@ use Rattle.html_render_lines.specs.Stream.{State, start, step, after, finished, 
 use Rattle.html_render_lines.specs.TaggedText.{under}
 use Rattle.html_render_blocks.specs.declared.block.BlockSetting.{BlockSetting}
 use Rattle.html_render_blocks.specs.Operations.{Operations, Ending}
-use Rattle.html_render_blocks.specs.Padding.{filled}
+use Rattle.html_render_blocks.specs.declared.block.tables.OpenTable.{OpenTable}
+use Rattle.html_render_blocks.specs.declared.block.tables.OpenTable.TheVariants.{Across, Stacked}
+use Rattle.html_render_blocks.specs.OpenRows.{with_cell}
+use Rattle.html_render_blocks.specs.Tables.{drawn_pictures, frame_of, rule, stacked_border, with_row_open, next_cell_width, skipped, with_open}
+use Rattle.html_render_parts.specs.declared.widths.needs.CellNeed.{CellNeed}
+use Rattle.html_render_parts.specs.Needs.{standing_widths}
+use Rattle.html_render_nodes.specs.declared.tree.Slot.{Slot}
+use Rattle.html_render_pictures.specs.Picture.{KeptCell, is_empty}
+use Rattle.html_render_pictures.specs.Drawing.{Drawing}
+use Rattle.html_render_pictures.specs.Padding.{filled}
 use Rattle.html_render_blocks.specs.Closing.{line_setting, closing_lines}
-use Rattle.html_render_blocks.specs.Joined.{joined, marked_before, marked_behind}
+use Rattle.html_render_blocks.specs.Joined.{joined}
+use Rattle.html_render_pictures.specs.Marked.{marked_before, marked_behind}
 use Rattle.html_render_blocks.specs.Block.{is_blank, paragraph_setting, inner_width, mark_items}
 
--- a block of the machine; the open paragraph is none once a character was too wide for it
+-- a block of the machine; the open paragraph is none once a character was too wide for it. A table that is open is drawn
+-- row by row
 pub record MachineBlock (T M : Type 0) : Type 0 where
   pub setting : BlockSetting
   pub padding : Option T
   pub lines : List (Line T M)
   pub paragraph : Option (State T M)
   pub at_block_end : Bool
+  pub table : Option (OpenTable (Drawing T M) T M)
 
 -- a block without lines
 abbrev pub empty_block : {T M : Type 0} → BlockSetting → (padding : Option T) → MachineBlock T M
 empty_block s padding =
-    record { setting = s; padding = padding; lines = []; paragraph = Some (start (paragraph_setting s) []); at_block_end = false }
+    record { setting = s; padding = padding; lines = []; paragraph = Some (start (paragraph_setting s) []); at_block_end = false; table = None }
 
 -- the lines of a paragraph, filled, behind other lines, and the next paragraph, which the marks that wait begin
 abbrev pub flushed_filled : {T M : Type 0} → T → (width : ℕ) → Setting → List (Line T M) → Page T M → List (Line T M) × State T M
@@ -118,11 +130,117 @@ append_lines {T} {M} b first later (l ∷ ls) ms =
     option_map (λ (all : List (Line T M)). record b { lines = b.lines ++ all; paragraph = take_waiting b.paragraph })
     (joined b.setting.width b.setting.overflow (waiting b.paragraph) first later (l ∷ ls) ms)
 
+-- ---- tables
+
+-- a picture's lines behind those of the block; the marks that wait behind it wait on
+abbrev pub with_picture : {T M : Type 0} → MachineBlock T M → List (Line T M) × List M → MachineBlock T M
+with_picture b p = add_marks (record b { lines = b.lines ++ p.0; table = None }) p.1
+
+-- the table that is open is over, if one is
+abbrev pub end_open : {T M : Type 0} → MachineBlock T M → Option (OpenTable (Drawing T M) T M) → MachineBlock T M
+end_open b None = b
+end_open b (Some (Across picture widths row)) = with_picture b (drawn_pictures.finished (with_open drawn_pictures picture row))
+end_open b (Some (Stacked border has_lines)) = record b { table = None }
+
+abbrev pub end_table : {T M : Type 0} → MachineBlock T M → MachineBlock T M
+end_table b = end_open b b.table
+
+-- lines that are added as they are: the marks that wait stand at the front of the first
+abbrev pub add_lines : {T M : Type 0} → MachineBlock T M → List (Line T M) → MachineBlock T M
+add_lines b ls = record b { lines = b.lines ++ marked_before (waiting b.paragraph) ls; paragraph = take_waiting b.paragraph }
+
+-- a line of one character, as wide as the block
+abbrev pub add_rule : {T M : Type 0} → MachineBlock T M → T → (character : ℕ) → MachineBlock T M
+add_rule b tag character = add_lines b (rule tag character b.setting.width ∷ [])
+
+-- a border, if borders are drawn
+abbrev pub add_border : {T M : Type 0} → MachineBlock T M → Option T → (character : ℕ) → MachineBlock T M
+add_border b None character = b
+add_border b (Some tag) character = add_rule b tag character
+
+-- a flushed block with a table whose cells stand one below another, and with one whose columns have these widths
+abbrev pub stacked_begun : {T M : Type 0} → MachineBlock T M → Option T → MachineBlock T M
+stacked_begun b border = record (add_border b border 0x2500) { table = Some (Stacked border false) }
+
+abbrev pub table_begun : {T M : Type 0} → MachineBlock T M → T → (borders : Bool) → Option (List ℕ) → MachineBlock T M
+table_begun b tag borders None = stacked_begun b (stacked_border tag borders b.setting.width)
+table_begun b tag borders (Some widths) =
+    record b {
+      paragraph = take_waiting b.paragraph;
+      table = Some (Across (drawn_pictures.begun (frame_of tag borders widths) (waiting b.paragraph)) widths None);
+    }
+
+-- a table of so many columns begins, with borders under this tag if there are any. Its cells need so much, and stand one below
+-- another where the columns can't stand side by side, or where they are to
+abbrev pub begin_table : {T M : Type 0} → MachineBlock T M → T → (borders stacked : Bool) → (columns : ℕ) → List CellNeed →
+    Option (MachineBlock T M)
+begin_table {T} {M} b tag borders stacked columns cells = option_map
+    (λ (e : MachineBlock T M). table_begun e tag borders (if stacked then None else standing_widths columns cells e.setting.width))
+    (flush (end_table b))
+
+-- a row begins, in which this stands
+abbrev pub begin_row : {T M : Type 0} → MachineBlock T M → List Slot → MachineBlock T M
+begin_row b slots = record b { table = option_map (with_row_open slots) b.table }
+
+-- an empty block for the row's next cell; none where the cell is skipped
+abbrev pub cell_block : {T M : Type 0} → MachineBlock T M → Option (MachineBlock T M)
+cell_block {T} {M} b =
+    option_map (λ (w : ℕ). empty_block (record b.setting { width = w }) b.padding) (next_cell_width b.setting.width b.table)
+
+-- the next cell is skipped
+abbrev pub skip_cell : {T M : Type 0} → MachineBlock T M → MachineBlock T M
+skip_cell b = record b { table = option_map skipped b.table }
+
+-- a flushed block as a cell
+abbrev pub kept_cell : {T M : Type 0} → MachineBlock T M → KeptCell T M
+kept_cell b = record { width = b.setting.width; lines = b.lines; marks = waiting b.paragraph }
+
+-- the lines of a flushed block behind the block's own
+abbrev pub put_below : {T M : Type 0} → MachineBlock T M → MachineBlock T M → Option (MachineBlock T M)
+put_below b cell = append_lines b [] [] cell.lines (waiting cell.paragraph)
+
+-- a cell below others of its row: where there are lines above it and it has some more, a line of `/` stands between them
+abbrev pub put_stacked : {T M : Type 0} → MachineBlock T M → Option T → (has_lines more : Bool) → MachineBlock T M → Option (MachineBlock T M)
+put_stacked {T} {M} b border has_lines more cell = option_map
+    (λ (e : MachineBlock T M). record e { table = Some (Stacked border (has_lines || more)) })
+    (put_below (if has_lines && more then add_border b border 0x2F else b) cell)
+
+-- the next cell is this flushed block
+abbrev pub cell_added : {T M : Type 0} → MachineBlock T M → Option (OpenTable (Drawing T M) T M) → MachineBlock T M → Option (MachineBlock T M)
+cell_added b None cell = do
+  e ← flush b
+  put_below e cell
+cell_added b (Some (Across picture widths None)) cell = do
+  e ← flush b
+  put_below e cell
+cell_added b (Some (Across picture widths (Some row))) cell =
+    Some (record b { table = Some (Across picture widths (Some (with_cell row (kept_cell cell ∷ [])))) })
+cell_added b (Some (Stacked border has_lines)) cell = do
+  e ← flush b
+  put_stacked e border has_lines (not (is_empty cell.lines)) cell
+
+-- the next cell is this block
+abbrev pub add_cell : {T M : Type 0} → MachineBlock T M → MachineBlock T M → Option (MachineBlock T M)
+add_cell b cell = do
+  c ← flush (end_table cell)
+  cell_added b b.table c
+
+-- the row that is open is over: below a row of cells one below another that have lines, there is a border
+abbrev pub row_ended : {T M : Type 0} → MachineBlock T M → Option (OpenTable (Drawing T M) T M) → Option (MachineBlock T M)
+row_ended b None = Some b
+row_ended b (Some (Across picture widths row)) = Some (record b { table = Some (Across (with_open drawn_pictures picture row) widths None) })
+row_ended {T} {M} b (Some (Stacked border true)) =
+    option_map (λ (e : MachineBlock T M). record (add_border e border 0x2500) { table = Some (Stacked border false) }) (flush b)
+row_ended b (Some (Stacked border false)) = Some b
+
+abbrev pub end_row : {T M : Type 0} → MachineBlock T M → Option (MachineBlock T M)
+end_row b = row_ended b b.table
+
 -- both blocks are flushed, and each line of the other stands behind its prefix
 abbrev pub append : {T M : Type 0} → MachineBlock T M → MachineBlock T M → T → List ℕ → List ℕ → Option (MachineBlock T M)
 append b other tag first later = do
   b ← flush b
-  other ← flush other
+  other ← flush (end_table other)
   append_lines b (under tag first) (under tag later) other.lines (waiting other.paragraph)
 
 -- ---- a document's end
@@ -134,11 +252,7 @@ end_behind b (l ∷ ls) = record b { lines = marked_behind (waiting b.paragraph)
 
 -- the end: flushed, with the marks that wait at the end of the last line
 abbrev pub finish : {T M : Type 0} → MachineBlock T M → Option (MachineBlock T M)
-finish {T} {M} b = option_map (λ (c : MachineBlock T M). end_behind c c.lines) (flush b)
-
--- lines that are added as they are: the marks that wait stand at the front of the first
-abbrev pub add_lines : {T M : Type 0} → MachineBlock T M → List (Line T M) → MachineBlock T M
-add_lines b ls = record b { lines = b.lines ++ marked_before (waiting b.paragraph) ls; paragraph = take_waiting b.paragraph }
+finish {T} {M} b = option_map (λ (c : MachineBlock T M). end_behind c c.lines) (flush (end_table b))
 
 -- texts that close the document, if there are any: a block of lines, cut at the block's width or left whole
 abbrev pub add_closing_lines : {T M : Type 0} → MachineBlock T M → (cut : Bool) → T → List (List ℕ) → Option (MachineBlock T M)
@@ -159,6 +273,13 @@ operations = record {
   end_block = end_block;
   sub_block = sub_block;
   append = append;
+  begin_table = begin_table;
+  begin_row = begin_row;
+  cell_block = cell_block;
+  add_cell = add_cell;
+  skip_cell = skip_cell;
+  end_row = end_row;
+  end_table = end_table;
 }
 
 -- those that a document ends with

@@ -2,6 +2,7 @@
 use Rattle.std.specs.Prelude.{ℕ, Bool, ◌||◌, nat_le, List, [], ◌∷◌, ◌++◌, Option, Some, None, map, option_map, if◌then◌else◌}
 use Rattle.std.specs.List.{list_all}
 use Rattle.html_render_lines.specs.Line.{Line, columns, marks_line}
+use Rattle.html_render_pictures.specs.Marked.{marked_behind}
 
 -- each line behind a prefix
 abbrev pub behind : {T M : Type 0} → Line T M → List (Line T M) → List (Line T M)
@@ -11,17 +12,6 @@ behind {T} {M} prefix lines = map (λ (l : Line T M). prefix ++ l) lines
 abbrev pub prefixed : {T M : Type 0} → Line T M → Line T M → List (Line T M) → List (Line T M)
 prefixed first later [] = []
 prefixed first later (l ∷ ls) = (first ++ l) ∷ behind later ls
-
--- marks at the end of the last line
-abbrev pub marked_behind : {T M : Type 0} → List M → List (Line T M) → List (Line T M)
-marked_behind ms [] = []
-marked_behind ms (l ∷ []) = (l ++ marks_line ms) ∷ []
-marked_behind ms (l ∷ k ∷ ls) = l ∷ marked_behind ms (k ∷ ls)
-
--- marks at the front of the first line
-abbrev pub marked_before : {T M : Type 0} → List M → List (Line T M) → List (Line T M)
-marked_before ms [] = []
-marked_before ms (l ∷ ls) = (marks_line ms ++ l) ∷ ls
 
 -- no line is wider
 abbrev pub are_within : {T M : Type 0} → ℕ → List (Line T M) → Bool

@@ -2,7 +2,8 @@
 pub mod Operations
 pub mod Joined
 pub mod Closing
-pub mod Padding
+pub mod OpenRows
+pub mod Tables
 pub mod Block
 pub mod BlockMachine
 -- its visible characters

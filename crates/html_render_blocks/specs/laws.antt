@@ -2,13 +2,14 @@
 pub mod Operations
 -- facts on values that may be missing, and on choices
 pub mod Cases
--- padding leaves tags, widths and visible characters as they are
-pub mod Padding
 -- the operations don't depend on the tags
+pub mod TableTags
 pub mod BlockTags
 -- a block that was fed is the definition's
+pub mod TableFed
 pub mod BlockFed
 -- without overflow no line passes the width, and with it no operation refuses
+pub mod TableWithin
 pub mod BlockLaws
 -- overflow gives the same lines
 pub mod BlockOverflow

@@ -16,20 +16,23 @@ ghost use Rattle.html_render_blocks.specs.Joined.{moved};
 ghost use Rattle.html_render_blocks.specs.Block.{is_blank, mark_items, wrap_width, inner_width};
 ghost use Rattle.html_render_blocks.specs.BlockMachine as machine;
 
-use crate::finished::{mark_behind, put_marks_front};
 use html_render_dom::Error;
 use html_render_dom::style::WhiteSpace;
 use html_render_lines::character::{TextStyle, is_collapsible};
 use html_render_lines::line::{Line, text_columns};
 use html_render_lines::paragraph::Paragraph;
 use html_render_lines::tag::Tag;
+use html_render_pictures::finished::{mark_behind, put_marks_front};
+use html_render_pictures::picture::Picture;
 use padding::flush_filled;
 use std::alloc::{AllocError, Global};
 use std::marker::Model;
 use std::mem;
+use tables::OpenTable;
 
 mod closing;
 mod padding;
+mod tables;
 
 /// How wide a block is, and whether what is wider is laid out nevertheless.
 #[derive(Clone, Copy, Debug)]
@@ -58,9 +61,12 @@ pub struct Block<T, M> {
     paragraph: Option<Paragraph<T, M>>,
     /// Whether a block ended here.
     at_block_end: bool,
+    /// The table that is open, if one is.
+    table: Option<Box<OpenTable<Picture<T, M>, T, M>>>,
 }
 
 impl<T, M> Model for Block<T, M> {
+    ghost use Rattle.std.specs.Prelude.{option_map};
     ghost use Rattle.html_render_blocks.specs.BlockMachine.{MachineBlock};
 
     ghost Value = { MachineBlock T M };
@@ -71,6 +77,7 @@ impl<T, M> Model for Block<T, M> {
       lines = b.lines.items;
       paragraph = b.paragraph;
       at_block_end = b.at_block_end;
+      table = option_map (λ t. t.value) b.table;
     } };
 }
 
@@ -164,6 +171,7 @@ impl<T: Tag, M: Copy> Block<T, M> {
             lines: Vec::new(alloc),
             paragraph,
             at_block_end: false,
+            table: None,
         }
     }
 
@@ -459,7 +467,8 @@ impl<T: Tag, M: Copy> Block<T, M> {
         )
     }
 
-    /// Adds the lines of a block inside this one, each behind a prefix under a tag; both blocks are flushed first. Marks
+    /// Adds the lines of a block inside this one, each behind a prefix under a tag; both blocks are flushed first, and a table
+    /// that is open in the other is over. Marks
     /// that wait in this block stand before the first prefix, and those that wait in the other at the end of its last
     /// line; where it has no line, they wait on here.
     ///
@@ -467,7 +476,7 @@ impl<T: Tag, M: Copy> Block<T, M> {
     ///
     /// `TooNarrow`, as in [`flush`](Block::flush) of either block, and where a line behind its prefix passes the width,
     /// with overflow off. `OutOfMemory`.
-    #[tactic(auto, using(html_render_dom::specs::laws::Outcome::refusals))]
+    #[tactic(auto, using(html_render_dom::specs::laws::Outcome::refusals, crate::proofs::Appending::append_unflushed))]
     pub fn append(
         &mut self,
         mut sub: Block<T, M>,
@@ -479,7 +488,7 @@ impl<T: Tag, M: Copy> Block<T, M> {
         ensures err { IfErr result (λ e. Refuses e (machine.append self.old sub tag (chars first.now) (chars later.now))) }
     {
         self.flush()?;
-        sub.flush()?;
+        sub.flush_whole()?;
         let end = sub.take_waiting();
         let lines = sub.take_lines();
         self.append_lines(lines, end.as_slice(), tag, first, later)

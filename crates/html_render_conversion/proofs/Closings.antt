@@ -1,20 +1,24 @@
 -- What an element gives when it is closed: what its mark and its contents were put beside, in one vector, is what they were
 -- inserted into.
-use Rattle.std.proofs.Common.{◌≡◌, ◌≢◌, ℕ, ◌+◌, ◌==◌, inl, inr, Bool, true, false, not, ◌||◌, if◌then◌else◌, List, Option, Some, None, is_some, option_map}
+use Rattle.std.proofs.Common.{◌≡◌, ◌≢◌, ℕ, ◌+◌, ◌==◌, inl, inr, Bool, true, false, not, ◌&&◌, ◌||◌, if◌then◌else◌, List, Option, Some, None, is_some}
+use Rattle.std.proofs.Common.{option_map}
 use Rattle.std.proofs.Common.{refl, sym, ap, ◌∙◌, arith}
 use Rattle.std.proofs.lemmas.Bool.{cases_Bool}
 use borrow.Author.Tests.{eq-eqb, ne_eqb}
 use Rattle.html_render_dom.specs.Forest.{Forest, none, node, count, followed_by}
 use Rattle.html_render_nodes.specs.declared.tree.NodeKind.{NodeKind}
-use Rattle.html_render_nodes.specs.declared.tree.NodeKind.TheVariants.{Container}
+use Rattle.html_render_nodes.specs.declared.tree.NodeKind.TheVariants.{Container, Table, TableRow, Part}
+use Rattle.html_render_nodes.specs.declared.tree.Part.{Part as TablePart}
+use Rattle.html_render_nodes.specs.declared.tree.Part.TheVariants as part
 use Rattle.html_render_nodes.specs.declared.tree.RenderNode.{RenderNode}
 use Rattle.html_render_nodes.specs.RenderNodes.{without_style}
 use Rattle.html_render_nodes.specs.Splits.{SplitAt}
 use Rattle.html_render_nodes.specs.laws.Splits.{followed_by-none, followed_by-followed_by, count-followed_by}
 use Rattle.html_render_conversion.specs.declared.convert.Open.{Open}
-use Rattle.html_render_conversion.specs.Insertion.{Tree, in_front, holds_insertions, container, insert_first, insert_last, text_node, with_before}
+use Rattle.html_render_conversion.specs.Insertion.{Tree, are_any, in_front, holds_insertions, part_admits_insertions, admits_insertions, is_open}
+use Rattle.html_render_conversion.specs.Insertion.{container, insert_first, insert_last, text_node, with_before}
 use Rattle.html_render_conversion.specs.Insertion.{with_after, with_contents, fragment_start, with_mark, marked}
-use Rattle.html_render_conversion.specs.Conversion.{are_any, vanishes}
+use Rattle.html_render_conversion.specs.Conversion.{vanishes}
 use Rattle.html_render_conversion.specs.Converting.{Progress, received, is_kept, with_result, has_insertions, kind_with}
 use Rattle.html_render_conversion.specs.Converting.{put_content, put_mark, close_element, ClosingAt}
 
@@ -45,7 +49,7 @@ mark-in_front (Some name) t u = refl
 -- ---- what stands beside an element that is closed
 
 -- the nodes that were made are parted behind its children, and behind its content too
-abbrev split_inner : (t : Forest RenderNode) (inner outer : ℕ) → ClosingAt t inner outer → SplitAt t inner
+abbrev pub split_inner : (t : Forest RenderNode) (inner outer : ℕ) → ClosingAt t inner outer → SplitAt t inner
 split_inner t inner outer s = record { children = s.children; beside = put_content s.after s.beside; is = s.is; mark_is = s.inner_is }
 
 abbrev pub split_outer : (t : Forest RenderNode) (inner outer : ℕ) → ClosingAt t inner outer → SplitAt t outer
@@ -65,6 +69,59 @@ split_before front t u at is s = record {
   is = is ∙ ap (followed_by front) s.is ∙ sym (followed_by-followed_by front s.children s.beside);
   mark_is = s.mark_is;
 }
+
+-- ---- where anything can be inserted
+
+-- into a node that has children
+admits-some : (k : NodeKind) → admits_insertions k true ≡ true
+admits-some (Table grid) = refl
+admits-some (TableRow slots) = refl
+admits-some (Part p) = by p
+  where
+    by : (p : TablePart) → part_admits_insertions p true ≡ true
+    by part.Table = refl
+    by part.Body = refl
+    by part.Foot = refl
+    by part.Row = refl
+    by (part.Cell span) = refl
+    by part.Caption = refl
+admits-some _ = refl
+
+-- into a node that stands beside its contents
+admits-beside : (k : NodeKind) (has_children : Bool) → holds_insertions k ≡ false → admits_insertions k has_children ≡ true
+admits-beside (Table grid) has_children h = cc
+admits-beside (TableRow slots) has_children h = cc
+admits-beside (Part p) has_children h = cc
+admits-beside _ has_children h = refl
+
+-- and after contents were inserted
+open-more : (k : NodeKind) (before after : Option (List ℕ)) (c : Forest RenderNode) → admits_insertions k (are_any c) ≡ true →
+    admits_insertions k (are_any (followed_by (alone before) (followed_by c (alone after)))) ≡ true
+open-more k (Some text) after c a = admits-some k
+open-more k None after (node n below beside) a = admits-some k
+open-more k None (Some text) none a = admits-some k
+open-more k None None none a = a
+
+-- ---- where everything is lost
+
+insertions-lost : (mark before after : Option (List ℕ)) (t : Tree) → is_open t ≡ false → with_mark mark (with_contents before after t) ≡ t
+insertions-lost mark before after t a =
+    ap (λ b. with_mark mark (if b then with_after after (with_before before t) else t)) a ∙ by mark
+  where
+    by : (m : Option (List ℕ)) → with_mark m t ≡ t
+    by None = refl
+    by (Some name) = ap (λ b. if b then insert_first (fragment_start name) t else t) a
+
+nothing-inserted : (t : Tree) → with_contents None None t ≡ t
+nothing-inserted t = by (is_open t)
+  where
+    by : (b : Bool) → (if b then t else t) ≡ t
+    by true = refl
+    by false = refl
+
+none-lost : (k : NodeKind) (c : Forest RenderNode) → admits_insertions k (are_any c) ≡ false → c ≡ none
+none-lost k none a = refl
+none-lost k (node n below beside) a = absurd (let t : true ≡ false = sym (admits-some k) ∙ a in cc)
 
 -- ---- a node that takes its contents among its children
 
@@ -88,25 +145,27 @@ after-held : (after : Option (List ℕ)) (t : Tree) → holds_insertions t.top.k
 after-held None t h = ap (λ c. let u : Tree = record t { children = c } in u) (sym (followed_by-none t.children))
 after-held (Some text) t h = last-held (text_node text) t h
 
-contents-held : (before after : Option (List ℕ)) (t : Tree) → holds_insertions t.top.kind ≡ true →
+contents-held : (before after : Option (List ℕ)) (t : Tree) → is_open t ≡ true → holds_insertions t.top.kind ≡ true →
     with_contents before after t ≡ record t { children = followed_by (alone before) (followed_by t.children (alone after)) }
-contents-held before after t h =
-    ap (with_after after) (before-held before t h)
+contents-held before after t a h =
+    ap (λ b. if b then with_after after (with_before before t) else t) a
+    ∙ ap (with_after after) (before-held before t h)
     ∙ after-held after (record t { children = followed_by (alone before) t.children }) h
     ∙ ap (λ c. let u : Tree = record t { children = c } in u) (followed_by-followed_by (alone before) t.children (alone after))
 
-mark-held : (mark : Option (List ℕ)) (t : Tree) → holds_insertions t.top.kind ≡ true →
+mark-held : (mark : Option (List ℕ)) (t : Tree) → is_open t ≡ true → holds_insertions t.top.kind ≡ true →
     with_mark mark t ≡ record t { children = followed_by (put_mark mark none) t.children }
-mark-held None t h = refl
-mark-held (Some name) t h = first-held (fragment_start name) t h
+mark-held None t a h = refl
+mark-held (Some name) t a h =
+    ap (λ b. if b then insert_first (fragment_start name) t else t) a ∙ first-held (fragment_start name) t h
 
-insertions-held : (mark before after : Option (List ℕ)) (t : Tree) → holds_insertions t.top.kind ≡ true →
+insertions-held : (mark before after : Option (List ℕ)) (t : Tree) → is_open t ≡ true → holds_insertions t.top.kind ≡ true →
     with_mark mark (with_contents before after t)
     ≡ record t { children = followed_by (fronts mark before) (followed_by t.children (alone after)) }
-insertions-held mark before after t h =
+insertions-held mark before after t a h =
     let inner = followed_by t.children (alone after) in
-    ap (with_mark mark) (contents-held before after t h)
-    ∙ mark-held mark (record t { children = followed_by (alone before) inner }) h
+    ap (with_mark mark) (contents-held before after t a h)
+    ∙ mark-held mark (record t { children = followed_by (alone before) inner }) (open-more t.top.kind before after t.children a) h
     ∙ ap (λ c. let u : Tree = record t { children = c } in u) (mark-in_front mark (alone before) inner)
 
 -- ---- a node that stands beside its contents, in a Container
@@ -121,22 +180,40 @@ last-beside : (new : RenderNode) (t : Tree) → holds_insertions t.top.kind ≡ 
 last-beside new t h = ap (λ b. if b then record t { children = followed_by t.children (node new none none) }
     else container (node t.top t.children (node new none none))) h
 
+open-beside : (before after : Option (List ℕ)) (t : Tree) → holds_insertions t.top.kind ≡ false →
+    with_contents before after t ≡ with_after after (with_before before t)
+open-beside before after t h =
+    ap (λ b. if b then with_after after (with_before before t) else t) (admits-beside t.top.kind (are_any t.children) h)
+
 contents-beside : (before after : Option (List ℕ)) (t : Tree) → holds_insertions t.top.kind ≡ false → (before ≡ None → after ≢ None) →
     with_contents before after t ≡ container (followed_by (alone before) (node t.top t.children (alone after)))
 contents-beside None None t h some = absurd (some refl refl)
-contents-beside None (Some last) t h some = last-beside (text_node last) t h
-contents-beside (Some first) None t h some = first-beside (text_node first) t h
-contents-beside (Some first) (Some last) t h some = ap (insert_last (text_node last)) (first-beside (text_node first) t h)
+contents-beside None (Some last) t h some = open-beside None (Some last) t h ∙ last-beside (text_node last) t h
+contents-beside (Some first) None t h some = open-beside (Some first) None t h ∙ first-beside (text_node first) t h
+contents-beside (Some first) (Some last) t h some =
+    open-beside (Some first) (Some last) t h ∙ ap (insert_last (text_node last)) (first-beside (text_node first) t h)
 
 insertions-beside : (mark before after : Option (List ℕ)) (t : Tree) → holds_insertions t.top.kind ≡ false →
     (mark ≡ None → before ≡ None → after ≢ None) →
     with_mark mark (with_contents before after t) ≡ container (followed_by (fronts mark before) (node t.top t.children (alone after)))
 insertions-beside None before after t h some = contents-beside before after t h (some refl)
-insertions-beside (Some name) None None t h some = first-beside (fragment_start name) t h
+insertions-beside (Some name) None None t h some =
+    ap (with_mark (Some name)) (open-beside None None t h)
+    ∙ ap (λ b. if b then insert_first (fragment_start name) t else t) (admits-beside t.top.kind (are_any t.children) h)
+    ∙ first-beside (fragment_start name) t h
 insertions-beside (Some name) None (Some last) t h some =
-    ap (insert_first (fragment_start name)) (contents-beside None (Some last) t h (λ e. λ f. cc))
+    ap (with_mark (Some name)) (contents-beside None (Some last) t h (λ e. λ f. cc))
 insertions-beside (Some name) (Some first) after t h some =
-    ap (insert_first (fragment_start name)) (contents-beside (Some first) after t h (λ e. cc))
+    ap (with_mark (Some name)) (contents-beside (Some first) after t h (λ e. cc))
+
+-- whether its children have left anything
+pub counts-children : (t : Forest RenderNode) (inner outer : ℕ) (s : ClosingAt t inner outer) → not (count t == inner) ≡ are_any s.children
+counts-children t inner outer s = by s.children (ap count s.is ∙ count-followed_by s.children (put_content s.after s.beside))
+  where
+    by : (children : Forest RenderNode) → count t ≡ count children + count (put_content s.after s.beside) →
+        not (count t == inner) ≡ are_any children
+    by none is = ap not (eq-eqb (count t) inner (omega (arith, is, s.inner_is)))
+    by (node n below beside) is = ap not (ne_eqb (count t) inner (λ e. omega (arith, is, s.inner_is)))
 
 -- ---- the node of an element, built over its children with what is inserted
 
@@ -147,11 +224,23 @@ module _ (n : RenderNode) (mark before : Option (List ℕ)) (t : Forest RenderNo
   abbrev pub split_held : (u : Forest RenderNode) → u ≡ put_mark mark (put_content before t) → ClosingAt t inner outer → SplitAt u outer
   split_held u is s = split_before (fronts mark before) t u outer (is ∙ put-fronts mark before t) (split_outer t inner outer s)
 
-  pub build-held : (u new : Forest RenderNode) → holds_insertions n.kind ≡ true → u ≡ put_mark mark (put_content before t) →
+  pub build-held : (u new : Forest RenderNode) → admits_insertions n.kind (not (count t == inner)) ≡ true →
+      holds_insertions n.kind ≡ true → u ≡ put_mark mark (put_content before t) →
       ((s : SplitAt u outer) → new ≡ node n s.children s.beside) → (s : ClosingAt t inner outer) → new ≡ built_element s
-  build-held u new h is enclosed s =
+  build-held u new a h is enclosed s =
       enclosed (split_held u is s)
-      ∙ ap (λ r. in_front (Some r) s.beside) (sym (insertions-held mark before s.after (record { top = n; children = s.children }) h))
+      ∙ ap (λ r. in_front (Some r) s.beside) (sym (insertions-held mark before s.after (record { top = n; children = s.children })
+      (ap (admits_insertions n.kind) (sym (counts-children t inner outer s)) ∙ a) h))
+
+  -- what is inserted is lost
+  pub build-lost : (u new : Forest RenderNode) → admits_insertions n.kind (not (count t == inner)) ≡ false →
+      ((s : SplitAt t outer) → u ≡ s.beside) → new ≡ node n none u → (s : ClosingAt t inner outer) → new ≡ built_element s
+  build-lost u new a taken is s =
+      let lost : admits_insertions n.kind (are_any s.children) ≡ false =
+      ap (admits_insertions n.kind) (sym (counts-children t inner outer s)) ∙ a in
+      is ∙ ap (node n none) (taken (split_outer t inner outer s))
+      ∙ ap (λ c. node n c s.beside) (sym (none-lost n.kind s.children lost))
+      ∙ ap (λ r. in_front (Some r) s.beside) (sym (insertions-lost mark before s.after (record { top = n; children = s.children }) lost))
 
   abbrev pub split_own : ClosingAt t inner outer → SplitAt t inner
   split_own s = split_inner t inner outer s
@@ -168,7 +257,7 @@ module _ (n : RenderNode) (mark before : Option (List ℕ)) (t : Forest RenderNo
       by : (after : Option (List ℕ)) → count (put_content after s.beside) ≡ count s.beside →
           node n s.children (put_content after s.beside)
           ≡ in_front (Some (with_contents None after (record { top = n; children = s.children }))) s.beside
-      by None counts = refl
+      by None counts = ap (λ r. in_front (Some r) s.beside) (sym (nothing-inserted (record { top = n; children = s.children })))
       by (Some text) counts = absurd (omega arith)
 
   -- the node and what is inserted in front of the rest
@@ -218,8 +307,22 @@ any-followed_by (node n below beside) u = refl
 -- what the kind of the whole is, and whether it has children
 abbrev IsWhole : (mark before after : Option (List ℕ)) (t whole : Tree) → Type 0
 IsWhole mark before after t whole =
+    (whole.top.kind ≡ kind_with (are_inserted mark before after && is_open t) t.top.kind)
+    × (are_any whole.children ≡ (are_inserted mark before after && is_open t || are_any t.children))
+
+-- the same where nothing is lost
+abbrev IsWholeThere : (mark before after : Option (List ℕ)) (t whole : Tree) → Type 0
+IsWholeThere mark before after t whole =
     (whole.top.kind ≡ kind_with (are_inserted mark before after) t.top.kind)
     × (are_any whole.children ≡ (are_inserted mark before after || are_any t.children))
+
+and-true : (a b : Bool) → b ≡ true → (a && b) ≡ a
+and-true true b h = h
+and-true false b h = refl
+
+and-false : (a b : Bool) → b ≡ false → (a && b) ≡ false
+and-false true b h = h
+and-false false b h = refl
 
 any-inserted : (mark before after : Option (List ℕ)) (c : Forest RenderNode) →
     are_any (followed_by (fronts mark before) (followed_by c (alone after))) ≡ (are_inserted mark before after || are_any c)
@@ -231,13 +334,27 @@ any-inserted None None None c = ap are_any (followed_by-none c)
 
 whole-is : (mark before after : Option (List ℕ)) (t : Tree) → IsWhole mark before after t (with_mark mark (with_contents before after t))
 whole-is mark before after t =
-    elim (cases_Bool (holds_insertions t.top.kind)) [
-      | inl h ↦ (
-          let is = insertions-held mark before after t h in (
-            ap (λ (u : Tree). u.top.kind) is ∙ sym (kind-held (are_inserted mark before after) t.top.kind h),
-            ap (λ (u : Tree). are_any u.children) is ∙ any-inserted mark before after t.children,
+    elim (cases_Bool (is_open t)) [
+      | inl a ↦ elim (cases_Bool (holds_insertions t.top.kind)) [
+        | inl h ↦ (
+            let is = insertions-held mark before after t a h in (
+              ap (λ (u : Tree). u.top.kind) is ∙ sym (kind-held (are_inserted mark before after && is_open t) t.top.kind h),
+              ap (λ (u : Tree). are_any u.children) is ∙ any-inserted mark before after t.children
+                  ∙ ap (λ b. b || are_any t.children) (sym (and-true (are_inserted mark before after) (is_open t) a)),
+            ))
+        | inr h ↦ (
+            let w = beside mark before after h in
+            let all = sym (and-true (are_inserted mark before after) (is_open t) a) in (
+              w.0 ∙ ap (λ b. kind_with b t.top.kind) all,
+              w.1 ∙ ap (λ b. b || are_any t.children) all,
+            ))
+      ]
+      | inr a ↦ (
+          let is = insertions-lost mark before after t a in
+          let no = sym (and-false (are_inserted mark before after) (is_open t) a) in (
+            ap (λ (u : Tree). u.top.kind) is ∙ ap (λ b. kind_with b t.top.kind) no,
+            ap (λ (u : Tree). are_any u.children) is ∙ ap (λ b. b || are_any t.children) no,
           ))
-      | inr h ↦ beside mark before after h
     ]
   where
     front-any : (m b : Option (List ℕ)) (n : RenderNode) (c u : Forest RenderNode) → are_any (followed_by (fronts m b) (node n c u)) ≡ true
@@ -253,8 +370,11 @@ whole-is mark before after t =
           ap (λ (u : Tree). are_any u.children) is ∙ front-any m b t.top t.children (alone a),
         )
 
-    beside : (m b a : Option (List ℕ)) → holds_insertions t.top.kind ≡ false → IsWhole m b a t (with_mark m (with_contents b a t))
-    beside None None None h = (refl, refl)
+    beside : (m b a : Option (List ℕ)) → holds_insertions t.top.kind ≡ false → IsWholeThere m b a t (with_mark m (with_contents b a t))
+    beside None None None h = (
+      ap (λ (u : Tree). u.top.kind) (nothing-inserted t),
+      ap (λ (u : Tree). are_any u.children) (nothing-inserted t),
+    )
     beside None None (Some last) h = beside-so None None (Some last) h (λ d. λ e. λ f. cc)
     beside None (Some first) a h = beside-so None (Some first) a h (λ d. λ e. cc)
     beside (Some name) b a h = beside-so (Some name) b a h (λ d. cc)
@@ -268,40 +388,38 @@ module _ (o : Open) (t : Forest RenderNode) (old : List Open) where
   abbrev pub whole : ClosingAt t o.inner o.outer → Tree
   whole s = with_mark o.mark (with_contents o.before s.after (record { top = o.node; children = s.children }))
 
-  counts-insertions : (s : ClosingAt t o.inner o.outer) → has_insertions o ≡ are_inserted o.mark o.before s.after
-  counts-insertions s = ap (λ b. is_some o.mark || is_some o.before || b) (by s.after s.inner_is)
+  -- what is inserted into it, unless it is lost
+  abbrev inserted_into : ClosingAt t o.inner o.outer → Bool
+  inserted_into s = are_inserted o.mark o.before s.after && admits_insertions o.node.kind (are_any s.children)
+
+  counts-insertions : (has_children : Bool) → has_children ≡ not (count t == o.inner) → (s : ClosingAt t o.inner o.outer) →
+      has_insertions o has_children ≡ inserted_into s
+  counts-insertions has_children is s =
+      ap (λ b. (is_some o.mark || is_some o.before || b) && admits_insertions o.node.kind has_children) (by s.after s.inner_is)
+      ∙ ap (λ b. are_inserted o.mark o.before s.after && admits_insertions o.node.kind b) (is ∙ counts-children t o.inner o.outer s)
     where
       by : (after : Option (List ℕ)) → o.inner ≡ count (put_content after s.beside) → not (o.inner == o.outer) ≡ is_some after
       by None is = ap not (eq-eqb o.inner o.outer (is ∙ sym s.outer_is))
       by (Some text) is = ap not (ne_eqb o.inner o.outer (λ e. omega (arith, s.outer_is)))
 
-  -- whether its children have left anything
-  counts-children : (s : ClosingAt t o.inner o.outer) → not (count t == o.inner) ≡ are_any s.children
-  counts-children s = by s.children (ap count s.is ∙ count-followed_by s.children (put_content s.after s.beside))
-    where
-      by : (children : Forest RenderNode) → count t ≡ count children + count (put_content s.after s.beside) →
-          not (count t == o.inner) ≡ are_any children
-      by none is = ap not (eq-eqb (count t) o.inner (omega (arith, is, s.inner_is)))
-      by (node n below beside) is = ap not (ne_eqb (count t) o.inner (λ e. omega (arith, is, s.inner_is)))
-
   -- it comes to the element round it
   whole-received : (has_children : Bool) → has_children ≡ not (count t == o.inner) → (s : ClosingAt t o.inner o.outer) →
-      received (kind_with (has_insertions o) o.node.kind) (has_insertions o || has_children) old
+      received (kind_with (has_insertions o has_children) o.node.kind) (has_insertions o has_children || has_children) old
       ≡ received (whole s).top.kind (are_any (whole s).children) old
   whole-received has_children is s =
       let own = whole-is o.mark o.before s.after (record { top = o.node; children = s.children }) in
-      let inserted = counts-insertions s in
+      let inserted = counts-insertions has_children is s in
       ap (λ b. received (kind_with b o.node.kind) (b || has_children) old) inserted
-      ∙ ap (λ b. received (kind_with (are_inserted o.mark o.before s.after) o.node.kind) (are_inserted o.mark o.before s.after || b) old)
-      (is ∙ counts-children s)
-      ∙ ap (λ k. received k (are_inserted o.mark o.before s.after || are_any s.children) old) (sym own.0)
+      ∙ ap (λ b. received (kind_with (inserted_into s) o.node.kind) (inserted_into s || b) old)
+      (is ∙ counts-children t o.inner o.outer s)
+      ∙ ap (λ k. received k (inserted_into s || are_any s.children) old) (sym own.0)
       ∙ ap (λ b. received (whole s).top.kind b old) (sym own.1)
 
-  whole-kept : (s : ClosingAt t o.inner o.outer) →
-      is_kept old (whole s).top.kind ≡ is_kept old (kind_with (has_insertions o) o.node.kind)
-  whole-kept s =
+  whole-kept : (has_children : Bool) → has_children ≡ not (count t == o.inner) → (s : ClosingAt t o.inner o.outer) →
+      is_kept old (whole s).top.kind ≡ is_kept old (kind_with (has_insertions o has_children) o.node.kind)
+  whole-kept has_children is s =
       ap (is_kept old) ((whole-is o.mark o.before s.after (record { top = o.node; children = s.children })).0
-      ∙ ap (λ b. kind_with b o.node.kind) (sym (counts-insertions s)))
+      ∙ ap (λ b. kind_with b o.node.kind) (sym (counts-insertions has_children is s)))
 
   close-stands : vanishes o.if_empty o.has_results ≡ false → (s : ClosingAt t o.inner o.outer) →
       close_element o s.after s.children ≡ Some (whole s)
@@ -321,12 +439,12 @@ module _ (o : Open) (t : Forest RenderNode) (old : List Open) where
   -- the element round it drops it
   pub close-dropped : (elements : List Open) (new : Forest RenderNode) (has_children : Bool) → has_children ≡ not (count t == o.inner) →
       vanishes o.if_empty o.has_results ≡ false →
-      elements ≡ received (kind_with (has_insertions o) o.node.kind) (has_insertions o || has_children) old →
-      is_kept old (kind_with (has_insertions o) o.node.kind) ≡ false →
+      elements ≡ received (kind_with (has_insertions o has_children) o.node.kind) (has_insertions o has_children || has_children) old →
+      is_kept old (kind_with (has_insertions o has_children) o.node.kind) ≡ false →
       ((s : SplitAt t o.outer) → new ≡ s.beside) → (s : ClosingAt t o.inner o.outer) →
       beside_it elements new ≡ with_result (close_element o s.after s.children) (beside_it old s.beside)
   close-dropped elements new has_children has h got dropped taken s =
-      let is_dropped = whole-kept s ∙ dropped in
+      let is_dropped = whole-kept has_children has s ∙ dropped in
       let after = received (whole s).top.kind (are_any (whole s).children) old in
       ap (λ es. beside_it es new) (got ∙ whole-received has_children has s)
       ∙ ap (beside_it after) (taken (split_outer t o.inner o.outer s))
@@ -336,12 +454,12 @@ module _ (o : Open) (t : Forest RenderNode) (old : List Open) where
   -- it is built
   pub close-built : (elements : List Open) (new : Forest RenderNode) (has_children : Bool) → has_children ≡ not (count t == o.inner) →
       vanishes o.if_empty o.has_results ≡ false →
-      elements ≡ received (kind_with (has_insertions o) o.node.kind) (has_insertions o || has_children) old →
-      is_kept old (kind_with (has_insertions o) o.node.kind) ≡ true →
+      elements ≡ received (kind_with (has_insertions o has_children) o.node.kind) (has_insertions o has_children || has_children) old →
+      is_kept old (kind_with (has_insertions o has_children) o.node.kind) ≡ true →
       ((s : ClosingAt t o.inner o.outer) → new ≡ in_front (Some (whole s)) s.beside) → (s : ClosingAt t o.inner o.outer) →
       beside_it elements new ≡ with_result (close_element o s.after s.children) (beside_it old s.beside)
   close-built elements new has_children has h got kept built s =
-      let is_kept_so = whole-kept s ∙ kept in
+      let is_kept_so = whole-kept has_children has s ∙ kept in
       let after = received (whole s).top.kind (are_any (whole s).children) old in
       ap (λ es. beside_it es new) (got ∙ whole-received has_children has s)
       ∙ ap (beside_it after) (built s)

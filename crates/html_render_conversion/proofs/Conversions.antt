@@ -1,5 +1,5 @@
 -- What a conversion keeps true: the nodes made so far, with what is still ahead, are those of the definition.
-use Rattle.std.proofs.Common.{◌≡◌, ℕ, suc, ◌+◌, ◌*◌, ◌<◌, ◌≤◌, Bool, true, false, if◌then◌else◌, ◌||◌, List, [], ◌∷◌, ◌++◌, length, take, get_or, Option}
+use Rattle.std.proofs.Common.{◌≡◌, ℕ, suc, ◌+◌, ◌*◌, ◌<◌, ◌≤◌, Bool, true, false, if◌then◌else◌, ◌&&◌, ◌||◌, List, [], ◌∷◌, ◌++◌, length, take, get_or, Option}
 use Rattle.std.proofs.Common.{Some, None, is_some, option_map, refl, sym, ap, subst, ◌∙◌, arith, length-append}
 use Rattle.std.proofs.lemmas.List.{same_from_push, take_all, take_more, take_more_set, length-set}
 use Rattle.std.proofs.Math.ListN.{set}
@@ -13,7 +13,7 @@ use Rattle.html_render_dom.specs.Forest.{Forest, none, node, count, followed_by}
 use Rattle.html_render_dom.specs.Rules.{Rule as StyleRule}
 use Rattle.html_render_dom.specs.laws.Trees.{below-children}
 use Rattle.html_render_nodes.specs.declared.tree.NodeKind.{NodeKind}
-use Rattle.html_render_nodes.specs.declared.tree.NodeKind.TheVariants.{Container}
+use Rattle.html_render_nodes.specs.declared.tree.NodeKind.TheVariants.{Container, Table}
 use Rattle.html_render_nodes.specs.declared.tree.RenderNode.{RenderNode}
 use Rattle.html_render_nodes.specs.RenderNodes.{unmeasured}
 use Rattle.html_render_nodes.specs.laws.Splits.{followed_by-none, followed_by-followed_by, count-followed_by}
@@ -26,14 +26,31 @@ use Rattle.html_render_conversion.specs.declared.mapping.Mapping.{Mapping}
 use Rattle.html_render_conversion.specs.declared.mapping.Mapping.TheVariants.{Nothing, Leaf, Parent}
 use Rattle.html_render_conversion.specs.declared.convert.Open.{Open}
 use Rattle.html_render_conversion.proofs.Receiving.{with_received, received-append, is_kept-append}
-use Rattle.html_render_conversion.specs.Insertion.{Tree, container, in_front, leaf, marked, with_contents}
+use Rattle.html_render_conversion.specs.Insertion.{Tree, are_any, container, in_front, leaf, marked, with_contents}
 use Rattle.html_render_conversion.specs.Marks.{mark_of}
-use Rattle.html_render_conversion.specs.Conversion.{element_mapping, own_style, node_style, keeps, kept, are_any, counts}
+use Rattle.html_render_conversion.specs.Conversion.{element_mapping, own_style, node_style, keeps, kept, counts}
 use Rattle.html_render_conversion.specs.Conversion.{counts_any, standing, over, styled, result_of, converted}
-use Rattle.html_render_conversion.specs.Conversion.{render_tree_of}
+use Rattle.html_render_conversion.specs.Conversion.{render_tree_of, has_grid, styled_has_grids, has_grids, have_grids, tree_of_parts}
+use Rattle.html_render_conversion.specs.Tables.{grid_over, is_unplaced, placed_kind, placed}
 use Rattle.html_render_conversion.specs.Converting.{Progress, mark_alone, styled_outline, outline_of, outline_at, put_content}
 use Rattle.html_render_conversion.specs.Converting.{received, is_kept, with_result, open_node}
 use Rattle.html_render_conversion.specs.Converting.{close_element, ClosingAt}
+
+-- ---- tests
+
+and-true : (a : Bool) → (a && true) ≡ a
+and-true true = refl
+and-true false = refl
+
+and-and : (a b c : Bool) → ((a && b) && c) ≡ (a && (b && c))
+and-and true b c = refl
+and-and false b c = refl
+
+-- a test that comes to the front
+and-front : (a b c d : Bool) → (a && ((b && c) && d)) ≡ (((b && a) && c) && d)
+and-front a true c d = sym (and-and a c d)
+and-front true false c d = refl
+and-front false false c d = refl
 
 -- ---- what an outline says
 
@@ -86,6 +103,57 @@ outline_result rules (doctype name public_id system_id) below children = refl
 outline_result rules (comment contents) below children = refl
 outline_result rules (instruction target contents) below children = refl
 
+-- ---- what an outline says of grids
+
+-- whether each table in a node of this outline has a grid
+abbrev grids_by : Outline → (below_have_grids : Bool) → Forest RenderNode → Bool
+grids_by outline.Nothing below_have_grids results = true
+grids_by (Alone n) below_have_grids results = true
+grids_by (Over n if_empty has_children mark before after) below_have_grids results =
+    if has_children then below_have_grids && has_grid n.kind results else true
+
+displayed_grids : (hidden : Bool) (n : RenderNode) (if_empty : IfEmpty) (has_children : Bool) (mark before after : Option (List ℕ))
+    (below_have_grids : Bool) (results : Forest RenderNode) →
+    grids_by (if hidden then outline.Nothing else Over n if_empty has_children mark before after) below_have_grids results
+    ≡ (if hidden then true else (if has_children then below_have_grids && has_grid n.kind results else true))
+displayed_grids true n if_empty has_children mark before after below_have_grids results = refl
+displayed_grids false n if_empty has_children mark before after below_have_grids results = refl
+
+mark_grids : (hidden : Bool) (mark : Option (List ℕ)) (below_have_grids : Bool) (results : Forest RenderNode) →
+    grids_by (if hidden then outline.Nothing else mark_alone mark) below_have_grids results ≡ (if hidden then true else true)
+mark_grids true mark below_have_grids results = refl
+mark_grids false None below_have_grids results = refl
+mark_grids false (Some name) below_have_grids results = refl
+
+styled_grids : (mapping : Mapping) (mark : Option (List ℕ)) (style : ElementStyle) (below_have_grids : Bool) (results : Forest RenderNode) →
+    grids_by (styled_outline mapping mark style) below_have_grids results ≡ styled_has_grids mapping style below_have_grids results
+styled_grids Nothing mark style below_have_grids results = mark_grids (is_some style.display) mark below_have_grids results
+styled_grids (Leaf kind) mark style below_have_grids results =
+    displayed_grids (is_some style.display) (record { kind = kind; style = node_style style; estimate = unmeasured }) Stands false
+    mark (value_of style.content_before) (value_of style.content_after) below_have_grids results
+styled_grids (Parent kind if_empty) mark style below_have_grids results =
+    displayed_grids (is_some style.display) (record { kind = kind; style = node_style style; estimate = unmeasured }) if_empty true
+    mark (value_of style.content_before) (value_of style.content_after) below_have_grids results
+
+outline_grids : (rules : List StyleRule) (content : Content) (below : Forest Content) (below_have_grids : Bool) (results : Forest RenderNode) →
+    grids_by (outline_of rules content below) below_have_grids results ≡ has_grids rules content below below_have_grids results
+outline_grids rules document below below_have_grids results = and-true below_have_grids
+outline_grids rules (text contents) below below_have_grids results = refl
+outline_grids rules (element name properties template_contents integration_point) below below_have_grids results =
+    styled_grids (element_mapping name.space name.local properties below) (mark_of name properties)
+    (own_style rules name properties) below_have_grids results
+outline_grids rules (doctype name public_id system_id) below below_have_grids results = refl
+outline_grids rules (comment contents) below below_have_grids results = refl
+outline_grids rules (instruction target contents) below below_have_grids results = refl
+
+-- a node without children has its grid
+grid-none : (kind : NodeKind) → has_grid kind none ≡ true
+grid-none kind = by (is_unplaced kind)
+  where
+    by : (b : Bool) → is_some (if b then option_map Table (grid_over none) else Some kind) ≡ true
+    by true = refl
+    by false = refl
+
 -- ---- trees beside each other
 
 trees_of-append : (dom : Dom) (xs ys : List ℕ) → trees_of dom (xs ++ ys) ≡ followed_by (trees_of dom xs) (trees_of dom ys)
@@ -102,6 +170,13 @@ converted-followed_by rules none u = refl
 converted-followed_by rules (node c children beside) u =
     ap (in_front (result_of rules c children (converted rules children))) (converted-followed_by rules beside u)
     ∙ sym (in_front-followed_by (result_of rules c children (converted rules children)) (converted rules beside) (converted rules u))
+
+have_grids-followed_by : (rules : List StyleRule) (t u : Forest Content) →
+    have_grids rules (followed_by t u) ≡ (have_grids rules t && have_grids rules u)
+have_grids-followed_by rules none u = refl
+have_grids-followed_by rules (node c children beside) u =
+    let own = has_grids rules c children (have_grids rules children) (converted rules children) in
+    ap (λ b. own && b) (have_grids-followed_by rules beside u) ∙ sym (and-and own (have_grids rules beside) (have_grids rules u))
 
 -- ---- where the conversion stands
 
@@ -148,6 +223,14 @@ resumed rules dom [] results = results
 resumed rules dom (x ∷ path) results =
     resumed rules dom path (in_front (closed x.element x.after (followed_by (still rules dom x.element) results)) x.beside)
 
+-- whether each table has a grid that is still to be converted or closed
+abbrev pub resumed_grids : List StyleRule → Dom → Path → Forest RenderNode → Bool
+resumed_grids rules dom [] results = true
+resumed_grids rules dom (x ∷ path) results =
+    have_grids rules (trees_of dom (remaining dom x.element))
+    && has_grid x.element.node.kind (followed_by (still rules dom x.element) results)
+    && resumed_grids rules dom path (in_front (closed x.element x.after (followed_by (still rules dom x.element) results)) x.beside)
+
 abbrev pub IsSound : Dom → Step → Path → Forest RenderNode → Type 0
 IsSound dom x path results = record {
   is_node : IsNode dom x.element.handle;
@@ -167,6 +250,7 @@ pub record Converting (rules : List StyleRule) (dom : Dom) (elements : List Open
   pub elements_are : elements ≡ elements_of path
   pub built_is : built ≡ followed_by (kept_in path results) (inside path)
   pub result : resumed rules dom path results ≡ render_tree_of rules dom
+  pub grids : resumed_grids rules dom path results ≡ have_grids rules (tree_of dom 0)
   pub sound : AreSound dom path results
 
 -- the same, where a node is about to be opened
@@ -176,6 +260,8 @@ pub record Opening (rules : List StyleRule) (dom : Dom) (h : ℕ) (elements : Li
   pub elements_are : elements ≡ elements_of path
   pub built_is : built ≡ followed_by (kept_in path results) (inside path)
   pub result : resumed rules dom path (followed_by (converted rules (tree_of dom h)) results) ≡ render_tree_of rules dom
+  pub grids : (have_grids rules (tree_of dom h)
+      && resumed_grids rules dom path (followed_by (converted rules (tree_of dom h)) results)) ≡ have_grids rules (tree_of dom 0)
   pub sound : AreSound dom path results
   pub is_node : IsNode dom h
 
@@ -186,6 +272,7 @@ Opening-start rules dom is = record {
   elements_are = refl;
   built_is = refl;
   result = followed_by-none (render_tree_of rules dom);
+  grids = and-true (have_grids rules (tree_of dom 0));
   sound = tt;
   is_node = is;
 }
@@ -210,10 +297,18 @@ module _ (rules : List StyleRule) (dom : Dom) (f : IsForest dom) where
   result-at : (r : Option Tree) (p : Progress) (path : Path) (results : Forest RenderNode) → p.open_elements ≡ elements_of path →
       p.made_nodes ≡ followed_by (kept_in path results) (inside path) → AreSound dom path results →
       resumed rules dom path (in_front r results) ≡ render_tree_of rules dom →
+      resumed_grids rules dom path (in_front r results) ≡ have_grids rules (tree_of dom 0) →
       Converting rules dom (with_result r p).open_elements (with_result r p).made_nodes
-  result-at None p path results elements_are built_is sound result =
-      record { path = path; results = results; elements_are = elements_are; built_is = built_is; result = result; sound = sound }
-  result-at (Some t) p [] results elements_are built_is sound result = record {
+  result-at None p path results elements_are built_is sound result grids = record {
+    path = path;
+    results = results;
+    elements_are = elements_are;
+    built_is = built_is;
+    result = result;
+    grids = grids;
+    sound = sound;
+  }
+  result-at (Some t) p [] results elements_are built_is sound result grids = record {
     path = [];
     results = in_front (Some t) results;
     elements_are = ap (received t.top.kind (are_any t.children)) elements_are;
@@ -221,9 +316,10 @@ module _ (rules : List StyleRule) (dom : Dom) (f : IsForest dom) where
         ap (λ es. if is_kept es t.top.kind then in_front (Some t) p.made_nodes else p.made_nodes) elements_are
         ∙ ap (in_front (Some t)) built_is;
     result = result;
+    grids = grids;
     sound = tt;
   }
-  result-at (Some t) p (x ∷ path) results elements_are built_is sound result =
+  result-at (Some t) p (x ∷ path) results elements_are built_is sound result grids =
       let kind = x.element.node.kind in
       let got = with_received t.top.kind (are_any t.children) x.element in
       record {
@@ -237,6 +333,7 @@ module _ (rules : List StyleRule) (dom : Dom) (f : IsForest dom) where
             ∙ ap (λ m. if keeps kind t.top.kind then in_front (Some t) m else m) built_is
             ∙ front-either (keeps kind t.top.kind) t.top t.children (kept kind results) (inside (x ∷ path));
         result = result;
+        grids = grids;
         sound = (
           record {
             is_node = sound.0.is_node;
@@ -266,15 +363,33 @@ module _ (rules : List StyleRule) (dom : Dom) (f : IsForest dom) where
     ahead_become true = ap (λ hs. converted rules (trees_of dom hs)) (take-length (children_at dom h))
     ahead_become false = refl
 
-    open_node-by : (o : Outline) →
-        resumed rules dom path (in_front (result_by o (converted rules (trees_of dom (children_at dom h)))) results)
-        ≡ render_tree_of rules dom →
+    -- whether their tables have grids, and the node's own
+    ahead_grids : (has_children : Bool) (kind : NodeKind) → let children = children_at dom h in let trees = trees_of dom children in
+        (have_grids rules (trees_of dom (take (if has_children then length children else 0) children))
+        && has_grid kind (if has_children then converted rules trees else none))
+        ≡ (if has_children then have_grids rules trees && has_grid kind (converted rules trees) else true)
+    ahead_grids true kind =
+        ap (λ hs. have_grids rules (trees_of dom hs) && has_grid kind (converted rules (trees_of dom (children_at dom h))))
+        (take-length (children_at dom h))
+    ahead_grids false kind = grid-none kind
+
+    open_node-by : (o : Outline) → let trees = trees_of dom (children_at dom h) in
+        resumed rules dom path (in_front (result_by o (converted rules trees)) results) ≡ render_tree_of rules dom →
+        (grids_by o (have_grids rules trees) (converted rules trees)
+        && resumed_grids rules dom path (in_front (result_by o (converted rules trees)) results)) ≡ have_grids rules (tree_of dom 0) →
         Converting rules dom (open_node dom h o p).open_elements (open_node dom h o p).made_nodes
-    open_node-by outline.Nothing result =
-        record { path = path; results = results; elements_are = elements_are; built_is = built_is; result = result; sound = sound }
-    open_node-by (Alone n) result =
-        result-at (Some (leaf n)) p path results elements_are built_is sound result
-    open_node-by (Over n if_empty has_children mark before after) result =
+    open_node-by outline.Nothing result grids = record {
+      path = path;
+      results = results;
+      elements_are = elements_are;
+      built_is = built_is;
+      result = result;
+      grids = grids;
+      sound = sound;
+    }
+    open_node-by (Alone n) result grids =
+        result-at (Some (leaf n)) p path results elements_are built_is sound result grids
+    open_node-by (Over n if_empty has_children mark before after) result grids =
         let children = children_at dom h in
         let o : Open = record {
           handle = h;
@@ -296,6 +411,14 @@ module _ (rules : List StyleRule) (dom : Dom) (f : IsForest dom) where
               ap (λ t. resumed rules dom path (in_front (closed o after t) results)) (followed_by-none (still rules dom o)
               ∙ ahead_become has_children)
               ∙ result;
+          grids =
+              ap (λ t. have_grids rules (trees_of dom (remaining dom o)) && has_grid n.kind t
+              && resumed_grids rules dom path (in_front (closed o after t) results)) (followed_by-none (still rules dom o)
+              ∙ ahead_become has_children)
+              ∙ ap (λ b. b && resumed_grids rules dom path
+              (in_front (closed o after (if has_children then converted rules (trees_of dom children) else none)) results))
+              (ahead_grids has_children n.kind)
+              ∙ grids;
           sound = (
             record {
               is_node = is;
@@ -322,6 +445,19 @@ module _ (rules : List StyleRule) (dom : Dom) (f : IsForest dom) where
       ∙ ap (λ t. resumed rules dom m.path t)
       (sym (in_front-followed_by (result_of rules content under (converted rules under)) none m.results))
       ∙ m.result)
+      (ap (λ b. b && resumed_grids rules dom m.path (in_front (result_by (outline_at rules dom h) (converted rules trees)) m.results))
+      (outline_grids rules content trees (have_grids rules trees) (converted rules trees))
+      ∙ ap (λ r. has_grids rules content trees (have_grids rules trees) (converted rules trees)
+      && resumed_grids rules dom m.path (in_front r m.results)) (outline_result rules content trees (converted rules trees))
+      ∙ ap (λ t. has_grids rules content t (have_grids rules t) (converted rules t)
+      && resumed_grids rules dom m.path (in_front (result_of rules content t (converted rules t)) m.results))
+      (sym (below-children dom f h m.is_node))
+      ∙ ap (λ t. has_grids rules content under (have_grids rules under) (converted rules under) && resumed_grids rules dom m.path t)
+      (sym (in_front-followed_by (result_of rules content under (converted rules under)) none m.results))
+      ∙ ap (λ b. b && resumed_grids rules dom m.path
+      (followed_by (in_front (result_of rules content under (converted rules under)) none) m.results))
+      (sym (and-true (has_grids rules content under (have_grids rules under) (converted rules under))))
+      ∙ m.grids)
 
   -- ---- the next child of the innermost element
 
@@ -331,11 +467,12 @@ module _ (rules : List StyleRule) (dom : Dom) (f : IsForest dom) where
 
     child_at : (h : ℕ) (path : Path) (results : Forest RenderNode) → o.ahead ≡ suc n → h ≡ get_or (children_at dom o.handle) n h →
         elements ++ o ∷ [] ≡ elements_of path → built ≡ followed_by (kept_in path results) (inside path) →
-        resumed rules dom path results ≡ render_tree_of rules dom → AreSound dom path results →
+        resumed rules dom path results ≡ render_tree_of rules dom →
+        resumed_grids rules dom path results ≡ have_grids rules (tree_of dom 0) → AreSound dom path results →
         Opening rules dom h (elements ++ shorter ∷ []) built
-    child_at h [] results ahead at elements_are built_is result sound =
+    child_at h [] results ahead at elements_are built_is result grids sound =
         absurd (omega (arith, ap length elements_are, length-append elements (o ∷ [])))
-    child_at h (x ∷ path) results ahead at elements_are built_is result sound =
+    child_at h (x ∷ path) results ahead at elements_are built_is result grids sound =
         let same = same_from_push elements (elements_of path) o x.element elements_are in
         let children = children_at dom o.handle in
         let in_children : n < length children =
@@ -352,18 +489,35 @@ module _ (rules : List StyleRule) (dom : Dom) (f : IsForest dom) where
         ap (λ hs. converted rules (trees_of dom hs)) last
         ∙ ap (converted rules) (trees_of-append dom (remaining dom shorter) (h ∷ []))
         ∙ converted-followed_by rules (trees_of dom (remaining dom shorter)) (tree_of dom h) in
+        let tests : have_grids rules (trees_of dom (remaining dom o))
+        ≡ (have_grids rules (trees_of dom (remaining dom shorter)) && have_grids rules (tree_of dom h)) =
+        ap (λ hs. have_grids rules (trees_of dom hs)) last
+        ∙ ap (have_grids rules) (trees_of-append dom (remaining dom shorter) (h ∷ []))
+        ∙ have_grids-followed_by rules (trees_of dom (remaining dom shorter)) (tree_of dom h) in
+        let all : followed_by (still rules dom shorter) (followed_by (converted rules (tree_of dom h)) results)
+        ≡ followed_by (still rules dom o) results =
+        sym (followed_by-followed_by (still rules dom shorter) (converted rules (tree_of dom h)) results)
+        ∙ ap (λ t. followed_by t results) (sym trees) in
+        let behind = followed_by (still rules dom o) results in
         record {
           path = record x { element = shorter } ∷ path;
           results = results;
           elements_are = ap (λ es. es ++ shorter ∷ []) same.0;
           built_is = built_is ∙ ap (λ (e : Open). followed_by (kept e.node.kind results) (inside (x ∷ path))) (sym same.1);
           result =
-              ap (λ t. resumed rules dom path (in_front (closed o x.after t) x.beside))
-              (sym (followed_by-followed_by (still rules dom shorter) (converted rules (tree_of dom h)) results)
-              ∙ ap (λ t. followed_by t results) (sym trees))
+              ap (λ t. resumed rules dom path (in_front (closed o x.after t) x.beside)) all
               ∙ ap (λ (e : Open). resumed rules dom path
               (in_front (closed e x.after (followed_by (still rules dom e) results)) x.beside)) same.1
               ∙ result;
+          grids =
+              ap (λ t. have_grids rules (tree_of dom h) && (have_grids rules (trees_of dom (remaining dom shorter))
+              && has_grid o.node.kind t && resumed_grids rules dom path (in_front (closed o x.after t) x.beside))) all
+              ∙ and-front (have_grids rules (tree_of dom h)) (have_grids rules (trees_of dom (remaining dom shorter)))
+              (has_grid o.node.kind behind) (resumed_grids rules dom path (in_front (closed o x.after behind) x.beside))
+              ∙ ap (λ b. b && has_grid o.node.kind behind && resumed_grids rules dom path (in_front (closed o x.after behind) x.beside))
+              (sym tests)
+              ∙ ap (λ (e : Open). resumed_grids rules dom (record x { element = e } ∷ path) results) same.1
+              ∙ grids;
           sound = (
             record {
               is_node = subst (λ (e : Open). IsNode dom e.handle) (sym same.1) sound.0.is_node;
@@ -382,51 +536,74 @@ module _ (rules : List StyleRule) (dom : Dom) (f : IsForest dom) where
       o.ahead ≡ suc n → h ≡ get_or (children_at dom o.handle) n h → Converting rules dom (elements ++ o ∷ []) built →
       Opening rules dom h (elements ++ record o { ahead = n } ∷ []) built
   Converting-child elements o n built h ahead at c =
-      child_at elements o n built h c.path c.results ahead at c.elements_are c.built_is c.result c.sound
+      child_at elements o n built h c.path c.results ahead at c.elements_are c.built_is c.result c.grids c.sound
 
   -- ---- the end of the innermost element
 
   module _ (elements : List Open) (o : Open) (built : Forest RenderNode) where
+    -- the element with its grid, if it is a table
+    abbrev pub with_grid : Forest RenderNode → Open
+    with_grid children = record o { node = placed o.node children }
+
+    -- where it has no grid, the document has a table without one; else the conversion goes on with what it becomes
     abbrev pub Closed : Type 0
-    Closed = (s : ClosingAt built o.inner o.outer) × (let p : Progress = record { open_elements = elements; made_nodes = s.beside } in
-        let q = with_result (close_element o s.after s.children) p in Converting rules dom q.open_elements q.made_nodes)
+    Closed = (s : ClosingAt built o.inner o.outer)
+        × (placed_kind o.node.kind s.children ≡ None → have_grids rules (tree_of dom 0) ≡ false)
+        × (is_some (placed_kind o.node.kind s.children) ≡ true →
+        (let p : Progress = record { open_elements = elements; made_nodes = s.beside } in
+        let q = with_result (close_element (with_grid s.children) s.after s.children) p in Converting rules dom q.open_elements q.made_nodes))
 
     close_at : (path : Path) (results : Forest RenderNode) → o.ahead ≡ 0 →
         elements ++ o ∷ [] ≡ elements_of path → built ≡ followed_by (kept_in path results) (inside path) →
-        resumed rules dom path results ≡ render_tree_of rules dom → AreSound dom path results →
+        resumed rules dom path results ≡ render_tree_of rules dom →
+        resumed_grids rules dom path results ≡ have_grids rules (tree_of dom 0) → AreSound dom path results →
         Closed
-    close_at [] results ahead elements_are built_is result sound =
+    close_at [] results ahead elements_are built_is result grids sound =
         absurd (omega (arith, ap length elements_are, length-append elements (o ∷ [])))
-    close_at (x ∷ path) results ahead elements_are built_is result sound =
+    close_at (x ∷ path) results ahead elements_are built_is result grids sound =
         let same = same_from_push elements (elements_of path) o x.element elements_are in
         let made = followed_by (kept_in path x.beside) (inside path) in
+        let own = kept x.element.node.kind results in
         let s : ClosingAt built o.inner o.outer = record {
-          children = kept x.element.node.kind results;
+          children = own;
           after = x.after;
           beside = made;
           is = built_is;
           inner_is = ap (λ (e : Open). e.inner) same.1 ∙ sound.0.inner_is;
           outer_is = ap (λ (e : Open). e.outer) same.1 ∙ sound.0.outer_is;
         } in
-        let over : still rules dom x.element ≡ none =
-        ap (λ (e : Open). still rules dom e) (sym same.1)
-        ∙ ap (λ k. converted rules (trees_of dom (take k (children_at dom o.handle)))) ahead in (
+        let none_ahead : remaining dom x.element ≡ [] =
+        ap (λ (e : Open). remaining dom e) (sym same.1) ∙ ap (λ k. take k (children_at dom o.handle)) ahead in
+        let over : still rules dom x.element ≡ none = ap (λ hs. converted rules (trees_of dom hs)) none_ahead in
+        let becomes : close_element (with_grid own) x.after own ≡ closed x.element x.after (followed_by (still rules dom x.element) results) =
+        ap (λ (e : Open). close_element (record e { node = placed e.node own }) x.after own) same.1
+        ∙ ap (λ b. marked x.element.mark (option_map (with_contents x.element.before x.after)
+        (standing (placed x.element.node own) x.element.if_empty b own))) sound.0.has_results_is
+        ∙ ap (λ t. closed x.element x.after (followed_by t results)) (sym over) in
+        let left : (is_some (placed_kind o.node.kind own)
+        && resumed_grids rules dom path (in_front (close_element (with_grid own) x.after own) x.beside)) ≡ have_grids rules (tree_of dom 0) =
+        ap (λ r. is_some (placed_kind o.node.kind own) && resumed_grids rules dom path (in_front r x.beside)) becomes
+        ∙ ap (λ (e : Open). is_some (placed_kind e.node.kind own) && resumed_grids rules dom path
+        (in_front (closed x.element x.after (followed_by (still rules dom x.element) results)) x.beside)) same.1
+        ∙ ap (λ t. has_grid x.element.node.kind (followed_by t results) && resumed_grids rules dom path
+        (in_front (closed x.element x.after (followed_by (still rules dom x.element) results)) x.beside)) (sym over)
+        ∙ ap (λ hs. have_grids rules (trees_of dom hs) && has_grid x.element.node.kind (followed_by (still rules dom x.element) results)
+        && resumed_grids rules dom path (in_front (closed x.element x.after (followed_by (still rules dom x.element) results)) x.beside))
+        (sym none_ahead)
+        ∙ grids in (
           s,
-          result-at (close_element o x.after (kept x.element.node.kind results)) (record { open_elements = elements; made_nodes = made }) path
+          λ no_grid. sym left
+              ∙ ap (λ k. is_some k && resumed_grids rules dom path (in_front (close_element (with_grid own) x.after own) x.beside)) no_grid,
+          λ grid. result-at (close_element (with_grid own) x.after own) (record { open_elements = elements; made_nodes = made }) path
               x.beside same.0 refl sound.1
-              (ap (λ (e : Open). resumed rules dom path
-              (in_front (close_element e x.after (kept x.element.node.kind results)) x.beside)) same.1
-              ∙ ap (λ b. resumed rules dom path
-              (in_front (marked x.element.mark (option_map (with_contents x.element.before x.after)
-              (standing x.element.node x.element.if_empty b (kept x.element.node.kind results)))) x.beside)) sound.0.has_results_is
-              ∙ ap (λ t. resumed rules dom path (in_front (closed x.element x.after (followed_by t results)) x.beside)) (sym over)
-              ∙ result),
+              (ap (λ r. resumed rules dom path (in_front r x.beside)) becomes ∙ result)
+              (ap (λ b. b && resumed_grids rules dom path (in_front (close_element (with_grid own) x.after own) x.beside)) (sym grid) ∙ left),
         )
 
   pub Converting-close : (elements : List Open) (o : Open) (built : Forest RenderNode) →
       o.ahead ≡ 0 → Converting rules dom (elements ++ o ∷ []) built → Closed elements o built
   Converting-close elements o built ahead c =
-      close_at elements o built c.path c.results ahead c.elements_are c.built_is c.result c.sound
+      close_at elements o built c.path c.results ahead c.elements_are c.built_is c.result c.grids c.sound
 
   -- ---- the innermost element
 
@@ -446,14 +623,19 @@ module _ (rules : List StyleRule) (dom : Dom) (f : IsForest dom) where
 
   done_at : (elements : List Open) (built : Forest RenderNode) (path : Path) (results : Forest RenderNode) → length elements ≡ 0 →
       elements ≡ elements_of path → built ≡ followed_by (kept_in path results) (inside path) → resumed rules dom path results ≡ render_tree_of rules dom →
-      built ≡ render_tree_of rules dom
-  done_at elements built [] results empty elements_are built_is result = built_is ∙ followed_by-none results ∙ result
-  done_at elements built (x ∷ path) results empty elements_are built_is result =
+      resumed_grids rules dom path results ≡ have_grids rules (tree_of dom 0) → tree_of_parts rules dom ≡ Some built
+  done_at elements built [] results empty elements_are built_is result grids =
+      ap (λ b. if b then Some (render_tree_of rules dom) else None) (sym grids)
+      ∙ ap Some (sym (built_is ∙ followed_by-none results ∙ result))
+  done_at elements built (x ∷ path) results empty elements_are built_is result grids =
       absurd (omega (arith, ap length elements_are, length-append (elements_of path) (x.element ∷ [])))
 
   pub Converting-done : (elements : List Open) (built : Forest RenderNode) → length elements ≡ 0 →
-      Converting rules dom elements built → built ≡ render_tree_of rules dom
-  Converting-done elements built empty c = done_at elements built c.path c.results empty c.elements_are c.built_is c.result
+      Converting rules dom elements built → tree_of_parts rules dom ≡ Some built
+  Converting-done elements built empty c = done_at elements built c.path c.results empty c.elements_are c.built_is c.result c.grids
+
+  pub no_tree : have_grids rules (tree_of dom 0) ≡ false → tree_of_parts rules dom ≡ None
+  no_tree e = ap (λ b. if b then Some (render_tree_of rules dom) else None) e
 
 -- ---- why it ends
 

@@ -22,8 +22,10 @@ use Rattle.html_render_nodes.specs.declared.tree.ImageParts.{ImageParts}
 use Rattle.html_render_nodes.specs.declared.tree.NodeKind.{NodeKind}
 use Rattle.html_render_nodes.specs.declared.tree.NodeKind.TheVariants.{Text, Container, Break, Block, Div, Emphasis, Header}
 use Rattle.html_render_nodes.specs.declared.tree.NodeKind.TheVariants.{BlockQuote, Ul, Ol, ListItem, Dl, Dt, Dd}
-use Rattle.html_render_nodes.specs.declared.tree.NodeKind.TheVariants.{Strikeout, Superscript, Link, Image, Svg, FragmentStart}
+use Rattle.html_render_nodes.specs.declared.tree.NodeKind.TheVariants.{Strikeout, Superscript, Link, Image, Svg, FragmentStart, Table, Part}
 use Rattle.html_render_nodes.specs.declared.tree.NodeStyle.{NodeStyle}
+use Rattle.html_render_nodes.specs.declared.tree.Part.{Part as TablePart}
+use Rattle.html_render_nodes.specs.declared.tree.Part.TheVariants as part
 use Rattle.html_render_nodes.specs.declared.tree.RenderNode.{RenderNode}
 use Rattle.html_render_nodes.specs.RenderNodes.{unmeasured}
 use Rattle.html_render_conversion.specs.declared.mapping.IfEmpty.{IfEmpty}
@@ -32,7 +34,8 @@ use Rattle.html_render_conversion.specs.declared.mapping.Mapping.{Mapping}
 use Rattle.html_render_conversion.specs.declared.mapping.Mapping.TheVariants.{Nothing, Leaf, Parent}
 use Rattle.html_render_conversion.specs.Images.{image_parts, drawing_title}
 use Rattle.html_render_conversion.specs.Marks.{mark_of}
-use Rattle.html_render_conversion.specs.Insertion.{Tree, container, in_front, text_node, with_contents, marked}
+use Rattle.html_render_conversion.specs.Tables.{span_of, is_row, placed_kind, placed}
+use Rattle.html_render_conversion.specs.Insertion.{Tree, are_any, container, in_front, text_node, with_contents, marked}
 
 abbrev pub is_one_of : List ℕ → List (List ℕ) → Bool
 is_one_of name names = list_any (bytes_eq name) names
@@ -78,6 +81,12 @@ html_mapping name properties =
     else if bytes_eq name (codes "dl") then Parent Dl Vanishes
     else if bytes_eq name (codes "dt") then Parent Dt Stands
     else if bytes_eq name (codes "dd") then Parent Dd Stands
+    else if bytes_eq name (codes "table") then Parent (Part part.Table) Vanishes
+    else if is_one_of name (codes "thead" ∷ codes "tbody" ∷ []) then Parent (Part part.Body) Vanishes
+    else if bytes_eq name (codes "tfoot") then Parent (Part part.Foot) Vanishes
+    else if bytes_eq name (codes "tr") then Parent (Part part.Row) Stands
+    else if is_one_of name (codes "td" ∷ codes "th" ∷ []) then Parent (Part (part.Cell (span_of properties))) Stands
+    else if bytes_eq name (codes "caption") then Parent (Part part.Caption) Vanishes
     else if is_one_of name (codes "html" ∷ codes "body" ∷ []) then Parent Container Stands
     else if is_one_of name (codes "head" ∷ codes "link" ∷ codes "meta" ∷ codes "hr" ∷ codes "script" ∷ codes "style" ∷ []) then Nothing
     else Parent Container Vanishes
@@ -153,11 +162,32 @@ is_term_or_description Dt = true
 is_term_or_description Dd = true
 is_term_or_description _ = false
 
--- whether a node keeps a child's result: an ordered list keeps items, a list of descriptions terms and descriptions, and
--- any other node whatever it is
+-- whether a node is one of a table's parts that hold rows, or its caption; and whether it is a cell
+abbrev pub is_part_of_table : NodeKind → Bool
+is_part_of_table (Part part.Body) = true
+is_part_of_table (Part part.Foot) = true
+is_part_of_table (Part part.Caption) = true
+is_part_of_table _ = false
+
+abbrev pub is_cell : NodeKind → Bool
+is_cell (Part (part.Cell span)) = true
+is_cell _ = false
+
+-- whether a part of a table keeps a child's result: a cell and a caption keep whatever it is
+abbrev pub part_keeps : TablePart → (child : NodeKind) → Bool
+part_keeps part.Table child = is_part_of_table child
+part_keeps part.Body child = is_row child
+part_keeps part.Foot child = is_row child
+part_keeps part.Row child = is_cell child
+part_keeps (part.Cell span) child = true
+part_keeps part.Caption child = true
+
+-- whether a node keeps a child's result: an ordered list keeps items, a list of descriptions terms and descriptions, a
+-- table and its rows their parts, and any other node whatever it is
 abbrev pub keeps : (parent child : NodeKind) → Bool
 keeps (Ol start) child = is_item child
 keeps Dl child = is_term_or_description child
+keeps (Part p) child = part_keeps p child
 keeps _ child = true
 
 -- those of the children's results that a node keeps
@@ -166,28 +196,38 @@ kept parent none = none
 kept parent (node first below beside) =
     if keeps parent first.kind then node first below (kept parent beside) else kept parent beside
 
--- whether there are trees
-abbrev pub are_any : Forest RenderNode → Bool
-are_any none = false
-are_any (node first below beside) = true
-
 -- whether nothing but white space is in a text
 abbrev pub is_blank : List ℕ → Bool
 is_blank contents = not (is_filled (trim contents))
 
+-- whether a part of a table shows nothing, as far as is so seen: a caption does without children
+abbrev pub part_is_shallow_empty : TablePart → (has_children : Bool) → Bool
+part_is_shallow_empty part.Caption has_children = not has_children
+part_is_shallow_empty _ has_children = false
+
 -- whether a node shows nothing, as far as is seen without going into its children: a mark and a break, a text, an image
--- and a drawing of white space alone, and any other node that has no children
+-- and a drawing of white space alone, no table, and any other node that has no children
 abbrev pub is_shallow_empty : NodeKind → (has_children : Bool) → Bool
 is_shallow_empty (Text contents) has_children = is_blank contents
 is_shallow_empty Break has_children = true
 is_shallow_empty (Image image) has_children = is_blank image.title
 is_shallow_empty (Svg title) has_children = is_blank title
 is_shallow_empty (FragmentStart name) has_children = true
+is_shallow_empty (Table grid) has_children = false
+is_shallow_empty (Part p) has_children = part_is_shallow_empty p has_children
 is_shallow_empty _ has_children = not has_children
+
+-- whether a table counts a child's result as one: its caption, and a part that has rows
+abbrev pub table_counts : (child : NodeKind) → (has_children : Bool) → Bool
+table_counts (Part part.Caption) has_children = true
+table_counts (Part part.Body) has_children = has_children
+table_counts (Part part.Foot) has_children = has_children
+table_counts _ has_children = false
 
 -- whether a node counts a child's result as one: a link doesn't where it is shallow-empty
 abbrev pub counts : (parent child : NodeKind) → (has_children : Bool) → Bool
 counts (Link target) child has_children = not (is_shallow_empty child has_children)
+counts (Part part.Table) child has_children = table_counts child has_children
 counts _ child has_children = true
 
 -- whether a node counts any of its children's results
@@ -205,9 +245,10 @@ abbrev pub standing : RenderNode → IfEmpty → (has_results : Bool) → Forest
 standing n if_empty has_results children =
     if vanishes if_empty has_results then None else Some (record { top = n; children = children })
 
--- a node over its children's results: whether there are any is asked before any are dropped
+-- a node over its children's results: whether there are any is asked before any are dropped, and a table gets its grid from
+-- those that are kept
 abbrev pub over : RenderNode → IfEmpty → Forest RenderNode → Option Tree
-over n if_empty results = standing n if_empty (counts_any n.kind results) (kept n.kind results)
+over n if_empty results = let children = kept n.kind results in standing (placed n children) if_empty (counts_any n.kind results) children
 
 -- what an element becomes under its mapping, from what its children become
 abbrev pub made : Mapping → NodeStyle → Forest RenderNode → Option Tree
@@ -240,6 +281,40 @@ converted rules none = none
 converted rules (node content children beside) =
     in_front (result_of rules content children (converted rules children)) (converted rules beside)
 
--- THE RENDER TREE of a document
+-- the render tree of a document, where a table without a grid stays as it is
 abbrev pub render_tree_of : List StyleRule → Dom → Forest RenderNode
 render_tree_of rules dom = converted rules (tree_of dom 0)
+
+-- ---- tables without a grid
+
+-- whether a node over its children's results has a grid, if it is a table
+abbrev pub has_grid : NodeKind → Forest RenderNode → Bool
+has_grid kind results = is_some (placed_kind kind (kept kind results))
+
+-- whether each table in an element of this mapping has a grid, where all those below it have one or not
+abbrev pub mapping_has_grids : Mapping → (below_have_grids : Bool) → Forest RenderNode → Bool
+mapping_has_grids Nothing below_have_grids results = true
+mapping_has_grids (Leaf kind) below_have_grids results = true
+mapping_has_grids (Parent kind if_empty) below_have_grids results = below_have_grids && has_grid kind results
+
+-- the same under its style too: what isn't displayed isn't converted
+abbrev pub styled_has_grids : Mapping → ElementStyle → (below_have_grids : Bool) → Forest RenderNode → Bool
+styled_has_grids mapping style below_have_grids results =
+    if is_some style.display then true else mapping_has_grids mapping below_have_grids results
+
+-- the same of a node of a document, over what stands below it and what its children become
+abbrev pub has_grids : List StyleRule → Content → (below : Forest Content) → (below_have_grids : Bool) → Forest RenderNode → Bool
+has_grids rules document below below_have_grids results = below_have_grids
+has_grids rules (element name properties template_contents integration_point) below below_have_grids results =
+    styled_has_grids (element_mapping name.space name.local properties below) (own_style rules name properties) below_have_grids results
+has_grids rules _ below below_have_grids results = true
+
+-- whether each table that is converted among the trees of a document has a grid
+abbrev pub have_grids : List StyleRule → Forest Content → Bool
+have_grids rules none = true
+have_grids rules (node content children beside) =
+    has_grids rules content children (have_grids rules children) (converted rules children) && have_grids rules beside
+
+-- THE RENDER TREE of a document, its tables' parts not in their places yet, or none where a table has no grid
+abbrev pub tree_of_parts : List StyleRule → Dom → Option (Forest RenderNode)
+tree_of_parts rules dom = if have_grids rules (tree_of dom 0) then Some (render_tree_of rules dom) else None

@@ -20,9 +20,11 @@ use Rattle.html_render_conversion.specs.declared.mapping.Outline.TheVariants.{Al
 use Rattle.html_render_conversion.specs.declared.mapping.Outline.TheVariants as outline
 use Rattle.html_render_conversion.specs.declared.mapping.Mapping.{Mapping}
 use Rattle.html_render_conversion.specs.declared.mapping.Mapping.TheVariants.{Nothing, Leaf, Parent}
-use Rattle.html_render_conversion.specs.Insertion.{Tree, in_front, holds_insertions, text_node, with_contents, fragment_start, leaf, marked}
+use Rattle.html_render_conversion.specs.Insertion.{Tree, are_any, in_front, holds_insertions, admits_insertions, text_node, with_contents, fragment_start}
+use Rattle.html_render_conversion.specs.Insertion.{leaf, marked}
 use Rattle.html_render_conversion.specs.Marks.{mark_of}
-use Rattle.html_render_conversion.specs.Conversion.{element_mapping, own_style, node_style, keeps, are_any, counts, standing}
+use Rattle.html_render_conversion.specs.Conversion.{element_mapping, own_style, node_style, keeps, counts, standing}
+use Rattle.html_render_conversion.specs.Tables.{placed_kind, placed}
 
 -- ---- what becomes of a node, its children aside
 
@@ -129,9 +131,11 @@ pub record NextChild (dom : Dom) (old new : List Open) (child : ℕ) : Type 0 wh
 
 -- ---- the end of an element
 
--- whether anything is inserted into an element: a mark, or a content before its children or behind them
-abbrev pub has_insertions : Open → Bool
-has_insertions o = is_some o.mark || is_some o.before || not (o.inner == o.outer)
+-- whether anything is inserted into an element that has children or not: a mark, or a content before its children or behind
+-- them
+abbrev pub has_insertions : Open → (has_children : Bool) → Bool
+has_insertions o has_children =
+    (is_some o.mark || is_some o.before || not (o.inner == o.outer)) && admits_insertions o.node.kind has_children
 
 -- the kind of what an element becomes whose node is of this kind: what is inserted may stand beside it
 abbrev pub kind_with : (insertions : Bool) → NodeKind → NodeKind
@@ -150,3 +154,8 @@ pub record ClosingAt (built : Forest RenderNode) (inner outer : ℕ) : Type 0 wh
   pub is : built ≡ followed_by children (put_content after beside)
   pub inner_is : inner ≡ count (put_content after beside)
   pub outer_is : outer ≡ count beside
+
+-- an element that is closed has its grid, if it is a table, over what was kept of its children's results
+pub record IsPlaced (old new : Open) (children : Forest RenderNode) : Type 0 where
+  pub grid : placed_kind old.node.kind children ≡ Some new.node.kind
+  pub is : new ≡ record old { node = placed old.node children }

@@ -4,7 +4,10 @@ use Rattle.html_render_dom.specs.Forest.{Forest, none, node, followed_by}
 use Rattle.html_render_nodes.specs.declared.tree.NodeKind.{NodeKind}
 use Rattle.html_render_nodes.specs.declared.tree.NodeKind.TheVariants.{Text, Container, Break, Block, Div, Emphasis, Header}
 use Rattle.html_render_nodes.specs.declared.tree.NodeKind.TheVariants.{BlockQuote, Ul, Ol, ListItem, Dl, Dt, Dd}
-use Rattle.html_render_nodes.specs.declared.tree.NodeKind.TheVariants.{Strikeout, Superscript, Link, Image, Svg, FragmentStart}
+use Rattle.html_render_nodes.specs.declared.tree.NodeKind.TheVariants.{Strikeout, Superscript, Link, Image, Svg, FragmentStart, Table, TableRow, TableCell}
+use Rattle.html_render_nodes.specs.declared.tree.NodeKind.TheVariants.{Part}
+use Rattle.html_render_nodes.specs.declared.tree.Part.{Part as TablePart}
+use Rattle.html_render_nodes.specs.declared.tree.Part.TheVariants as part
 use Rattle.html_render_nodes.specs.declared.tree.RenderNode.{RenderNode}
 use Rattle.html_render_nodes.specs.RenderNodes.{without_style}
 
@@ -12,6 +15,11 @@ use Rattle.html_render_nodes.specs.RenderNodes.{without_style}
 pub record Tree : Type 0 where
   pub top : RenderNode
   pub children : Forest RenderNode
+
+-- whether there are trees
+abbrev pub are_any : Forest RenderNode → Bool
+are_any none = false
+are_any (node first below beside) = true
 
 -- a tree in front of others, or nothing in front of them
 abbrev pub in_front : Option Tree → Forest RenderNode → Forest RenderNode
@@ -40,6 +48,30 @@ holds_insertions (Link target) = false
 holds_insertions (Image image) = false
 holds_insertions (Svg title) = false
 holds_insertions (FragmentStart name) = false
+holds_insertions (Table grid) = true
+holds_insertions (TableRow slots) = true
+holds_insertions TableCell = true
+holds_insertions (Part p) = true
+
+-- whether anything can be inserted into a node, with children or without: not into a table, a part of one that holds rows,
+-- or a row, that has no children
+abbrev pub part_admits_insertions : TablePart → (has_children : Bool) → Bool
+part_admits_insertions part.Table has_children = has_children
+part_admits_insertions part.Body has_children = has_children
+part_admits_insertions part.Foot has_children = has_children
+part_admits_insertions part.Row has_children = has_children
+part_admits_insertions (part.Cell span) has_children = true
+part_admits_insertions part.Caption has_children = true
+
+abbrev pub admits_insertions : NodeKind → (has_children : Bool) → Bool
+admits_insertions (Table grid) has_children = has_children
+admits_insertions (TableRow slots) has_children = has_children
+admits_insertions (Part p) has_children = part_admits_insertions p has_children
+admits_insertions _ has_children = true
+
+-- the same of a tree
+abbrev pub is_open : Tree → Bool
+is_open t = admits_insertions t.top.kind (are_any t.children)
 
 abbrev pub container : Forest RenderNode → Tree
 container trees = record { top = without_style Container; children = trees }
@@ -60,7 +92,8 @@ insert_last new t =
 abbrev pub text_node : List ℕ → RenderNode
 text_node content = without_style (Text content)
 
--- THE INSERTION of contents: first the one before, where there is one, then the one behind
+-- THE INSERTION of contents: first the one before, where there is one, then the one behind; they are lost where nothing can
+-- be inserted
 abbrev pub with_before : Option (List ℕ) → Tree → Tree
 with_before None t = t
 with_before (Some content) t = insert_first (text_node content) t
@@ -70,15 +103,15 @@ with_after None t = t
 with_after (Some content) t = insert_last (text_node content) t
 
 abbrev pub with_contents : (before after : Option (List ℕ)) → Tree → Tree
-with_contents before after t = with_after after (with_before before t)
+with_contents before after t = if is_open t then with_after after (with_before before t) else t
 
--- THE INSERTION of a mark: it stands at the front, without a style
+-- THE INSERTION of a mark: it stands at the front, without a style, and is lost where nothing can be inserted
 abbrev pub fragment_start : (name : List ℕ) → RenderNode
 fragment_start name = without_style (FragmentStart name)
 
 abbrev pub with_mark : Option (List ℕ) → Tree → Tree
 with_mark None t = t
-with_mark (Some name) t = insert_first (fragment_start name) t
+with_mark (Some name) t = if is_open t then insert_first (fragment_start name) t else t
 
 -- a node without children
 abbrev pub leaf : RenderNode → Tree

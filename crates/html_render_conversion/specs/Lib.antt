@@ -2,6 +2,7 @@
 pub mod Insertion
 pub mod Images
 pub mod Marks
+pub mod Tables
 pub mod Conversion
 -- where the code stands on its way
 pub mod Converting

@@ -1,15 +1,18 @@
-//! What is read of an element's attributes: the first of a name, the number of a list's first item, and the name of a mark.
+//! What is read of an element's attributes: the first of a name, the number of a list's first item, what a cell of a table
+//! spans, and the name of a mark.
 
-ghost use Rattle.std.specs.Prelude.{◌≡◌, IfOk, IfErr, find, map, option_copied, option_map, pos, string_bytes, unwrap_or};
+ghost use Rattle.std.specs.Prelude.{◌≡◌, IfOk, IfErr, find, map, option_copied, option_map, pos, reverse, string_bytes, unwrap_or};
 ghost use Rattle.std.specs.Str.{bytes_eq};
 ghost use Rattle.html_render_dom.specs.Content.{name_of, property_of, space_of};
 ghost use Rattle.html_render_dom.specs.Selectors.{first_value};
 ghost use Rattle.html_render_conversion.specs.Conversion.{number_of, start_of};
 ghost use Rattle.html_render_conversion.specs.Marks.{is_anchor, names_mark, mark_of};
+ghost use Rattle.html_render_conversion.specs.Tables.{size_of, size_or_one, span_of};
 
 use html_render_dom::Error;
 use html_render_dom::dom::{Attribute, Namespace, QualName};
 use html_render_dom::text::Text;
+use html_render_nodes::tree::CellSpan;
 use std::alloc::Global;
 
 /// The first attribute of a local name.
@@ -46,6 +49,44 @@ pub fn start_of(attributes: &[Attribute]) -> i64
     match first_value(attributes, "start") {
         Some(number) => number_or_one(number),
         None => 1,
+    }
+}
+
+/// The last attribute of a local name.
+fn last_named<'a>(attributes: &'a [Attribute], name: &str) -> Option<&'a Attribute>
+    ensures { option_copied result ≡ find (λ a. bytes_eq (string_bytes a.name.local) name.now) (reverse attributes.now) }
+{
+    attributes
+        .iter()
+        .rev()
+        .find(|attribute| attribute.name.local.as_str() == name)
+}
+
+/// The number that a text is, and 1 if it is none.
+fn size_or_one(text: &str) -> usize
+    ensures { result ≡ unwrap_or (size_of text.now) 1 }
+{
+    text.parse().unwrap_or(1)
+}
+
+/// The number of the last attribute of a local name, and 1 without such a number.
+fn last_size(attributes: &[Attribute], name: &str) -> usize
+    ensures { result ≡ size_or_one name.now (map property_of attributes.now) }
+{
+    match last_named(attributes, name) {
+        Some(attribute) => size_or_one(attribute.value.as_str()),
+        None => 1,
+    }
+}
+
+/// What a cell of a table asks for, by its attributes: as many columns as its last `colspan` says, and as many rows as its
+/// last `rowspan` says, at least 1.
+pub fn span_of(attributes: &[Attribute]) -> CellSpan
+    ensures { result ≡ span_of (map property_of attributes.now) }
+{
+    CellSpan {
+        colspan: last_size(attributes, "colspan"),
+        rowspan: last_size(attributes, "rowspan").max(1),
     }
 }
 

@@ -7,15 +7,18 @@ ghost use Rattle.std.specs.Prelude.{◌≡◌, ◌≤◌, ◌||◌, List, [], �
 ghost use Rattle.html_render_dom.specs.Dom.{IsForest, IsNode, children_at};
 ghost use Rattle.html_render_dom.specs.Rules.{rule_of};
 ghost use Rattle.html_render_conversion.specs.Insertion.{in_front, leaf, marked, with_contents, with_mark};
-ghost use Rattle.html_render_conversion.specs.Conversion.{keeps, counts, vanishes, render_tree_of};
+ghost use Rattle.html_render_conversion.specs.Conversion.{keeps, counts, vanishes, tree_of_parts};
 ghost use Rattle.html_render_conversion.specs.Converting.{progress, open_node, put_content, put_mark, received};
 ghost use Rattle.html_render_conversion.specs.Converting.{is_kept, with_result, has_insertions, kind_with};
-ghost use Rattle.html_render_conversion.specs.Converting.{close_element, outline_at, ClosingAt, NextChild};
+ghost use Rattle.html_render_conversion.specs.Converting.{close_element, outline_at, ClosingAt, IsPlaced, NextChild};
+ghost use Rattle.html_render_conversion.specs.Tables.{placed_kind};
+ghost use Rattle.html_render_parts.specs.Refusal.{Fails};
 ghost use Rattle.html_render_conversion.specs.declared.convert.Open.{Open};
 ghost use Rattle.html_render_nodes.specs.Splits.{SplitAt};
 
-use crate::kinds::{counts, holds_insertions, keeps};
+use crate::kinds::{admits_insertions, counts, holds_insertions, keeps};
 use crate::mapping::{IfEmpty, Outline, outline_of, text_node};
+use crate::tables::place_rows;
 use html_render_dom::Error;
 use html_render_dom::dom::{Handle, NodeData, RcDom};
 use html_render_dom::style::StyleRule;
@@ -70,11 +73,13 @@ impl Open {
         }
     }
 
-    /// Whether anything is inserted into it: a mark, or a content before its children or behind them.
-    fn has_insertions(&self) -> bool
-        ensures { result ≡ has_insertions self.now }
+    /// Whether anything is inserted into it, with children or without: a mark, or a content before its children or behind
+    /// them.
+    fn has_insertions(&self, has_children: bool) -> bool
+        ensures { result ≡ has_insertions self.now has_children }
     {
-        self.mark.is_some() || self.before.is_some() || self.inner != self.outer
+        let are_any = self.mark.is_some() || self.before.is_some() || self.inner != self.outer;
+        are_any && admits_insertions(&self.node.kind, has_children)
     }
 }
 
@@ -116,11 +121,11 @@ fn receive(elements: &mut Vec<Open>, kind: &NodeKind, has_children: bool) -> boo
 /// The same for what an element becomes whose children are converted: its node, or a Container of that and of what is
 /// inserted.
 fn receive_element(elements: &mut Vec<Open>, element: &Open, has_children: bool) -> bool
-    ensures received { elements.new.items ≡ received (kind_with (has_insertions element.now) element.now.node.kind)
-        (has_insertions element.now || has_children) elements.old.items }
-    ensures kept { result ≡ is_kept elements.old.items (kind_with (has_insertions element.now) element.now.node.kind) }
+    ensures received { elements.new.items ≡ received (kind_with (has_insertions element.now has_children) element.now.node.kind)
+        (has_insertions element.now has_children || has_children) elements.old.items }
+    ensures kept { result ≡ is_kept elements.old.items (kind_with (has_insertions element.now has_children) element.now.node.kind) }
 {
-    let has_insertions = element.has_insertions();
+    let has_insertions = element.has_insertions(has_children);
     if has_insertions && !holds_insertions(&element.node.kind) {
         receive(elements, &NodeKind::Container, true)
     } else {
@@ -213,6 +218,10 @@ fn build_element(
         builder.new ≡ in_front (Some (with_mark mark (with_contents before s.after (record { top = node; children = s.children })))) s.beside) }
     ensures err { IfErr result (λ e. e ≡ Error.OutOfMemory) }
 {
+    if !admits_insertions(&node.kind, builder.len() != inner) {
+        builder.truncate(outer);
+        return builder.put(node);
+    }
     if holds_insertions(&node.kind) {
         put_content(builder, before)?;
         put_mark(builder, mark)?;
@@ -280,6 +289,25 @@ fn close_element(
     build_element(node, mark, before, inner, outer, builder)
 }
 
+/// Gives an element whose children are converted its grid, if it is a table.
+///
+/// # Errors
+///
+/// `Fail` exactly where the table has no grid, and `OutOfMemory`.
+fn place_table(
+    alloc: Global,
+    element: &mut Open,
+    builder: &Builder<RenderNode>,
+) -> Result<(), Error>
+    requires { ClosingAt builder.now element.old.inner element.old.outer }
+    ensures ok { OnOk result ((s : ClosingAt builder.now element.old.inner element.old.outer) → IsPlaced element.old element.new s.children) }
+    ensures err { IfErr result (λ e. (s : ClosingAt builder.now element.old.inner element.old.outer) →
+        Fails e (placed_kind element.old.node.kind s.children)) }
+{
+    let children = builder.since(element.inner);
+    place_rows(alloc, &mut element.node.kind, children)
+}
+
 /// The last of the children that the innermost open element has ahead, which has one fewer ahead then; `None` where no
 /// child is ahead.
 #[inline(always)]
@@ -310,16 +338,18 @@ fn room_for(dom: &RcDom, rules: &[StyleRule]) -> usize {
 /// The render tree of a document, whose elements are styled by rules in the order in which these were added. It takes
 /// no more stack for a deep document than for a flat one.
 ///
+/// The parts of tables aren't in their places yet: a table stands over what is kept of its children.
+///
 /// # Errors
 ///
-/// `OutOfMemory`.
+/// `Fail` exactly where a cell of a table would end past `u128::MAX` columns, and `OutOfMemory`.
 pub fn dom_to_render_tree(
     alloc: Global,
     rules: &[StyleRule],
     dom: &RcDom,
 ) -> Result<RenderTree, Error>
-    ensures ok { IfOk result (λ tree. tree ≡ render_tree_of (map rule_of rules.now) dom.now) }
-    ensures err { IfErr result (λ e. e ≡ Error.OutOfMemory) }
+    ensures ok { IfOk result (λ tree. tree_of_parts (map rule_of rules.now) dom.now ≡ Some tree) }
+    ensures err { IfErr result (λ e. Fails e (tree_of_parts (map rule_of rules.now) dom.now)) }
 {
     let mut open = Vec::new(alloc);
     let mut builder = Builder::with_capacity(alloc, room_for(dom, rules))?;
@@ -334,7 +364,8 @@ pub fn dom_to_render_tree(
     'converting: loop {
         if let Some(child) = next_child(dom, &mut open) {
             open_node(alloc, rules, dom, child, &mut open, &mut builder)?;
-        } else if let Some(element) = open.pop() {
+        } else if let Some(mut element) = open.pop() {
+            place_table(alloc, &mut element, &builder)?;
             close_element(element, &mut open, &mut builder)?;
         } else {
             return Ok(RenderTree::from(builder));

@@ -6,3 +6,4 @@ pub mod convert;
 mod images;
 mod kinds;
 pub mod mapping;
+mod tables;

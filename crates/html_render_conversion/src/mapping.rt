@@ -14,7 +14,7 @@ ghost use Rattle.html_render_conversion.specs.Conversion.{html_mapping, html_ele
 ghost use Rattle.html_render_conversion.specs.Conversion.{is_preformatted, preformatted_style, own_style, node_style};
 ghost use Rattle.html_render_conversion.specs.Converting.{mark_alone, styled_outline, outline_at};
 
-use crate::attributes::{first_value, mark_of, start_of};
+use crate::attributes::{first_value, mark_of, span_of, start_of};
 use crate::images::{drawing_title, image_parts};
 use html_render_dom::Error;
 use html_render_dom::dom::{Attribute, Handle, Namespace, NodeData, QualName, RcDom};
@@ -22,7 +22,7 @@ use html_render_dom::style::{
     ComputedStyle, Specificity, StyleOrigin, StyleRule, WhiteSpace, WithSpec, computed_style,
 };
 use html_render_dom::text::Text;
-use html_render_nodes::tree::{Emphasis, Estimate, Image, NodeKind, NodeStyle, RenderNode};
+use html_render_nodes::tree::{Emphasis, Estimate, Image, NodeKind, NodeStyle, Part, RenderNode};
 use std::alloc::Global;
 
 /// What becomes of an element whose children have no results that count.
@@ -96,6 +96,15 @@ fn html_mapping(name: &str, attributes: &[Attribute]) -> Mapping
         "dl" => Mapping::Parent(NodeKind::Dl, IfEmpty::Vanishes),
         "dt" => Mapping::Parent(NodeKind::Dt, IfEmpty::Stands),
         "dd" => Mapping::Parent(NodeKind::Dd, IfEmpty::Stands),
+        "table" => Mapping::Parent(NodeKind::Part(Part::Table), IfEmpty::Vanishes),
+        "thead" | "tbody" => Mapping::Parent(NodeKind::Part(Part::Body), IfEmpty::Vanishes),
+        "tfoot" => Mapping::Parent(NodeKind::Part(Part::Foot), IfEmpty::Vanishes),
+        "tr" => Mapping::Parent(NodeKind::Part(Part::Row), IfEmpty::Stands),
+        "td" | "th" => Mapping::Parent(
+            NodeKind::Part(Part::Cell(span_of(attributes))),
+            IfEmpty::Stands,
+        ),
+        "caption" => Mapping::Parent(NodeKind::Part(Part::Caption), IfEmpty::Vanishes),
         "html" | "body" => Mapping::Parent(NodeKind::Container, IfEmpty::Stands),
         "head" | "link" | "meta" | "hr" | "script" | "style" => Mapping::Nothing,
         _ => Mapping::Parent(NodeKind::Container, IfEmpty::Vanishes),

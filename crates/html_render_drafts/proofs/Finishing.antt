@@ -12,7 +12,8 @@ use Rattle.html_render_nodes.specs.Preorder.{flatten, forest_of}
 use Rattle.html_render_nodes.specs.laws.Preorder.{flatten-followed_by, length-flatten, IsForest-flatten}
 use Rattle.html_render_nodes.specs.laws.Splits.{count-followed_by, followed_by-none, followed_by-followed_by}
 use Rattle.html_render_drafts.specs.declared.finish.Ahead.{Ahead}
-use Rattle.html_render_drafts.specs.Finish.{Placed, placed, Fails}
+use Rattle.html_render_drafts.specs.Finish.{Placed, placed}
+use Rattle.html_render_parts.specs.Refusal.{Fails}
 use Rattle.html_render_drafts.specs.Finishing.{ahead_of}
 use Rattle.html_render_drafts.specs.laws.Finish.{both, placed-followed_by, count-placed}
 use Rattle.html_render_drafts.specs.Store.{Trees, at, planted, below_first, Holds, Within}

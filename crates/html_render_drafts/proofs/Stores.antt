@@ -7,7 +7,7 @@ use Rattle.std.proofs.Math.Seq.{get_or-append_seam, drop-append_seam}
 use Rattle.html_render_dom.specs.Forest.{none, node, count}
 use Rattle.html_render_nodes.specs.laws.Splits.{count-followed_by}
 use Rattle.html_render_drafts.specs.declared.store.Made.{Made}
-use Rattle.html_render_drafts.specs.Store.{Trees, at, planted, Within, Grown, children_of, tree_of, grown_by, IsBuilt, AreBuilt}
+use Rattle.html_render_drafts.specs.Store.{Trees, at, planted, below_first, Within, Grown, children_of, tree_of, grown_by, IsBuilt, AreBuilt}
 use Rattle.html_render_drafts.specs.laws.Store.{Grown-same, Grown-then, Within-grown, planted-grown, planted-next}
 
 take-all : {X : Type 0} (xs : List X) → take (length xs) xs ≡ xs
@@ -144,6 +144,24 @@ module _ {K : Type 0} where
       let zero_more : 0 + n ≡ n = omega arith in
       subst (λ t. IsAt links t p m) view (subst (λ k. IsAt links (grown_by links [] ms) k m) (zero_more ∙ same)
       (subst (λ y. IsAt links (grown_by links [] ms) (0 + n) y) (sym e) (IsAt-from links [] ms n m b (below-made links ms s p n view same lt))))
+
+  -- a node more over the trees below another
+  pub PushedOver : (links : List ℕ) (ms : List (Made K)) (s : Trees K) (p n : ℕ) (m : Made K) (k : K) → AreBuilt links [] ms →
+      grown_by links [] ms ≡ s → n ≡ p → p < length s → m ≡ get_or ms n m →
+      AreBuilt links [] (ms ++ record m { node = k } ∷ [])
+      × (grown_by links [] (ms ++ record m { node = k } ∷ []) ≡ s ++ node k (below_first (at s p)) none ∷ [])
+  PushedOver links ms s p n m k b view same lt e =
+      let i = IsAt-made links ms s p n m b view same lt e in
+      let over : Made K = record m { node = k } in (
+        AreBuilt-push links [] ms over b (subst (λ t. IsBuilt links t over) (sym view) (record {
+          order = i.order;
+          past = i.past;
+          within = i.within;
+          size = omega (arith, i.size, ap count i.is);
+        })),
+        grown_by-push links [] ms over ∙ ap (λ t. t ++ tree_of links t over ∷ []) view
+            ∙ ap (λ b. s ++ node k b none ∷ []) (sym (ap below_first i.is)),
+      )
 
   -- ---- counts
 

@@ -1,7 +1,5 @@
 -- A forest with other nodes in their places.
-use Rattle.std.specs.Prelude.{◌≡◌, Option, Some, None}
-use Rattle.html_render_dom.specs.declared.errors.Error.{Error}
-use Rattle.html_render_dom.specs.declared.errors.Error.TheVariants.{TooNarrow, Fail, OutOfMemory}
+use Rattle.std.specs.Prelude.{Option, Some, None}
 use Rattle.html_render_dom.specs.Forest.{Forest, none, node}
 use Rattle.html_render_dom.specs.Outcome.{◌>>=◌}
 
@@ -23,9 +21,3 @@ placed writes above (node k children beside) = do
   inner ← placed writes w.1 children
   after ← placed writes above beside
   Some (node w.0 inner after)
-
--- why nothing is written: a node may not stand where it does, or want of memory, which says nothing of that
-abbrev pub Fails : {X : Type 0} → Error → Option X → Type 0
-Fails Fail wanted = wanted ≡ None
-Fails OutOfMemory wanted = Unit {0}
-Fails TooNarrow wanted = ⊥

@@ -1,7 +1,8 @@
 //! How trees of a store are written as one render tree.
 
 ghost use Rattle.std.specs.Prelude.{◌≡◌, ◌++◌, reverse, map, Some, OnOk, IfOk, IfErr};
-ghost use Rattle.html_render_drafts.specs.Finish.{mapped, Placed, placed, Fails};
+ghost use Rattle.html_render_drafts.specs.Finish.{mapped, Placed, placed};
+ghost use Rattle.html_render_parts.specs.Refusal.{Fails};
 ghost use Rattle.html_render_drafts.specs.Finishing.{ahead_of};
 ghost use Rattle.html_render_drafts.specs.Store.{planted, Within};
 

@@ -141,6 +141,29 @@ impl<N: Drop> Store<N> {
         Ok(place)
     }
 
+    /// Makes a node over the trees below the one at a place, which it shares with it.
+    ///
+    /// # Errors
+    ///
+    /// `OutOfMemory`. The store is then as it was.
+    pub fn push_over(&mut self, node: N, place: Place) -> Result<Place, Error>
+        requires { place < length self.old }
+        ensures ok { IfOk result (λ p. Becomes self.old self.new (p ∷ []) (forest.node node (below_first (at self.old place)) none)) }
+        ensures unchanged { OnErr result (self.new ≡ self.old) }
+        ensures err { IfErr result (λ e. e ≡ Error.OutOfMemory) }
+    {
+        let number = self.made.len();
+        let made = &self.made[place.number];
+        let (size, first, past) = (made.size, made.first, made.past);
+        self.made.push(Made {
+            node,
+            size,
+            first,
+            past,
+        })?;
+        Ok(Place { number })
+    }
+
     /// Makes a node over trees, of which there are so many nodes with the new one.
     fn push_counted(&mut self, node: N, size: usize, children: &[Place]) -> Result<Place, Error>
         requires within { Within self.old children.now }

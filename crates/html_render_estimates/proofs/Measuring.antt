@@ -1,5 +1,5 @@
 -- What measuring from the last node to the first keeps true.
-use Rattle.std.proofs.Common.{◌≡◌, ◌⊎◌, ltb, ℕ, ◌+◌, ◌-◌, ◌<◌, ◌≤◌, max, List, [], ◌∷◌, ◌++◌, length, take, drop, set, get_or}
+use Rattle.std.proofs.Common.{◌≡◌, ◌⊎◌, ltb, Bool, cond, ℕ, ◌+◌, ◌-◌, ◌<◌, ◌≤◌, max, List, [], ◌∷◌, ◌++◌, length, take, drop, set, get_or}
 use Rattle.std.proofs.Common.{zero, suc, refl, sym, ap, ◌∙◌, subst, arith}
 use Rattle.std.proofs.Common.{append_assoc, length-append, length-drop, length-set, inl, inr}
 use Rattle.std.proofs.lemmas.List.{drop-append-le, drop-drop, drop-set, take-set-le, take-take, drop_more}
@@ -10,10 +10,11 @@ use Rattle.html_render_dom.specs.Forest.{Forest, none, node, followed_by}
 use Rattle.html_render_parts.specs.Decoration.{Decoration}
 use Rattle.html_render_nodes.specs.declared.tree.Entry.{Entry}
 use Rattle.html_render_nodes.specs.declared.tree.Estimate.{Estimate}
+use Rattle.html_render_nodes.specs.declared.tree.NodeKind.{NodeKind}
 use Rattle.html_render_nodes.specs.declared.tree.RenderNode.{RenderNode}
 use Rattle.html_render_nodes.specs.Preorder.{flatten, forest_of}
 use Rattle.html_render_nodes.specs.laws.Preorder.{forest_of-flatten, flatten-followed_by, IsForest, IsForest-flatten}
-use Rattle.html_render_estimates.specs.Estimates.{trees, greatest_least, estimate_of, measured}
+use Rattle.html_render_estimates.specs.Estimates.{trees, greatest_least, estimate_of, sized_estimate_of, measured_as}
 
 -- ---- the trees beside each other, one after the other
 
@@ -111,17 +112,21 @@ node_at (node k children beside) (suc i) h =
 
 -- ---- nodes that are measured from the last to the first
 
-module _ {D A : Type 0} (decoration : Decoration D A) (decorator : D) (min_wrap_width : ℕ) where
+module _ {D A : Type 0} (decoration : Decoration D A) (decorator : D) (min_wrap_width : ℕ) (sized : Bool) where
+  abbrev pub estimate_as : NodeKind → (children : Forest RenderNode) → Estimate
+  estimate_as kind children =
+      cond sized (sized_estimate_of decoration decorator min_wrap_width kind children) (estimate_of decoration decorator min_wrap_width kind children)
+
   abbrev pub after : Forest RenderNode → Forest RenderNode
-  after t = measured decoration decorator min_wrap_width t
+  after t = measured_as decoration decorator min_wrap_width sized t
 
   after-followed_by : (t u : Forest RenderNode) → after (followed_by t u) ≡ followed_by (after t) (after u)
   after-followed_by none u = refl
   after-followed_by (node n children beside) u =
-      ap (λ f. node (record n { estimate = estimate_of decoration decorator min_wrap_width n.kind (after children) }) (after children) f)
+      ap (λ f. node (record n { estimate = estimate_as n.kind (after children) }) (after children) f)
       (after-followed_by beside u)
 
-  length-after : (t : Forest RenderNode) → length (flatten (after t)) ≡ length (flatten t)
+  pub length-after : (t : Forest RenderNode) → length (flatten (after t)) ≡ length (flatten t)
   length-after none = refl
   length-after (node n children beside) =
       omega (
@@ -146,8 +151,9 @@ module _ {D A : Type 0} (decoration : Decoration D A) (decorator : D) (min_wrap_
     pub children : Forest RenderNode
     pub size : e.size ≡ length (flatten (after children)) + 1
     pub end : at + e.size ≤ length now
+    pub entry : drop at (flatten t) ≡ e ∷ drop (at + 1) (flatten t)
     pub under : take (e.size - 1) (drop (at + 1) now) ≡ flatten (after children)
-    pub next : (m : Estimate) → m ≡ estimate_of decoration decorator min_wrap_width e.node.kind (after children) →
+    pub next : (m : Estimate) → m ≡ estimate_as e.node.kind (after children) →
         Measuring t (set now at (record e { node = record e.node { estimate = m } })) at
 
   pub Measuring-start : (t : Forest RenderNode) (now : List (Entry RenderNode)) (at : ℕ) → now ≡ flatten t →
@@ -165,11 +171,11 @@ module _ {D A : Type 0} (decoration : Decoration D A) (decorator : D) (min_wrap_
       past es n e = ap (λ m. drop m es) e ∙ drop-length es
 
   pub Measuring-done : (t : Forest RenderNode) (now : List (Entry RenderNode)) (at : ℕ) → Measuring t now at → at ≡ 0 →
-      IsForest now (after t)
+      now ≡ flatten (after t)
   Measuring-done t now at w zero_at =
       let all : flatten t ≡ flatten w.rest = sym (ap (λ n. drop n (flatten t)) zero_at) ∙ w.behind in
       let same : w.rest ≡ t = sym (forest_of-flatten w.rest) ∙ ap forest_of (sym all) ∙ forest_of-flatten t in
-      IsForest-flatten now (after t) (sym (ap (λ n. drop n now) zero_at) ∙ w.filled ∙ ap (λ u. flatten (after u)) same)
+      sym (ap (λ n. drop n now) zero_at) ∙ w.filled ∙ ap (λ u. flatten (after u)) same
 
   Measuring-find : (t : Forest RenderNode) (now : List (Entry RenderNode)) (at before : ℕ) (e : Entry RenderNode) →
       Measuring t now at → before + 1 ≡ at → e ≡ get_or now before e → Found t now before e
@@ -208,10 +214,11 @@ module _ {D A : Type 0} (decoration : Decoration D A) (decorator : D) (min_wrap_
           length-drop (before + 1) now,
           length-append (flatten (after s.children)) (flatten (after s.beside)),
         );
+        entry = drop_more old before e (omega (arith, w.within, one)) ∙ ap (λ x. x ∷ drop (before + 1) old) (sym (is ∙ there));
         under = ap (λ n. take n (drop (before + 1) now)) less ∙ ap (take (length (flatten (after s.children)))) filled
             ∙ take-append_seam (flatten (after s.children)) (flatten (after s.beside));
         next = λ m is_estimate. (let x : Entry RenderNode = record e { node = record e.node { estimate = m } } in
-            let its : Estimate = estimate_of decoration decorator min_wrap_width s.top.kind (after s.children) in
+            let its : Estimate = estimate_as s.top.kind (after s.children) in
             let node_is : x ≡ record { node = record s.top { estimate = its }; size = length (flatten (after s.children)) + 1 } =
             cc (is_estimate, same, size) in
             record {
@@ -240,11 +247,11 @@ module _ {D A : Type 0} (decoration : Decoration D A) (decorator : D) (min_wrap_
   -- the node x at the place, with the estimate of the node that was found there
   pub Found-next : (t : Forest RenderNode) (now all : List (Entry RenderNode)) (at n : ℕ) (e x : Entry RenderNode) (m : Estimate)
       (f : Found t now at e) → all ≡ now → n ≡ e.size - 1 →
-      m ≡ estimate_of decoration decorator min_wrap_width e.node.kind (forest_of (take n (drop (at + 1) all))) →
+      m ≡ estimate_as e.node.kind (forest_of (take n (drop (at + 1) all))) →
       e ≡ get_or all at e → x ≡ get_or now at x → Measuring t (set now at (record x { node = record x.node { estimate = m } })) at
   Found-next t now all at n e x m f same less is_estimate is_e is_x =
       let there : e ≡ x =
       is_e ∙ ap (λ l. get_or l at e) same ∙ get_or_default now at e x (omega (arith, f.end, f.size)) ∙ sym is_x in
       subst (λ (y : Entry RenderNode). Measuring t (set now at (record y { node = record y.node { estimate = m } })) at) there
       (f.next m (is_estimate
-      ∙ ap (estimate_of decoration decorator min_wrap_width e.node.kind) (Found-part t now all at n e f same less).is))
+      ∙ ap (estimate_as e.node.kind) (Found-part t now all at n e f same less).is))

@@ -1,16 +1,20 @@
 -- What each node of a forest measures, from its kind and what its children measure.
-use Rattle.std.specs.Prelude.{ℕ, pos, ◌+◌, ◌+ℤ◌, ◌-ℤ◌, max, min, ℤ, List}
+use Rattle.std.specs.Prelude.{ℕ, pos, ◌+◌, ◌-◌, ◌*◌, ◌/◌, ◌+ℤ◌, ◌-ℤ◌, max, min, ℤ, List, sum_by, Bool, true, false, ◌||◌, if◌then◌else◌}
 use Rattle.std.specs.Int.{saturate_signed, w64}
 use Rattle.std.specs.Str.{chars}
 use Rattle.html_render_dom.specs.Forest.{Forest, none, node}
 use Rattle.html_render_parts.specs.Decoration.{Decoration}
+use Rattle.html_render_parts.specs.declared.widths.needs.CellNeed.{CellNeed}
+use Rattle.html_render_parts.specs.Needs.{column_needs}
 use Rattle.html_render_lines.specs.TaggedText.{text_columns}
 use Rattle.html_render_nodes.specs.declared.tree.Estimate.{Estimate}
 use Rattle.html_render_nodes.specs.declared.tree.NodeKind.{NodeKind}
 use Rattle.html_render_nodes.specs.declared.tree.NodeKind.TheVariants.{Text, Break, Header, BlockQuote, Ul, Ol, Dd}
-use Rattle.html_render_nodes.specs.declared.tree.NodeKind.TheVariants.{Link, Image, Svg, FragmentStart}
+use Rattle.html_render_nodes.specs.declared.tree.NodeKind.TheVariants.{Link, Image, Svg, FragmentStart, Table}
 use Rattle.html_render_nodes.specs.declared.tree.RenderNode.{RenderNode}
 use Rattle.html_render_estimates.specs.TextSize.{size_of, saturated}
+use Rattle.html_render_estimates.specs.Cells.{cell_needs}
+use Rattle.html_render_parts.specs.Needs.{cells_stand}
 
 -- how many trees stand beside each other
 abbrev pub trees : {K : Type 0} → Forest K → ℕ
@@ -21,6 +25,36 @@ trees (node k children beside) = trees beside + 1
 abbrev pub greatest_least : Forest RenderNode → ℕ
 greatest_least none = 0
 greatest_least (node n children beside) = max n.estimate.least (greatest_least beside)
+
+-- their sizes together
+abbrev pub total_size : Forest RenderNode → ℕ
+total_size none = 0
+total_size (node n children beside) = saturated (n.estimate.size + total_size beside)
+
+-- whether one of their nodes is a table
+abbrev pub is_table : NodeKind → Bool
+is_table (Table grid) = true
+is_table kind = false
+
+abbrev pub has_table : Forest RenderNode → Bool
+has_table none = false
+has_table (node n children beside) = is_table n.kind || (has_table children || has_table beside)
+
+-- THE SIZE OF A TABLE: each column of a cell has an equal part of its size, rounded down, and a column's size is that of all its
+-- parts; one column of text stands between any two columns
+abbrev pub table_size : (columns : ℕ) → List CellNeed → ℕ
+table_size columns cells = saturated (sum_by (λ c. c.size / c.count * c.count) cells + (columns - 1))
+
+-- ITS LEAST WIDTH: each column has what it needs at least
+abbrev pub table_least : (columns : ℕ) → List CellNeed → ℕ
+table_least columns cells = saturated (sum_by (λ n. n.least) (column_needs columns cells) + (columns - 1))
+
+-- the estimate of a table over so many children: 0 columns where its cells don't stand on its columns, as no document has it
+abbrev pub table_estimate : (columns : ℕ) → List CellNeed → (children : ℕ) → Estimate
+table_estimate columns cells children =
+    if cells_stand columns cells
+    then record { least = table_least columns cells; size = table_size columns cells; prefix = 0; children = children }
+    else record { least = 0; size = 0; prefix = 0; children = children }
 
 -- the size of a text, and the columns of a prefix, in UTF-8
 abbrev pub text_size : List ℕ → ℕ
@@ -37,6 +71,16 @@ prefix_columns text = saturated (text_columns (chars text))
 abbrev pub last_number : ℤ → (items : ℕ) → ℤ
 last_number first items = saturate_signed w64 (first +ℤ pos items -ℤ pos 1)
 
+-- the size of a node whose children have this size, with this prefix; a link has five columns for what stands round it
+abbrev pub node_size : NodeKind → (below prefix : ℕ) → ℕ
+node_size (Text text) below prefix = text_size text
+node_size Break below prefix = 1
+node_size (Image image) below prefix = image_size image.title
+node_size (Svg title) below prefix = text_size title
+node_size (FragmentStart name) below prefix = 0
+node_size (Link target) below prefix = saturated (below + 5)
+node_size kind below prefix = saturated (below + prefix)
+
 module _ {D A : Type 0} (decoration : Decoration D A) (decorator : D) where
   -- the columns of what stands before the lines of a node with so many children
   abbrev pub prefix_of : NodeKind → (children : ℕ) → ℕ
@@ -49,40 +93,38 @@ module _ {D A : Type 0} (decoration : Decoration D A) (decorator : D) where
   prefix_of Dd children = 2
   prefix_of kind children = 0
 
-  -- the size of a node whose children have this size and number; a link has five columns for what stands round it
-  abbrev pub node_size : NodeKind → (below children : ℕ) → ℕ
-  node_size (Text text) below children = text_size text
-  node_size Break below children = 1
-  node_size (Image image) below children = image_size image.title
-  node_size (Svg title) below children = text_size title
-  node_size (FragmentStart name) below children = 0
-  node_size (Link target) below children = saturated (below + 5)
-  node_size kind below children = saturated (below + prefix_of kind children)
-
-  -- THE SIZE of trees beside each other: the columns of their texts and prefixes
-  abbrev pub size : Forest RenderNode → ℕ
-  size none = 0
-  size (node n children beside) = saturated (node_size n.kind (size children) (trees children) + size beside)
-
   module _ (min_wrap_width : ℕ) where
     -- the estimate of what is written in one piece, of this size
     abbrev pub piece : (size : ℕ) → Estimate
-    piece size = record { least = min size min_wrap_width; prefix = 0; children = 0 }
+    piece size = record { least = min size min_wrap_width; size = 0; prefix = 0; children = 0 }
 
-    -- THE ESTIMATE of a node over its measured children
+    -- THE ESTIMATE of a node over its measured children, where nothing asks for sizes
     abbrev pub estimate_of : NodeKind → (children : Forest RenderNode) → Estimate
     estimate_of (Text text) children = piece (text_size text)
-    estimate_of Break children = record { least = 1; prefix = 0; children = 0 }
+    estimate_of Break children = record { least = 1; size = 0; prefix = 0; children = 0 }
     estimate_of (Image image) children = piece (image_size image.title)
     estimate_of (Svg title) children = piece (text_size title)
-    estimate_of (FragmentStart name) children = record { least = 0; prefix = 0; children = 0 }
-    estimate_of (Link target) children = record { least = max (greatest_least children) 5; prefix = 0; children = trees children }
+    estimate_of (FragmentStart name) children = record { least = 0; size = 0; prefix = 0; children = 0 }
+    estimate_of (Link target) children = record { least = max (greatest_least children) 5; size = 0; prefix = 0; children = trees children }
     estimate_of kind children =
         let prefix = prefix_of kind (trees children) in
-        record { least = saturated (greatest_least children + prefix); prefix = prefix; children = trees children }
+        record { least = saturated (greatest_least children + prefix); size = 0; prefix = prefix; children = trees children }
+
+    -- AND WITH ITS SIZE, as a tree with a table asks for it
+    abbrev pub sized_estimate_of : NodeKind → (children : Forest RenderNode) → Estimate
+    sized_estimate_of (Table grid) children = table_estimate grid.columns (cell_needs children) (trees children)
+    sized_estimate_of kind children =
+        let e = estimate_of kind children in
+        record { least = e.least; size = node_size kind (total_size children) e.prefix; prefix = e.prefix; children = e.children }
+
+    -- the trees, each node with its estimate; sized says that sizes are asked for
+    abbrev pub measured_as : (sized : Bool) → Forest RenderNode → Forest RenderNode
+    measured_as sized none = none
+    measured_as sized (node n children beside) =
+        let below = measured_as sized children in
+        let e = if sized then sized_estimate_of n.kind below else estimate_of n.kind below in
+        node (record n { estimate = e }) below (measured_as sized beside)
 
     -- THE MEASURED TREES: each node with its estimate
     abbrev pub measured : Forest RenderNode → Forest RenderNode
-    measured none = none
-    measured (node n children beside) =
-        node (record n { estimate = estimate_of n.kind (measured children) }) (measured children) (measured beside)
+    measured t = measured_as (has_table t) t

@@ -1,12 +1,15 @@
 //! Estimates of the nodes of a render tree.
 //!
 //! `measure(alloc, &decorator, 3, tree)?` is the tree with each node's estimate: the least width in which the node
-//! can be laid out well, the columns of the decorator's prefix and the number of children.
+//! can be laid out well, the columns of the decorator's prefix and the number of children; and in a tree with a table its size.
 
-ghost use Rattle.std.specs.Prelude.{◌≡◌, max, min, IfOk, IfErr};
+ghost use Rattle.std.specs.Prelude.{◌≡◌, max, min, true, false, IfOk, IfErr, OnOk, MatchBool};
 ghost use Rattle.html_render_nodes.specs.Preorder.{flatten, forest_of};
-ghost use Rattle.html_render_estimates.specs.Estimates.{trees, greatest_least, image_size, prefix_of, last_number, estimate_of, measured};
+ghost use Rattle.html_render_estimates.specs.Estimates.{trees, greatest_least, image_size, prefix_of, last_number};
+ghost use Rattle.html_render_estimates.specs.Estimates.{estimate_of, sized_estimate_of, is_table, has_table, measured_as, measured};
+ghost use Rattle.html_render_estimates.specs.Passes.{MeasuresAs};
 
+use crate::sized::{node_size, table_estimate};
 use crate::text::{columns, size_within};
 use html_render_dom::Error;
 use html_render_nodes::tree::{Entry, Estimate, Flat, NodeKind, RenderNode, RenderTree};
@@ -15,14 +18,16 @@ use std::alloc::Global;
 
 /// Trees beside each other: how many there are, and the greatest of their least widths.
 #[derive(Clone, Copy)]
-struct Children {
-    count: usize,
+pub(crate) struct Children {
+    /// How many trees there are.
+    pub(crate) count: usize,
+    /// The greatest of their least widths.
     least: usize,
 }
 
 /// The trees of measured nodes.
 #[inline]
-fn children_of(nodes: &[Entry<RenderNode>]) -> Children
+pub(crate) fn children_of(nodes: &[Entry<RenderNode>]) -> Children
     requires { flatten (forest_of nodes.now) ≡ nodes.now }
     ensures count { result.count ≡ trees (forest_of nodes.now) }
     ensures least { result.least ≡ greatest_least (forest_of nodes.now) }
@@ -101,24 +106,29 @@ fn prefix_of<D: TextDecorator>(
         | NodeKind::Link(_)
         | NodeKind::Image(_)
         | NodeKind::Svg(_)
-        | NodeKind::FragmentStart(_) => Ok(0),
+        | NodeKind::FragmentStart(_)
+        | NodeKind::Table(_)
+        | NodeKind::TableRow(_)
+        | NodeKind::TableCell
+        | NodeKind::Part(_) => Ok(0),
     }
 }
 
 /// The estimate of what stands in a line, with no children.
 #[inline]
 fn piece(least: usize) -> Estimate
-    ensures { result ≡ record { least = least; prefix = 0; children = 0 } }
+    ensures { result ≡ record { least = least; size = 0; prefix = 0; children = 0 } }
 {
     Estimate {
         least,
+        size: 0,
         prefix: 0,
         children: 0,
     }
 }
 
 /// The lesser of an image's size and `limit`.
-fn image_size_within(title: &str, limit: usize) -> usize
+pub(crate) fn image_size_within(title: &str, limit: usize) -> usize
     ensures { result ≡ min (image_size title.now) limit }
 {
     size_within(title, limit).saturating_add(2).min(limit)
@@ -127,11 +137,12 @@ fn image_size_within(title: &str, limit: usize) -> usize
 /// The estimate of a link over measured nodes.
 fn link_estimate(below: &[Entry<RenderNode>]) -> Estimate
     requires { flatten (forest_of below.now) ≡ below.now }
-    ensures { result ≡ record { least = max (greatest_least (forest_of below.now)) 5; prefix = 0; children = trees (forest_of below.now) } }
+    ensures { result ≡ record { least = max (greatest_least (forest_of below.now)) 5; size = 0; prefix = 0; children = trees (forest_of below.now) } }
 {
     let children = children_of(below);
     Estimate {
         least: children.least.max(5),
+        size: 0,
         prefix: 0,
         children: children.count,
     }
@@ -167,6 +178,7 @@ fn estimate_of<D: TextDecorator>(
             let prefix = prefix_of(alloc, decorator, kind, children.count)?;
             Ok(Estimate {
                 least: children.least.saturating_add(prefix),
+                size: 0,
                 prefix,
                 children: children.count,
             })
@@ -174,7 +186,114 @@ fn estimate_of<D: TextDecorator>(
     }
 }
 
-/// The tree with each node's estimate, from the last node to the first.
+/// The estimate of a node over measured ones that have their sizes, with its own.
+fn sized_estimate_of<D: TextDecorator>(
+    alloc: Global,
+    decorator: &D,
+    min_wrap_width: usize,
+    kind: &NodeKind,
+    below: &[Entry<RenderNode>],
+) -> Result<Estimate, Error>
+    requires { flatten (forest_of below.now) ≡ below.now }
+    ensures ok { IfOk result (λ e. e ≡ sized_estimate_of D.decoration decorator.now min_wrap_width kind.now (forest_of below.now)) }
+    ensures err { IfErr result (λ e. e ≡ Error.OutOfMemory) }
+{
+    if let NodeKind::Table(grid) = kind {
+        return table_estimate(alloc, grid.columns(), below);
+    }
+    let estimate = estimate_of(alloc, decorator, min_wrap_width, kind, below)?;
+    Ok(Estimate {
+        size: node_size(kind, below, estimate.prefix),
+        ..estimate
+    })
+}
+
+/// Whether a node is a table.
+#[inline]
+fn is_table(kind: &NodeKind) -> bool
+    ensures { result ≡ is_table kind.now }
+{
+    matches!(kind, NodeKind::Table(_))
+}
+
+/// Gives nodes their estimates without sizes, from the last node to the first. Before a table, whose estimate asks for sizes, it
+/// stops and answers no.
+fn measure_without_sizes<D: TextDecorator>(
+    alloc: Global,
+    decorator: &D,
+    min_wrap_width: usize,
+    entries: &mut Vec<Entry<RenderNode>>,
+) -> Result<bool, Error>
+    requires { flatten (forest_of entries.old.items) ≡ entries.old.items }
+    ensures ok { IfOk result (λ all. MatchBool all
+        ((has_table (forest_of entries.old.items) ≡ false)
+        × (entries.new.items ≡ flatten (measured_as D.decoration decorator.now min_wrap_width false (forest_of entries.old.items))))
+        ((has_table (forest_of entries.old.items) ≡ true)
+        × MeasuresAs D.decoration decorator.now min_wrap_width (forest_of entries.old.items) entries.new.items)) }
+    ensures err { IfErr result (λ e. e ≡ Error.OutOfMemory) }
+{
+    let mut at = entries.len();
+    while at > 0 {
+        at -= 1;
+        let all = entries.as_slice();
+        let entry = &all[at];
+        let below = &all[at + 1..at + entry.size];
+        if is_table(&entry.node.kind) {
+            return Ok(false);
+        }
+        let estimate = estimate_of(alloc, decorator, min_wrap_width, &entry.node.kind, below)?;
+        entries[at].node.estimate = estimate;
+    }
+    Ok(true)
+}
+
+/// Gives nodes their estimates with sizes, from the last node to the first.
+fn measure_with_sizes<D: TextDecorator>(
+    alloc: Global,
+    decorator: &D,
+    min_wrap_width: usize,
+    entries: &mut Vec<Entry<RenderNode>>,
+) -> Result<(), Error>
+    requires { flatten (forest_of entries.old.items) ≡ entries.old.items }
+    ensures ok { OnOk result (entries.new.items ≡ flatten (measured_as D.decoration decorator.now min_wrap_width true (forest_of entries.old.items))) }
+    ensures err { IfErr result (λ e. e ≡ Error.OutOfMemory) }
+{
+    let mut at = entries.len();
+    while at > 0 {
+        at -= 1;
+        let all = entries.as_slice();
+        let entry = &all[at];
+        let below = &all[at + 1..at + entry.size];
+        let estimate = sized_estimate_of(
+            alloc,
+            decorator,
+            min_wrap_width,
+            &entry.node.kind,
+            below,
+        )?;
+        entries[at].node.estimate = estimate;
+    }
+    Ok(())
+}
+
+/// Gives nodes their estimates: with sizes if one of them is a table.
+fn measure_nodes<D: TextDecorator>(
+    alloc: Global,
+    decorator: &D,
+    min_wrap_width: usize,
+    entries: &mut Vec<Entry<RenderNode>>,
+) -> Result<(), Error>
+    requires { flatten (forest_of entries.old.items) ≡ entries.old.items }
+    ensures ok { OnOk result (entries.new.items ≡ flatten (measured D.decoration decorator.now min_wrap_width (forest_of entries.old.items))) }
+    ensures err { IfErr result (λ e. e ≡ Error.OutOfMemory) }
+{
+    if measure_without_sizes(alloc, decorator, min_wrap_width, entries)? {
+        return Ok(());
+    }
+    measure_with_sizes(alloc, decorator, min_wrap_width, entries)
+}
+
+/// The tree with each node's estimate. Its size is 0, unless the tree has a table.
 ///
 /// # Errors
 ///
@@ -189,14 +308,6 @@ pub fn measure<D: TextDecorator>(
     ensures err { IfErr result (λ e. e ≡ Error.OutOfMemory) }
 {
     let mut entries = tree.into_nodes().into_entries();
-    let mut at = entries.len();
-    while at > 0 {
-        at -= 1;
-        let all = entries.as_slice();
-        let entry = &all[at];
-        let below = &all[at + 1..at + entry.size];
-        let estimate = estimate_of(alloc, decorator, min_wrap_width, &entry.node.kind, below)?;
-        entries[at].node.estimate = estimate;
-    }
+    measure_nodes(alloc, decorator, min_wrap_width, &mut entries)?;
     Ok(RenderTree::from(Flat::from_entries(entries)))
 }

@@ -1,3 +1,4 @@
 pub mod Refusals
 pub mod Settings
 pub mod Own
+pub mod Documents

@@ -1,13 +1,13 @@
 //! Requests for rendered documents.
 
-ghost use Rattle.std.specs.Prelude.{◌≡◌, Some, IfOk, IfErr, option_map, string_bytes};
-ghost use Rattle.html_render_dom.specs.declared.errors.Error.TheVariants.{OutOfMemory};
-ghost use Rattle.html_render_dom.specs.Outcome.{Refuses};
-ghost use Rattle.html_render_tree.specs.Conversion.{render_tree_of};
+ghost use Rattle.std.specs.Prelude.{◌≡◌, Some, IfOk, IfErr, option_and_then, option_map, string_bytes};
+ghost use Rattle.html_render_tree.specs.Refusal.{Fails};
+ghost use Rattle.html_render_tree.specs.RenderTree.{render_tree_of};
 ghost use Rattle.html_render_tree.specs.Dump.{dump};
 ghost use Rattle.html_render_tree.specs.Rendering.{rendered_lines, rendered_strings};
 ghost use Rattle.html_render_tree.specs.Grouping.{lines_of};
 ghost use Rattle.html_render_tree.specs.Texts.{text_of};
+ghost use Rattle.html_render_json.specs.Documents.{Unrendered};
 ghost use Rattle.html_render_json.specs.Refusals.{LibraryRefuses};
 
 use crate::answers::{Refusal, answered};
@@ -96,16 +96,17 @@ where
 }
 
 /// The text of a document.
+#[tactic(auto, using(crate::proofs::Rendered::rendered))]
 fn text<D: TextDecorator>(
     alloc: Global,
     config: &Config<D>,
     dom: &RcDom,
     width: usize,
 ) -> Result<String, Refusal>
-    ensures ok { IfOk result (λ text.
-        option_map text_of (rendered_lines D.decoration config.now (render_tree_of config.now.rules dom.now) width) ≡ Some (string_bytes text)) }
+    ensures ok { IfOk result (λ text. option_map text_of
+        (option_and_then (λ t. rendered_lines D.decoration config.now t width) (render_tree_of config.now.rules dom.now)) ≡ Some (string_bytes text)) }
     ensures err { IfErr result (LibraryRefuses (λ error.
-        Refuses error (rendered_lines D.decoration config.now (render_tree_of config.now.rules dom.now) width))) }
+        Unrendered error (render_tree_of config.now.rules dom.now) (λ t. rendered_lines D.decoration config.now t width))) }
 {
     let tree = config.dom_to_render_tree(alloc, dom)?;
     Ok(config.render_to_string(alloc, tree, width)?)
@@ -113,24 +114,25 @@ fn text<D: TextDecorator>(
 
 /// What the render tree of a document is displayed as.
 fn tree<D: TextDecorator>(alloc: Global, config: &Config<D>, dom: &RcDom) -> Result<String, Refusal>
-    ensures ok { IfOk result (λ text. string_bytes text ≡ dump 0 (render_tree_of config.now.rules dom.now)) }
-    ensures err { IfErr result (LibraryRefuses (λ error. error ≡ OutOfMemory)) }
+    ensures ok { IfOk result (λ text. option_map (dump 0) (render_tree_of config.now.rules dom.now) ≡ Some (string_bytes text)) }
+    ensures err { IfErr result (LibraryRefuses (λ error. Fails error (render_tree_of config.now.rules dom.now))) }
 {
     let tree = config.dom_to_render_tree(alloc, dom)?;
     Ok(tree.to_string(alloc)?)
 }
 
 /// The tagged lines of a document.
+#[tactic(auto, using(crate::proofs::Rendered::rendered))]
 fn lines<D: TextDecorator>(
     alloc: Global,
     config: &Config<D>,
     dom: &RcDom,
     width: usize,
 ) -> Result<Vec<TaggedLine<Vec<D::Annotation>>>, Refusal>
-    ensures ok { IfOk result (λ lines.
-        rendered_strings D.decoration config.now (render_tree_of config.now.rules dom.now) width D.Annotation.eq ≡ Some (lines_of lines.items)) }
+    ensures ok { IfOk result (λ lines. option_and_then (λ t. rendered_strings D.decoration config.now t width D.Annotation.eq)
+        (render_tree_of config.now.rules dom.now) ≡ Some (lines_of lines.items)) }
     ensures err { IfErr result (LibraryRefuses (λ error.
-        Refuses error (rendered_lines D.decoration config.now (render_tree_of config.now.rules dom.now) width))) }
+        Unrendered error (render_tree_of config.now.rules dom.now) (λ t. rendered_lines D.decoration config.now t width))) }
 {
     let tree = config.dom_to_render_tree(alloc, dom)?;
     Ok(config.render_to_lines(alloc, tree, width)?)

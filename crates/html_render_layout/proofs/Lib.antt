@@ -1,4 +1,5 @@
+pub mod Ending
+pub mod Failing
+pub mod FileNames
 pub mod Spaces
 pub mod Struck
-pub mod FileNames
-pub mod Ending

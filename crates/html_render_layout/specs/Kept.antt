@@ -8,10 +8,12 @@ use Rattle.html_render_lines.specs.Visible.{visible_in_lines}
 use Rattle.html_render_nodes.specs.declared.tree.NodeKind.{NodeKind}
 use Rattle.html_render_nodes.specs.declared.tree.NodeKind.TheVariants.{Text, Container, Break, Block, Div, Emphasis}
 use Rattle.html_render_nodes.specs.declared.tree.NodeKind.TheVariants.{Header, BlockQuote, Ul, Ol, ListItem, Dl, Dt, Dd}
-use Rattle.html_render_nodes.specs.declared.tree.NodeKind.TheVariants.{Strikeout, Superscript, Link, Image, Svg, FragmentStart}
+use Rattle.html_render_nodes.specs.declared.tree.NodeKind.TheVariants.{Strikeout, Superscript, Link, Image, Svg, FragmentStart, Table, TableRow}
+use Rattle.html_render_nodes.specs.declared.tree.NodeKind.TheVariants.{TableCell, Part}
 use Rattle.html_render_nodes.specs.declared.tree.RenderNode.{RenderNode}
 use Rattle.html_render_nodes.specs.Pass.{visited}
-use Rattle.html_render_blocks.specs.Visible.{count, text_count}
+use Rattle.html_render_blocks.specs.Visible.{text_count}
+use Rattle.html_render_pictures.specs.Visible.{count}
 use Rattle.html_render_layout.specs.declared.settings.LayoutSettings.{LayoutSettings}
 use Rattle.html_render_layout.specs.Layout.{defined, defined_inside, estimated, empty_state}
 
@@ -42,6 +44,10 @@ node_characters (Link target) = []
 node_characters (Image i) = []
 node_characters (Svg title) = []
 node_characters (FragmentStart name) = []
+node_characters (Table grid) = []
+node_characters (TableRow slots) = []
+node_characters TableCell = []
+node_characters (Part part) = []
 
 -- the characters of the texts among these nodes, in order
 abbrev pub text_characters : List RenderNode → List ℕ

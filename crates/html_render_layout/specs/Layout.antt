@@ -21,7 +21,8 @@ use Rattle.html_render_nodes.specs.declared.tree.Emphasis.TheVariants.{Em, Stron
 use Rattle.html_render_nodes.specs.declared.tree.NodeKind.{NodeKind}
 use Rattle.html_render_nodes.specs.declared.tree.NodeKind.TheVariants.{Text, Container, Break, Block, Div, Emphasis}
 use Rattle.html_render_nodes.specs.declared.tree.NodeKind.TheVariants.{Header, BlockQuote, Ul, Ol, ListItem, Dl, Dt, Dd}
-use Rattle.html_render_nodes.specs.declared.tree.NodeKind.TheVariants.{Strikeout, Superscript, Link, Image, Svg, FragmentStart}
+use Rattle.html_render_nodes.specs.declared.tree.NodeKind.TheVariants.{Strikeout, Superscript, Link, Image, Svg, FragmentStart, Table, TableRow}
+use Rattle.html_render_nodes.specs.declared.tree.NodeKind.TheVariants.{TableCell, Part}
 use Rattle.html_render_nodes.specs.declared.tree.NodeStyle.{NodeStyle}
 use Rattle.html_render_nodes.specs.declared.tree.Estimate.{Estimate}
 use Rattle.html_render_nodes.specs.declared.tree.RenderNode.{RenderNode}
@@ -330,6 +331,10 @@ module _ {S A K T B : Type 0} (d : Decoration S A) (push : K → T → A → K �
   kind_steps (Image i) e trees children s = image i.source i.title s
   kind_steps (Svg title) e trees children s = image [] title s
   kind_steps (FragmentStart name) e trees children s = Some (marked o name s)
+  kind_steps (Table grid) e trees children s = children s
+  kind_steps (TableRow slots) e trees children s = children s
+  kind_steps TableCell e trees children s = children s
+  kind_steps (Part part) e trees children s = children s
 
   -- and each node: its kind, in its style
   abbrev pub node_steps : Steps RenderNode (LayoutState S K T B)
@@ -368,6 +373,10 @@ module _ {S A K T B : Type 0} (d : Decoration S A) (push : K → T → A → K �
   kind_inside (Image i) e trees s = None
   kind_inside (Svg title) e trees s = None
   kind_inside (FragmentStart name) e trees s = None
+  kind_inside (Table grid) e trees s = Some s
+  kind_inside (TableRow slots) e trees s = Some s
+  kind_inside TableCell e trees s = Some s
+  kind_inside (Part part) e trees s = Some s
 
   abbrev pub node_inside : RenderNode → Forest RenderNode → LayoutState S K T B → Option (LayoutState S K T B)
   node_inside n trees s = kind_inside n.kind n.estimate trees (in_style d push n.style s)

@@ -10,7 +10,8 @@ use Rattle.html_render_nodes.specs.declared.tree.Estimate.{Estimate}
 use Rattle.html_render_nodes.specs.declared.tree.NodeKind.{NodeKind}
 use Rattle.html_render_nodes.specs.declared.tree.NodeKind.TheVariants.{Text, Container, Break, Block, Div, Emphasis}
 use Rattle.html_render_nodes.specs.declared.tree.NodeKind.TheVariants.{Header, BlockQuote, Ul, Ol, ListItem, Dl, Dt, Dd}
-use Rattle.html_render_nodes.specs.declared.tree.NodeKind.TheVariants.{Strikeout, Superscript, Link, Image, Svg, FragmentStart}
+use Rattle.html_render_nodes.specs.declared.tree.NodeKind.TheVariants.{Strikeout, Superscript, Link, Image, Svg, FragmentStart, Table, TableRow}
+use Rattle.html_render_nodes.specs.declared.tree.NodeKind.TheVariants.{TableCell, Part}
 use Rattle.html_render_nodes.specs.declared.tree.RenderNode.{RenderNode}
 use Rattle.html_render_nodes.specs.Pass.{Way, Into, Past, past}
 use Rattle.html_render_blocks.specs.Operations.{Operations}
@@ -168,6 +169,10 @@ module _ {S A K T B : Type 0} (d : Decoration S A) (push : K → T → A → K �
   kind_opened (Image i) e trees s = past (image d push o i.source i.title s)
   kind_opened (Svg title) e trees s = past (image d push o [] title s)
   kind_opened (FragmentStart name) e trees s = past (Some (marked o name s))
+  kind_opened (Table grid) e trees s = Some (Into s Nothing)
+  kind_opened (TableRow slots) e trees s = Some (Into s Nothing)
+  kind_opened TableCell e trees s = Some (Into s Nothing)
+  kind_opened (Part part) e trees s = Some (Into s Nothing)
 
   -- what each does once its children are laid out
   abbrev pub kind_closed : KindClosing S T B → LayoutState S K T B → Option (LayoutState S K T B)

@@ -1,4 +1,5 @@
 -- the tree: its nodes in one vector, and where it is parted
+pub mod Grids
 pub mod RenderNodes
 pub mod Preorder
 pub mod Splits

@@ -1,6 +1,8 @@
 -- A forest that grew at the front: the trees that came since, and those that stood before.
-use Rattle.std.specs.Prelude.{ℕ, ◌≡◌}
-use Rattle.html_render_dom.specs.Forest.{Forest, count, followed_by}
+use Rattle.std.specs.Prelude.{ℕ, ◌≡◌, List, reverse}
+use Rattle.html_render_dom.specs.Forest.{Forest, node, count, followed_by}
+use Rattle.html_render_nodes.specs.declared.tree.Entry.{Entry}
+use Rattle.html_render_nodes.specs.Preorder.{flatten}
 
 -- a forest parted where its last trees have this many nodes
 pub record SplitAt {K : Type 0} (t : Forest K) (mark : ℕ) : Type 0 where
@@ -8,3 +10,17 @@ pub record SplitAt {K : Type 0} (t : Forest K) (mark : ℕ) : Type 0 where
   pub beside : Forest K
   pub is : t ≡ followed_by children beside
   pub mark_is : mark ≡ count beside
+
+-- nodes that are a forest's, from the last to the first
+pub record Reversed {K : Type 0} (es : List (Entry K)) : Type 0 where
+  pub trees : Forest K
+  pub is : es ≡ reverse (flatten trees)
+
+-- a forest parted at its first tree: its node, and the nodes below it and those of the trees beside it, each from the last to
+-- the first
+pub record FirstTree {K : Type 0} (t : Forest K) (first : K) (under after : List (Entry K)) : Type 0 where
+  pub below : Forest K
+  pub beside : Forest K
+  pub is : t ≡ node first below beside
+  pub below_is : under ≡ reverse (flatten below)
+  pub beside_is : after ≡ reverse (flatten beside)

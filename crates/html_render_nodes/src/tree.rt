@@ -3,15 +3,16 @@
 //! [`Builder`] makes them from the last node to the first: after `put(b)`, `put(a)` and `enclose(c, 0)` it holds
 //! one tree, the node `c` over `a` and `b`, and `finish` gives the [`Flat`] of it, whose nodes are `c`, `a`, `b`.
 
-ghost use Rattle.std.specs.Prelude.{◌≡◌, ◌↔◌, IsTrue, OnOk, OnErr, IfOk, IfErr, ℕ};
+ghost use Rattle.std.specs.Prelude.{◌≡◌, ◌↔◌, IsTrue, OnOk, OnErr, IfOk, IfErr, IfSome, IfNone, ℕ, reverse};
 ghost use Rattle.html_render_dom.specs.Forest as forest;
 ghost use Rattle.html_render_dom.specs.Forest.{none, count};
 ghost use Rattle.html_render_nodes.specs.Preorder.{flatten, forest_of};
-ghost use Rattle.html_render_nodes.specs.Splits.{SplitAt};
+ghost use Rattle.html_render_nodes.specs.Splits.{SplitAt, Reversed, FirstTree};
 
 use html_render_dom::Error;
 use html_render_dom::style::{Colour, WhiteSpace};
 use html_render_dom::text::Text;
+use html_render_parts::table::CellKind;
 use std::alloc::Global;
 use std::marker::Model;
 
@@ -163,6 +164,14 @@ impl<N: Drop> Builder<N> {
         Ok(())
     }
 
+    /// The nodes of all trees that came since there were `mark` nodes, from the last to the first: [`first_tree`] reads them.
+    pub fn since(&self, mark: usize) -> &[Entry<N>]
+        requires { SplitAt self.now mark }
+        ensures { (s : SplitAt self.now mark) → result.now ≡ reverse (flatten s.children) }
+    {
+        &self.entries[mark..]
+    }
+
     /// Takes back all trees that came since there were `mark` nodes.
     pub fn truncate(&mut self, mark: usize)
         requires { SplitAt self.old mark }
@@ -179,6 +188,19 @@ impl<N: Drop> Builder<N> {
         entries.reverse();
         Flat { entries }
     }
+}
+
+/// The first of some trees, whose nodes stand from the last to the first: its node, and the nodes below it and those of
+/// the trees beside it, in the same order.
+pub fn first_tree<N>(entries: &[Entry<N>]) -> Option<(&N, &[Entry<N>], &[Entry<N>])>
+    requires { Reversed entries.now }
+    ensures first { IfSome result (λ r. (s : Reversed entries.now) → FirstTree s.trees r.0.now r.1.now r.2.now) }
+    ensures over { IfNone result ((s : Reversed entries.now) → s.trees ≡ none) }
+{
+    let last = entries.len().checked_sub(1)?;
+    let entry = &entries[last];
+    let below = entries.len() - entry.size;
+    Some((&entry.node, &entries[below..last], &entries[..below]))
 }
 
 /// How a part of a line is emphasised.
@@ -235,6 +257,132 @@ pub enum NodeKind {
     Svg(Text),
     /// The place that this name stands for. It is shown as nothing.
     FragmentStart(Text),
+    /// A table, over its rows: how many columns it has, and what stands below its last row.
+    Table(Grid),
+    /// A row of a table, over its cells: what stands in it, placeholders and gaps too.
+    TableRow(Slots),
+    /// A cell of a row.
+    TableCell,
+    /// A part of a table that isn't in its place yet. A tree that is ready to be laid out has none.
+    Part(Part),
+}
+
+/// A part of a table that isn't in its place yet, as an element of HTML makes it.
+#[derive(Clone, Copy, Debug, PartialEq, Eq)]
+pub enum Part {
+    /// A table whose rows aren't placed: of `table`.
+    Table,
+    /// Rows: of `thead` and `tbody`.
+    Body,
+    /// Rows that stand behind all others: of `tfoot`.
+    Foot,
+    /// A row: of `tr`.
+    Row,
+    /// A cell, and what it spans: of `td` and `th`.
+    Cell(CellSpan),
+    /// What stands above a table: of `caption`.
+    Caption,
+}
+
+/// What a cell asks for.
+#[derive(Clone, Copy, Debug, PartialEq, Eq)]
+pub struct CellSpan {
+    /// How many columns: 0 stands for as many as its row has left, in its part of the table.
+    pub colspan: usize,
+    /// How many rows, its own included: at least 1.
+    pub rowspan: usize,
+}
+
+/// A cell, a placeholder or a gap in a row of a table. It begins where the one before ends.
+#[derive(Clone, Copy, Debug, PartialEq, Eq)]
+pub struct Slot {
+    /// What stands there.
+    pub kind: CellKind,
+    /// How many of the table's columns it has.
+    pub columns: usize,
+}
+
+/// What stands in a row of a table, from the first column on.
+#[derive(Drop)]
+pub struct Slots {
+    slots: Vec<Slot>,
+}
+
+impl Model for Slots {
+    ghost use Rattle.std.specs.Prelude.{List};
+    ghost use Rattle.html_render_nodes.specs.declared.tree.Slot.{Slot};
+
+    ghost Value = { List Slot };
+
+    ghost view = { λ s. s.slots.items };
+}
+
+impl Slots {
+    /// Slots in this order.
+    pub fn new(slots: Vec<Slot>) -> Slots
+        ensures { result ≡ slots.items }
+    {
+        Slots { slots }
+    }
+
+    /// The slots.
+    pub fn as_slice(&self) -> &[Slot]
+        ensures { result.now ≡ self.now }
+    {
+        self.slots.as_slice()
+    }
+}
+
+/// Rows of a table, placed on its columns, and how many columns it has.
+#[derive(Drop)]
+pub struct GridParts {
+    /// How many columns the table has.
+    pub columns: usize,
+    /// What stands in each row.
+    pub rows: Vec<Slots>,
+}
+
+/// Rows of a table on its columns, held so that a node is moved in few bytes.
+#[derive(Drop)]
+pub struct Grid {
+    parts: Box<GridParts>,
+}
+
+impl Model for Grid {
+    ghost use Rattle.html_render_nodes.specs.Grids.{GridRows};
+
+    ghost Value = { GridRows };
+
+    ghost view = { λ g. record { columns = g.parts.value.columns; rows = g.parts.value.rows.items } };
+}
+
+impl Grid {
+    /// A grid of so many columns, with these rows.
+    ///
+    /// # Errors
+    ///
+    /// `OutOfMemory`.
+    pub fn new(alloc: Global, columns: usize, rows: Vec<Slots>) -> Result<Grid, Error>
+        ensures ok { IfOk result (λ g. g ≡ record { columns = columns; rows = rows.items }) }
+        ensures err { IfErr result (λ e. e ≡ Error.OutOfMemory) }
+    {
+        let parts = Box::new(alloc, GridParts { columns, rows })?;
+        Ok(Grid { parts })
+    }
+
+    /// How many columns the table has.
+    pub fn columns(&self) -> usize
+        ensures { result ≡ self.now.columns }
+    {
+        self.parts.columns
+    }
+
+    /// What stands in each row.
+    pub fn rows(&self) -> &[Slots]
+        ensures { result.now ≡ self.now.rows }
+    {
+        self.parts.rows.as_slice()
+    }
 }
 
 /// Where an image lies, and what is shown in its place.
@@ -308,6 +456,8 @@ pub struct NodeStyle {
 pub struct Estimate {
     /// The least width in which the node can be laid out well.
     pub least: usize,
+    /// The columns that its texts and prefixes take. It is 0 in a tree without a table, where nothing asks for it.
+    pub size: usize,
     /// The columns of what stands before its lines.
     pub prefix: usize,
     /// How many children it has.

@@ -10,6 +10,5 @@ pub mod NumberTests
 pub mod PlacingRows
 pub mod RisingEnds
 pub mod SideBySide
-pub mod SharesFit
 pub mod Spreading
 pub mod Needs

@@ -1,15 +1,13 @@
 -- What columns need for their cells.
-use Rattle.std.proofs.Common.{◌≡◌, ℕ, ◌+◌, ◌/◌, Bool, true, false, ◌≤◌, ◌<◌, List, [], ◌∷◌, length, map, cond, sym, ap, ◌∙◌, subst, arith}
+use Rattle.std.proofs.Common.{◌≡◌, ℕ, ◌+◌, ◌≤◌, ◌<◌, List, length, map, sym, ap, ◌∙◌, arith}
 use Rattle.std.specs.Prelude.{slice_index, slice_index_or}
-use Rattle.std.proofs.Math.Nat.{div-mul-le_self, le-div_iff_mul-le}
 use Rattle.std.proofs.lemmas.List.{ext_get_or}
-use Rattle.std.proofs.lemmas.List.Elements.{All-head, All-tail, All-weaker, All-map, All-from_get_or}
+use Rattle.std.proofs.lemmas.List.Elements.{All-weaker, All-map}
 use Rattle.std.proofs.lemmas.List.FromFn.{length-map-range_with_len, get_or-map-range_with_len}
 use Rattle.html_render_parts.specs.declared.widths.needs.CellNeed.{CellNeed}
 use Rattle.html_render_parts.specs.declared.widths.shares.ColumnNeed.{ColumnNeed}
 use Rattle.html_render_parts.specs.declared.widths.spans.Span.{Span}
-use Rattle.html_render_parts.specs.Shares.{AreNeeds}
-use Rattle.html_render_parts.specs.Spans.{covers, given, greatest_at, AreOver, AreGreatest}
+use Rattle.html_render_parts.specs.Spans.{greatest_at, AreOver, AreGreatest}
 use Rattle.html_render_parts.specs.Needs.{no_need, size_part, least_part, need_at, column_needs, IsCell, AreSome, AreCells}
 
 pub are_some : (columns : ℕ) (cells : List CellNeed) → AreCells columns cells → AreSome cells
@@ -40,32 +38,3 @@ needed columns cells sizes least needs g l len each =
     ∙ ap (λ n. record { size = n; least = slice_index least k }) (g.each k in_columns)
     ∙ ap (λ n. record { size = greatest_at (map size_part cells) k; least = n }) (l.each k in_columns)
     ∙ sym (get_or-map-range_with_len (need_at cells) 0 columns k k no_need in_columns (omega arith)))
-
--- no column needs more at least than its size
-part-le : (columns : ℕ) (c : CellNeed) (k : ℕ) → IsCell columns c → given (least_part c) k ≤ given (size_part c) k
-part-le columns c k h = by (covers (size_part c) k)
-  where
-    parts : c.least / c.count ≤ c.size / c.count
-    parts =
-        let part = div-mul-le_self c.least c.count in
-        (le-div_iff_mul-le {k = c.count} {x = c.least / c.count} {y = c.size} h.some).1 (let l = h.least in omega (arith, part, l))
-
-    by : (b : Bool) → cond b (c.least / c.count) 0 ≤ cond b (c.size / c.count) 0
-    by true = parts
-    by false = omega arith
-
-greatest-le : (columns : ℕ) (cells : List CellNeed) (k : ℕ) → AreCells columns cells →
-    greatest_at (map least_part cells) k ≤ greatest_at (map size_part cells) k
-greatest-le columns [] k h = omega arith
-greatest-le columns (c ∷ cs) k h =
-    let first = part-le columns c k (All-head (IsCell columns) c cs h) in
-    let rest = greatest-le columns cs k (All-tail (IsCell columns) c cs h) in
-    omega (arith, first, rest)
-
-pub are_needs : (columns : ℕ) (cells : List CellNeed) → AreCells columns cells → AreNeeds (column_needs columns cells)
-are_needs columns cells h =
-    All-from_get_or (λ (n : ColumnNeed). n.least ≤ n.size) (column_needs columns cells) no_need (λ k inside.
-    let in_columns : k < columns = omega (arith, inside, length-map-range_with_len (need_at cells) 0 columns) in
-    subst (λ (n : ColumnNeed). n.least ≤ n.size)
-    (sym (get_or-map-range_with_len (need_at cells) 0 columns k k no_need in_columns (omega arith)))
-    (greatest-le columns cells k h))

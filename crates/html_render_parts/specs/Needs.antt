@@ -1,6 +1,6 @@
 -- What the columns of a table need for its cells.
-use Rattle.std.specs.Prelude.{ℕ, ◌+◌, ◌/◌, ◌≤◌, ◌<◌, List, All, map, Option}
-use Rattle.std.specs.List.{range_with_len}
+use Rattle.std.specs.Prelude.{ℕ, ◌+◌, ◌/◌, ◌≤◌, ◌<◌, Bool, ◌&&◌, nat_le, nat_lt, List, All, map, Option, None, if◌then◌else◌}
+use Rattle.std.specs.List.{list_all, range_with_len}
 use Rattle.html_render_parts.specs.declared.widths.needs.CellNeed.{CellNeed}
 use Rattle.html_render_parts.specs.declared.widths.shares.ColumnNeed.{ColumnNeed}
 use Rattle.html_render_parts.specs.declared.widths.spans.Span.{Span}
@@ -42,3 +42,15 @@ pub record IsCell (columns : ℕ) (c : CellNeed) : Type 0 where
 
 abbrev pub AreCells : (columns : ℕ) → List CellNeed → Type 0
 AreCells columns cells = All (IsCell columns) cells
+
+-- the same as a test
+abbrev pub cell_stands : (columns : ℕ) → CellNeed → Bool
+cell_stands columns c = nat_le (c.start + c.count) columns && (nat_lt 0 c.count && nat_le c.least c.size)
+
+abbrev pub cells_stand : (columns : ℕ) → List CellNeed → Bool
+cells_stand columns cells = list_all (cell_stands columns) cells
+
+-- the widths of a table's columns side by side, whatever its cells are: none where one doesn't stand over its columns, or needs
+-- more than its size
+abbrev pub standing_widths : (columns : ℕ) → List CellNeed → (width : ℕ) → Option (List ℕ)
+standing_widths columns cells width = if cells_stand columns cells then table_widths columns cells width else None

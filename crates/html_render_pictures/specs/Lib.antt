@@ -1,3 +1,6 @@
+-- marks at the ends of lines, and lines that are filled
+pub mod Marked
+pub mod Padding
 -- THE DEFINITION of a picture
 pub mod Picture
 -- the picture row by row

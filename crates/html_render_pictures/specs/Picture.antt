@@ -5,8 +5,8 @@ use Rattle.std.specs.List.{range_with_len, list_any}
 use Rattle.html_render_lines.specs.declared.line.Element.{Element}
 use Rattle.html_render_lines.specs.declared.line.Element.TheVariants.{Character}
 use Rattle.html_render_lines.specs.Line.{Line}
-use Rattle.html_render_blocks.specs.Joined.{marked_before, marked_behind}
-use Rattle.html_render_blocks.specs.Padding.{filled}
+use Rattle.html_render_pictures.specs.Marked.{marked_before, marked_behind}
+use Rattle.html_render_pictures.specs.Padding.{filled}
 use Rattle.html_render_pictures.specs.declared.picture.Frame.{Frame}
 
 -- a cell that is kept: its columns, its lines, and the marks that wait behind them

@@ -1,9 +1,13 @@
 -- The visible characters of cells and rows.
-use Rattle.std.specs.Prelude.{ℕ, List, flat_map}
+use Rattle.std.specs.Prelude.{ℕ, ◌==◌, List, count_by, flat_map}
 use Rattle.html_render_lines.specs.Visible.{visible_in_lines}
 use Rattle.html_render_pictures.specs.Picture.{KeptCell, TableRow}
 
--- those of cells' lines, cell by cell
+-- how often a character stands in a list
+abbrev pub count : ℕ → List ℕ → ℕ
+count c cs = count_by (λ x. x == c) cs
+
+-- the visible characters of cells' lines, cell by cell
 abbrev pub visible_in_cells : {T M : Type 0} → List (KeptCell T M) → List ℕ
 visible_in_cells {T} {M} cells = flat_map (λ (c : KeptCell T M). visible_in_lines c.lines) cells
 

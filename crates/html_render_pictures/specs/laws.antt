@@ -1,3 +1,7 @@
+-- padding leaves tags, widths and visible characters as they are
+pub mod Padding
+-- lines beside each other, and marks at their ends
+pub mod Lines
 -- the characters of the frame have one column
 pub mod Glyphs
 -- row by row the picture is drawn

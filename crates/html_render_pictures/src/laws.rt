@@ -3,7 +3,7 @@
 ghost use Rattle.std.specs.Prelude.{◌≡◌, ◌≤◌, ℕ, List, All, length, map, max, Bool};
 ghost use Rattle.html_render_lines.specs.Line.{columns, AllWithinWidth};
 ghost use Rattle.html_render_lines.specs.Visible.{visible_in_lines};
-ghost use Rattle.html_render_blocks.specs.Visible.{count};
+ghost use Rattle.html_render_pictures.specs.Visible.{count};
 ghost use Rattle.html_render_pictures.specs.declared.picture.Frame.{Frame};
 ghost use Rattle.html_render_pictures.specs.Drawing.{with_rows, begun, finished};
 ghost use Rattle.html_render_pictures.specs.Picture.{KeptCell, TableRow, border, row_lines, separators_of, picture_lines, picture};

@@ -1,10 +1,10 @@
 //! The lines of a cell, filled up to its width and its row's height.
 
 ghost use Rattle.std.specs.Prelude.{◌≡◌, ◌++◌, [], Some, OnOk, replicate};
-ghost use Rattle.html_render_blocks.specs.Joined.{marked_behind};
-ghost use Rattle.html_render_blocks.specs.Padding.{filled};
+ghost use Rattle.html_render_pictures.specs.Marked.{marked_behind};
+ghost use Rattle.html_render_pictures.specs.Padding.{filled};
 
-use html_render_blocks::finished::{fill_all, mark_behind};
+use crate::finished::{fill_all, mark_behind};
 use html_render_lines::line::Line;
 use html_render_lines::tag::Tag;
 use std::alloc::{AllocError, Global};

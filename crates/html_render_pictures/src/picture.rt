@@ -5,8 +5,8 @@ ghost use Rattle.html_render_pictures.specs.Picture as definition;
 ghost use Rattle.html_render_pictures.specs.Picture.{TableRow};
 ghost use Rattle.html_render_pictures.specs.Drawing as drawing;
 
+use crate::finished::{mark_before, put_marks_front};
 use crate::line::fill_block;
-use html_render_blocks::finished::{mark_before, put_marks_front};
 use html_render_dom::Error;
 use html_render_lines::line::Line;
 use html_render_lines::tag::Tag;

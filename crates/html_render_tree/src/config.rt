@@ -6,10 +6,12 @@
 ghost use Rattle.std.specs.Prelude.{◌≡◌, ◌∷◌, ◌++◌, [], Some, true, false, IfOk, IfErr};
 ghost use Rattle.html_render_dom.specs.Rules.{rule_of};
 ghost use Rattle.html_render_layout.specs.Settings.{default_settings};
-ghost use Rattle.html_render_conversion.specs.Conversion.{render_tree_of};
+ghost use Rattle.html_render_parts.specs.Refusal.{Fails};
+ghost use Rattle.html_render_tree.specs.RenderTree.{render_tree_of};
 ghost use Rattle.html_render_tree.specs.Decorations.{decorations};
 ghost use Rattle.html_render_tree.specs.Rendering.{initial_options};
 
+use html_render_arrangement::arrangement::arrange;
 use html_render_conversion::convert;
 use html_render_dom::Error;
 use html_render_dom::dom::RcDom;
@@ -193,12 +195,16 @@ impl<D: TextDecorator> Config<D> {
     ///
     /// # Errors
     ///
-    /// `OutOfMemory`.
+    /// `Fail`, where a part of a table, as a row or a cell, stands outside its place in the tree: a row that isn't among those
+    /// of a table, for example. A part that is dropped, as one in an ordered list beside its items, isn't in the tree. `Fail`
+    /// also, where the cells of a table would end past a column of 128 bits. `OutOfMemory`.
+    #[tactic(auto, using(html_render_parts::specs::laws::Refusal::refusals))]
     pub fn dom_to_render_tree(&self, alloc: Global, dom: &RcDom) -> Result<RenderTree, Error>
-        ensures ok { IfOk result (λ tree. tree ≡ render_tree_of self.now.rules dom.now) }
-        ensures err { IfErr result (λ e. e ≡ Error.OutOfMemory) }
+        ensures ok { IfOk result (λ tree. render_tree_of self.now.rules dom.now ≡ Some tree) }
+        ensures err { IfErr result (λ e. Fails e (render_tree_of self.now.rules dom.now)) }
     {
-        convert::dom_to_render_tree(alloc, &self.rules, dom)
+        let parts = convert::dom_to_render_tree(alloc, &self.rules, dom)?;
+        arrange(alloc, parts)
     }
 }
 

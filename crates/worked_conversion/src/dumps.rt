@@ -58,6 +58,7 @@ const NAMES: &str = "\
 <a@href=u/x/<img@src=i/>/>/y|Container/ Link/  Text/  Img/ Text
 <img@src=i@alt=x/>/<svg:svg/<svg:title/t|Container/ Img/ Svg
 <p@id=m/x/>/<em@id=n/y/>/<hr@id=o|Container/ Block/  FragStart/  Text/ Container/  FragStart/  Em/   Text/ FragStart
+<table/<caption/c/>/<tfoot/<tr/>/>/<tbody/<tr/<td/a|Container/ Table/  Container/   Text/  TableBody/   TableRow/  TableBody/   TableRow/    TableCell/     Text
 x/<sup/2/>/<sup/a/<sup/b|Container/ Text/ Sup/  Text/ Sup/  Text/  Sup/   Text
 ";
 

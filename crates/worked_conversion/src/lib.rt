@@ -11,3 +11,5 @@ mod rows;
 mod shown;
 #[cfg(test)]
 mod styling;
+#[cfg(test)]
+mod tables;

@@ -29,7 +29,7 @@ fn has_its_nodes(rt: &impl Abort, alloc: Global, case: &str) -> Result<(), Fail>
 }
 
 /// Documents become what the cases of a table say.
-fn have_their_nodes(rt: &impl Abort, alloc: Global, cases: &str) -> Result<(), Fail> {
+pub fn have_their_nodes(rt: &impl Abort, alloc: Global, cases: &str) -> Result<(), Fail> {
     for case in cases.lines() {
         has_its_nodes(rt, alloc, case)?;
     }

@@ -2,7 +2,10 @@
 
 use html_render_dom::style::WhiteSpace;
 use html_render_dom::text::Text;
-use html_render_nodes::tree::{Emphasis, Image, NodeKind, NodeStyle, RenderTree};
+use html_render_nodes::tree::{
+    Emphasis, Grid, Image, NodeKind, NodeStyle, Part, RenderTree, Slots,
+};
+use html_render_parts::table::CellKind;
 use std::alloc::{AllocError, Global};
 
 /// A kind's name, with a text.
@@ -22,6 +25,50 @@ fn emphasis_name(emphasis: Emphasis) -> &'static str {
         Emphasis::Em => "Em",
         Emphasis::Strong => "Strong",
         Emphasis::Code => "Code",
+    }
+}
+
+/// What is shown of what stands in a row: `c` for a cell, `p` for a placeholder and `g` for a gap, each with its columns.
+fn slots_text(alloc: Global, slots: &Slots) -> Result<String, AllocError> {
+    let mut text = String::new(alloc);
+    for slot in slots.as_slice() {
+        let kind = match slot.kind {
+            CellKind::Cell => 'c',
+            CellKind::Placeholder => 'p',
+            CellKind::Gap => 'g',
+        };
+        text.push(kind)?;
+        text.push_str(format!(in alloc; "{}", slot.columns)?.as_str())?;
+    }
+    Ok(text)
+}
+
+/// A table, with its columns and what stands in each row behind a `;`.
+fn table_text(alloc: Global, grid: &Grid) -> Result<String, AllocError> {
+    let mut text = format!(in alloc; "Table({}", grid.columns())?;
+    for slots in grid.rows() {
+        text.push(';')?;
+        text.push_str(slots_text(alloc, slots)?.as_str())?;
+    }
+    text.push(')')?;
+    Ok(text)
+}
+
+/// A row that is in its place, with what stands in it.
+fn row_text(alloc: Global, slots: &Slots) -> Result<String, AllocError> {
+    let slots = slots_text(alloc, slots)?;
+    format!(in alloc; "TableRow({})", slots.as_str())
+}
+
+/// What is shown of a part of a table: a cell with the columns and rows that it asks for.
+fn part_text(alloc: Global, part: Part) -> Result<String, AllocError> {
+    match part {
+        Part::Table => String::from_str(alloc, "Rows"),
+        Part::Body => String::from_str(alloc, "Body"),
+        Part::Foot => String::from_str(alloc, "Foot"),
+        Part::Row => String::from_str(alloc, "Row"),
+        Part::Cell(span) => format!(in alloc; "Cell({},{})", span.colspan, span.rowspan),
+        Part::Caption => String::from_str(alloc, "Caption"),
     }
 }
 
@@ -48,6 +95,10 @@ fn kind_text(alloc: Global, kind: &NodeKind) -> Result<String, AllocError> {
         NodeKind::Dd => String::from_str(alloc, "Dd"),
         NodeKind::Strikeout => String::from_str(alloc, "Strikeout"),
         NodeKind::Superscript => String::from_str(alloc, "Superscript"),
+        NodeKind::Table(grid) => table_text(alloc, grid),
+        NodeKind::TableRow(slots) => row_text(alloc, slots),
+        NodeKind::TableCell => String::from_str(alloc, "TableCell"),
+        NodeKind::Part(part) => part_text(alloc, *part),
     }
 }
 

@@ -20,6 +20,7 @@ fn shown(alloc: Global, estimate: Estimate) -> Result<String, AllocError> {
         least,
         prefix,
         children,
+        ..
     } = estimate;
     format!(in alloc; "{least} {prefix} {children}")
 }

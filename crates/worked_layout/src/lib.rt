@@ -12,6 +12,8 @@ mod estimates;
 #[cfg(test)]
 mod layouts;
 #[cfg(test)]
+mod tables;
+#[cfg(test)]
 mod trees;
 #[cfg(test)]
 mod walks;

@@ -3,6 +3,9 @@
 //! Steps stand with `;` between them: `"` before a text; a kind, as `break`, for a node of that kind without children; a
 //! kind before `<` for a node round all that was built; and a kind before `(` and a text for a node round that text.
 
+ghost use Rattle.std.specs.Prelude.{OnOk};
+ghost use Rattle.worked_layout.specs.Growing.{IsGrown};
+
 use html_render_dom::Error;
 use html_render_dom::text::Text;
 use html_render_nodes::tree::{Builder, Emphasis, NodeKind, RenderNode, RenderTree};
@@ -45,11 +48,13 @@ fn kind_of(word: &str) -> Result<NodeKind, Fail> {
 }
 
 /// Puts a node of a kind over one text in front.
-fn put_over(
+pub fn put_over(
     builder: &mut Builder<RenderNode>,
     kind: NodeKind,
     text: RenderNode,
-) -> Result<(), Error> {
+) -> Result<(), Error>
+    ensures { OnOk result (IsGrown builder.old builder.new) }
+{
     let mark = builder.len();
     builder.put(text)?;
     builder.enclose(RenderNode::from(kind), mark)?;

@@ -1,5 +1,5 @@
 //! Tests of what a configuration renders: tagged lines, coloured text, what each setting changes, white space that rules
-//! preserve, decorators of one's own with annotations, and the example of a terminal viewer.
+//! preserve, decorators of one's own with annotations, tables, and the example of a terminal viewer.
 //!
 //! There is nothing to call here.
 #![tactic(auto)]
@@ -12,6 +12,8 @@ mod copies;
 mod lines;
 #[cfg(test)]
 mod settings;
+#[cfg(test)]
+mod tables;
 #[cfg(test)]
 mod viewer;
 #[cfg(test)]

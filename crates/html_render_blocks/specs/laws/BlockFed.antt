@@ -1,5 +1,5 @@
 -- A block that was fed character by character stands for the list of all that was fed, through each operation.
-use Rattle.std.proofs.Common.{◌≡◌, ℕ, Bool, true, false, not, cond, eqb, List, [], ◌∷◌, ◌++◌, length, Option, Some, None, refl, sym, ap, ◌∙◌}
+use Rattle.std.proofs.Common.{◌≡◌, ℕ, Bool, true, false, not, cond, eqb, ◌&&◌, ◌||◌, List, [], ◌∷◌, ◌++◌, length, Option, Some, None, refl, sym, ap, ◌∙◌}
 use Rattle.std.proofs.Common.{option_map, option_and_then, IfSome}
 use Rattle.html_render_lines.specs.declared.character.TextStyle.{TextStyle}
 use Rattle.html_render_lines.specs.Line.{Line}
@@ -12,7 +12,17 @@ use Rattle.html_render_blocks.specs.laws.Operations.{Commutes, map_map}
 use Rattle.html_render_blocks.specs.Block as definition
 use Rattle.html_render_blocks.specs.Block.{DefinedBlock, is_blank, paragraph_setting, inner_width, mark_items}
 use Rattle.html_render_blocks.specs.Joined.{joined}
-use Rattle.html_render_blocks.specs.Padding.{filled}
+use Rattle.html_render_pictures.specs.Padding.{filled}
+use Rattle.html_render_blocks.specs.declared.block.tables.OpenTable.{OpenTable}
+use Rattle.html_render_blocks.specs.declared.block.tables.OpenTable.TheVariants.{Across, Stacked}
+use Rattle.html_render_blocks.specs.OpenRows.{with_cell}
+use Rattle.html_render_blocks.specs.Tables.{Rows, drawn_pictures, defined_pictures, rule, stacked_border, with_row_open, next_cell_width, skipped}
+use Rattle.html_render_blocks.specs.Tables.{with_open}
+use Rattle.html_render_blocks.specs.laws.TableFed.{drawing_of, table_of, with_row_open-of, next_cell_width-of, skipped-of, with_open-of, finished-of}
+use Rattle.html_render_parts.specs.declared.widths.needs.CellNeed.{CellNeed}
+use Rattle.html_render_parts.specs.Needs.{standing_widths}
+use Rattle.html_render_pictures.specs.Drawing.{Drawing}
+use Rattle.html_render_pictures.specs.Picture.{is_empty}
 use Rattle.html_render_blocks.specs.BlockMachine as machine
 use Rattle.html_render_blocks.specs.BlockMachine.{MachineBlock}
 
@@ -24,6 +34,7 @@ block_of d = record {
   lines = d.lines;
   paragraph = after (start (paragraph_setting d.setting) d.marks) d.fed;
   at_block_end = d.at_block_end;
+  table = option_map table_of d.table;
 }
 
 map_same : {X Y : Type 0} (f g : X → Y) (o : Option X) → ((x : X) → f x ≡ g x) → option_map f o ≡ option_map g o
@@ -124,53 +135,196 @@ add_marks-block : {T M : Type 0} (d : DefinedBlock T M) (ms : List M) →
 add_marks-block {T} {M} d ms = ap (λ o. record (block_of d) { paragraph = o })
     (sym (after-append (start (paragraph_setting d.setting) d.marks) d.fed (mark_items ms)))
 
--- the lines of a block that is flushed
-append_lines-block : {T M : Type 0} (d : DefinedBlock T M) (p : Page T M) (first later : Line T M) (ls : List (Line T M)) (ms : List M) →
-    machine.append_lines (block_of (definition.add_page d p)) first later ls ms
-    ≡ option_map block_of (definition.append_lines (definition.add_page d p) first later ls ms)
-append_lines-block d p first later [] ms = ap Some (add_marks-block (definition.add_page d p) ms)
-append_lines-block {T} {M} d p first later (l ∷ ls) ms =
-    sym (map_map (λ (all : List (Line T M)). record (definition.add_page d p) {
-      lines = (d.lines ++ filled d.padding d.setting.width (all_lines p)) ++ all;
-      marks = [];
-    }) block_of
-    (joined d.setting.width d.setting.overflow p.waiting first later (l ∷ ls) ms))
+-- the lines of a block, to one to which nothing is fed
+append_lines-block : {T M : Type 0} (d : DefinedBlock T M) (first later : Line T M) (ls : List (Line T M)) (ms : List M) → d.fed ≡ [] →
+    machine.append_lines (block_of d) first later ls ms ≡ option_map block_of (definition.append_lines d first later ls ms)
+append_lines-block d first later [] ms none = ap Some (add_marks-block d ms)
+append_lines-block {T} {M} d first later (l ∷ ls) ms none =
+    ap (λ xs. machine.append_lines (block_of (record d { fed = xs })) first later (l ∷ ls) ms) none
+    ∙ sym (map_map (λ (all : List (Line T M)). record d { lines = d.lines ++ all; marks = []; fed = [] }) block_of
+    (joined d.setting.width d.setting.overflow d.marks first later (l ∷ ls) ms))
+    ∙ ap (λ xs. option_map block_of (definition.append_lines (record d { fed = xs }) first later (l ∷ ls) ms)) (sym none)
+
+-- ---- tables
+
+pub then_both : {A B : Type 0} (h : A → B) (P : A → Type 0) (k : A → Option A) (l : B → Option B) (o : Option A) (p : Option B) →
+    p ≡ option_map h o → IfSome o P → ((a : A) → P a → l (h a) ≡ option_map h (k a)) →
+    option_and_then l p ≡ option_map h (option_and_then k o)
+then_both h P k l None p e i f = ap (option_and_then l) e
+then_both h P k l (Some a) p e i f = ap (option_and_then l) e ∙ f a i
+
+-- nothing is fed to a block that is flushed
+pub flush_empties : {T M : Type 0} (d : DefinedBlock T M) → IfSome (definition.flush d) (λ e. e.fed ≡ [])
+flush_empties {T} {M} d = by (paragraph (paragraph_setting d.setting) d.marks d.fed)
+  where
+    by : (o : Option (Page T M)) → IfSome (option_map (λ (p : Page T M). definition.add_page d p) o) (λ e. e.fed ≡ [])
+    by None = tt
+    by (Some p) = refl
+
+-- what a flush is followed by
+flushed_then : {T M : Type 0} (d : DefinedBlock T M) (k : DefinedBlock T M → Option (DefinedBlock T M))
+    (l : MachineBlock T M → Option (MachineBlock T M)) → ((e : DefinedBlock T M) → e.fed ≡ [] → l (block_of e) ≡ option_map block_of (k e)) →
+    option_and_then l (machine.flush (block_of d)) ≡ option_map block_of (option_and_then k (definition.flush d))
+flushed_then {T} {M} d k l same =
+    then_both block_of (λ (e : DefinedBlock T M). e.fed ≡ []) k l (definition.flush d) (machine.flush (block_of d)) (flush-block d) (flush_empties d) same
+
+pub add_lines-block : {T M : Type 0} (d : DefinedBlock T M) (ls : List (Line T M)) → d.fed ≡ [] →
+    machine.add_lines (block_of d) ls ≡ block_of (definition.add_lines d ls)
+add_lines-block {T} {M} d ls none =
+    ap (λ xs. machine.add_lines (block_of (record d { fed = xs })) ls) none
+    ∙ ap (λ xs. block_of (record (definition.add_lines d ls) { fed = xs })) (sym none)
+
+with_picture-block : {T M : Type 0} (d : DefinedBlock T M) (p : List (Line T M) × List M) →
+    machine.with_picture (block_of d) p ≡ block_of (definition.with_picture d p)
+with_picture-block d p = add_marks-block (record d { lines = d.lines ++ p.0; table = None }) p.1
+
+end_open-block : {T M : Type 0} (d : DefinedBlock T M) (o : Option (OpenTable (Rows T M) T M)) →
+    machine.end_open (block_of d) (option_map table_of o) ≡ block_of (definition.end_open d o)
+end_open-block d None = refl
+end_open-block d (Some (Across p widths row)) =
+    ap (λ q. machine.with_picture (block_of d) (drawn_pictures.finished q)) (with_open-of p row)
+    ∙ ap (machine.with_picture (block_of d)) (finished-of (with_open defined_pictures p row))
+    ∙ with_picture-block d (defined_pictures.finished (with_open defined_pictures p row))
+end_open-block d (Some (Stacked border has_lines)) = refl
+
+pub end_table-block : {T M : Type 0} (d : DefinedBlock T M) → machine.end_table (block_of d) ≡ block_of (definition.end_table d)
+end_table-block d = end_open-block d d.table
+
+add_border-block : {T M : Type 0} (d : DefinedBlock T M) (border : Option T) (character : ℕ) → d.fed ≡ [] →
+    machine.add_border (block_of d) border character ≡ block_of (definition.add_border d border character)
+add_border-block d None character none = refl
+add_border-block d (Some tag) character none = add_lines-block d (rule tag character d.setting.width ∷ []) none
+
+stacked_begun-block : {T M : Type 0} (d : DefinedBlock T M) (border : Option T) → d.fed ≡ [] →
+    machine.stacked_begun (block_of d) border ≡ block_of (definition.stacked_begun d border)
+stacked_begun-block {T} {M} d border none =
+    ap (λ (b : MachineBlock T M). record b { table = Some (Stacked border false) }) (add_border-block d border 0x2500 none)
+
+table_begun-block : {T M : Type 0} (d : DefinedBlock T M) (tag : T) (borders : Bool) (o : Option (List ℕ)) → d.fed ≡ [] →
+    machine.table_begun (block_of d) tag borders o ≡ block_of (definition.table_begun d tag borders o)
+table_begun-block d tag borders None none = stacked_begun-block d (stacked_border tag borders d.setting.width) none
+table_begun-block d tag borders (Some widths) none =
+    ap (λ xs. machine.table_begun (block_of (record d { fed = xs })) tag borders (Some widths)) none
+    ∙ ap (λ xs. block_of (record (definition.table_begun d tag borders (Some widths)) { fed = xs })) (sym none)
+
+begin_table-block : {T M : Type 0} (d : DefinedBlock T M) (tag : T) (borders stacked : Bool) (columns : ℕ) (cells : List CellNeed) →
+    machine.begin_table (block_of d) tag borders stacked columns cells
+    ≡ option_map block_of (definition.begin_table d tag borders stacked columns cells)
+begin_table-block {T} {M} d tag borders stacked columns cells =
+    ap (λ b. option_map (λ (c : MachineBlock T M). machine.table_begun c tag borders
+    (cond stacked None (standing_widths columns cells c.setting.width))) (machine.flush b)) (end_table-block d)
+    ∙ after_flush (definition.end_table d)
+    (λ (e : DefinedBlock T M). definition.table_begun e tag borders (cond stacked None (standing_widths columns cells e.setting.width)))
+    (λ (c : MachineBlock T M). machine.table_begun c tag borders (cond stacked None (standing_widths columns cells c.setting.width)))
+    (λ e none. table_begun-block e tag borders (cond stacked None (standing_widths columns cells e.setting.width)) none)
+
+on_table : {T M : Type 0} (d : DefinedBlock T M) (k : OpenTable (Rows T M) T M → OpenTable (Rows T M) T M)
+    (l : OpenTable (Drawing T M) T M → OpenTable (Drawing T M) T M) → ((t : OpenTable (Rows T M) T M) → l (table_of t) ≡ table_of (k t)) →
+    ◌≡◌ {A = MachineBlock T M} (record (block_of d) { table = option_map l (option_map table_of d.table) })
+    (block_of (record d { table = option_map k d.table }))
+on_table {T} {M} d k l same = ap (λ o. record (block_of d) { table = o }) (by d.table)
+  where
+    by : (o : Option (OpenTable (Rows T M) T M)) → option_map l (option_map table_of o) ≡ option_map table_of (option_map k o)
+    by None = refl
+    by (Some t) = ap Some (same t)
+
+cell_block-block : {T M : Type 0} (d : DefinedBlock T M) →
+    machine.cell_block (block_of d) ≡ option_map block_of (definition.cell_block d)
+cell_block-block {T} {M} d =
+    ap (option_map (λ (w : ℕ). machine.empty_block {T = T} {M = M} (record d.setting { width = w }) d.padding))
+    (next_cell_width-of d.setting.width d.table)
+    ∙ sym (map_map (λ (w : ℕ). definition.empty_block {T = T} {M = M} (record d.setting { width = w }) d.padding) block_of
+    (next_cell_width d.setting.width d.table))
+
+-- the marks that wait in a flushed block
+waiting-block : {T M : Type 0} (d : DefinedBlock T M) → d.fed ≡ [] → machine.waiting (block_of d).paragraph ≡ d.marks
+waiting-block {T} d none = ap (λ xs. machine.waiting (after (start {T = T} (paragraph_setting d.setting) d.marks) xs)) none
+
+put_below-block : {T M : Type 0} (d c : DefinedBlock T M) → d.fed ≡ [] → c.fed ≡ [] →
+    machine.put_below (block_of d) (block_of c) ≡ option_map block_of (definition.put_below d c)
+put_below-block d c none empty =
+    ap (machine.append_lines (block_of d) [] [] c.lines) (waiting-block c empty)
+    ∙ append_lines-block d [] [] c.lines c.marks none
+
+border-empties : {T M : Type 0} (d : DefinedBlock T M) (border : Option T) (character : ℕ) → d.fed ≡ [] →
+    (definition.add_border d border character).fed ≡ []
+border-empties d None character none = none
+border-empties d (Some tag) character none = none
+
+put_stacked-block : {T M : Type 0} (d c : DefinedBlock T M) (border : Option T) (has_lines more : Bool) → d.fed ≡ [] → c.fed ≡ [] →
+    machine.put_stacked (block_of d) border has_lines more (block_of c)
+    ≡ option_map block_of (definition.put_stacked d border has_lines more c)
+put_stacked-block {T} {M} d c border has_lines more none empty = by (has_lines && more)
+  where
+    stacked : MachineBlock T M → MachineBlock T M
+    stacked b = record b { table = Some (Stacked border (has_lines || more)) }
+
+    below : (e : DefinedBlock T M) (b : MachineBlock T M) → b ≡ block_of e → e.fed ≡ [] →
+        option_map stacked (machine.put_below b (block_of c))
+        ≡ option_map block_of (option_map (λ (e : DefinedBlock T M). record e { table = Some (Stacked border (has_lines || more)) })
+        (definition.put_below e c))
+    below e b same clear =
+        ap (λ x. option_map stacked (machine.put_below x (block_of c))) same
+        ∙ map_both block_of (λ (e : DefinedBlock T M). record e { table = Some (Stacked border (has_lines || more)) }) stacked
+        (definition.put_below e c) _ (put_below-block e c clear empty) (λ e. refl)
+
+    by : (x : Bool) →
+        option_map stacked (machine.put_below (cond x (machine.add_border (block_of d) border 0x2F) (block_of d)) (block_of c))
+        ≡ option_map block_of (option_map (λ (e : DefinedBlock T M). record e { table = Some (Stacked border (has_lines || more)) })
+        (definition.put_below (cond x (definition.add_border d border 0x2F) d) c))
+    by true = below (definition.add_border d border 0x2F) (machine.add_border (block_of d) border 0x2F)
+        (add_border-block d border 0x2F none) (border-empties d border 0x2F none)
+    by false = below d (block_of d) refl none
+
+cell_added-block : {T M : Type 0} (d : DefinedBlock T M) (o : Option (OpenTable (Rows T M) T M)) (c : DefinedBlock T M) → c.fed ≡ [] →
+    machine.cell_added (block_of d) (option_map table_of o) (block_of c) ≡ option_map block_of (definition.cell_added d o c)
+cell_added-block {T} {M} d None c empty =
+    flushed_then d (λ e. definition.put_below e c) (λ b. machine.put_below b (block_of c)) (λ e none. put_below-block e c none empty)
+cell_added-block {T} {M} d (Some (Across p widths None)) c empty =
+    flushed_then d (λ e. definition.put_below e c) (λ b. machine.put_below b (block_of c)) (λ e none. put_below-block e c none empty)
+cell_added-block {T} {M} d (Some (Across p widths (Some row))) c empty =
+    ap (λ ms. Some (record (block_of d) {
+      table = Some (Across (drawing_of p) widths
+          (Some (with_cell row (record { width = c.setting.width; lines = c.lines; marks = ms } ∷ []))));
+    })) (waiting-block c empty)
+cell_added-block {T} {M} d (Some (Stacked border has_lines)) c empty =
+    flushed_then d (λ e. definition.put_stacked e border has_lines (not (is_empty c.lines)) c)
+    (λ b. machine.put_stacked b border has_lines (not (is_empty c.lines)) (block_of c))
+    (λ e none. put_stacked-block e c border has_lines (not (is_empty c.lines)) none empty)
+
+add_cell-block : {T M : Type 0} (d c : DefinedBlock T M) →
+    machine.add_cell (block_of d) (block_of c) ≡ option_map block_of (definition.add_cell d c)
+add_cell-block {T} {M} d c =
+    ap (λ b. option_and_then (machine.cell_added (block_of d) (option_map table_of d.table)) (machine.flush b)) (end_table-block c)
+    ∙ flushed_then (definition.end_table c) (definition.cell_added d d.table) (machine.cell_added (block_of d) (option_map table_of d.table))
+    (λ e none. cell_added-block d d.table e none)
+
+row_ended-block : {T M : Type 0} (d : DefinedBlock T M) (o : Option (OpenTable (Rows T M) T M)) →
+    machine.row_ended (block_of d) (option_map table_of o) ≡ option_map block_of (definition.row_ended d o)
+row_ended-block d None = refl
+row_ended-block d (Some (Across p widths row)) =
+    ap (λ q. Some (record (block_of d) { table = Some (Across q widths None) })) (with_open-of p row)
+row_ended-block {T} {M} d (Some (Stacked border true)) =
+    after_flush d (λ (e : DefinedBlock T M). record (definition.add_border e border 0x2500) { table = Some (Stacked border false) })
+    (λ (c : MachineBlock T M). record (machine.add_border c border 0x2500) { table = Some (Stacked border false) })
+    (λ e none. ap (λ (c : MachineBlock T M). record c { table = Some (Stacked border false) }) (add_border-block e border 0x2500 none))
+row_ended-block d (Some (Stacked border false)) = refl
 
 append-block : {T M : Type 0} (d e : DefinedBlock T M) (t : T) (first later : List ℕ) →
     machine.append (block_of d) (block_of e) t first later ≡ option_map block_of (definition.append d e t first later)
 append-block {T} {M} d e t first later =
-    ap (option_and_then (λ (b : MachineBlock T M). option_and_then (λ (c : MachineBlock T M). joins b c) (machine.flush (block_of e))))
-    (flushed d)
-    ∙ by (paragraph (paragraph_setting d.setting) d.marks d.fed)
+    flushed_then d (λ b. option_and_then (joined_by b) (definition.flush (definition.end_table e)))
+    (λ b. option_and_then (joins b) (machine.flush (machine.end_table (block_of e))))
+    (λ b none. ap (λ x. option_and_then (joins (block_of b)) (machine.flush x)) (end_table-block e)
+    ∙ flushed_then (definition.end_table e) (joined_by b) (joins (block_of b)) (λ c empty.
+    ap (machine.append_lines (block_of b) (under t first) (under t later) c.lines) (waiting-block c empty)
+    ∙ append_lines-block b (under t first) (under t later) c.lines c.marks none))
   where
     joins : MachineBlock T M → MachineBlock T M → Option (MachineBlock T M)
     joins b c = machine.append_lines b (under t first) (under t later) c.lines (machine.waiting c.paragraph)
 
     joined_by : DefinedBlock T M → DefinedBlock T M → Option (DefinedBlock T M)
     joined_by b c = definition.append_lines b (under t first) (under t later) c.lines c.marks
-
-    flushed : (d : DefinedBlock T M) → machine.flush (block_of d)
-        ≡ option_map (λ (p : Page T M). block_of (definition.add_page d p)) (paragraph (paragraph_setting d.setting) d.marks d.fed)
-    flushed d = flush-block d
-        ∙ map_map (λ (p : Page T M). definition.add_page d p) block_of (paragraph (paragraph_setting d.setting) d.marks d.fed)
-
-    both : (p : Page T M) (q : Option (Page T M)) →
-        option_and_then (λ (c : MachineBlock T M). joins (block_of (definition.add_page d p)) c)
-        (option_map (λ (r : Page T M). block_of (definition.add_page e r)) q)
-        ≡ option_map block_of (option_and_then (λ (c : DefinedBlock T M). joined_by (definition.add_page d p) c)
-        (option_map (λ (r : Page T M). definition.add_page e r) q))
-    both p None = refl
-    both p (Some r) = append_lines-block d p (under t first) (under t later) (e.lines ++ filled e.padding e.setting.width (all_lines r)) r.waiting
-
-    by : (o : Option (Page T M)) →
-        option_and_then (λ (b : MachineBlock T M). option_and_then (λ (c : MachineBlock T M). joins b c) (machine.flush (block_of e)))
-        (option_map (λ (p : Page T M). block_of (definition.add_page d p)) o)
-        ≡ option_map block_of (option_and_then (λ (b : DefinedBlock T M).
-        option_and_then (λ (c : DefinedBlock T M). joined_by b c) (definition.flush e))
-        (option_map (λ (p : Page T M). definition.add_page d p) o))
-    by None = refl
-    by (Some p) = ap (option_and_then (λ (c : MachineBlock T M). joins (block_of (definition.add_page d p)) c)) (flushed e)
-        ∙ both p (paragraph (paragraph_setting e.setting) e.marks e.fed)
 
 -- THE THEOREM: each operation on a block that was fed is the definition's
 pub block_of-commutes : {T : Type 0} → Commutes block_of (λ (t : T). t) definition.operations machine.operations
@@ -183,4 +337,11 @@ block_of-commutes = record {
   end_block = end_block-block;
   sub_block = sub_block-block;
   append = append-block;
+  begin_table = begin_table-block;
+  begin_row = λ d slots. on_table d (with_row_open slots) (with_row_open slots) (with_row_open-of slots);
+  cell_block = cell_block-block;
+  add_cell = add_cell-block;
+  skip_cell = λ d. on_table d skipped skipped skipped-of;
+  end_row = λ d. row_ended-block d d.table;
+  end_table = end_table-block;
 }

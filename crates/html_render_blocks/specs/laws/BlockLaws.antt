@@ -1,26 +1,48 @@
 -- With overflow off no line of a block passes its width; with overflow on no operation refuses.
-use Rattle.std.proofs.Common.{◌≡◌, ℕ, ◌-◌, ◌≤◌, Bool, true, false, not, cond, eqb, leb, ◌||◌, ◌&&◌, List, [], ◌∷◌, length, Option, Some, None}
+use Rattle.std.proofs.Common.{◌≡◌, ℕ, ◌-◌, ◌≤◌, ◌+◌, suc, zero, sum, ◌++◌, option_and_then, Bool, true, false, not, cond, eqb, leb, ◌||◌, ◌&&◌}
+use Rattle.std.proofs.Common.{List, [], ◌∷◌, length, Option, Some, None}
 use Rattle.std.proofs.Common.{refl, sym, ap, ◌∙◌, subst, arith, max, IfSome, IsSome, option_map}
 use Rattle.std.specs.Option.{IsSomeAnd}
 use Rattle.std.proofs.lemmas.Bool.{leb-true}
 use Rattle.std.proofs.lemmas.Option.{IfSome_then}
-use Rattle.std.proofs.lemmas.List.Elements.{All-push, All-append, All-nil, All-cons, All-weaker}
+use Rattle.std.proofs.lemmas.List.Elements.{All-push, All-append, All-nil, All-cons, All-head, All-tail, All-weaker}
+use Rattle.std.proofs.lemmas.List.Sums.{sum_by-cons}
 use Rattle.html_render_lines.specs.declared.character.TextStyle.{TextStyle}
-use Rattle.html_render_lines.specs.Line.{Line, columns, marks_line, AllWithinWidth}
+use Rattle.html_render_lines.specs.Line.{Line, columns, element_width, marks_line, AllWithinWidth}
 use Rattle.html_render_lines.specs.Paragraph.{Page, without_overflow, paragraph, all_lines}
 use Rattle.html_render_lines.specs.TaggedText.{under}
-use Rattle.html_render_lines.specs.laws.Within.{paragraph_within, columns-marks}
+use Rattle.html_render_lines.specs.laws.Within.{paragraph_within, columns-append, columns-marks}
 use Rattle.html_render_lines.specs.laws.Overflow.{paragraph_some}
 use Rattle.html_render_lines.specs.laws.Cases.{if_cases}
 use Rattle.html_render_blocks.specs.declared.block.BlockSetting.{BlockSetting}
 use Rattle.html_render_blocks.specs.laws.Operations.{Keeps, Succeeds}
-use Rattle.html_render_blocks.specs.laws.Padding.{filled-within}
-use Rattle.html_render_blocks.specs.Padding.{filled}
+use Rattle.html_render_pictures.specs.laws.Padding.{filled-within}
+use Rattle.html_render_pictures.specs.Padding.{filled}
 use Rattle.html_render_blocks.specs.laws.Cases.{map_if, then_if, map_and, then_and, any}
 use Rattle.html_render_blocks.specs.Joined.{are_within, fitting, joined}
 use Rattle.html_render_blocks.specs.Block.{DefinedBlock, wrap_width, paragraph_setting, empty_block, flush, add_page, add_empty_line}
 use Rattle.html_render_blocks.specs.Block.{separate_behind, start_block, new_line_hard, add_inline_text, feed, is_blank, inner_width}
 use Rattle.html_render_blocks.specs.Block.{sub_block, append_lines, append, operations}
+use Rattle.html_render_blocks.specs.Block.{end_open, end_table, add_lines, add_border, table_begun, begin_table, begin_row, skip_cell}
+use Rattle.html_render_blocks.specs.Block.{kept_cell, put_below, put_stacked, cell_added, cell_block, add_cell, row_ended}
+use Rattle.html_render_blocks.specs.declared.block.tables.OpenTable.{OpenTable}
+use Rattle.html_render_blocks.specs.declared.block.tables.OpenTable.TheVariants.{Across, Stacked}
+use Rattle.html_render_blocks.specs.Tables.{Rows, defined_pictures, rule, stacked_border, with_row_open, next_cell_width, skipped, with_open}
+use Rattle.html_render_blocks.specs.laws.TableWithin.{TableWithin, place_room, cell-within, picture_rows, picture_frame, with_row_open-within}
+use Rattle.html_render_blocks.specs.laws.TableWithin.{skipped-within, table_width-within, columns_room-within}
+use Rattle.html_render_lines.specs.Character.{width_of}
+use Rattle.html_render_lines.specs.declared.line.Element.{Element}
+use Rattle.html_render_lines.specs.declared.line.Element.TheVariants.{Character}
+use Rattle.html_render_nodes.specs.declared.tree.Slot.{Slot}
+use Rattle.html_render_parts.specs.declared.widths.needs.CellNeed.{CellNeed}
+use Rattle.html_render_parts.specs.Needs.{standing_widths}
+use Rattle.html_render_parts.specs.laws.Needs.{standing_within}
+use Rattle.html_render_pictures.specs.declared.picture.Frame.{Frame}
+use Rattle.html_render_pictures.specs.Marked.{marked_before}
+use Rattle.html_render_pictures.specs.Picture.{KeptCell, is_empty, picture_lines}
+use Rattle.html_render_pictures.specs.Widths.{KeepsToWidth, RowWithin}
+use Rattle.html_render_pictures.specs.laws.Glyphs.{border_width, slash_width}
+use Rattle.html_render_pictures.specs.laws.Widths.{picture_within}
 
 -- ---- widths
 
@@ -29,12 +51,15 @@ pub record IsWithin {T M : Type 0} (w : ℕ) (d : DefinedBlock T M) : Type 0 whe
   pub width : d.setting.width ≡ w
   pub overflow : d.setting.overflow ≡ false
   pub lines : AllWithinWidth w d.lines
+  pub table : TableWithin w d.table
 
-pub with_lines : {T M : Type 0} (w : ℕ) (d e : DefinedBlock T M) → IsWithin w d → e.setting ≡ d.setting → AllWithinWidth w e.lines → IsWithin w e
-with_lines w d e h same lines = record {
+pub with_lines : {T M : Type 0} (w : ℕ) (d e : DefinedBlock T M) → IsWithin w d → e.setting ≡ d.setting → TableWithin w e.table →
+    AllWithinWidth w e.lines → IsWithin w e
+with_lines w d e h same table lines = record {
   width = ap (λ (s : BlockSetting). s.width) same ∙ h.width;
   overflow = ap (λ (s : BlockSetting). s.overflow) same ∙ h.overflow;
   lines = lines;
+  table = table;
 }
 
 wrap_width-le : (w : ℕ) (most : Option ℕ) → wrap_width w most ≤ w
@@ -55,12 +80,12 @@ pub flush_within : {T M : Type 0} (w : ℕ) (d : DefinedBlock T M) → IsWithin 
 flush_within {T} {M} w d h =
     map_if (λ (p : Page T M). AllWithinWidth w (all_lines p)) (IsWithin w) (λ (p : Page T M). add_page d p)
     (paragraph (paragraph_setting d.setting) d.marks d.fed) (page_within w d h)
-    (λ p k. with_lines w d (add_page d p) h refl (All-append (λ (l : Line T M). columns l ≤ w) d.lines
+    (λ p k. with_lines w d (add_page d p) h refl h.table (All-append (λ (l : Line T M). columns l ≤ w) d.lines
     (filled d.padding d.setting.width (all_lines p)) h.lines
     (subst (λ v. AllWithinWidth w (filled d.padding v (all_lines p))) (sym h.width) (filled-within d.padding w (all_lines p) k))))
 
 add_empty_line_within : {T M : Type 0} (w : ℕ) (d : DefinedBlock T M) → IsWithin w d → IsWithin w (add_empty_line d)
-add_empty_line_within {T} {M} w d h = with_lines w d (add_empty_line d) h refl
+add_empty_line_within {T} {M} w d h = with_lines w d (add_empty_line d) h refl h.table
     (All-push (λ (l : Line T M). columns l ≤ w) d.lines (marks_line d.marks) h.lines (let e = columns-marks T d.marks in omega arith))
 
 separate_within : {T M : Type 0} (w : ℕ) (d : DefinedBlock T M) (ls : List (Line T M)) → IsWithin w d → IsWithin w (separate_behind d ls)
@@ -68,7 +93,7 @@ separate_within w d [] h = h
 separate_within w d (l ∷ ls) h = add_empty_line_within w d h
 
 unended_within : {T M : Type 0} (w : ℕ) (d : DefinedBlock T M) → IsWithin w d → IsWithin w (record d { at_block_end = false })
-unended_within w d h = with_lines w d (record d { at_block_end = false }) h refl h.lines
+unended_within w d h = with_lines w d (record d { at_block_end = false }) h refl h.table h.lines
 
 pub start_block_within : {T M : Type 0} (w : ℕ) (d : DefinedBlock T M) → IsWithin w d → IfSome (start_block d) (IsWithin w)
 start_block_within w d h =
@@ -82,7 +107,7 @@ new_line_hard_within w d h = map_if (IsWithin w) (IsWithin w) _ (flush d) (flush
 
 feed_within : {T M : Type 0} (w : ℕ) (d : DefinedBlock T M) (style : TextStyle T) (cs : List ℕ) → IsWithin w d →
     IsWithin w (feed d style cs)
-feed_within w d style cs h = with_lines w d (feed d style cs) h refl h.lines
+feed_within w d style cs h = with_lines w d (feed d style cs) h refl h.table h.lines
 
 add_inline_text_within : {T M : Type 0} (w : ℕ) (d : DefinedBlock T M) (style : TextStyle T) (cs : List ℕ) → IsWithin w d →
     IfSome (add_inline_text d style cs) (IsWithin w)
@@ -94,7 +119,7 @@ add_inline_text_within w d style cs h =
 
 pub empty_within : {T M : Type 0} (s : BlockSetting) (padding : Option T) → s.overflow ≡ false →
     IsWithin s.width (empty_block {T = T} {M = M} s padding)
-empty_within {T} {M} s padding off = record { width = refl; overflow = off; lines = All-nil (λ (l : Line T M). columns l ≤ s.width) }
+empty_within {T} {M} s padding off = record { width = refl; overflow = off; lines = All-nil (λ (l : Line T M). columns l ≤ s.width); table = tt }
 
 sub_block_within : {T M : Type 0} (w : ℕ) (d : DefinedBlock T M) (prefix inner : ℕ) → IsWithin w d →
     IfSome (sub_block d prefix inner) (λ e. (v : ℕ) × IsWithin v e)
@@ -125,30 +150,188 @@ joined_within {T} {M} w d p q ls ms h =
 
 append_lines_within : {T M : Type 0} (w : ℕ) (d : DefinedBlock T M) (p q : Line T M) (ls : List (Line T M)) (ms : List M) → IsWithin w d →
     IfSome (append_lines d p q ls ms) (IsWithin w)
-append_lines_within w d p q [] ms h = with_lines w d _ h refl h.lines
+append_lines_within w d p q [] ms h = with_lines w d _ h refl h.table h.lines
 append_lines_within {T} {M} w d p q (l ∷ ls) ms h =
     map_if (AllWithinWidth w) (IsWithin w) _ (joined d.setting.width d.setting.overflow d.marks p q (l ∷ ls) ms)
     (joined_within w d p q (l ∷ ls) ms h)
-    (λ all k. with_lines w d _ h refl (All-append (λ (l : Line T M). columns l ≤ w) d.lines all h.lines k))
+    (λ all k. with_lines w d _ h refl h.table (All-append (λ (l : Line T M). columns l ≤ w) d.lines all h.lines k))
+
+-- ---- tables
+
+pub marked_before_within : {T M : Type 0} (w : ℕ) (ms : List M) (ls : List (Line T M)) → AllWithinWidth w ls → AllWithinWidth w (marked_before ms ls)
+marked_before_within w ms [] h = h
+marked_before_within {T} {M} w ms (l ∷ ls) h =
+    All-cons (λ (l : Line T M). columns l ≤ w) (marks_line ms ++ l) ls
+    (let k = All-head (λ (l : Line T M). columns l ≤ w) l ls h in omega (arith, k, columns-append (marks_line ms) l, columns-marks T ms))
+    (All-tail (λ (l : Line T M). columns l ≤ w) l ls h)
+
+pub add_lines_within : {T M : Type 0} (w : ℕ) (d : DefinedBlock T M) (ls : List (Line T M)) → IsWithin w d → AllWithinWidth w ls →
+    IsWithin w (add_lines d ls)
+add_lines_within {T} {M} w d ls h k = with_lines w d (add_lines d ls) h refl h.table
+    (All-append (λ (l : Line T M). columns l ≤ w) d.lines (marked_before d.marks ls) h.lines (marked_before_within w d.marks ls k))
+
+end_open_within : {T M : Type 0} (w : ℕ) (d : DefinedBlock T M) (o : Option (OpenTable (Rows T M) T M)) → IsWithin w d → TableWithin w o →
+    IsWithin w (end_open d o)
+end_open_within w d None h k = h
+end_open_within {T} {M} w d (Some (Across p widths row)) h k =
+    let q : Rows T M = with_open defined_pictures p row in
+    with_lines w d _ h refl tt (All-append (λ (l : Line T M). columns l ≤ w) d.lines (picture_lines q.frame q.waiting q.rows) h.lines
+    (picture_within q.frame w q.waiting q.rows (subst (λ (f : Frame T). f.width ≤ w) (sym (picture_frame p row)) k.0.0)
+    (picture_rows w p row k.0.1 k.1.1)))
+end_open_within w d (Some (Stacked border has_lines)) h k = with_lines w d _ h refl tt h.lines
+
+pub end_table_within : {T M : Type 0} (w : ℕ) (d : DefinedBlock T M) → IsWithin w d → IsWithin w (end_table d)
+end_table_within w d h = end_open_within w d d.table h h.table
+
+-- with overflow off the characters of rules take a column
+pub rule-columns : {T : Type 0} (M : Type 0) (tag : T) (character n : ℕ) → width_of character ≡ 1 →
+    columns (rule {M = M} tag character n) ≡ n
+rule-columns M tag character zero one = refl
+rule-columns {T} M tag character (suc n) one =
+    omega (
+      arith,
+      one,
+      rule-columns M tag character n one,
+      sum_by-cons (λ (e : Element T M). element_width e) (Character character tag) (rule tag character n),
+    )
+
+add_border_within : {T M : Type 0} (w : ℕ) (d : DefinedBlock T M) (border : Option T) (character : ℕ) → width_of character ≡ 1 →
+    IsWithin w d → IsWithin w (add_border d border character)
+add_border_within w d None character one h = h
+add_border_within {T} {M} w d (Some tag) character one h =
+    add_lines_within w d (rule tag character d.setting.width ∷ []) h
+    (All-cons (λ (l : Line T M). columns l ≤ w) (rule tag character d.setting.width) []
+    (let e = rule-columns M tag character d.setting.width one in let v = h.width in omega (arith, e, v)) (All-nil (λ (l : Line T M). columns l ≤ w)))
+
+-- whatever table is open in its place
+with_table : {T M : Type 0} (w : ℕ) (d : DefinedBlock T M) (o : Option (OpenTable (Rows T M) T M)) → IsWithin w d → TableWithin w o →
+    IsWithin w (record d { table = o })
+with_table w d o h k = with_lines w d (record d { table = o }) h refl k h.lines
+
+table_begun_within : {T M : Type 0} (w : ℕ) (d : DefinedBlock T M) (tag : T) (borders : Bool) (o : Option (List ℕ)) → IsWithin w d →
+    IfSome o (λ ws. sum ws + (length ws - 1) ≤ w) → IsWithin w (table_begun d tag borders o)
+table_begun_within w d tag borders None h k =
+    with_table w (add_border d (stacked_border tag borders d.setting.width) 0x2500) _
+    (add_border_within w d (stacked_border tag borders d.setting.width) 0x2500 border_width h) tt
+table_begun_within {T} {M} w d tag borders (Some ws) h k =
+    with_lines w d _ h refl
+    (((let t = table_width-within ws in omega (arith, t, k)), All-nil (RowWithin {T = T} {M = M} w)), (columns_room-within w ws k, tt)) h.lines
+
+widths_within : {T M : Type 0} (w : ℕ) (d : DefinedBlock T M) (stacked : Bool) (columns : ℕ) (cells : List CellNeed) → IsWithin w d →
+    IfSome (cond stacked None (standing_widths columns cells d.setting.width)) (λ ws. sum ws + (length ws - 1) ≤ w)
+widths_within w d true columns cells h = tt
+widths_within w d false columns cells h =
+    subst (λ v. IfSome (standing_widths columns cells d.setting.width) (λ ws. sum ws + (length ws - 1) ≤ v)) h.width
+    (standing_within columns cells d.setting.width)
+
+begin_table_within : {T M : Type 0} (w : ℕ) (d : DefinedBlock T M) (tag : T) (borders stacked : Bool) (columns : ℕ)
+    (cells : List CellNeed) → IsWithin w d → IfSome (begin_table d tag borders stacked columns cells) (IsWithin w)
+begin_table_within w d tag borders stacked columns cells h =
+    map_if (IsWithin w) (IsWithin w) _ (flush (end_table d)) (flush_within w (end_table d) (end_table_within w d h))
+    (λ e k. table_begun_within w e tag borders (cond stacked None (standing_widths columns cells e.setting.width)) k
+    (widths_within w e stacked columns cells k))
+
+begin_row_within : {T M : Type 0} (w : ℕ) (d : DefinedBlock T M) (slots : List Slot) → IsWithin w d → IsWithin w (begin_row d slots)
+begin_row_within {T} {M} w d slots h = with_table w d (option_map (with_row_open slots) d.table) h (by d.table h.table)
+  where
+    by : (o : Option (OpenTable (Rows T M) T M)) → TableWithin w o → TableWithin w (option_map (with_row_open slots) o)
+    by None k = tt
+    by (Some t) k = with_row_open-within w slots t k
+
+skip_cell_within : {T M : Type 0} (w : ℕ) (d : DefinedBlock T M) → IsWithin w d → IsWithin w (skip_cell d)
+skip_cell_within {T} {M} w d h = with_table w d (option_map skipped d.table) h (by d.table h.table)
+  where
+    by : (o : Option (OpenTable (Rows T M) T M)) → TableWithin w o → TableWithin w (option_map skipped o)
+    by None k = tt
+    by (Some t) k = skipped-within w t k
+
+put_below_within : {T M : Type 0} (w : ℕ) (d c : DefinedBlock T M) → IsWithin w d → IfSome (put_below d c) (IsWithin w)
+put_below_within w d c h = append_lines_within w d [] [] c.lines c.marks h
+
+put_stacked_within : {T M : Type 0} (w : ℕ) (d c : DefinedBlock T M) (border : Option T) (has_lines more : Bool) → IsWithin w d →
+    IfSome (put_stacked d border has_lines more c) (IsWithin w)
+put_stacked_within w d c border has_lines more h =
+    let above = cond (has_lines && more) (add_border d border 0x2F) d in
+    map_if (IsWithin w) (IsWithin w) _ (put_below above c)
+    (put_below_within w above c
+    (if_cases (IsWithin w) (has_lines && more) _ _ (λ _. add_border_within w d border 0x2F slash_width h) (λ _. h)))
+    (λ e k. with_table w e _ k tt)
+
+flushed_within : {T M : Type 0} (w : ℕ) (d : DefinedBlock T M) (f : DefinedBlock T M → Option (DefinedBlock T M)) → IsWithin w d →
+    ((e : DefinedBlock T M) → IsWithin w e → IfSome (f e) (IsWithin w)) → IfSome (option_and_then f (flush d)) (IsWithin w)
+flushed_within w d f h next = then_if (IsWithin w) (IsWithin w) f (flush d) (flush_within w d h) next
+
+-- a cell in its own place
+cell_added_within : {T M : Type 0} (w v : ℕ) (d : DefinedBlock T M) (o : Option (OpenTable (Rows T M) T M)) (c : DefinedBlock T M) →
+    IsWithin w d → TableWithin w o → next_cell_width d.setting.width o ≡ Some v → IsWithin v c → IfSome (cell_added d o c) (IsWithin w)
+cell_added_within w v d None c h k e n = flushed_within w d _ h (λ b p. put_below_within w b c p)
+cell_added_within w v d (Some (Across p widths None)) c h k e n = flushed_within w d _ h (λ b p. put_below_within w b c p)
+cell_added_within {T} {M} w v d (Some (Across p widths (Some row))) c h k e n =
+    with_table w d _ h (
+      k.0,
+      (
+        k.1.0,
+        cell-within w row (kept_cell c ∷ []) k.1.1
+            (All-cons KeepsToWidth (kept_cell c) [] (subst (λ u. AllWithinWidth u c.lines) (sym n.width) n.lines) (All-nil KeepsToWidth))
+            (let same = ap place_room e in let wide = n.width in
+            let one = sum_by-cons (λ (c : KeptCell T M). 1 + c.width) (kept_cell c) [] in omega (arith, same, wide, one)),
+      ),
+    )
+cell_added_within w v d (Some (Stacked border has_lines)) c h k e n =
+    flushed_within w d _ h (λ b p. put_stacked_within w b c border has_lines (not (is_empty c.lines)) p)
+
+cell_within : {T M : Type 0} (w : ℕ) (d : DefinedBlock T M) → IsWithin w d →
+    IfSome (cell_block d) (λ c. (v : ℕ) × (IsWithin v c × ((e : DefinedBlock T M) → IsWithin v e → IfSome (add_cell d e) (IsWithin w))))
+cell_within {T} {M} w d h = by (next_cell_width d.setting.width d.table) refl
+  where
+    by : (o : Option ℕ) → next_cell_width d.setting.width d.table ≡ o →
+        IfSome (option_map (λ (v : ℕ). empty_block {T = T} {M = M} (record d.setting { width = v }) d.padding) o)
+        (λ c. (v : ℕ) × (IsWithin v c × ((e : DefinedBlock T M) → IsWithin v e → IfSome (add_cell d e) (IsWithin w))))
+    by None e = tt
+    by (Some v) e = (
+      v,
+      (
+        empty_within (record d.setting { width = v }) d.padding h.overflow,
+        λ c k. then_if (IsWithin v) (IsWithin w) _ (flush (end_table c)) (flush_within v (end_table c) (end_table_within v c k))
+            (λ f n. cell_added_within w v d d.table f h h.table e n),
+      ),
+    )
+
+row_ended_within : {T M : Type 0} (w : ℕ) (d : DefinedBlock T M) (o : Option (OpenTable (Rows T M) T M)) → IsWithin w d → TableWithin w o →
+    IfSome (row_ended d o) (IsWithin w)
+row_ended_within w d None h k = h
+row_ended_within w d (Some (Across p widths row)) h k =
+    with_table w d _ h
+    ((subst (λ f. f.width ≤ w) (sym (picture_frame p row)) k.0.0, picture_rows w p row k.0.1 k.1.1), (k.1.0, tt))
+row_ended_within w d (Some (Stacked border true)) h k =
+    map_if (IsWithin w) (IsWithin w) _ (flush d) (flush_within w d h)
+    (λ e n. with_table w (add_border e border 0x2500) _ (add_border_within w e border 0x2500 border_width n) tt)
+row_ended_within w d (Some (Stacked border false)) h k = h
 
 append_within : {T M : Type 0} (w v : ℕ) (d e : DefinedBlock T M) (t : T) (first later : List ℕ) → IsWithin w d → IsWithin v e →
     IfSome (append d e t first later) (IsWithin w)
 append_within {T} {M} w v d e t first later h _ =
     then_if (IsWithin w) (IsWithin w) _ (flush d) (flush_within w d h)
     (λ d h. then_if (λ e. Unit {0}) (IsWithin w) (λ (e : DefinedBlock T M). append_lines d (under t first) (under t later) e.lines e.marks)
-    (flush e) (any (flush e)) (λ e _. append_lines_within w d (under t first) (under t later) e.lines e.marks h))
+    (flush (end_table e)) (any (flush (end_table e))) (λ e _. append_lines_within w d (under t first) (under t later) e.lines e.marks h))
 
 -- THE LAW: with overflow off no operation makes a line that passes the block's own width
 pub operations_within : {T : Type 0} → Keeps (operations {T = T}) IsWithin
 operations_within = record {
   add_inline_text = add_inline_text_within;
-  add_mark = λ w d m h. with_lines w d _ h refl h.lines;
+  add_mark = λ w d m h. with_lines w d _ h refl h.table h.lines;
   new_line = flush_within;
   new_line_hard = new_line_hard_within;
   start_block = start_block_within;
-  end_block = λ w d h. with_lines w d _ h refl h.lines;
+  end_block = λ w d h. with_lines w d _ h refl h.table h.lines;
   sub_block = sub_block_within;
   append = append_within;
+  begin_table = begin_table_within;
+  begin_row = begin_row_within;
+  cell = cell_within;
+  skip_cell = skip_cell_within;
+  end_row = λ w d h. row_ended_within w d d.table h h.table;
+  end_table = end_table_within;
 }
 
 -- ---- overflow
@@ -217,12 +400,95 @@ append_lines_succeeds {T} {M} w d p q (l ∷ ls) ms h =
     map_and (λ all. Unit {0}) (Overflows w) _ (joined d.setting.width d.setting.overflow d.marks p q (l ∷ ls) ms)
     (if_overflow d.setting.overflow _ _ h.overflow) (λ all _. record { width = h.width; overflow = h.overflow })
 
+-- ---- tables
+
+end_open_succeeds : {T M : Type 0} (w : ℕ) (d : DefinedBlock T M) (o : Option (OpenTable (Rows T M) T M)) → Overflows w d →
+    Overflows w (end_open d o)
+end_open_succeeds w d None h = h
+end_open_succeeds w d (Some (Across p widths row)) h = record { width = h.width; overflow = h.overflow }
+end_open_succeeds w d (Some (Stacked border has_lines)) h = record { width = h.width; overflow = h.overflow }
+
+pub end_table_succeeds : {T M : Type 0} (w : ℕ) (d : DefinedBlock T M) → Overflows w d → Overflows w (end_table d)
+end_table_succeeds w d h = end_open_succeeds w d d.table h
+
+border_succeeds : {T M : Type 0} (w : ℕ) (d : DefinedBlock T M) (border : Option T) (character : ℕ) → Overflows w d →
+    Overflows w (add_border d border character)
+border_succeeds w d None character h = h
+border_succeeds w d (Some tag) character h = record { width = h.width; overflow = h.overflow }
+
+table_succeeds : {T M : Type 0} (w : ℕ) (d : DefinedBlock T M) (o : Option (OpenTable (Rows T M) T M)) → Overflows w d →
+    Overflows w (record d { table = o })
+table_succeeds w d o h = record { width = h.width; overflow = h.overflow }
+
+table_begun_succeeds : {T M : Type 0} (w : ℕ) (d : DefinedBlock T M) (tag : T) (borders : Bool) (o : Option (List ℕ)) → Overflows w d →
+    Overflows w (table_begun d tag borders o)
+table_begun_succeeds w d tag borders None h =
+    table_succeeds w (add_border d (stacked_border tag borders d.setting.width) 0x2500) _
+    (border_succeeds w d (stacked_border tag borders d.setting.width) 0x2500 h)
+table_begun_succeeds w d tag borders (Some ws) h = record { width = h.width; overflow = h.overflow }
+
+begin_table_succeeds : {T M : Type 0} (w : ℕ) (d : DefinedBlock T M) (tag : T) (borders stacked : Bool) (columns : ℕ)
+    (cells : List CellNeed) → Overflows w d → IsSomeAnd (begin_table d tag borders stacked columns cells) (Overflows w)
+begin_table_succeeds w d tag borders stacked columns cells h =
+    map_and (Overflows w) (Overflows w) _ (flush (end_table d)) (flush_succeeds w (end_table d) (end_table_succeeds w d h))
+    (λ e k. table_begun_succeeds w e tag borders (cond stacked None (standing_widths columns cells e.setting.width)) k)
+
+put_below_succeeds : {T M : Type 0} (w : ℕ) (d c : DefinedBlock T M) → Overflows w d → IsSomeAnd (put_below d c) (Overflows w)
+put_below_succeeds w d c h = append_lines_succeeds w d [] [] c.lines c.marks h
+
+put_stacked_succeeds : {T M : Type 0} (w : ℕ) (d c : DefinedBlock T M) (border : Option T) (has_lines more : Bool) → Overflows w d →
+    IsSomeAnd (put_stacked d border has_lines more c) (Overflows w)
+put_stacked_succeeds w d c border has_lines more h =
+    let above = cond (has_lines && more) (add_border d border 0x2F) d in
+    map_and (Overflows w) (Overflows w) _ (put_below above c)
+    (put_below_succeeds w above c
+    (if_cases (Overflows w) (has_lines && more) _ _ (λ _. border_succeeds w d border 0x2F h) (λ _. h)))
+    (λ e k. table_succeeds w e _ k)
+
+cell_added_succeeds : {T M : Type 0} (w : ℕ) (d : DefinedBlock T M) (o : Option (OpenTable (Rows T M) T M)) (c : DefinedBlock T M) →
+    Overflows w d → IsSomeAnd (cell_added d o c) (Overflows w)
+cell_added_succeeds w d None c h = then_and (Overflows w) (Overflows w) _ (flush d) (flush_succeeds w d h) (λ b p. put_below_succeeds w b c p)
+cell_added_succeeds w d (Some (Across p widths None)) c h =
+    then_and (Overflows w) (Overflows w) _ (flush d) (flush_succeeds w d h) (λ b p. put_below_succeeds w b c p)
+cell_added_succeeds w d (Some (Across p widths (Some row))) c h = table_succeeds w d _ h
+cell_added_succeeds w d (Some (Stacked border has_lines)) c h =
+    then_and (Overflows w) (Overflows w) _ (flush d) (flush_succeeds w d h)
+    (λ b p. put_stacked_succeeds w b c border has_lines (not (is_empty c.lines)) p)
+
+cell_succeeds : {T M : Type 0} (w : ℕ) (d : DefinedBlock T M) → Overflows w d →
+    IfSome (cell_block d)
+    (λ c. (v : ℕ) × (Overflows v c × ((e : DefinedBlock T M) → Overflows v e → IsSomeAnd (add_cell d e) (Overflows w))))
+cell_succeeds {T} {M} w d h = by (next_cell_width d.setting.width d.table)
+  where
+    by : (o : Option ℕ) →
+        IfSome (option_map (λ (v : ℕ). empty_block {T = T} {M = M} (record d.setting { width = v }) d.padding) o)
+        (λ c. (v : ℕ) × (Overflows v c × ((e : DefinedBlock T M) → Overflows v e → IsSomeAnd (add_cell d e) (Overflows w))))
+    by None = tt
+    by (Some v) = (
+      v,
+      (
+        record { width = refl; overflow = h.overflow },
+        λ c k. then_and (Overflows v) (Overflows w) _ (flush (end_table c)) (flush_succeeds v (end_table c) (end_table_succeeds v c k))
+            (λ f n. cell_added_succeeds w d d.table f h),
+      ),
+    )
+
+row_ended_succeeds : {T M : Type 0} (w : ℕ) (d : DefinedBlock T M) (o : Option (OpenTable (Rows T M) T M)) → Overflows w d →
+    IsSomeAnd (row_ended d o) (Overflows w)
+row_ended_succeeds w d None h = h
+row_ended_succeeds w d (Some (Across p widths row)) h = table_succeeds w d _ h
+row_ended_succeeds w d (Some (Stacked border true)) h =
+    map_and (Overflows w) (Overflows w) _ (flush d) (flush_succeeds w d h)
+    (λ e n. table_succeeds w (add_border e border 0x2500) _ (border_succeeds w e border 0x2500 n))
+row_ended_succeeds w d (Some (Stacked border false)) h = h
+
 append_succeeds : {T M : Type 0} (w v : ℕ) (d e : DefinedBlock T M) (t : T) (first later : List ℕ) → Overflows w d → Overflows v e →
     IsSomeAnd (append d e t first later) (Overflows w)
 append_succeeds {T} {M} w v d e t first later h k =
     then_and (Overflows w) (Overflows w) _ (flush d) (flush_succeeds w d h)
     (λ d h. then_and (Overflows v) (Overflows w) (λ (e : DefinedBlock T M). append_lines d (under t first) (under t later) e.lines e.marks)
-    (flush e) (flush_succeeds v e k) (λ e _. append_lines_succeeds w d (under t first) (under t later) e.lines e.marks h))
+    (flush (end_table e)) (flush_succeeds v (end_table e) (end_table_succeeds v e k))
+    (λ e _. append_lines_succeeds w d (under t first) (under t later) e.lines e.marks h))
 
 -- THE LAW: with overflow on no operation refuses
 pub operations_succeed : {T : Type 0} → Succeeds (operations {T = T}) Overflows
@@ -235,4 +501,10 @@ operations_succeed = record {
   end_block = λ w d h. record { width = h.width; overflow = h.overflow };
   sub_block = sub_block_succeeds;
   append = append_succeeds;
+  begin_table = begin_table_succeeds;
+  begin_row = λ w d slots h. table_succeeds w d _ h;
+  cell = cell_succeeds;
+  skip_cell = λ w d h. table_succeeds w d _ h;
+  end_row = λ w d h. row_ended_succeeds w d d.table h;
+  end_table = end_table_succeeds;
 }

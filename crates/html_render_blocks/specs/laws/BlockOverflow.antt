@@ -1,5 +1,6 @@
 -- Where an operation on a block has an answer, it has the same with overflow on.
-use Rattle.std.proofs.Common.{◌≡◌, ℕ, ◌-◌, Bool, true, false, not, cond, eqb, leb, List, [], ◌∷◌, ◌++◌, length, refl, ap, max}
+use Rattle.std.proofs.Common.{◌≡◌, ℕ, ◌-◌, Bool, true, false, not, cond, eqb, leb, ◌||◌, ◌&&◌, List, [], ◌∷◌, ◌++◌, length, refl, ap, sym, subst, max}
+use Rattle.std.proofs.Common.{Option, Some, None, option_map}
 use Rattle.html_render_lines.specs.declared.character.Item.{Item}
 use Rattle.html_render_lines.specs.declared.character.TextStyle.{TextStyle}
 use Rattle.html_render_lines.specs.Line.{Line, marks_line}
@@ -8,10 +9,19 @@ use Rattle.html_render_lines.specs.TaggedText.{under}
 use Rattle.html_render_lines.specs.laws.Overflow.{paragraph_same}
 use Rattle.html_render_blocks.specs.laws.Operations.{Refines}
 use Rattle.html_render_blocks.specs.laws.Cases.{Stays, if_is, then_stays, map_stays, if_stays, or_stays}
-use Rattle.html_render_blocks.specs.Joined.{prefixed, marked_behind, are_within, joined}
+use Rattle.html_render_blocks.specs.Joined.{prefixed, are_within, joined}
+use Rattle.html_render_pictures.specs.Marked.{marked_behind}
 use Rattle.html_render_blocks.specs.Block.{DefinedBlock, wrap_width, paragraph_setting, empty_block, flush, add_page, add_empty_line}
 use Rattle.html_render_blocks.specs.Block.{separate_behind, start_block, new_line_hard, add_inline_text, feed, is_blank, inner_width}
 use Rattle.html_render_blocks.specs.Block.{sub_block, append_lines, append, operations}
+use Rattle.html_render_blocks.specs.Block.{end_open, end_table, add_border, table_begun, begin_table, cell_block, put_below, put_stacked}
+use Rattle.html_render_blocks.specs.Block.{cell_added, add_cell, row_ended}
+use Rattle.html_render_blocks.specs.declared.block.tables.OpenTable.{OpenTable}
+use Rattle.html_render_blocks.specs.declared.block.tables.OpenTable.TheVariants.{Across, Stacked}
+use Rattle.html_render_blocks.specs.Tables.{Rows, stacked_border, next_cell_width}
+use Rattle.html_render_parts.specs.declared.widths.needs.CellNeed.{CellNeed}
+use Rattle.html_render_parts.specs.Needs.{standing_widths}
+use Rattle.html_render_pictures.specs.Picture.{is_empty}
 
 -- the same block with overflow on
 abbrev pub overflowing : {T M : Type 0} → DefinedBlock T M → DefinedBlock T M
@@ -75,6 +85,99 @@ append_lines_stays {T} {M} d p q (l ∷ ls) ms =
     map_stays (λ (x : List (Line T M)). x) overflowing _ _ (joined d.setting.width d.setting.overflow d.marks p q (l ∷ ls) ms)
     (joined d.setting.width true d.marks p q (l ∷ ls) ms) (or_stays d.setting.overflow (are_within d.setting.width all) all) (λ x. refl)
 
+-- ---- tables
+
+end_open_overflowing : {T M : Type 0} (d : DefinedBlock T M) (o : Option (OpenTable (Rows T M) T M)) →
+    end_open (overflowing d) o ≡ overflowing (end_open d o)
+end_open_overflowing d None = refl
+end_open_overflowing d (Some (Across p widths row)) = refl
+end_open_overflowing d (Some (Stacked border has_lines)) = refl
+
+pub end_table_overflowing : {T M : Type 0} (d : DefinedBlock T M) → end_table (overflowing d) ≡ overflowing (end_table d)
+end_table_overflowing d = end_open_overflowing d d.table
+
+pub flush_ended_stays : {T M : Type 0} (d : DefinedBlock T M) → Stays overflowing (flush (end_table d)) (flush (end_table (overflowing d)))
+flush_ended_stays d = subst (λ e. Stays overflowing (flush (end_table d)) (flush e)) (sym (end_table_overflowing d)) (flush_stays (end_table d))
+
+border_overflowing : {T M : Type 0} (d : DefinedBlock T M) (border : Option T) (character : ℕ) →
+    add_border (overflowing d) border character ≡ overflowing (add_border d border character)
+border_overflowing d None character = refl
+border_overflowing d (Some tag) character = refl
+
+table_begun_overflowing : {T M : Type 0} (d : DefinedBlock T M) (tag : T) (borders : Bool) (o : Option (List ℕ)) →
+    table_begun (overflowing d) tag borders o ≡ overflowing (table_begun d tag borders o)
+table_begun_overflowing {T} {M} d tag borders None =
+    ap (λ (e : DefinedBlock T M). record e { table = Some (Stacked (stacked_border tag borders d.setting.width) false) })
+    (border_overflowing d (stacked_border tag borders d.setting.width) 0x2500)
+table_begun_overflowing d tag borders (Some ws) = refl
+
+begin_table_stays : {T M : Type 0} (d : DefinedBlock T M) (tag : T) (borders stacked : Bool) (columns : ℕ) (cells : List CellNeed) →
+    Stays overflowing (begin_table d tag borders stacked columns cells) (begin_table (overflowing d) tag borders stacked columns cells)
+begin_table_stays {T} {M} d tag borders stacked columns cells =
+    map_stays overflowing overflowing
+    (λ (e : DefinedBlock T M). table_begun e tag borders (cond stacked None (standing_widths columns cells e.setting.width)))
+    (λ (e : DefinedBlock T M). table_begun e tag borders (cond stacked None (standing_widths columns cells e.setting.width)))
+    (flush (end_table d)) (flush (end_table (overflowing d))) (flush_ended_stays d)
+    (λ e. table_begun_overflowing e tag borders (cond stacked None (standing_widths columns cells e.setting.width)))
+
+cell_block_overflowing : {T M : Type 0} (d : DefinedBlock T M) → cell_block (overflowing d) ≡ option_map overflowing (cell_block d)
+cell_block_overflowing {T} {M} d = by (next_cell_width d.setting.width d.table)
+  where
+    by : (o : Option ℕ) →
+        option_map (λ (w : ℕ). empty_block {T = T} {M = M} (record (overflowing d).setting { width = w }) d.padding) o
+        ≡ option_map overflowing (option_map (λ (w : ℕ). empty_block (record d.setting { width = w }) d.padding) o)
+    by None = refl
+    by (Some w) = refl
+
+put_stacked_stays : {T M : Type 0} (d c : DefinedBlock T M) (border : Option T) (has_lines more : Bool) →
+    Stays overflowing (put_stacked d border has_lines more c) (put_stacked (overflowing d) border has_lines more (overflowing c))
+put_stacked_stays {T} {M} d c border has_lines more = by (has_lines && more)
+  where
+    stacked : DefinedBlock T M → DefinedBlock T M
+    stacked e = record e { table = Some (Stacked border (has_lines || more)) }
+
+    below : (e f : DefinedBlock T M) → f ≡ overflowing e →
+        Stays overflowing (option_map stacked (put_below e c)) (option_map stacked (put_below f (overflowing c)))
+    below e f same =
+        subst (λ g. Stays overflowing (option_map stacked (put_below e c)) (option_map stacked (put_below g (overflowing c)))) (sym same)
+        (map_stays overflowing overflowing stacked stacked (put_below e c) (put_below (overflowing e) (overflowing c))
+        (append_lines_stays e [] [] c.lines c.marks) (λ g. refl))
+
+    by : (b : Bool) → Stays overflowing (option_map stacked (put_below (cond b (add_border d border 0x2F) d) c))
+        (option_map stacked (put_below (cond b (add_border (overflowing d) border 0x2F) (overflowing d)) (overflowing c)))
+    by true = below (add_border d border 0x2F) (add_border (overflowing d) border 0x2F) (border_overflowing d border 0x2F)
+    by false = below d (overflowing d) refl
+
+cell_added_stays : {T M : Type 0} (d : DefinedBlock T M) (o : Option (OpenTable (Rows T M) T M)) (c : DefinedBlock T M) →
+    Stays overflowing (cell_added d o c) (cell_added (overflowing d) o (overflowing c))
+cell_added_stays {T} {M} d None c = then_stays overflowing overflowing (λ (e : DefinedBlock T M). put_below e c)
+    (λ (e : DefinedBlock T M). put_below e (overflowing c)) (flush d) (flush (overflowing d)) (flush_stays d)
+    (λ e. append_lines_stays e [] [] c.lines c.marks)
+cell_added_stays {T} {M} d (Some (Across p widths None)) c = then_stays overflowing overflowing (λ (e : DefinedBlock T M). put_below e c)
+    (λ (e : DefinedBlock T M). put_below e (overflowing c)) (flush d) (flush (overflowing d)) (flush_stays d)
+    (λ e. append_lines_stays e [] [] c.lines c.marks)
+cell_added_stays d (Some (Across p widths (Some row))) c = refl
+cell_added_stays {T} {M} d (Some (Stacked border has_lines)) c =
+    then_stays overflowing overflowing (λ (e : DefinedBlock T M). put_stacked e border has_lines (not (is_empty c.lines)) c)
+    (λ (e : DefinedBlock T M). put_stacked e border has_lines (not (is_empty c.lines)) (overflowing c)) (flush d) (flush (overflowing d))
+    (flush_stays d) (λ e. put_stacked_stays e c border has_lines (not (is_empty c.lines)))
+
+add_cell_stays : {T M : Type 0} (d c : DefinedBlock T M) → Stays overflowing (add_cell d c) (add_cell (overflowing d) (overflowing c))
+add_cell_stays d c =
+    then_stays overflowing overflowing (cell_added d d.table) (cell_added (overflowing d) d.table) (flush (end_table c))
+    (flush (end_table (overflowing c))) (flush_ended_stays c) (cell_added_stays d d.table)
+
+row_ended_stays : {T M : Type 0} (d : DefinedBlock T M) (o : Option (OpenTable (Rows T M) T M)) →
+    Stays overflowing (row_ended d o) (row_ended (overflowing d) o)
+row_ended_stays d None = refl
+row_ended_stays d (Some (Across p widths row)) = refl
+row_ended_stays {T} {M} d (Some (Stacked border true)) =
+    map_stays overflowing overflowing
+    (λ (e : DefinedBlock T M). record (add_border e border 0x2500) { table = Some (Stacked border false) })
+    (λ (e : DefinedBlock T M). record (add_border e border 0x2500) { table = Some (Stacked border false) }) (flush d) (flush (overflowing d))
+    (flush_stays d) (λ e. ap (λ (f : DefinedBlock T M). record f { table = Some (Stacked border false) }) (border_overflowing e border 0x2500))
+row_ended_stays d (Some (Stacked border false)) = refl
+
 append_stays : {T M : Type 0} (d e : DefinedBlock T M) (t : T) (first later : List ℕ) →
     Stays overflowing (append d e t first later) (append (overflowing d) (overflowing e) t first later)
 append_stays {T} {M} d e t first later =
@@ -82,7 +185,7 @@ append_stays {T} {M} d e t first later =
     (λ d. then_stays overflowing overflowing
     (λ (e : DefinedBlock T M). append_lines d (under t first) (under t later) e.lines e.marks)
     (λ (e : DefinedBlock T M). append_lines (overflowing d) (under t first) (under t later) e.lines e.marks)
-    (flush e) (flush (overflowing e)) (flush_stays e) (λ e. append_lines_stays d (under t first) (under t later) e.lines e.marks))
+    (flush (end_table e)) (flush (end_table (overflowing e))) (flush_ended_stays e) (λ e. append_lines_stays d (under t first) (under t later) e.lines e.marks))
 
 -- THE LAW: where overflow off has an answer, overflow on has the same
 pub operations_refine : {T : Type 0} → Refines overflowing (operations {T = T})
@@ -95,4 +198,11 @@ operations_refine = record {
   end_block = λ d. refl;
   sub_block = sub_block_stays;
   append = append_stays;
+  begin_table = begin_table_stays;
+  begin_row = λ d slots. refl;
+  cell_block = cell_block_overflowing;
+  add_cell = add_cell_stays;
+  skip_cell = λ d. refl;
+  end_row = λ d. row_ended_stays d d.table;
+  end_table = end_table_overflowing;
 }

@@ -1,5 +1,5 @@
 -- Whatever the tags are, the operations on a block are the same: each commutes with a map of tags.
-use Rattle.std.proofs.Common.{◌≡◌, ℕ, Bool, false, not, cond, eqb, leb, ◌||◌, ◌&&◌, List, [], ◌∷◌, ◌++◌, map, length, Option, Some, None}
+use Rattle.std.proofs.Common.{◌≡◌, ℕ, Bool, false, not, cond, true, eqb, leb, ◌==◌, ◌||◌, ◌&&◌, List, [], ◌∷◌, ◌++◌, map, length, Option, Some, None}
 use Rattle.std.proofs.Common.{refl, sym, ap, ◌∙◌, option_map}
 use Rattle.std.proofs.lemmas.List.{map-append, length-map}
 use Rattle.html_render_lines.specs.declared.character.TextStyle.{TextStyle}
@@ -13,13 +13,36 @@ use Rattle.html_render_lines.specs.laws.Tags.{if_with, then_with, map_with, page
 use Rattle.html_render_lines.specs.Tags.{element_with, line_with, lines_with}
 use Rattle.html_render_lines.specs.laws.Tags.{after-with, finished-with, styled-with, all_lines-with, columns-with}
 use Rattle.html_render_blocks.specs.laws.Operations.{Commutes}
-use Rattle.html_render_blocks.specs.laws.Padding.{filled-with}
-use Rattle.html_render_blocks.specs.Padding.{filled}
-use Rattle.html_render_blocks.specs.Joined.{behind, prefixed, marked_behind, are_within, fitting, joined}
+use Rattle.html_render_pictures.specs.laws.Padding.{filled-with}
+use Rattle.html_render_pictures.specs.laws.Lines.{marked_behind-with}
+use Rattle.html_render_pictures.specs.Padding.{filled}
+use Rattle.html_render_blocks.specs.Joined.{behind, prefixed, are_within, fitting, joined}
+use Rattle.html_render_pictures.specs.Marked.{marked_behind}
 use Rattle.html_render_blocks.specs.Block.{is_blank, inner_width, mark_items}
 use Rattle.html_render_blocks.specs.BlockMachine.{MachineBlock, flush, flush_paragraph, add_page, add_empty_line, separate_behind}
 use Rattle.html_render_blocks.specs.BlockMachine.{start_block, new_line_hard, add_inline_text, feed, waiting, take_waiting, operations}
 use Rattle.html_render_blocks.specs.BlockMachine.{empty_block, sub_block, add_marks, append_lines, append}
+use Rattle.html_render_blocks.specs.BlockMachine.{with_picture, end_open, end_table, add_lines, add_border, stacked_begun, table_begun, begin_table}
+use Rattle.html_render_blocks.specs.BlockMachine.{begin_row, cell_block, skip_cell, kept_cell, put_below, put_stacked, cell_added, add_cell, row_ended}
+use Rattle.html_render_blocks.specs.declared.block.tables.OpenTable.{OpenTable}
+use Rattle.html_render_blocks.specs.declared.block.tables.OpenTable.TheVariants.{Across, Stacked}
+use Rattle.html_render_blocks.specs.OpenRows.{with_cell}
+use Rattle.html_render_blocks.specs.Tables.{drawn_pictures, frame_of, rule, stacked_border, with_row_open, next_cell_width, skipped, with_open}
+use Rattle.html_render_blocks.specs.laws.TableTags.{open_row_with, table_with, with_row_open-with, next_cell_width-with, with_cell-with, with_open-with}
+use Rattle.html_render_blocks.specs.laws.TableTags.{skipped-with, rule-with, stacked_border-with}
+use Rattle.html_render_nodes.specs.declared.tree.Slot.{Slot}
+use Rattle.html_render_parts.specs.declared.widths.needs.CellNeed.{CellNeed}
+use Rattle.html_render_parts.specs.Needs.{standing_widths}
+use Rattle.html_render_pictures.specs.declared.picture.Frame.{Frame}
+use Rattle.html_render_pictures.specs.Drawing.{Drawing}
+use Rattle.html_render_pictures.specs.Marked.{marked_before}
+use Rattle.html_render_pictures.specs.Picture.{is_empty}
+use Rattle.html_render_pictures.specs.Tags.{drawing_with, drawn_with}
+use Rattle.html_render_pictures.specs.laws.Tags.{begun-with, finished-with as picture-with}
+
+same_map : {X : Type 0} (o : Option X) → option_map (λ x. x) o ≡ o
+same_map None = refl
+same_map (Some x) = refl
 
 module _ {T U M : Type 0} (f : T → U) where
   abbrev pub block_with : MachineBlock T M → MachineBlock U M
@@ -29,6 +52,7 @@ module _ {T U M : Type 0} (f : T → U) where
     lines = lines_with f b.lines;
     paragraph = option_map (state_with f) b.paragraph;
     at_block_end = b.at_block_end;
+    table = option_map (table_with f) b.table;
   }
 
   add_page-with : (b : MachineBlock T M) (q : State T M) (p : Page T M) →
@@ -124,12 +148,6 @@ module _ {T U M : Type 0} (f : T → U) where
   prefixed-with p q (l ∷ ls) = ap (λ x. x ∷ lines_with f (behind q ls)) (map-append (element_with f) p l)
       ∙ ap (λ xs. (line_with f p ++ line_with f l) ∷ xs) (behind-with q ls)
 
-  pub marked_behind-with : (ms : List M) (ls : List (Line T M)) → lines_with f (marked_behind ms ls) ≡ marked_behind ms (lines_with f ls)
-  marked_behind-with ms [] = refl
-  marked_behind-with ms (l ∷ []) =
-      ap (λ x. x ∷ []) (map-append (element_with f) l (marks_line ms) ∙ ap (λ x. line_with f l ++ x) (marks-with f ms))
-  marked_behind-with ms (l ∷ k ∷ ls) = ap (λ xs. line_with f l ∷ xs) (marked_behind-with ms (k ∷ ls))
-
   are_within-with : (w : ℕ) (ls : List (Line T M)) → are_within w (lines_with f ls) ≡ are_within w ls
   are_within-with w [] = refl
   are_within-with w (l ∷ ls) = ap (λ n. leb n w && are_within w (lines_with f ls)) (columns-with f l)
@@ -144,7 +162,7 @@ module _ {T U M : Type 0} (f : T → U) where
   joined-with w o ms p q ls ns =
       ap (λ x. fitting w o (prefixed x (line_with f q) (marked_behind ns (lines_with f ls))))
       (ap (λ x. x ++ line_with f p) (sym (marks-with f ms)) ∙ sym (map-append (element_with f) (marks_line ms) p))
-      ∙ ap (λ x. fitting w o (prefixed (line_with f (marks_line ms ++ p)) (line_with f q) x)) (sym (marked_behind-with ns ls))
+      ∙ ap (λ x. fitting w o (prefixed (line_with f (marks_line ms ++ p)) (line_with f q) x)) (sym (marked_behind-with f ns ls))
       ∙ ap (fitting w o) (sym (prefixed-with (marks_line ms ++ p) q (marked_behind ns ls)))
       ∙ fitting-with w o (prefixed (marks_line ms ++ p) q (marked_behind ns ls))
 
@@ -154,10 +172,6 @@ module _ {T U M : Type 0} (f : T → U) where
       map_with (λ w. w) block_with (λ w. empty_block (record b.setting { width = w }) b.padding)
       (λ w. empty_block (record b.setting { width = w }) (option_map f b.padding))
       (inner_width b.setting prefix inner) _ (sym (same_map (inner_width b.setting prefix inner))) (λ w. refl)
-    where
-      same_map : {X : Type 0} (o : Option X) → option_map (λ x. x) o ≡ o
-      same_map None = refl
-      same_map (Some x) = refl
 
   mark_items-with : (ms : List M) → map (item_with f) (mark_items {T = T} ms) ≡ mark_items ms
   mark_items-with [] = refl
@@ -183,12 +197,162 @@ module _ {T U M : Type 0} (f : T → U) where
       (sym (map-append (line_with f) b.lines all))
       ∙ ap (λ o. record (block_with b) { lines = lines_with f (b.lines ++ all); paragraph = o }) (take_waiting-with b.paragraph))
 
+  -- ---- tables
+
+  marked_before-with : (ms : List M) (ls : List (Line T M)) → lines_with f (marked_before ms ls) ≡ marked_before ms (lines_with f ls)
+  marked_before-with ms [] = refl
+  marked_before-with ms (l ∷ ls) = ap (λ x. x ∷ lines_with f ls) (map-append (element_with f) (marks_line ms) l
+      ∙ ap (λ x. x ++ line_with f l) (marks-with f ms))
+
+  pub add_lines-with : (b : MachineBlock T M) (ls : List (Line T M)) →
+      add_lines (block_with b) (lines_with f ls) ≡ block_with (add_lines b ls)
+  add_lines-with b ls =
+      ap (λ ms. record (block_with b) {
+        lines = lines_with f b.lines ++ marked_before ms (lines_with f ls);
+        paragraph = take_waiting (option_map (state_with f) b.paragraph);
+      }) (waiting-with b.paragraph)
+      ∙ ap (λ ks. record (block_with b) {
+        lines = lines_with f b.lines ++ ks;
+        paragraph = take_waiting (option_map (state_with f) b.paragraph);
+      }) (sym (marked_before-with (waiting b.paragraph) ls))
+      ∙ ap (λ ks. record (block_with b) { lines = ks; paragraph = take_waiting (option_map (state_with f) b.paragraph) })
+      (sym (map-append (line_with f) b.lines (marked_before (waiting b.paragraph) ls)))
+      ∙ ap (λ o. record (block_with (add_lines b ls)) { paragraph = o }) (take_waiting-with b.paragraph)
+
+  with_picture-with : (b : MachineBlock T M) (p : List (Line T M) × List M) →
+      with_picture (block_with b) (drawn_with f p) ≡ block_with (with_picture b p)
+  with_picture-with b p =
+      ap (λ ls. add_marks (record (block_with b) { lines = ls; table = None }) p.1) (sym (map-append (line_with f) b.lines p.0))
+      ∙ add_marks-with (record b { lines = b.lines ++ p.0; table = None }) p.1
+
+  end_open-with : (b : MachineBlock T M) (o : Option (OpenTable (Drawing T M) T M)) →
+      end_open (block_with b) (option_map (table_with f) o) ≡ block_with (end_open b o)
+  end_open-with b None = refl
+  end_open-with b (Some (Across d widths row)) =
+      ap (λ e. with_picture (block_with b) (drawn_pictures.finished e)) (with_open-with f d row)
+      ∙ ap (with_picture (block_with b)) (picture-with f (with_open drawn_pictures d row))
+      ∙ with_picture-with b (drawn_pictures.finished (with_open drawn_pictures d row))
+  end_open-with b (Some (Stacked border has_lines)) = refl
+
+  pub end_table-with : (b : MachineBlock T M) → end_table (block_with b) ≡ block_with (end_table b)
+  end_table-with b = end_open-with b b.table
+
+  pub flush_ended-with : (b : MachineBlock T M) → flush (end_table (block_with b)) ≡ option_map block_with (flush (end_table b))
+  flush_ended-with b = ap flush (end_table-with b) ∙ flush-with (end_table b)
+
+  add_border-with : (b : MachineBlock T M) (border : Option T) (character : ℕ) →
+      add_border (block_with b) (option_map f border) character ≡ block_with (add_border b border character)
+  add_border-with b None character = refl
+  add_border-with b (Some tag) character =
+      ap (λ l. add_lines (block_with b) (l ∷ [])) (sym (rule-with f tag character b.setting.width))
+      ∙ add_lines-with b (rule tag character b.setting.width ∷ [])
+
+  stacked_begun-with : (b : MachineBlock T M) (border : Option T) →
+      stacked_begun (block_with b) (option_map f border) ≡ block_with (stacked_begun b border)
+  stacked_begun-with b border =
+      ap (λ (c : MachineBlock U M). record c { table = Some (Stacked (option_map f border) false) }) (add_border-with b border 0x2500)
+
+  table_begun-with : (b : MachineBlock T M) (tag : T) (borders : Bool) (o : Option (List ℕ)) →
+      table_begun (block_with b) (f tag) borders o ≡ block_with (table_begun b tag borders o)
+  table_begun-with b tag borders None =
+      ap (stacked_begun (block_with b)) (stacked_border-with f tag borders b.setting.width)
+      ∙ stacked_begun-with b (stacked_border tag borders b.setting.width)
+  table_begun-with b tag borders (Some widths) =
+      let frame : Frame T = frame_of tag borders widths in
+      ap (λ ms. record (block_with b) {
+        paragraph = take_waiting (option_map (state_with f) b.paragraph);
+        table = Some (Across (drawn_pictures.begun (frame_of (f tag) borders widths) ms) widths None);
+      }) (waiting-with b.paragraph)
+      ∙ ap (λ d. record (block_with b) {
+        paragraph = take_waiting (option_map (state_with f) b.paragraph);
+        table = Some (Across d widths None);
+      }) (begun-with f frame (waiting b.paragraph))
+      ∙ ap (λ o. record (block_with (table_begun b tag borders (Some widths))) { paragraph = o }) (take_waiting-with b.paragraph)
+
+  begin_table-with : (b : MachineBlock T M) (tag : T) (borders stacked : Bool) (columns : ℕ) (cells : List CellNeed) →
+      begin_table (block_with b) (f tag) borders stacked columns cells ≡ option_map block_with (begin_table b tag borders stacked columns cells)
+  begin_table-with b tag borders stacked columns cells =
+      map_with block_with block_with
+      (λ e. table_begun e tag borders (cond stacked None (standing_widths columns cells e.setting.width)))
+      (λ e. table_begun e (f tag) borders (cond stacked None (standing_widths columns cells e.setting.width)))
+      (flush (end_table b)) _ (flush_ended-with b)
+      (λ e. table_begun-with e tag borders (cond stacked None (standing_widths columns cells e.setting.width)))
+
+  begin_row-with : (b : MachineBlock T M) (slots : List Slot) → begin_row (block_with b) slots ≡ block_with (begin_row b slots)
+  begin_row-with b slots = ap (λ o. record (block_with b) { table = o }) (by b.table)
+    where
+      by : (o : Option (OpenTable (Drawing T M) T M)) →
+          option_map (with_row_open slots) (option_map (table_with f) o) ≡ option_map (table_with f) (option_map (with_row_open slots) o)
+      by None = refl
+      by (Some t) = ap Some (with_row_open-with f slots t)
+
+  skip_cell-with : (b : MachineBlock T M) → skip_cell (block_with b) ≡ block_with (skip_cell b)
+  skip_cell-with b = ap (λ o. record (block_with b) { table = o }) (by b.table)
+    where
+      by : (o : Option (OpenTable (Drawing T M) T M)) →
+          option_map skipped (option_map (table_with f) o) ≡ option_map (table_with f) (option_map skipped o)
+      by None = refl
+      by (Some t) = ap Some (skipped-with f t)
+
+  cell_block-with : (b : MachineBlock T M) → cell_block (block_with b) ≡ option_map block_with (cell_block b)
+  cell_block-with b =
+      map_with (λ w. w) block_with (λ w. empty_block (record b.setting { width = w }) b.padding)
+      (λ w. empty_block (record b.setting { width = w }) (option_map f b.padding))
+      (next_cell_width b.setting.width b.table) _
+      (next_cell_width-with f b.setting.width b.table ∙ sym (same_map (next_cell_width b.setting.width b.table))) (λ w. refl)
+
+  put_below-with : (b c : MachineBlock T M) → put_below (block_with b) (block_with c) ≡ option_map block_with (put_below b c)
+  put_below-with b c =
+      ap (append_lines (block_with b) [] [] (lines_with f c.lines)) (waiting-with c.paragraph)
+      ∙ append_lines-with b [] [] c.lines (waiting c.paragraph)
+
+  put_stacked-with : (b c : MachineBlock T M) (border : Option T) (has_lines more : Bool) →
+      put_stacked (block_with b) (option_map f border) has_lines more (block_with c) ≡ option_map block_with (put_stacked b border has_lines more c)
+  put_stacked-with b c border has_lines more =
+      let above : MachineBlock T M = cond (has_lines && more) (add_border b border 0x2F) b in
+      map_with block_with block_with (λ e. record e { table = Some (Stacked border (has_lines || more)) })
+      (λ e. record e { table = Some (Stacked (option_map f border) (has_lines || more)) }) (put_below above c) _
+      (ap (λ e. put_below e (block_with c))
+      (if_with block_with (has_lines && more) _ (add_border b border 0x2F) b _ _ refl (add_border-with b border 0x2F) refl)
+      ∙ put_below-with above c) (λ e. refl)
+
+  cell_added-with : (b : MachineBlock T M) (o : Option (OpenTable (Drawing T M) T M)) (c : MachineBlock T M) →
+      cell_added (block_with b) (option_map (table_with f) o) (block_with c) ≡ option_map block_with (cell_added b o c)
+  cell_added-with b None c = then_with block_with block_with _ _ (flush b) _ (flush-with b) (λ e. put_below-with e c)
+  cell_added-with b (Some (Across d widths None)) c = then_with block_with block_with _ _ (flush b) _ (flush-with b) (λ e. put_below-with e c)
+  cell_added-with b (Some (Across d widths (Some row))) c =
+      ap (λ q. Some (record (block_with b) { table = Some (Across (drawing_with f d) widths (Some q)) }))
+      (ap (λ ms. with_cell (open_row_with f row) (record { width = c.setting.width; lines = lines_with f c.lines; marks = ms } ∷ []))
+      (waiting-with c.paragraph)
+      ∙ with_cell-with f row (kept_cell c ∷ []))
+  cell_added-with b (Some (Stacked border has_lines)) c =
+      then_with block_with block_with (λ e. put_stacked e border has_lines (not (is_empty c.lines)) c)
+      (λ e. put_stacked e (option_map f border) has_lines (not (is_empty (lines_with f c.lines))) (block_with c)) (flush b) _ (flush-with b)
+      (λ e. ap (λ n. put_stacked (block_with e) (option_map f border) has_lines (not (n == 0)) (block_with c)) (length-map c.lines (line_with f))
+      ∙ put_stacked-with e c border has_lines (not (is_empty c.lines)))
+
+  add_cell-with : (b c : MachineBlock T M) → add_cell (block_with b) (block_with c) ≡ option_map block_with (add_cell b c)
+  add_cell-with b c =
+      then_with block_with block_with (cell_added b b.table) (cell_added (block_with b) (option_map (table_with f) b.table))
+      (flush (end_table c)) _ (flush_ended-with c) (cell_added-with b b.table)
+
+  row_ended-with : (b : MachineBlock T M) (o : Option (OpenTable (Drawing T M) T M)) →
+      row_ended (block_with b) (option_map (table_with f) o) ≡ option_map block_with (row_ended b o)
+  row_ended-with b None = refl
+  row_ended-with b (Some (Across d widths row)) =
+      ap (λ e. Some (record (block_with b) { table = Some (Across e widths None) })) (with_open-with f d row)
+  row_ended-with b (Some (Stacked border true)) =
+      map_with block_with block_with (λ e. record (add_border e border 0x2500) { table = Some (Stacked border false) })
+      (λ e. record (add_border e (option_map f border) 0x2500) { table = Some (Stacked (option_map f border) false) }) (flush b) _ (flush-with b)
+      (λ e. ap (λ (c : MachineBlock U M). record c { table = Some (Stacked (option_map f border) false) }) (add_border-with e border 0x2500))
+  row_ended-with b (Some (Stacked border false)) = refl
+
   append-with : (b c : MachineBlock T M) (t : T) (first later : List ℕ) →
       append (block_with b) (block_with c) (f t) first later ≡ option_map block_with (append b c t first later)
   append-with b c t first later =
       then_with block_with block_with _ _ (flush b) _ (flush-with b) (λ b.
       then_with block_with block_with (λ c. append_lines b (under t first) (under t later) c.lines (waiting c.paragraph))
-      (λ c. append_lines (block_with b) (under (f t) first) (under (f t) later) c.lines (waiting c.paragraph)) (flush c) _ (flush-with c)
+      (λ c. append_lines (block_with b) (under (f t) first) (under (f t) later) c.lines (waiting c.paragraph)) (flush (end_table c)) _ (flush_ended-with c)
       (λ c. ap (λ x. append_lines (block_with b) x (under (f t) later) (lines_with f c.lines) (waiting (option_map (state_with f) c.paragraph)))
       (sym (under-with t first))
       ∙ ap (λ x. append_lines (block_with b) (line_with f (under t first)) x (lines_with f c.lines)
@@ -208,4 +372,11 @@ block_with-commutes f = record {
   end_block = λ b. refl;
   sub_block = sub_block-with f;
   append = append-with f;
+  begin_table = begin_table-with f;
+  begin_row = begin_row-with f;
+  cell_block = cell_block-with f;
+  add_cell = add_cell-with f;
+  skip_cell = skip_cell-with f;
+  end_row = λ b. row_ended-with f b b.table;
+  end_table = end_table-with f;
 }

@@ -1,11 +1,10 @@
 -- No operation on blocks loses a visible character.
 use Rattle.std.proofs.Common.{◌≡◌, ℕ, ◌+◌, ◌≤◌, Bool, true, false, not, cond, eqb, ◌||◌, ◌&&◌, List, [], ◌∷◌, ◌++◌, length, Option, Some, None}
-use Rattle.std.proofs.Common.{refl, sym, ap, ◌∙◌, subst, arith, append_assoc, append-nil, IfSome, option_map}
+use Rattle.std.proofs.Common.{refl, sym, ap, ◌∙◌, subst, arith, append_assoc, append-nil, IfSome, option_map, option_and_then}
 use Rattle.std.specs.Char.{is_whitespace}
 use Rattle.std.specs.List.{list_all}
 use Rattle.std.proofs.lemmas.Bool.{eqb-true}
 use Rattle.std.proofs.lemmas.Option.{IfSome_then}
-use Rattle.std.proofs.lemmas.List.Sums.{sum_by-append}
 use Rattle.html_render_dom.specs.declared.style.WhiteSpace.{WhiteSpace}
 use Rattle.html_render_dom.specs.declared.style.WhiteSpace.TheVariants.{Normal, Pre, PreWrap}
 use Rattle.html_render_lines.specs.declared.character.Item.{Item}
@@ -20,14 +19,30 @@ use Rattle.html_render_lines.specs.Visible.{is_visible, if_visible, visible_in_i
 use Rattle.html_render_lines.specs.laws.Cases.{if_cases}
 use Rattle.html_render_lines.specs.laws.Visible.{paragraph_keeps, visible_in_line-append, visible_in_line-marks, visible_in_lines-push}
 use Rattle.html_render_blocks.specs.laws.Operations.{Counts}
-use Rattle.html_render_blocks.specs.laws.Padding.{filled-visible}
-use Rattle.html_render_blocks.specs.Padding.{filled}
+use Rattle.html_render_pictures.specs.laws.Padding.{filled-visible}
+use Rattle.html_render_pictures.specs.laws.Lines.{lines-append, marked_behind_same, count-append}
+use Rattle.html_render_pictures.specs.Padding.{filled}
 use Rattle.html_render_blocks.specs.laws.Cases.{map_if, then_if, any}
-use Rattle.html_render_blocks.specs.Joined.{behind, prefixed, marked_behind, are_within, fitting, joined}
+use Rattle.html_render_blocks.specs.Joined.{behind, prefixed, are_within, fitting, joined}
+use Rattle.html_render_pictures.specs.Marked.{marked_behind}
 use Rattle.html_render_blocks.specs.Block.{DefinedBlock, paragraph_setting, empty_block, flush, add_page, add_empty_line}
 use Rattle.html_render_blocks.specs.Block.{separate_behind, start_block, new_line_hard, add_inline_text, feed, is_blank, add_mark, inner_width, mark_items}
 use Rattle.html_render_blocks.specs.Block.{sub_block, append_lines, append, operations}
-use Rattle.html_render_blocks.specs.Visible.{visible_in_text, visible_in_block, count, text_count, visible_count}
+use Rattle.html_render_blocks.specs.Block.{with_picture, end_open, end_table, add_lines, add_border, table_begun, begin_table}
+use Rattle.html_render_blocks.specs.Block.{kept_cell, put_below, put_stacked, cell_added, cell_block, add_cell, row_ended}
+use Rattle.html_render_blocks.specs.declared.block.tables.OpenTable.{OpenTable}
+use Rattle.html_render_blocks.specs.declared.block.tables.OpenTable.TheVariants.{Across, Stacked}
+use Rattle.html_render_blocks.specs.declared.block.tables.RowPlace.{RowPlace}
+use Rattle.html_render_blocks.specs.OpenRows.{OpenRow, empty_cell, empty_cells, before_cell, with_cell, whole_row}
+use Rattle.html_render_blocks.specs.Tables.{Rows, defined_pictures, rule, stacked_border, with_row_open, next_cell_width, skipped, with_open}
+use Rattle.html_render_nodes.specs.declared.tree.Slot.{Slot}
+use Rattle.html_render_parts.specs.declared.widths.needs.CellNeed.{CellNeed}
+use Rattle.html_render_parts.specs.Needs.{standing_widths}
+use Rattle.html_render_pictures.specs.Marked.{marked_before}
+use Rattle.html_render_pictures.specs.Picture.{KeptCell, TableRow, is_empty, picture_lines}
+use Rattle.html_render_pictures.specs.laws.Visible.{picture_times}
+use Rattle.html_render_blocks.specs.Visible.{visible_in_text, visible_in_block, text_count, row_count, table_count, visible_count}
+use Rattle.html_render_pictures.specs.Visible.{count, visible_in_cells, visible_in_rows}
 
 -- ---- in order
 
@@ -45,50 +60,58 @@ items-marks : (T : Type 0) {M : Type 0} (ms : List M) → visible_in_items (mark
 items-marks T [] = refl
 items-marks T (m ∷ ms) = items-marks T ms
 
-pub lines-append : {T M : Type 0} (ls ks : List (Line T M)) → visible_in_lines (ls ++ ks) ≡ visible_in_lines ls ++ visible_in_lines ks
-lines-append [] ks = refl
-lines-append (l ∷ ls) ks = ap (λ r. visible_in_line l ++ r) (lines-append ls ks)
-    ∙ sym (append_assoc (visible_in_line l) (visible_in_lines ls) (visible_in_lines ks))
-
--- the block e has what the block d has
+-- the block e has what the block d has, and the same table
 abbrev pub Same : {T M : Type 0} → DefinedBlock T M → DefinedBlock T M → Type 0
-Same d e = visible_in_block e ≡ visible_in_block d
+Same d e = (visible_in_block e ≡ visible_in_block d) × (e.table ≡ d.table)
 
 pub flush_same : {T M : Type 0} (d : DefinedBlock T M) → IfSome (flush d) (Same d)
 flush_same {T} {M} d =
     map_if (λ (p : Page T M). visible_in_lines (all_lines p) ≡ visible_in_items d.fed) (Same d) (λ (p : Page T M). add_page d p)
     (paragraph (paragraph_setting d.setting) d.marks d.fed) (paragraph_keeps (paragraph_setting d.setting) d.marks d.fed)
-    (λ p h. let ls = filled d.padding d.setting.width (all_lines p) in
-    append-nil (visible_in_lines (d.lines ++ ls)) ∙ lines-append d.lines ls
-    ∙ ap (λ r. visible_in_lines d.lines ++ r) (filled-visible d.padding d.setting.width (all_lines p) ∙ h))
+    (λ p h. let ls = filled d.padding d.setting.width (all_lines p) in (
+      append-nil (visible_in_lines (d.lines ++ ls)) ∙ lines-append d.lines ls
+          ∙ ap (λ r. visible_in_lines d.lines ++ r) (filled-visible d.padding d.setting.width (all_lines p) ∙ h),
+      refl,
+    ))
 
 add_empty_line_same : {T M : Type 0} (d : DefinedBlock T M) → Same d (add_empty_line d)
-add_empty_line_same {T} {M} d = ap (λ r. r ++ visible_in_items d.fed) (visible_in_lines-push d.lines (marks_line d.marks)
-    ∙ ap (λ r. visible_in_lines d.lines ++ r) (visible_in_line-marks T d.marks) ∙ append-nil (visible_in_lines d.lines))
+add_empty_line_same {T} {M} d = (
+  ap (λ r. r ++ visible_in_items d.fed) (visible_in_lines-push d.lines (marks_line d.marks)
+      ∙ ap (λ r. visible_in_lines d.lines ++ r) (visible_in_line-marks T d.marks) ∙ append-nil (visible_in_lines d.lines)),
+  refl,
+)
+
+-- one after another
+pub then_same : {T M : Type 0} (d e f : DefinedBlock T M) → Same e f → Same d e → Same d f
+then_same d e f h k = (h.0 ∙ k.0, h.1 ∙ k.1)
 
 separate_same : {T M : Type 0} (d : DefinedBlock T M) (ls : List (Line T M)) → Same d (separate_behind d ls)
-separate_same d [] = refl
+separate_same d [] = (refl, refl)
 separate_same d (l ∷ ls) = add_empty_line_same d
 
 pub start_block_same : {T M : Type 0} (d : DefinedBlock T M) → IfSome (start_block d) (Same d)
-start_block_same d = map_if (Same d) (Same d) _ (flush d) (flush_same d) (λ e h. separate_same e e.lines ∙ h)
+start_block_same d = map_if (Same d) (Same d) _ (flush d) (flush_same d)
+    (λ e h. then_same d e (separate_behind e e.lines) (separate_same e e.lines) h)
 
 new_line_hard_same : {T M : Type 0} (d : DefinedBlock T M) → IfSome (new_line_hard d) (Same d)
 new_line_hard_same d = map_if (Same d) (Same d) _ (flush d) (flush_same d)
-    (λ e h. if_cases (Same d) (eqb (length e.lines) (length d.lines)) (add_empty_line e) e (λ _. add_empty_line_same e ∙ h) (λ _. h))
+    (λ e h. if_cases (Same d) (eqb (length e.lines) (length d.lines)) (add_empty_line e) e
+    (λ _. then_same d e (add_empty_line e) (add_empty_line_same e) h) (λ _. h))
 
--- the block e has what the block d has, and these behind it
+-- the block e has what the block d has, and these behind it, and the same table
 abbrev pub Adds : {T M : Type 0} → List ℕ → DefinedBlock T M → DefinedBlock T M → Type 0
-Adds cs d e = visible_in_block e ≡ visible_in_block d ++ cs
+Adds cs d e = (visible_in_block e ≡ visible_in_block d ++ cs) × (e.table ≡ d.table)
 
 adds_none : {T M : Type 0} (d e : DefinedBlock T M) (cs : List ℕ) → Same d e → cs ≡ [] → Adds cs d e
-adds_none d e cs h none = h ∙ sym (append-nil (visible_in_block d)) ∙ ap (λ r. visible_in_block d ++ r) (sym none)
+adds_none d e cs h none = (h.0 ∙ sym (append-nil (visible_in_block d)) ∙ ap (λ r. visible_in_block d ++ r) (sym none), h.1)
 
 feed_adds : {T M : Type 0} (d : DefinedBlock T M) (style : TextStyle T) (cs : List ℕ) → Adds (visible_in_text cs) d (feed d style cs)
-feed_adds {T} {M} d style cs =
-    ap (λ r. visible_in_lines d.lines ++ r) (items-append d.fed (styled style cs)
-    ∙ ap (λ r. visible_in_items d.fed ++ r) (items-styled M style cs))
-    ∙ sym (append_assoc (visible_in_lines d.lines) (visible_in_items d.fed) (visible_in_text cs))
+feed_adds {T} {M} d style cs = (
+  ap (λ r. visible_in_lines d.lines ++ r) (items-append d.fed (styled style cs)
+      ∙ ap (λ r. visible_in_items d.fed ++ r) (items-styled M style cs))
+      ∙ sym (append_assoc (visible_in_lines d.lines) (visible_in_items d.fed) (visible_in_text cs)),
+  refl,
+)
 
 no_character : (cs : List ℕ) → eqb (length cs) 0 ≡ true → visible_in_text cs ≡ []
 no_character [] e = refl
@@ -121,22 +144,13 @@ add_inline_text_adds : {T M : Type 0} (d : DefinedBlock T M) (style : TextStyle 
     IfSome (add_inline_text d style cs) (Adds (visible_in_text cs) d)
 add_inline_text_adds {T} {M} d style cs =
     let Has : Option (DefinedBlock T M) → Type 0 = λ o. IfSome o (Adds (visible_in_text cs) d) in
-    if_cases Has (eqb (length cs) 0) _ _ (λ e. adds_none d d (visible_in_text cs) refl (no_character cs e))
+    if_cases Has (eqb (length cs) 0) _ _ (λ e. adds_none d d (visible_in_text cs) (refl, refl) (no_character cs e))
     (λ _. if_cases Has (not d.at_block_end) _ _ (λ _. feed_adds d style cs)
-    (λ _. if_cases Has (is_blank style.mode cs) _ _ (λ e. adds_none d d (visible_in_text cs) refl (blank_hidden style.mode cs e))
+    (λ _. if_cases Has (is_blank style.mode cs) _ _ (λ e. adds_none d d (visible_in_text cs) (refl, refl) (blank_hidden style.mode cs e))
     (λ _. map_if (Same d) (Adds (visible_in_text cs) d) (λ (e : DefinedBlock T M). feed e style cs) (start_block d) (start_block_same d)
-    (λ e h. feed_adds e style cs ∙ ap (λ r. r ++ visible_in_text cs) h))))
-
-pub marked_behind_same : {T M : Type 0} (ms : List M) (ls : List (Line T M)) → visible_in_lines (marked_behind ms ls) ≡ visible_in_lines ls
-marked_behind_same ms [] = refl
-marked_behind_same {T} ms (l ∷ []) = ap (λ r. r ++ []) (visible_in_line-append l (marks_line ms)
-    ∙ ap (λ r. visible_in_line l ++ r) (visible_in_line-marks T ms) ∙ append-nil (visible_in_line l))
-marked_behind_same ms (l ∷ k ∷ ls) = ap (λ r. visible_in_line l ++ r) (marked_behind_same ms (k ∷ ls))
+    (λ e h. let k = feed_adds e style cs in (k.0 ∙ ap (λ r. r ++ visible_in_text cs) h.0, k.1 ∙ h.1)))))
 
 -- ---- how often
-
-pub count-append : (c : ℕ) (a b : List ℕ) → count c (a ++ b) ≡ count c a + count c b
-count-append c a b = sum_by-append (λ x. cond (eqb x c) 1 0) a b
 
 line_count : {T M : Type 0} (c : ℕ) (p l : Line T M) → count c (visible_in_line l) ≤ count c (visible_in_line (p ++ l))
 line_count c p l =
@@ -216,40 +230,158 @@ flush_empties {T} {M} d = by (paragraph (paragraph_setting d.setting) d.marks d.
     by None = tt
     by (Some p) = refl
 
-pub flushed_count : {T M : Type 0} (c : ℕ) (d : DefinedBlock T M) → IfSome (flush d) (λ e. count c (visible_in_lines e.lines) ≡ visible_count c d)
-flushed_count {T} {M} c d = by (flush d) (flush_same d) (flush_empties d)
+-- where nothing is fed and no table is open, the lines have all
+pub lines_count : {T M : Type 0} (c : ℕ) (d : DefinedBlock T M) → d.fed ≡ [] → d.table ≡ None →
+    visible_count c d ≡ count c (visible_in_lines d.lines)
+lines_count {T} {M} c d h k =
+    let fed = ap (λ (xs : List (Item T M)). count c (visible_in_lines d.lines ++ visible_in_items xs)) h in
+    let lines = ap (count c) (append-nil (visible_in_lines d.lines)) in
+    let table = ap (table_count c) k in
+    omega (arith, fed, lines, table)
+
+-- ---- tables
+
+rows-append : {T M : Type 0} (rs qs : List (TableRow T M)) → visible_in_rows (rs ++ qs) ≡ visible_in_rows rs ++ visible_in_rows qs
+rows-append [] qs = refl
+rows-append (r ∷ rs) qs = ap (λ x. visible_in_cells r.cells ++ x) (rows-append rs qs)
+    ∙ sym (append_assoc (visible_in_cells r.cells) (visible_in_rows rs) (visible_in_rows qs))
+
+cells-append : {T M : Type 0} (cs ds : List (KeptCell T M)) → visible_in_cells (cs ++ ds) ≡ visible_in_cells cs ++ visible_in_cells ds
+cells-append [] ds = refl
+cells-append (c ∷ cs) ds = ap (λ x. visible_in_lines c.lines ++ x) (cells-append cs ds)
+    ∙ sym (append_assoc (visible_in_lines c.lines) (visible_in_cells cs) (visible_in_cells ds))
+
+empty-visible : (T M : Type 0) (width : Option ℕ) → visible_in_cells (empty_cell {T = T} {M = M} width) ≡ []
+empty-visible T M None = refl
+empty-visible T M (Some width) = refl
+
+empties-visible : (T M : Type 0) (ps : List RowPlace) → visible_in_cells (empty_cells {T = T} {M = M} ps) ≡ []
+empties-visible T M [] = refl
+empties-visible T M (p ∷ ps) =
+    cells-append (empty_cell p.width) (empty_cells ps)
+    ∙ ap (λ x. x ++ visible_in_cells (empty_cells {T = T} {M = M} ps)) (empty-visible T M p.width)
+    ∙ empties-visible T M ps
+
+-- a row has what its cells have
+with_cell_count : {T M : Type 0} (c : ℕ) (r : OpenRow T M) (cell : List (KeptCell T M)) →
+    count c (visible_in_cells (with_cell r cell).cells) ≡ count c (visible_in_cells r.cells) + count c (visible_in_cells cell)
+with_cell_count {T} {M} c r cell =
+    let before : List (KeptCell T M) = empty_cells (before_cell r.ahead) in
+    omega (
+      arith,
+      ap (count c) (cells-append (r.cells ++ before) cell),
+      count-append c (visible_in_cells (r.cells ++ before)) (visible_in_cells cell),
+      ap (count c) (cells-append r.cells before),
+      count-append c (visible_in_cells r.cells) (visible_in_cells before),
+      ap (count c) (empties-visible T M (before_cell r.ahead)),
+    )
+
+whole_row_count : {T M : Type 0} (c : ℕ) (r : OpenRow T M) →
+    count c (visible_in_cells (whole_row r).cells) ≡ count c (visible_in_cells r.cells)
+whole_row_count {T} {M} c r =
+    omega (
+      arith,
+      ap (count c) (cells-append r.cells (empty_cells r.ahead)),
+      count-append c (visible_in_cells r.cells) (visible_in_cells (empty_cells {T = T} {M = M} r.ahead)),
+      ap (count c) (empties-visible T M r.ahead),
+    )
+
+with_open_count : {T M : Type 0} (c : ℕ) (p : Rows T M) (row : Option (OpenRow T M)) →
+    count c (visible_in_rows (with_open defined_pictures p row).rows) ≡ count c (visible_in_rows p.rows) + row_count c row
+with_open_count c p None = omega arith
+with_open_count {T} {M} c p (Some row) =
+    omega (
+      arith,
+      ap (count c) (rows-append p.rows (whole_row row ∷ [])),
+      count-append c (visible_in_rows p.rows) (visible_in_rows (whole_row row ∷ [])),
+      ap (count c) (append-nil (visible_in_cells (whole_row row).cells)),
+      whole_row_count c row,
+    )
+
+-- a picture behind the lines
+with_picture_count : {T M : Type 0} (c : ℕ) (d : DefinedBlock T M) (ls : List (Line T M)) (ms : List M) →
+    visible_count c (with_picture d (ls, ms)) ≡ count c (visible_in_block d) + count c (visible_in_lines ls)
+with_picture_count {T} {M} c d ls ms =
+    let marks = mark_items {T = T} ms in
+    let fed : count c (visible_in_items (d.fed ++ marks)) ≡ count c (visible_in_items d.fed) =
+    ap (count c) (items-append d.fed marks ∙ ap (λ r. visible_in_items d.fed ++ r) (items-marks T ms) ∙ append-nil (visible_in_items d.fed)) in
+    omega (
+      arith,
+      fed,
+      ap (count c) (lines-append d.lines ls),
+      count-append c (visible_in_lines d.lines) (visible_in_lines ls),
+      count-append c (visible_in_lines (d.lines ++ ls)) (visible_in_items (d.fed ++ marks)),
+      count-append c (visible_in_lines d.lines) (visible_in_items d.fed),
+    )
+
+end_open_count : {T M : Type 0} (c : ℕ) (d : DefinedBlock T M) (o : Option (OpenTable (Rows T M) T M)) →
+    d.table ≡ o → visible_count c d ≤ visible_count c (end_open d o)
+end_open_count c d None e = omega arith
+end_open_count {T} {M} c d (Some (Across p widths row)) e =
+    let q : Rows T M = with_open defined_pictures p row in
+    let all = picture_times c q.frame q.waiting q.rows in
+    omega (
+      arith,
+      ap (table_count c) e,
+      with_open_count c p row,
+      all,
+      with_picture_count c d (picture_lines q.frame q.waiting q.rows) (defined_pictures.finished q).1,
+    )
+end_open_count c d (Some (Stacked border has_lines)) e = let same = ap (table_count c) e in omega (arith, same)
+
+pub end_table_count : {T M : Type 0} (c : ℕ) (d : DefinedBlock T M) → visible_count c d ≤ visible_count c (end_table d)
+end_table_count c d = end_open_count c d d.table refl
+
+pub ended_none : {T M : Type 0} (d : DefinedBlock T M) → (end_table d).table ≡ None
+ended_none {T} {M} d = by d.table refl
   where
-    by : (o : Option (DefinedBlock T M)) → IfSome o (Same d) → IfSome o (λ e. e.fed ≡ []) →
-        IfSome o (λ e. count c (visible_in_lines e.lines) ≡ visible_count c d)
+    by : (o : Option (OpenTable (Rows T M) T M)) → d.table ≡ o → (end_open d o).table ≡ None
+    by None e = e
+    by (Some (Across p widths row)) e = refl
+    by (Some (Stacked border has_lines)) e = refl
+
+-- a flushed block, without its table: the lines have all
+pub flushed_count : {T M : Type 0} (c : ℕ) (d : DefinedBlock T M) →
+    IfSome (flush (end_table d)) (λ e. visible_count c d ≤ count c (visible_in_lines e.lines))
+flushed_count {T} {M} c d = by (flush (end_table d)) (flush_same (end_table d)) (flush_empties (end_table d))
+  where
+    by : (o : Option (DefinedBlock T M)) → IfSome o (Same (end_table d)) → IfSome o (λ e. e.fed ≡ []) →
+        IfSome o (λ e. visible_count c d ≤ count c (visible_in_lines e.lines))
     by None h k = tt
     by (Some e) h k =
-        ap (count c) (sym (append-nil (visible_in_lines e.lines)) ∙ ap (λ (xs : List (Item T M)). visible_in_lines e.lines ++ visible_in_items xs) (sym k)
-        ∙ h)
+        let block = ap (count c) h.0 in
+        let all = lines_count c e k (h.1 ∙ ended_none d) in
+        let before = ap (table_count c) h.1 in
+        omega (arith, block, all, before, end_table_count c d)
 
 append_count : {T M : Type 0} (c : ℕ) (d e : DefinedBlock T M) (t : T) (first later : List ℕ) →
     IfSome (append d e t first later) (λ f. visible_count c d + visible_count c e ≤ visible_count c f)
 append_count {T} {M} c d e t first later =
     let More : DefinedBlock T M → Type 0 = λ f. visible_count c d + visible_count c e ≤ visible_count c f in
     then_if (Same d) More _ (flush d) (flush_same d)
-    (λ b h. then_if (λ (g : DefinedBlock T M). count c (visible_in_lines g.lines) ≡ visible_count c e) More
-    (λ (g : DefinedBlock T M). append_lines b (under t first) (under t later) g.lines g.marks) (flush e) (flushed_count c e)
+    (λ b h. then_if (λ (g : DefinedBlock T M). visible_count c e ≤ count c (visible_in_lines g.lines)) More
+    (λ (g : DefinedBlock T M). append_lines b (under t first) (under t later) g.lines g.marks) (flush (end_table e)) (flushed_count c e)
     (λ g k. IfSome_then (append_lines b (under t first) (under t later) g.lines g.marks)
     (append_lines_count c b (under t first) (under t later) g.lines g.marks)
-    (λ f n. let same = ap (count c) h in omega (arith, n, k, same))))
+    (λ f n. let same = ap (count c) h.0 in let table = ap (table_count c) h.1 in omega (arith, n, k, same, table))))
 
 -- the same in counts
 same_count : {T M : Type 0} (c : ℕ) (d : DefinedBlock T M) (o : Option (DefinedBlock T M)) → IfSome o (Same d) →
     IfSome o (λ e. visible_count c e ≡ visible_count c d)
-same_count c d o h = IfSome_then o h (λ e k. ap (count c) k)
+same_count c d o h =
+    IfSome_then o h (λ e k. let block = ap (count c) k.0 in let table = ap (table_count c) k.1 in omega (arith, block, table))
 
 add_inline_text_count : {T M : Type 0} (c : ℕ) (d : DefinedBlock T M) (style : TextStyle T) (cs : List ℕ) →
     IfSome (add_inline_text d style cs) (λ e. visible_count c e ≡ visible_count c d + text_count c cs)
 add_inline_text_count c d style cs =
     IfSome_then (add_inline_text d style cs) (add_inline_text_adds d style cs)
-    (λ e h. ap (count c) h ∙ count-append c (visible_in_block d) (visible_in_text cs))
+    (λ e h.
+    let block = ap (count c) h.0 in
+    let table = ap (table_count c) h.1 in
+    omega (arith, block, table, count-append c (visible_in_block d) (visible_in_text cs)))
 
 add_mark_same : {T M : Type 0} (d : DefinedBlock T M) (m : M) → Same d (add_mark d m)
-add_mark_same d m = ap (λ r. visible_in_lines d.lines ++ r) (items-append d.fed (Mark m ∷ []) ∙ append-nil (visible_in_items d.fed))
+add_mark_same d m = (ap (λ r. visible_in_lines d.lines ++ r) (items-append d.fed (Mark m ∷ []) ∙ append-nil (visible_in_items d.fed)), refl)
 
 sub_block_count : {T M : Type 0} (c : ℕ) (d : DefinedBlock T M) (prefix inner : ℕ) →
     IfSome (sub_block d prefix inner) (λ e. visible_count c e ≡ 0)
@@ -257,15 +389,170 @@ sub_block_count {T} {M} c d prefix inner =
     map_if (λ v. Unit {0}) (λ e. visible_count c e ≡ 0) (λ (w : ℕ). empty_block {T = T} {M = M} (record d.setting { width = w }) d.padding)
     (inner_width d.setting prefix inner) (any (inner_width d.setting prefix inner)) (λ w _. refl)
 
+pub add_lines_count : {T M : Type 0} (c : ℕ) (d : DefinedBlock T M) (ls : List (Line T M)) → visible_count c d ≤ visible_count c (add_lines d ls)
+add_lines_count c d ls =
+    let more = marked_before d.marks ls in
+    let e : count c (visible_in_lines (d.lines ++ more)) ≡ count c (visible_in_lines d.lines) + count c (visible_in_lines more) =
+    ap (count c) (lines-append d.lines more) ∙ count-append c (visible_in_lines d.lines) (visible_in_lines more) in
+    omega (
+      arith,
+      e,
+      count-append c (visible_in_lines d.lines) (visible_in_items d.fed),
+      count-append c (visible_in_lines (d.lines ++ more)) (visible_in_items d.fed),
+    )
+
+add_border_count : {T M : Type 0} (c : ℕ) (d : DefinedBlock T M) (border : Option T) (character : ℕ) →
+    visible_count c d ≤ visible_count c (add_border d border character)
+add_border_count c d None character = omega arith
+add_border_count c d (Some tag) character = add_lines_count c d (rule tag character d.setting.width ∷ [])
+
+border_table : {T M : Type 0} (d : DefinedBlock T M) (border : Option T) (character : ℕ) → (add_border d border character).table ≡ d.table
+border_table d None character = refl
+border_table d (Some tag) character = refl
+
+table_begun_count : {T M : Type 0} (c : ℕ) (d : DefinedBlock T M) (tag : T) (borders : Bool) (o : Option (List ℕ)) → d.table ≡ None →
+    visible_count c d ≤ visible_count c (table_begun d tag borders o)
+table_begun_count c d tag borders None none =
+    let border = stacked_border tag borders d.setting.width in
+    let table = ap (table_count c) (border_table d border 0x2500) in
+    let own = ap (table_count c) none in
+    omega (arith, table, own, add_border_count c d border 0x2500)
+table_begun_count c d tag borders (Some ws) none = let own = ap (table_count c) none in omega (arith, own)
+
+begin_table_count : {T M : Type 0} (c : ℕ) (d : DefinedBlock T M) (tag : T) (borders stacked : Bool) (columns : ℕ)
+    (cells : List CellNeed) → IfSome (begin_table d tag borders stacked columns cells) (λ e. visible_count c d ≤ visible_count c e)
+begin_table_count {T} {M} c d tag borders stacked columns cells =
+    map_if (Same (end_table d)) (λ (e : DefinedBlock T M). visible_count c d ≤ visible_count c e) _ (flush (end_table d)) (flush_same (end_table d))
+    (λ e h.
+    let block = ap (count c) h.0 in
+    let table = ap (table_count c) h.1 in
+    let begun = table_begun_count c e tag borders (cond stacked None (standing_widths columns cells e.setting.width)) (h.1 ∙ ended_none d) in
+    omega (arith, block, table, begun, end_table_count c d))
+
+begin_row_count : {T M : Type 0} (c : ℕ) (slots : List Slot) (o : Option (OpenTable (Rows T M) T M)) →
+    table_count c (option_map (with_row_open slots) o) ≡ table_count c o
+begin_row_count c slots None = refl
+begin_row_count c slots (Some (Across p widths None)) = refl
+begin_row_count c slots (Some (Across p widths (Some row))) = refl
+begin_row_count c slots (Some (Stacked border has_lines)) = refl
+
+skip_cell_count : {T M : Type 0} (c : ℕ) (o : Option (OpenTable (Rows T M) T M)) → table_count c (option_map skipped o) ≡ table_count c o
+skip_cell_count c None = refl
+skip_cell_count c (Some (Across p widths None)) = refl
+skip_cell_count c (Some (Across p widths (Some row))) = omega (arith, with_cell_count c row [])
+skip_cell_count c (Some (Stacked border has_lines)) = refl
+
+cell_block_count : {T M : Type 0} (c : ℕ) (d : DefinedBlock T M) → IfSome (cell_block d) (λ e. visible_count c e ≡ 0)
+cell_block_count {T} {M} c d =
+    map_if (λ v. Unit {0}) (λ e. visible_count c e ≡ 0) (λ (w : ℕ). empty_block {T = T} {M = M} (record d.setting { width = w }) d.padding)
+    (next_cell_width d.setting.width d.table) (any (next_cell_width d.setting.width d.table)) (λ w _. refl)
+
+-- the block e has what the block d has, and as many more
+abbrev Gains : {T M : Type 0} → (c n : ℕ) → DefinedBlock T M → DefinedBlock T M → Type 0
+Gains c n d e = visible_count c d + n ≤ visible_count c e
+
+put_below_count : {T M : Type 0} (c : ℕ) (d cell : DefinedBlock T M) →
+    IfSome (put_below d cell) (Gains c (count c (visible_in_lines cell.lines)) d)
+put_below_count c d cell = append_lines_count c d [] [] cell.lines cell.marks
+
+-- the open table of a block whose cells stand one below another has nothing
+append_lines_table : {T M : Type 0} (d : DefinedBlock T M) (p q : Line T M) (ls : List (Line T M)) (ms : List M) →
+    IfSome (append_lines d p q ls ms) (λ e. e.table ≡ d.table)
+append_lines_table d p q [] ms = refl
+append_lines_table {T} {M} d p q (l ∷ ls) ms =
+    map_if (λ all. Unit {0}) (λ (e : DefinedBlock T M). e.table ≡ d.table) _ (joined d.setting.width d.setting.overflow d.marks p q (l ∷ ls) ms)
+    (any (joined d.setting.width d.setting.overflow d.marks p q (l ∷ ls) ms)) (λ all _. refl)
+
+both_if : {X : Type 0} (P Q : X → Type 0) (o : Option X) → IfSome o P → IfSome o Q → IfSome o (λ x. P x × Q x)
+both_if P Q None h k = tt
+both_if P Q (Some x) h k = (h, k)
+
+put_stacked_count : {T M : Type 0} (c : ℕ) (d cell : DefinedBlock T M) (border : Option T) (has_lines more : Bool) → table_count c d.table ≡ 0 →
+    IfSome (put_stacked d border has_lines more cell) (Gains c (count c (visible_in_lines cell.lines)) d)
+put_stacked_count {T} {M} c d cell border has_lines more none = by (has_lines && more)
+  where
+    n : ℕ
+    n = count c (visible_in_lines cell.lines)
+
+    below : (e : DefinedBlock T M) → visible_count c d ≤ visible_count c e → table_count c e.table ≡ 0 →
+        IfSome (option_map (λ (f : DefinedBlock T M). record f { table = Some (Stacked border (has_lines || more)) }) (put_below e cell))
+        (Gains c n d)
+    below e le empty =
+        map_if (λ f. Gains c n e f × (f.table ≡ e.table)) (Gains c n d) _ (put_below e cell)
+        (both_if (Gains c n e) (λ f. f.table ≡ e.table) (put_below e cell) (put_below_count c e cell)
+        (append_lines_table e [] [] cell.lines cell.marks))
+        (λ f h. let gains = h.0 in let table = ap (table_count c) h.1 in omega (arith, gains, table, le, empty))
+
+    by : (b : Bool) →
+        IfSome (option_map (λ (f : DefinedBlock T M). record f { table = Some (Stacked border (has_lines || more)) })
+        (put_below (cond b (add_border d border 0x2F) d) cell)) (Gains c n d)
+    by true = below (add_border d border 0x2F) (add_border_count c d border 0x2F) (ap (table_count c) (border_table d border 0x2F) ∙ none)
+    by false = below d (omega arith) none
+
+-- what a flush is followed by
+flushed_gains : {T M : Type 0} (c n : ℕ) (d : DefinedBlock T M) (f : DefinedBlock T M → Option (DefinedBlock T M)) →
+    ((e : DefinedBlock T M) → e.table ≡ d.table → IfSome (f e) (Gains c n e)) → IfSome (option_and_then f (flush d)) (Gains c n d)
+flushed_gains {T} {M} c n d f next =
+    then_if (Same d) (Gains c n d) f (flush d) (flush_same d) (λ e h. IfSome_then (f e) (next e h.1) (λ g k.
+    let block = ap (count c) h.0 in
+    let table = ap (table_count c) h.1 in
+    omega (arith, k, block, table)))
+
+cell_added_count : {T M : Type 0} (c : ℕ) (d : DefinedBlock T M) (o : Option (OpenTable (Rows T M) T M)) (cell : DefinedBlock T M) →
+    d.table ≡ o → IfSome (cell_added d o cell) (Gains c (count c (visible_in_lines cell.lines)) d)
+cell_added_count c d None cell e =
+    flushed_gains c (count c (visible_in_lines cell.lines)) d (λ b. put_below b cell) (λ b _. put_below_count c b cell)
+cell_added_count c d (Some (Across p widths None)) cell e =
+    flushed_gains c (count c (visible_in_lines cell.lines)) d (λ b. put_below b cell) (λ b _. put_below_count c b cell)
+cell_added_count c d (Some (Across p widths (Some row))) cell e =
+    omega (
+      arith,
+      ap (table_count c) e,
+      with_cell_count c row (kept_cell cell ∷ []),
+      ap (count c) (append-nil (visible_in_lines cell.lines)),
+    )
+cell_added_count c d (Some (Stacked border has_lines)) cell e =
+    flushed_gains c (count c (visible_in_lines cell.lines)) d (λ b. put_stacked b border has_lines (not (is_empty cell.lines)) cell)
+    (λ b h. put_stacked_count c b cell border has_lines (not (is_empty cell.lines)) (ap (table_count c) (h ∙ e)))
+
+add_cell_count : {T M : Type 0} (c : ℕ) (d cell : DefinedBlock T M) →
+    IfSome (add_cell d cell) (λ e. visible_count c d + visible_count c cell ≤ visible_count c e)
+add_cell_count {T} {M} c d cell =
+    then_if (λ (f : DefinedBlock T M). visible_count c cell ≤ count c (visible_in_lines f.lines))
+    (λ (e : DefinedBlock T M). visible_count c d + visible_count c cell ≤ visible_count c e) (cell_added d d.table) (flush (end_table cell))
+    (flushed_count c cell)
+    (λ f h. IfSome_then (cell_added d d.table f) (cell_added_count c d d.table f refl) (λ e k. omega (arith, h, k)))
+
+row_ended_count : {T M : Type 0} (c : ℕ) (d : DefinedBlock T M) (o : Option (OpenTable (Rows T M) T M)) → d.table ≡ o →
+    IfSome (row_ended d o) (λ e. visible_count c d ≤ visible_count c e)
+row_ended_count c d None e = omega arith
+row_ended_count c d (Some (Across p widths row)) e = omega (arith, ap (table_count c) e, with_open_count c p row)
+row_ended_count {T} {M} c d (Some (Stacked border true)) e =
+    map_if (Same d) (λ (f : DefinedBlock T M). visible_count c d ≤ visible_count c f) _ (flush d) (flush_same d)
+    (λ f h.
+    let block = ap (count c) h.0 in
+    let table = ap (table_count c) (h.1 ∙ e) in
+    let own = ap (table_count c) e in
+    let after = ap (table_count c) (border_table f border 0x2500) in
+    omega (arith, block, table, own, after, add_border_count c f border 0x2500))
+row_ended_count c d (Some (Stacked border false)) e = omega arith
+
 -- THE LAW: a visible character stands in a block as often as it was fed, or more often
 pub operations_keep_visible : {T : Type 0} (c : ℕ) → Counts (visible_count c) (text_count c) (operations {T = T})
 operations_keep_visible c = record {
   add_inline_text = add_inline_text_count c;
-  add_mark = λ d m. ap (count c) (add_mark_same d m);
+  add_mark = λ d m. let same = add_mark_same d m in ap (λ cs. count c cs + table_count c d.table) same.0;
   new_line = λ d. same_count c d (flush d) (flush_same d);
   new_line_hard = λ d. same_count c d (new_line_hard d) (new_line_hard_same d);
   start_block = λ d. same_count c d (start_block d) (start_block_same d);
   end_block = λ d. refl;
   sub_block = sub_block_count c;
   append = append_count c;
+  begin_table = begin_table_count c;
+  begin_row = λ d slots. ap (λ n. count c (visible_in_block d) + n) (begin_row_count c slots d.table);
+  cell_block = cell_block_count c;
+  add_cell = add_cell_count c;
+  skip_cell = λ d. ap (λ n. count c (visible_in_block d) + n) (skip_cell_count c d.table);
+  end_row = λ d. row_ended_count c d d.table refl;
+  end_table = end_table_count c;
 }

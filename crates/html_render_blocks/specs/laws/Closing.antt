@@ -1,31 +1,37 @@
 -- A block's end and closing lines: what was fed is the definition's, the tags don't matter, no line passes the width
 -- without overflow and none refuses with it, overflow gives the same lines, and no visible character is lost.
-use Rattle.std.proofs.Common.{◌≡◌, ℕ, ◌+◌, ◌≤◌, Bool, true, false, List, [], ◌∷◌, ◌++◌, Option, Some, None, refl, sym, ap, ◌∙◌, subst, arith}
-use Rattle.std.proofs.Common.{IfSome, IsSome, option_map, option_and_then, append-nil}
-use Rattle.html_render_lines.specs.declared.character.Item.{Item}
+use Rattle.std.proofs.Common.{◌≡◌, ℕ, ◌≤◌, Bool, true, false, List, [], ◌∷◌, ◌++◌, Option, Some, None, refl, sym, ap, ◌∙◌, subst, arith}
+use Rattle.std.proofs.Common.{IfSome, IsSome, option_map, option_and_then}
 use Rattle.std.specs.Option.{IsSomeAnd}
 use Rattle.std.proofs.lemmas.List.{map-append}
 use Rattle.std.proofs.lemmas.List.Elements.{All-append, All-nil, All-cons, All-head, All-tail}
 use Rattle.html_render_lines.specs.CutText.{text_lines, cut_lines}
 use Rattle.html_render_lines.specs.Line.{Line, columns, marks_line, AllWithinWidth}
 use Rattle.html_render_lines.specs.Paragraph.{Setting, without_overflow, with_overflow}
-use Rattle.html_render_lines.specs.Tags.{element_with, line_with, lines_with}
+use Rattle.html_render_lines.specs.Tags.{line_with, lines_with}
 use Rattle.html_render_lines.specs.Visible.{visible_in_items, visible_in_lines}
 use Rattle.html_render_lines.specs.laws.CutText.{cut_within, cut_some, cut_same, cut-with}
-use Rattle.html_render_lines.specs.laws.Tags.{then_with, map_with, marks-with, state_with}
+use Rattle.html_render_lines.specs.laws.Tags.{then_with, map_with, state_with}
 use Rattle.html_render_lines.specs.laws.Within.{columns-append, columns-marks}
 use Rattle.html_render_blocks.specs.Block as definition
-use Rattle.html_render_blocks.specs.Block.{DefinedBlock, paragraph_setting, add_page, end_behind, finish, add_lines, add_closing_lines, start_block, flush}
+use Rattle.html_render_blocks.specs.Block.{DefinedBlock, paragraph_setting, add_page, end_behind, finish, add_lines, add_closing_lines, start_block}
+use Rattle.html_render_blocks.specs.Block.{flush, end_table}
 use Rattle.html_render_blocks.specs.BlockMachine as machine
 use Rattle.html_render_blocks.specs.BlockMachine.{MachineBlock}
 use Rattle.html_render_blocks.specs.Closing.{line_setting, on_one_line, closing_lines}
-use Rattle.html_render_blocks.specs.Joined.{marked_before, marked_behind}
-use Rattle.html_render_blocks.specs.Visible.{count, visible_count}
-use Rattle.html_render_blocks.specs.laws.BlockFed.{block_of, after_flush, start_block-block}
-use Rattle.html_render_blocks.specs.laws.BlockLaws.{IsWithin, Overflows, with_lines, flush_within, start_block_within, flush_succeeds, start_block_succeeds}
-use Rattle.html_render_blocks.specs.laws.BlockOverflow.{overflowing, flush_stays, start_block_stays}
-use Rattle.html_render_blocks.specs.laws.BlockTags.{block_with, flush-with, start_block-with, waiting-with, take_waiting-with, marked_behind-with, under-with}
-use Rattle.html_render_blocks.specs.laws.BlockVisible.{Same, flush_same, flush_empties, start_block_same, marked_behind_same, lines-append, count-append}
+use Rattle.html_render_pictures.specs.Marked.{marked_behind}
+use Rattle.html_render_blocks.specs.Visible.{table_count, visible_count}
+use Rattle.html_render_pictures.specs.Visible.{count}
+use Rattle.html_render_blocks.specs.laws.BlockFed.{block_of, after_flush, start_block-block, then_both, flush_empties, end_table-block, add_lines-block}
+use Rattle.html_render_blocks.specs.laws.BlockLaws.{IsWithin, Overflows, with_lines, flush_within, start_block_within, flush_succeeds}
+use Rattle.html_render_blocks.specs.laws.BlockLaws.{start_block_succeeds, add_lines_within, end_table_within}
+use Rattle.html_render_blocks.specs.laws.BlockLaws.{end_table_succeeds}
+use Rattle.html_render_blocks.specs.laws.BlockOverflow.{overflowing, start_block_stays, flush_ended_stays}
+use Rattle.html_render_blocks.specs.laws.BlockTags.{block_with, start_block-with, waiting-with, take_waiting-with, under-with}
+use Rattle.html_render_blocks.specs.laws.BlockTags.{flush_ended-with, add_lines-with}
+use Rattle.html_render_pictures.specs.laws.Lines.{marked_behind-with}
+use Rattle.html_render_blocks.specs.laws.BlockVisible.{Same, then_same, flush_same, start_block_same, add_lines_count, lines_count, end_table_count, ended_none}
+use Rattle.html_render_pictures.specs.laws.Lines.{marked_behind_same}
 use Rattle.html_render_blocks.specs.laws.Cases.{map_if, then_if, map_and, then_and, any, if_is, Stays, then_stays, map_stays}
 
 -- ---- what was fed
@@ -40,14 +46,9 @@ end-block {T} {M} d (l ∷ ls) none =
 -- the end of a block that was fed is the definition's
 pub finish-block : {T M : Type 0} (d : DefinedBlock T M) → machine.finish (block_of d) ≡ option_map block_of (finish d)
 finish-block {T} {M} d =
-    after_flush d (λ (e : DefinedBlock T M). end_behind e e.lines) (λ (c : MachineBlock T M). machine.end_behind c c.lines)
+    ap (λ b. option_map (λ (c : MachineBlock T M). machine.end_behind c c.lines) (machine.flush b)) (end_table-block d)
+    ∙ after_flush (end_table d) (λ (e : DefinedBlock T M). end_behind e e.lines) (λ (c : MachineBlock T M). machine.end_behind c c.lines)
     (λ e none. end-block e e.lines none)
-
-then_both : {A B : Type 0} (h : A → B) (P : A → Type 0) (k : A → Option A) (l : B → Option B) (o : Option A) (p : Option B) →
-    p ≡ option_map h o → IfSome o P → ((a : A) → P a → l (h a) ≡ option_map h (k a)) →
-    option_and_then l p ≡ option_map h (option_and_then k o)
-then_both h P k l None p e i f = ap (option_and_then l) e
-then_both h P k l (Some a) p e i f = ap (option_and_then l) e ∙ f a i
 
 -- nothing is fed to a block that starts
 start_empties : {T M : Type 0} (d : DefinedBlock T M) → IfSome (start_block d) (λ e. e.fed ≡ [])
@@ -57,12 +58,6 @@ start_empties {T} {M} d = map_if (λ (e : DefinedBlock T M). e.fed ≡ []) (λ (
     by : (e : DefinedBlock T M) (ls : List (Line T M)) → e.fed ≡ [] → (definition.separate_behind e ls).fed ≡ []
     by e [] h = h
     by e (l ∷ ls) h = h
-
-add_lines-block : {T M : Type 0} (d : DefinedBlock T M) (ls : List (Line T M)) → d.fed ≡ [] →
-    machine.add_lines (block_of d) ls ≡ block_of (add_lines d ls)
-add_lines-block {T} {M} d ls none =
-    ap (λ xs. machine.add_lines (block_of (record d { fed = xs })) ls) none
-    ∙ ap (λ xs. block_of (record (add_lines d ls) { fed = xs })) (sym none)
 
 -- closing lines of a block that was fed are the definition's
 pub add_closing_lines-block : {T M : Type 0} (d : DefinedBlock T M) (cut : Bool) (tag : T) (ts : List (List ℕ)) →
@@ -101,7 +96,7 @@ module _ {T U M : Type 0} (f : T → U) where
   -- a block's end commutes with a map of tags
   pub finish-with : (b : MachineBlock T M) → machine.finish (block_with f b) ≡ option_map (block_with f) (machine.finish b)
   finish-with b = map_with (block_with f) (block_with f) (λ c. machine.end_behind c c.lines) (λ c. machine.end_behind c c.lines)
-      (machine.flush b) _ (flush-with f b) (λ c. end-with c c.lines)
+      (machine.flush (machine.end_table b)) _ (flush_ended-with f b) (λ c. end-with c c.lines)
 
   text-with : (s : Setting) (cut : Bool) (tag : T) (cs : List ℕ) →
       text_lines s cut (f tag) cs ≡ option_map (lines_with {M = M} f) (text_lines s cut tag cs)
@@ -120,26 +115,6 @@ module _ {T U M : Type 0} (f : T → U) where
       (λ (later : List (Line U M)). Some (lines_with f first ++ later)) (closing_lines s cut tag ts) _ (closing-with s cut tag ts)
       (λ later. ap Some (sym (map-append (line_with f) first later))))
 
-  marked_before-with : (ms : List M) (ls : List (Line T M)) → lines_with f (marked_before ms ls) ≡ marked_before ms (lines_with f ls)
-  marked_before-with ms [] = refl
-  marked_before-with ms (l ∷ ls) = ap (λ x. x ∷ lines_with f ls) (map-append (element_with f) (marks_line ms) l
-      ∙ ap (λ x. x ++ line_with f l) (marks-with f ms))
-
-  add_lines-with : (b : MachineBlock T M) (ls : List (Line T M)) →
-      machine.add_lines (block_with f b) (lines_with f ls) ≡ block_with f (machine.add_lines b ls)
-  add_lines-with b ls =
-      ap (λ ms. record (block_with f b) {
-        lines = lines_with f b.lines ++ marked_before ms (lines_with f ls);
-        paragraph = machine.take_waiting (option_map (state_with f) b.paragraph);
-      }) (waiting-with f b.paragraph)
-      ∙ ap (λ ks. record (block_with f b) {
-        lines = lines_with f b.lines ++ ks;
-        paragraph = machine.take_waiting (option_map (state_with f) b.paragraph);
-      }) (sym (marked_before-with (machine.waiting b.paragraph) ls))
-      ∙ ap (λ ks. record (block_with f b) { lines = ks; paragraph = machine.take_waiting (option_map (state_with f) b.paragraph) })
-      (sym (map-append (line_with f) b.lines (marked_before (machine.waiting b.paragraph) ls)))
-      ∙ ap (λ o. record (block_with f (machine.add_lines b ls)) { paragraph = o }) (take_waiting-with f b.paragraph)
-
   -- closing lines commute with a map of tags
   pub add_closing_lines-with : (b : MachineBlock T M) (cut : Bool) (tag : T) (ts : List (List ℕ)) →
       machine.add_closing_lines (block_with f b) cut (f tag) ts ≡ option_map (block_with f) (machine.add_closing_lines b cut tag ts)
@@ -153,7 +128,7 @@ module _ {T U M : Type 0} (f : T → U) where
       (machine.start_block b) _ (start_block-with f b)
       (λ c. then_with (lines_with f) (block_with f) (λ (ls : List (Line T M)). Some (machine.add_lines c ls))
       (λ (ls : List (Line U M)). Some (machine.add_lines (block_with f c) ls)) (closing_lines (line_setting c.setting) cut tag (t ∷ ts)) _
-      (closing-with (line_setting c.setting) cut tag (t ∷ ts)) (λ ls. ap Some (add_lines-with c ls)))
+      (closing-with (line_setting c.setting) cut tag (t ∷ ts)) (λ ls. ap Some (add_lines-with f c ls)))
 
 -- ---- the width
 
@@ -167,21 +142,15 @@ marked_behind_within {T} {M} w ms (l ∷ k ∷ ls) h =
     All-cons (λ (l : Line T M). columns l ≤ w) l (marked_behind ms (k ∷ ls)) (All-head (λ (l : Line T M). columns l ≤ w) l (k ∷ ls) h)
     (marked_behind_within w ms (k ∷ ls) (All-tail (λ (l : Line T M). columns l ≤ w) l (k ∷ ls) h))
 
-marked_before_within : {T M : Type 0} (w : ℕ) (ms : List M) (ls : List (Line T M)) → AllWithinWidth w ls → AllWithinWidth w (marked_before ms ls)
-marked_before_within w ms [] h = h
-marked_before_within {T} {M} w ms (l ∷ ls) h =
-    All-cons (λ (l : Line T M). columns l ≤ w) (marks_line ms ++ l) ls
-    (let k = All-head (λ (l : Line T M). columns l ≤ w) l ls h in omega (arith, k, columns-append (marks_line ms) l, columns-marks T ms))
-    (All-tail (λ (l : Line T M). columns l ≤ w) l ls h)
-
 end_within : {T M : Type 0} (w : ℕ) (d : DefinedBlock T M) (ls : List (Line T M)) → d.lines ≡ ls → IsWithin w d → IsWithin w (end_behind d ls)
 end_within w d [] e h = h
-end_within w d (l ∷ ls) e h = with_lines w d (end_behind d (l ∷ ls)) h refl
+end_within w d (l ∷ ls) e h = with_lines w d (end_behind d (l ∷ ls)) h refl h.table
     (marked_behind_within w d.marks (l ∷ ls) (subst (AllWithinWidth w) e h.lines))
 
 -- with overflow off a block's end makes no line that passes the width
 pub finish_within : {T M : Type 0} (w : ℕ) (d : DefinedBlock T M) → IsWithin w d → IfSome (finish d) (IsWithin w)
-finish_within w d h = map_if (IsWithin w) (IsWithin w) _ (flush d) (flush_within w d h) (λ e k. end_within w e e.lines refl k)
+finish_within w d h = map_if (IsWithin w) (IsWithin w) _ (flush (end_table d)) (flush_within w (end_table d) (end_table_within w d h))
+    (λ e k. end_within w e e.lines refl k)
 
 closing_within : {T : Type 0} (M : Type 0) (w : ℕ) (tag : T) (ts : List (List ℕ)) →
     IfSome (closing_lines {M = M} (without_overflow w) true tag ts) (AllWithinWidth w)
@@ -193,11 +162,6 @@ closing_within {T} M w tag (t ∷ ts) =
     (λ first h. then_if (AllWithinWidth w) (AllWithinWidth w) (λ (later : List (Line T M)). Some (first ++ later))
     (closing_lines (without_overflow w) true tag ts) (closing_within M w tag ts)
     (λ later k. All-append (λ (l : Line T M). columns l ≤ w) first later h k))
-
-add_lines_within : {T M : Type 0} (w : ℕ) (d : DefinedBlock T M) (ls : List (Line T M)) → IsWithin w d → AllWithinWidth w ls →
-    IsWithin w (add_lines d ls)
-add_lines_within {T} {M} w d ls h k = with_lines w d (add_lines d ls) h refl
-    (All-append (λ (l : Line T M). columns l ≤ w) d.lines (marked_before d.marks ls) h.lines (marked_before_within w d.marks ls k))
 
 -- with overflow off no closing line that is cut passes the width
 pub add_closing_lines_within : {T M : Type 0} (w : ℕ) (d : DefinedBlock T M) (tag : T) (ts : List (List ℕ)) → IsWithin w d →
@@ -224,7 +188,8 @@ end_succeeds w d (l ∷ ls) h = record { width = h.width; overflow = h.overflow 
 
 -- with overflow on a block's end doesn't refuse
 pub finish_succeeds : {T M : Type 0} (w : ℕ) (d : DefinedBlock T M) → Overflows w d → IsSomeAnd (finish d) (Overflows w)
-finish_succeeds w d h = map_and (Overflows w) (Overflows w) _ (flush d) (flush_succeeds w d h) (λ e k. end_succeeds w e e.lines k)
+finish_succeeds w d h = map_and (Overflows w) (Overflows w) _ (flush (end_table d)) (flush_succeeds w (end_table d) (end_table_succeeds w d h))
+    (λ e k. end_succeeds w e e.lines k)
 
 text_some : {T : Type 0} (M : Type 0) (w : ℕ) (cut : Bool) (tag : T) (cs : List ℕ) →
     IsSomeAnd (text_lines {M = M} (with_overflow w) cut tag cs) (λ ls. Unit {0})
@@ -268,7 +233,8 @@ end-overflowing d (l ∷ ls) = refl
 
 -- where a block's end has an answer, it is the same with overflow on
 pub finish_stays : {T M : Type 0} (d : DefinedBlock T M) → Stays overflowing (finish d) (finish (overflowing d))
-finish_stays {T} {M} d = map_stays overflowing overflowing _ _ (flush d) (flush (overflowing d)) (flush_stays d) (λ e. end-overflowing e e.lines)
+finish_stays {T} {M} d =
+    map_stays overflowing overflowing _ _ (flush (end_table d)) (flush (end_table (overflowing d))) (flush_ended_stays d) (λ e. end-overflowing e e.lines)
 
 text_stays : {T : Type 0} (M : Type 0) (w : ℕ) (o : Bool) (cut : Bool) (tag : T) (cs : List ℕ) →
     Stays (λ (ls : List (Line T M)). ls) (text_lines (record { width = w; overflow = o }) cut tag cs) (text_lines (with_overflow w) cut tag cs)
@@ -309,25 +275,14 @@ add_closing_lines_stays {T} {M} d cut tag (t ∷ ts) =
 -- ---- visible characters
 
 end_same : {T M : Type 0} (d : DefinedBlock T M) (ls : List (Line T M)) → d.lines ≡ ls → Same d (end_behind d ls)
-end_same d [] e = refl
+end_same d [] e = (refl, refl)
 end_same d (l ∷ ls) e =
-    ap (λ r. r ++ visible_in_items d.fed) (marked_behind_same d.marks (l ∷ ls) ∙ ap visible_in_lines (sym e))
+    (ap (λ r. r ++ visible_in_items d.fed) (marked_behind_same d.marks (l ∷ ls) ∙ ap visible_in_lines (sym e)), refl)
 
--- a block's end loses no visible character
-pub finish_same : {T M : Type 0} (d : DefinedBlock T M) → IfSome (finish d) (Same d)
-finish_same d = map_if (Same d) (Same d) _ (flush d) (flush_same d) (λ e h. end_same e e.lines refl ∙ h)
-
-add_lines_count : {T M : Type 0} (c : ℕ) (d : DefinedBlock T M) (ls : List (Line T M)) → visible_count c d ≤ visible_count c (add_lines d ls)
-add_lines_count c d ls =
-    let more = marked_before d.marks ls in
-    let e : count c (visible_in_lines (d.lines ++ more)) ≡ count c (visible_in_lines d.lines) + count c (visible_in_lines more) =
-    ap (count c) (lines-append d.lines more) ∙ count-append c (visible_in_lines d.lines) (visible_in_lines more) in
-    omega (
-      arith,
-      e,
-      count-append c (visible_in_lines d.lines) (visible_in_items d.fed),
-      count-append c (visible_in_lines (d.lines ++ more)) (visible_in_items d.fed),
-    )
+-- a block's end loses nothing but the table that is open, which is over
+finish_same : {T M : Type 0} (d : DefinedBlock T M) → IfSome (finish d) (Same (end_table d))
+finish_same d = map_if (Same (end_table d)) (Same (end_table d)) _ (flush (end_table d)) (flush_same (end_table d))
+    (λ e h. then_same (end_table d) e (end_behind e e.lines) (end_same e e.lines refl) h)
 
 -- closing lines lose no visible character of the block
 pub add_closing_lines_count : {T M : Type 0} (c : ℕ) (d : DefinedBlock T M) (cut : Bool) (tag : T) (ts : List (List ℕ)) →
@@ -341,7 +296,10 @@ add_closing_lines_count {T} {M} c d cut tag (t ∷ ts) =
     (start_block d) (start_block_same d)
     (λ e h. then_if (λ ls. Unit {0}) More (λ (ls : List (Line T M)). Some (add_lines e ls))
     (closing_lines (line_setting e.setting) cut tag (t ∷ ts)) (any (closing_lines (line_setting e.setting) cut tag (t ∷ ts)))
-    (λ ls _. let same = ap (count c) h in omega (arith, add_lines_count c e ls, same)))
+    (λ ls _.
+    let same = ap (count c) h.0 in
+    let table = ap (table_count c) h.1 in
+    omega (arith, add_lines_count c e ls, same, table)))
 
 -- ---- visible characters of a document that is closed
 
@@ -353,44 +311,58 @@ end_empties : {T M : Type 0} (d : DefinedBlock T M) (ls : List (Line T M)) → d
 end_empties d [] h = h
 end_empties d (l ∷ ls) h = h
 
--- behind a block's end nothing is fed, and it shows what it showed
+-- behind a block's end nothing is fed and no table is open, and it shows what it showed
 pub finish_count : {T M : Type 0} (c : ℕ) (d : DefinedBlock T M) →
-    IfSome (finish d) (λ e. (e.fed ≡ []) × (visible_count c e ≡ visible_count c d))
+    IfSome (finish d) (λ e. ((e.fed ≡ []) × (e.table ≡ None)) × (visible_count c d ≤ visible_count c e))
 finish_count {T} {M} c d =
-    if_both (λ e. e.fed ≡ []) (λ e. visible_count c e ≡ visible_count c d) (finish d)
-    (map_if (λ (e : DefinedBlock T M). e.fed ≡ []) (λ (e : DefinedBlock T M). e.fed ≡ []) _ (flush d) (flush_empties d)
+    if_both (λ e. (e.fed ≡ []) × (e.table ≡ None)) (λ e. visible_count c d ≤ visible_count c e) (finish d)
+    (if_both (λ e. e.fed ≡ []) (λ e. e.table ≡ None) (finish d)
+    (map_if (λ (e : DefinedBlock T M). e.fed ≡ []) (λ (e : DefinedBlock T M). e.fed ≡ []) _ (flush (end_table d)) (flush_empties (end_table d))
     (λ e h. end_empties e e.lines h))
+    (none (finish d) (finish_same d)))
     (by (finish d) (finish_same d))
   where
-    by : (o : Option (DefinedBlock T M)) → IfSome o (Same d) → IfSome o (λ e. visible_count c e ≡ visible_count c d)
-    by None h = tt
-    by (Some e) h = ap (count c) h
+    none : (o : Option (DefinedBlock T M)) → IfSome o (Same (end_table d)) → IfSome o (λ e. e.table ≡ None)
+    none None h = tt
+    none (Some e) h = h.1 ∙ ended_none d
 
-closing_empties : {T M : Type 0} (d : DefinedBlock T M) (cut : Bool) (tag : T) (ts : List (List ℕ)) → d.fed ≡ [] →
-    IfSome (add_closing_lines d cut tag ts) (λ e. e.fed ≡ [])
-closing_empties d cut tag [] h = h
-closing_empties {T} {M} d cut tag (t ∷ ts) h =
-    let Empty : DefinedBlock T M → Type 0 = λ e. e.fed ≡ [] in
-    then_if Empty Empty
+    by : (o : Option (DefinedBlock T M)) → IfSome o (Same (end_table d)) → IfSome o (λ e. visible_count c d ≤ visible_count c e)
+    by None h = tt
+    by (Some e) h =
+        let same = ap (count c) h.0 in
+        let table = ap (table_count c) h.1 in
+        omega (arith, end_table_count c d, same, table)
+
+-- nothing is fed to a block, and no table is open in it
+abbrev pub IsClear : {T M : Type 0} → DefinedBlock T M → Type 0
+IsClear d = (d.fed ≡ []) × (d.table ≡ None)
+
+start_clears : {T M : Type 0} (d : DefinedBlock T M) → d.table ≡ None → IfSome (start_block d) IsClear
+start_clears {T} {M} d none = by (start_block d) (start_empties d) (start_block_same d)
+  where
+    by : (o : Option (DefinedBlock T M)) → IfSome o (λ e. e.fed ≡ []) → IfSome o (Same d) → IfSome o IsClear
+    by None h k = tt
+    by (Some e) h k = (h, k.1 ∙ none)
+
+closing_clears : {T M : Type 0} (d : DefinedBlock T M) (cut : Bool) (tag : T) (ts : List (List ℕ)) → IsClear d →
+    IfSome (add_closing_lines d cut tag ts) IsClear
+closing_clears d cut tag [] h = h
+closing_clears {T} {M} d cut tag (t ∷ ts) h =
+    then_if IsClear IsClear
     (λ (e : DefinedBlock T M). option_and_then (λ (ls : List (Line T M)). Some (add_lines e ls))
     (closing_lines (line_setting e.setting) cut tag (t ∷ ts)))
-    (start_block d) (start_empties d)
-    (λ e k. then_if (λ ls. Unit {0}) Empty (λ (ls : List (Line T M)). Some (add_lines e ls))
+    (start_block d) (start_clears d h.1)
+    (λ e k. then_if (λ ls. Unit {0}) IsClear (λ (ls : List (Line T M)). Some (add_lines e ls))
     (closing_lines (line_setting e.setting) cut tag (t ∷ ts)) (any (closing_lines (line_setting e.setting) cut tag (t ∷ ts)))
     (λ ls _. k))
 
-lines_count : {T M : Type 0} (c : ℕ) (d : DefinedBlock T M) → d.fed ≡ [] → visible_count c d ≡ count c (visible_in_lines d.lines)
-lines_count {T} {M} c d h =
-    ap (λ (xs : List (Item T M)). count c (visible_in_lines d.lines ++ visible_in_items xs)) h
-    ∙ ap (count c) (append-nil (visible_in_lines d.lines))
-
 -- where nothing is fed, the lines of a block that is closed keep what it showed
-pub closed_count : {T M : Type 0} (c : ℕ) (d : DefinedBlock T M) (cut : Bool) (tag : T) (ts : List (List ℕ)) → d.fed ≡ [] →
+pub closed_count : {T M : Type 0} (c : ℕ) (d : DefinedBlock T M) (cut : Bool) (tag : T) (ts : List (List ℕ)) → IsClear d →
     IfSome (add_closing_lines d cut tag ts) (λ e. visible_count c d ≤ count c (visible_in_lines e.lines))
 closed_count {T} {M} c d cut tag ts h =
-    by (add_closing_lines d cut tag ts) (add_closing_lines_count c d cut tag ts) (closing_empties d cut tag ts h)
+    by (add_closing_lines d cut tag ts) (add_closing_lines_count c d cut tag ts) (closing_clears d cut tag ts h)
   where
-    by : (o : Option (DefinedBlock T M)) → IfSome o (λ e. visible_count c d ≤ visible_count c e) → IfSome o (λ e. e.fed ≡ []) →
+    by : (o : Option (DefinedBlock T M)) → IfSome o (λ e. visible_count c d ≤ visible_count c e) → IfSome o IsClear →
         IfSome o (λ e. visible_count c d ≤ count c (visible_in_lines e.lines))
     by None k n = tt
-    by (Some e) k n = omega (arith, k, lines_count c e n)
+    by (Some e) k n = omega (arith, k, lines_count c e n.0 n.1)

@@ -7,16 +7,16 @@ ghost use Rattle.std.specs.Str.{chars};
 ghost use Rattle.html_render_dom.specs.Outcome.{Refuses};
 ghost use Rattle.html_render_lines.specs.CutText.{text_lines};
 ghost use Rattle.html_render_lines.specs.TaggedText.{under};
-ghost use Rattle.html_render_blocks.specs.Joined.{marked_behind};
+ghost use Rattle.html_render_pictures.specs.Marked.{marked_behind};
 ghost use Rattle.html_render_blocks.specs.Closing.{line_setting, unbroken, on_one_line, closing_lines};
 ghost use Rattle.html_render_blocks.specs.BlockMachine as machine;
 
 use super::{Block, BlockSetting};
-use crate::finished::{mark_before, mark_behind};
 use html_render_dom::Error;
 use html_render_lines::line::{Line, text_columns};
 use html_render_lines::paragraph::push_cut_text;
 use html_render_lines::tag::Tag;
+use html_render_pictures::finished::{mark_before, mark_behind};
 use std::alloc::{AllocError, Global};
 
 impl<T: Tag, M: Copy> Block<T, M> {
@@ -38,8 +38,8 @@ impl<T: Tag, M: Copy> Block<T, M> {
         self.mark_last_line(marks.as_slice())
     }
 
-    /// Adds the lines of the open paragraph, and puts the marks that wait then at the end of the last line. Where the
-    /// block has no line, they wait on.
+    /// Ends the table that is open, if one is, adds the lines of the open paragraph, and puts the marks that wait then at the
+    /// end of the last line. Where the block has no line, they wait on.
     ///
     /// # Errors
     ///
@@ -49,7 +49,7 @@ impl<T: Tag, M: Copy> Block<T, M> {
         ensures ok { OnOk result (machine.finish self.old ≡ Some self.new) }
         ensures err { IfErr result (λ e. Refuses e (machine.finish self.old)) }
     {
-        self.flush()?;
+        self.flush_whole()?;
         self.mark_end()?;
         Ok(())
     }

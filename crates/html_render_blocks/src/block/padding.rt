@@ -5,11 +5,11 @@ ghost use Rattle.html_render_dom.specs.Outcome.{Refuses};
 ghost use Rattle.html_render_lines.specs.Stream.{finished};
 ghost use Rattle.html_render_blocks.specs.BlockMachine.{flushed_filled};
 
-use crate::finished::fill_all;
 use html_render_dom::Error;
 use html_render_lines::line::Line;
 use html_render_lines::paragraph::Paragraph;
 use html_render_lines::tag::Tag;
+use html_render_pictures::finished::fill_all;
 use std::alloc::Global;
 
 /// Adds the lines of a paragraph, each filled with spaces up to so many columns, under a tag. The paragraph begins anew with the

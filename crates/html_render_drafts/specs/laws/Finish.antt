@@ -5,7 +5,8 @@ use Rattle.html_render_dom.specs.declared.errors.Error.{Error}
 use Rattle.html_render_dom.specs.declared.errors.Error.TheVariants.{TooNarrow, Fail, OutOfMemory}
 use Rattle.html_render_dom.specs.Forest.{Forest, none, node, count, followed_by}
 use Rattle.html_render_dom.specs.Outcome.{◌>>=◌}
-use Rattle.html_render_drafts.specs.Finish.{mapped, Placed, placed, Fails}
+use Rattle.html_render_drafts.specs.Finish.{mapped, Placed, placed}
+use Rattle.html_render_parts.specs.Refusal.{Fails}
 
 -- the trees of one answer, then those of another
 abbrev pub both : {K : Type 0} → Option (Forest K) → Option (Forest K) → Option (Forest K)

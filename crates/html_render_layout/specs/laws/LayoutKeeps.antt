@@ -12,7 +12,8 @@ use Rattle.html_render_nodes.specs.declared.tree.Estimate.{Estimate}
 use Rattle.html_render_nodes.specs.declared.tree.NodeKind.{NodeKind}
 use Rattle.html_render_nodes.specs.declared.tree.NodeKind.TheVariants.{Text, Container, Break, Block, Div, Emphasis}
 use Rattle.html_render_nodes.specs.declared.tree.NodeKind.TheVariants.{Header, BlockQuote, Ul, Ol, ListItem, Dl, Dt, Dd}
-use Rattle.html_render_nodes.specs.declared.tree.NodeKind.TheVariants.{Strikeout, Superscript, Link, Image, Svg, FragmentStart}
+use Rattle.html_render_nodes.specs.declared.tree.NodeKind.TheVariants.{Strikeout, Superscript, Link, Image, Svg, FragmentStart, Table, TableRow}
+use Rattle.html_render_nodes.specs.declared.tree.NodeKind.TheVariants.{TableCell, Part}
 use Rattle.html_render_nodes.specs.declared.tree.RenderNode.{RenderNode}
 use Rattle.html_render_nodes.specs.Pass.{run}
 use Rattle.html_render_nodes.specs.laws.Runs.{MatchOption-then, IfSome-then, IfSome-weaken, NodesKeep, run-keeps}
@@ -211,6 +212,10 @@ module _ {S A K T B : Type 0} (d : Decoration S A) (push : K → T → A → K �
       kind-keeps (Image m) e trees i s p = image-keeps m.source m.title i s p
       kind-keeps (Svg title) e trees i s p = image-keeps [] title i s p
       kind-keeps (FragmentStart name) e trees i s p = h.add_mark i s.block (length s.names) p
+      kind-keeps (Table grid) e trees i s p = below i s p
+      kind-keeps (TableRow slots) e trees i s p = below i s p
+      kind-keeps TableCell e trees i s p = below i s p
+      kind-keeps (Part part) e trees i s p = below i s p
 
       node-keeps : (n : RenderNode) (trees : Forest RenderNode) (i : I) (s : State) → OfState i s →
           MatchOption (node_steps d push o n trees layout s) N (OfState i)
@@ -410,6 +415,10 @@ module _ {S A K T B : Type 0} (d : Decoration S A) (push : K → T → A → K �
     kind-same (Image m) e trees s = image-same m.source m.title s
     kind-same (Svg title) e trees s = image-same [] title s
     kind-same (FragmentStart name) e trees s = (refl, λ e. e)
+    kind-same (Table grid) e trees s = below-same s
+    kind-same (TableRow slots) e trees s = below-same s
+    kind-same TableCell e trees s = below-same s
+    kind-same (Part part) e trees s = below-same s
 
     node-same : (n : RenderNode) (trees : Forest RenderNode) (s : State) → IfSome (node_steps d push o n trees children s) (Same s)
     node-same n trees s =

@@ -15,7 +15,8 @@ use Rattle.html_render_nodes.specs.declared.tree.Estimate.{Estimate}
 use Rattle.html_render_nodes.specs.declared.tree.NodeKind.{NodeKind}
 use Rattle.html_render_nodes.specs.declared.tree.NodeKind.TheVariants.{Text, Container, Break, Block, Div, Emphasis}
 use Rattle.html_render_nodes.specs.declared.tree.NodeKind.TheVariants.{Header, BlockQuote, Ul, Ol, ListItem, Dl, Dt, Dd}
-use Rattle.html_render_nodes.specs.declared.tree.NodeKind.TheVariants.{Strikeout, Superscript, Link, Image as TheImage, Svg, FragmentStart}
+use Rattle.html_render_nodes.specs.declared.tree.NodeKind.TheVariants.{Strikeout, Superscript, Link, Image as TheImage, Svg, FragmentStart, Table}
+use Rattle.html_render_nodes.specs.declared.tree.NodeKind.TheVariants.{TableRow, TableCell, Part}
 use Rattle.html_render_nodes.specs.declared.tree.NodeStyle.{NodeStyle}
 use Rattle.html_render_nodes.specs.declared.tree.RenderNode.{RenderNode}
 use Rattle.html_render_nodes.specs.Pass.{run}
@@ -215,6 +216,10 @@ module _ {S A K T B : Type 0} (d : Decoration S A) (push : K → T → A → K �
     kind-stays (Svg title) e trees s = image-stays [] title s
     kind-stays (FragmentStart name) e trees s =
         ap (λ b. Some (record (marked o name s) { block = b })) (h.add_mark s.block (length s.names))
+    kind-stays (Table grid) e trees s = below s
+    kind-stays (TableRow slots) e trees s = below s
+    kind-stays TableCell e trees s = below s
+    kind-stays (Part part) e trees s = below s
 
     node-stays : (n : RenderNode) (trees : Forest RenderNode) → Stays (node_steps d push o n trees l) (node_steps d push o n trees m)
     node-stays n trees s =

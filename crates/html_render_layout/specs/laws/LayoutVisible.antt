@@ -18,7 +18,8 @@ use Rattle.html_render_nodes.specs.declared.tree.Estimate.{Estimate}
 use Rattle.html_render_nodes.specs.declared.tree.NodeKind.{NodeKind}
 use Rattle.html_render_nodes.specs.declared.tree.NodeKind.TheVariants.{Text, Container, Break, Block, Div, Emphasis}
 use Rattle.html_render_nodes.specs.declared.tree.NodeKind.TheVariants.{Header, BlockQuote, Ul, Ol, ListItem, Dl, Dt, Dd}
-use Rattle.html_render_nodes.specs.declared.tree.NodeKind.TheVariants.{Strikeout, Superscript, Link, Image, Svg, FragmentStart}
+use Rattle.html_render_nodes.specs.declared.tree.NodeKind.TheVariants.{Strikeout, Superscript, Link, Image, Svg, FragmentStart, Table, TableRow}
+use Rattle.html_render_nodes.specs.declared.tree.NodeKind.TheVariants.{TableCell, Part}
 use Rattle.html_render_nodes.specs.declared.tree.RenderNode.{RenderNode}
 use Rattle.html_render_nodes.specs.Pass.{run, visited}
 use Rattle.html_render_nodes.specs.laws.Runs.{IfSome-then, IfSome-weaken}
@@ -26,10 +27,11 @@ use Rattle.html_render_nodes.specs.laws.Growth.{count_from, NodesGrow, run-grows
 use Rattle.html_render_blocks.specs.Operations.{Operations}
 use Rattle.html_render_blocks.specs.Block as definition
 use Rattle.html_render_blocks.specs.Block.{DefinedBlock}
-use Rattle.html_render_blocks.specs.Visible.{visible_in_text, count, text_count, visible_count}
+use Rattle.html_render_blocks.specs.Visible.{visible_in_text, text_count, visible_count}
+use Rattle.html_render_pictures.specs.Visible.{count}
 use Rattle.html_render_blocks.specs.laws.Operations.{Counts}
 use Rattle.html_render_blocks.specs.laws.BlockVisible.{operations_keep_visible}
-use Rattle.html_render_blocks.specs.laws.Closing.{finish_count, closed_count}
+use Rattle.html_render_blocks.specs.laws.Closing.{IsClear, finish_count, closed_count}
 use Rattle.html_render_estimates.specs.Estimates.{prefix_columns}
 use Rattle.html_render_layout.specs.declared.layout.state.Around.{Around}
 use Rattle.html_render_layout.specs.declared.layout.state.Around.TheVariants.{Plain, Bullets, Numbers}
@@ -284,6 +286,10 @@ module _ {S A K T B : Type 0} (d : Decoration S A) (push : K → T → A → K �
     kind-counts (Svg title) e trees s = lone (Svg title) e trees s refl refl (image-counts [] title s)
     kind-counts (FragmentStart name) e trees s =
         lone (FragmentStart name) e trees s refl refl (omega (arith, h.add_mark s.block (length s.names)))
+    kind-counts (Table grid) e trees s = grows (Table grid) e trees s refl (below s)
+    kind-counts (TableRow slots) e trees s = grows (TableRow slots) e trees s refl (below s)
+    kind-counts TableCell e trees s = grows TableCell e trees s refl (below s)
+    kind-counts (Part part) e trees s = grows (Part part) e trees s refl (below s)
 
     node-counts : (n : RenderNode) (trees : Forest RenderNode) (s : State) →
         IfSome (node_steps d push o n trees children s)
@@ -418,10 +424,12 @@ module _ {S A : Type 0} (d : Decoration S A) where
           IfSome-then (λ (q : Defined S A). visible_count c r.block ≤ count c (visible_in_lines q.block.lines)) wanted
           (ended d definition.ending settings.link_footnotes settings.wrap_links [] r) _
           (ended-keeps d definition.ending settings.link_footnotes settings.wrap_links []
-          (λ (b : DefinedBlock (List A) ℕ). (b.fed ≡ []) × (visible_count c b ≡ visible_count c r.block))
+          (λ (b : DefinedBlock (List A) ℕ). IsClear b × (visible_count c r.block ≤ visible_count c b))
           (λ b. visible_count c r.block ≤ count c (visible_in_lines b.lines)) r (finish_count c r.block)
-          (λ b ts h. subst (λ n. IfSome (definition.add_closing_lines b settings.wrap_links [] ts)
-          (λ e. n ≤ count c (visible_in_lines e.lines))) h.1 (closed_count c b settings.wrap_links [] ts h.0)))
+          (λ b ts h. IfSome-weaken (λ (e : DefinedBlock (List A) ℕ). visible_count c b ≤ count c (visible_in_lines e.lines))
+          (λ (e : DefinedBlock (List A) ℕ). visible_count c r.block ≤ count c (visible_in_lines e.lines))
+          (definition.add_closing_lines b settings.wrap_links [] ts) (closed_count c b settings.wrap_links [] ts h.0)
+          (λ e k. let le = h.1 in omega (arith, le, k))))
           (λ q e. omega (arith, a, e, texts_count c (visited_nodes d settings t decorator w o))))
 
       by : (c : ℕ) (z : Bool) → IfSome (cond z None (lines_from (estimated d settings decorator t) (empty_state d settings decorator w o)))

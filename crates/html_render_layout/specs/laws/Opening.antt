@@ -8,7 +8,8 @@ use Rattle.html_render_nodes.specs.declared.tree.Estimate.{Estimate}
 use Rattle.html_render_nodes.specs.declared.tree.NodeKind.{NodeKind}
 use Rattle.html_render_nodes.specs.declared.tree.NodeKind.TheVariants.{Text, Container, Break, Block, Div, Emphasis}
 use Rattle.html_render_nodes.specs.declared.tree.NodeKind.TheVariants.{Header, BlockQuote, Ul, Ol, ListItem, Dl, Dt, Dd}
-use Rattle.html_render_nodes.specs.declared.tree.NodeKind.TheVariants.{Strikeout, Superscript, Link, Image, Svg, FragmentStart}
+use Rattle.html_render_nodes.specs.declared.tree.NodeKind.TheVariants.{Strikeout, Superscript, Link, Image, Svg, FragmentStart, Table, TableRow}
+use Rattle.html_render_nodes.specs.declared.tree.NodeKind.TheVariants.{TableCell, Part}
 use Rattle.html_render_nodes.specs.declared.tree.RenderNode.{RenderNode}
 use Rattle.html_render_nodes.specs.Pass.{Way, Into, Past, AsksIn, past, through, into, inside_of}
 use Rattle.html_render_nodes.specs.laws.Visits.{opened-asks, asks-same}
@@ -109,6 +110,10 @@ module _ {S A K T B : Type 0} (d : Decoration S A) (push : K → T → A → K �
   kind-told (Image i) e trees children s plain = past-told (kind_closed d push o) children (image d push o i.source i.title s)
   kind-told (Svg title) e trees children s plain = past-told (kind_closed d push o) children (image d push o [] title s)
   kind-told (FragmentStart name) e trees children s plain = past-told (kind_closed d push o) children (Some (marked o name s))
+  kind-told (Table grid) e trees children s plain = and_then_some (children s)
+  kind-told (TableRow slots) e trees children s plain = and_then_some (children s)
+  kind-told TableCell e trees children s plain = and_then_some (children s)
+  kind-told (Part part) e trees children s plain = and_then_some (children s)
 
   -- texts are treated so again
   abbrev back : TextContext T → State → Option State
@@ -206,6 +211,10 @@ module _ {S A K T B : Type 0} (d : Decoration S A) (push : K → T → A → K �
   kind-inside (Image i) e trees s = past-inside (KindClosing S T B) (image d push o i.source i.title s)
   kind-inside (Svg title) e trees s = past-inside (KindClosing S T B) (image d push o [] title s)
   kind-inside (FragmentStart name) e trees s = refl
+  kind-inside (Table grid) e trees s = refl
+  kind-inside (TableRow slots) e trees s = refl
+  kind-inside TableCell e trees s = refl
+  kind-inside (Part part) e trees s = refl
 
   keeping-inside : (item : Option (Outer S T B)) (text : TextContext T) (w : Option (Way State (KindClosing S T B))) →
       option_and_then (λ v. into v) (option_and_then (keeping o item text) w) ≡ option_and_then (λ v. into v) w

@@ -17,7 +17,8 @@ use Rattle.html_render_nodes.specs.declared.tree.Estimate.{Estimate}
 use Rattle.html_render_nodes.specs.declared.tree.NodeKind.{NodeKind}
 use Rattle.html_render_nodes.specs.declared.tree.NodeKind.TheVariants.{Text, Container, Break, Block, Div, Emphasis}
 use Rattle.html_render_nodes.specs.declared.tree.NodeKind.TheVariants.{Header, BlockQuote, Ul, Ol, ListItem, Dl, Dt, Dd}
-use Rattle.html_render_nodes.specs.declared.tree.NodeKind.TheVariants.{Strikeout, Superscript, Link, Image, Svg, FragmentStart}
+use Rattle.html_render_nodes.specs.declared.tree.NodeKind.TheVariants.{Strikeout, Superscript, Link, Image, Svg, FragmentStart, Table, TableRow}
+use Rattle.html_render_nodes.specs.declared.tree.NodeKind.TheVariants.{TableCell, Part}
 use Rattle.html_render_nodes.specs.declared.tree.NodeStyle.{NodeStyle}
 use Rattle.html_render_nodes.specs.declared.tree.RenderNode.{RenderNode}
 use Rattle.html_render_estimates.specs.Estimates.{prefix_columns}
@@ -697,6 +698,10 @@ module _ {S A K T V : Type 0} (d : Decoration S A) (push : K → T → A → K �
     kind-represents (Image i) m trees s e h = image-represents i.source i.title s e h
     kind-represents (Svg title) m trees s e h = image-represents [] title s e h
     kind-represents (FragmentStart name) m trees s e h = (marked-represents name s e h, stays s.stacks)
+    kind-represents (Table grid) m trees s e h = below s e h
+    kind-represents (TableRow slots) m trees s e h = below s e h
+    kind-represents TableCell m trees s e h = below s e h
+    kind-represents (Part part) m trees s e h = below s e h
 
     node-represents : (n : RenderNode) (trees : Forest RenderNode) (s : Worked) (e : Defined S A) → Represents s e →
         Agree (Reached s) (node_steps d push machine.operations n trees f s) (node_steps d onto definition.operations n trees g e)
@@ -788,6 +793,10 @@ module _ {S A K T V : Type 0} (d : Decoration S A) (push : K → T → A → K �
   kind_inside-represents (Image i) m trees s e h = tt
   kind_inside-represents (Svg title) m trees s e h = tt
   kind_inside-represents (FragmentStart name) m trees s e h = tt
+  kind_inside-represents (Table grid) m trees s e h = h
+  kind_inside-represents (TableRow slots) m trees s e h = h
+  kind_inside-represents TableCell m trees s e h = h
+  kind_inside-represents (Part part) m trees s e h = h
 
   node_inside-represents : (n : RenderNode) (trees : Forest RenderNode) (s : Worked) (e : Defined S A) → Represents s e →
       Agree (λ q e. Represents q e) (node_inside d push machine.operations n trees s) (node_inside d onto definition.operations n trees e)

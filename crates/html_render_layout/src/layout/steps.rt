@@ -184,7 +184,11 @@ fn open_kind<D: TextDecorator, G: Tagging<D::Annotation>>(
             add_text(alloc, text.as_str(), state)?;
             Ok(None)
         }
-        NodeKind::Container => Ok(Some(KindClosing::Nothing)),
+        NodeKind::Container
+        | NodeKind::Table(_)
+        | NodeKind::TableRow(_)
+        | NodeKind::TableCell
+        | NodeKind::Part(_) => Ok(Some(KindClosing::Nothing)),
         NodeKind::Break => {
             state.block.new_line_hard()?;
             Ok(None)

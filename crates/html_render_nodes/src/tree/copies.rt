@@ -2,7 +2,7 @@
 
 ghost use Rattle.std.specs.Prelude.{◌≡◌, IfOk, IfErr};
 
-use super::{Entry, Flat, Image, NodeKind, RenderNode, RenderTree};
+use super::{Entry, Flat, Grid, Image, NodeKind, RenderNode, RenderTree, Slots};
 use html_render_dom::Error;
 use std::alloc::Global;
 
@@ -18,9 +18,44 @@ impl Image {
     }
 }
 
+impl Slots {
+    /// Equal slots.
+    ///
+    /// # Errors
+    ///
+    /// `OutOfMemory`.
+    pub fn try_clone(&self, alloc: Global) -> Result<Slots, Error>
+        ensures ok { IfOk result (λ slots. slots ≡ self.now) }
+        ensures err { IfErr result (λ e. e ≡ Error.OutOfMemory) }
+    {
+        let mut slots = Vec::new(alloc);
+        slots.extend_from_slice(self.as_slice())?;
+        Ok(Slots::new(slots))
+    }
+}
+
+impl Grid {
+    /// An equal grid.
+    fn try_clone(&self, alloc: Global) -> Result<Grid, Error>
+        ensures ok { IfOk result (λ grid. grid ≡ self.now) }
+        ensures err { IfErr result (λ e. e ≡ Error.OutOfMemory) }
+    {
+        let mut rows = Vec::with_capacity(alloc, self.rows().len())?;
+        for slots in self.rows() {
+            let copy = slots.try_clone(alloc)?;
+            rows.push(copy)?;
+        }
+        Grid::new(alloc, self.columns(), rows)
+    }
+}
+
 impl NodeKind {
     /// An equal kind.
-    fn try_clone(&self, alloc: Global) -> Result<NodeKind, Error>
+    ///
+    /// # Errors
+    ///
+    /// `OutOfMemory`.
+    pub fn try_clone(&self, alloc: Global) -> Result<NodeKind, Error>
         ensures ok { IfOk result (λ kind. kind ≡ self.now) }
         ensures err { IfErr result (λ e. e ≡ Error.OutOfMemory) }
     {
@@ -45,20 +80,38 @@ impl NodeKind {
             NodeKind::Image(image) => NodeKind::Image(image.try_clone(alloc)?),
             NodeKind::Svg(title) => NodeKind::Svg(title.clone()?),
             NodeKind::FragmentStart(name) => NodeKind::FragmentStart(name.clone()?),
+            NodeKind::Table(grid) => NodeKind::Table(grid.try_clone(alloc)?),
+            NodeKind::TableRow(slots) => NodeKind::TableRow(slots.try_clone(alloc)?),
+            NodeKind::TableCell => NodeKind::TableCell,
+            NodeKind::Part(part) => NodeKind::Part(*part),
         })
     }
 }
 
-/// An equal node.
+impl RenderNode {
+    /// An equal node.
+    ///
+    /// # Errors
+    ///
+    /// `OutOfMemory`.
+    pub fn try_clone(&self, alloc: Global) -> Result<RenderNode, Error>
+        ensures ok { IfOk result (λ node. node ≡ self.now) }
+        ensures err { IfErr result (λ e. e ≡ Error.OutOfMemory) }
+    {
+        Ok(RenderNode {
+            kind: self.kind.try_clone(alloc)?,
+            style: self.style,
+            estimate: self.estimate,
+        })
+    }
+}
+
+/// An equal entry.
 fn copy_of(alloc: Global, entry: &Entry<RenderNode>) -> Result<Entry<RenderNode>, Error>
     ensures ok { IfOk result (λ copy. copy ≡ entry.now) }
     ensures err { IfErr result (λ e. e ≡ Error.OutOfMemory) }
 {
-    let node = RenderNode {
-        kind: entry.node.kind.try_clone(alloc)?,
-        style: entry.node.style,
-        estimate: entry.node.estimate,
-    };
+    let node = entry.node.try_clone(alloc)?;
     Ok(Entry {
         node,
         size: entry.size,

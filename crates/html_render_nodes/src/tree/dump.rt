@@ -5,7 +5,7 @@ ghost use Rattle.std.specs.Fmt.{WritesOnOk};
 ghost use Rattle.html_render_nodes.specs.Dump.{dump, kind_name, line};
 ghost use Rattle.html_render_nodes.specs.Dumping.{end_of, still_open};
 
-use super::{Emphasis, NodeKind, RenderTree};
+use super::{Emphasis, NodeKind, Part, RenderTree};
 use std::alloc::AllocError;
 use std::fmt;
 
@@ -73,6 +73,11 @@ impl NodeKind {
             NodeKind::Image(_) => "Img",
             NodeKind::Svg(_) => "Svg",
             NodeKind::FragmentStart(_) => "FragStart",
+            NodeKind::Table(_) | NodeKind::Part(Part::Table) => "Table",
+            NodeKind::Part(Part::Body | Part::Foot) => "TableBody",
+            NodeKind::TableRow(_) | NodeKind::Part(Part::Row) => "TableRow",
+            NodeKind::TableCell | NodeKind::Part(Part::Cell(_)) => "TableCell",
+            NodeKind::Part(Part::Caption) => "Container",
         }
     }
 }

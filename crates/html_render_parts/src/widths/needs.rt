@@ -2,6 +2,7 @@
 
 ghost use Rattle.std.specs.Prelude.{◌≡◌, ◌<◌, ℕ, length, map, option_map, slice_index, slice_index_or, IfOk, IfErr};
 ghost use Rattle.html_render_parts.specs.Needs.{no_need, size_part, least_part, column_needs, table_widths, AreSome, AreCells};
+ghost use Rattle.html_render_parts.specs.Needs.{cell_stands, cells_stand, standing_widths};
 
 use super::shares::{ColumnNeed, widths_across};
 use super::spans::{Span, greatest_values};
@@ -99,7 +100,7 @@ pub fn column_needs(
 /// # Errors
 ///
 /// `OutOfMemory`.
-#[tactic(auto, using(crate::proofs::Needs::are_needs))]
+#[tactic(auto, using(crate::specs::laws::Needs::are_needs))]
 pub fn table_widths(
     alloc: Global,
     columns: usize,
@@ -112,4 +113,48 @@ pub fn table_widths(
 {
     let needs = column_needs(alloc, columns, cells)?;
     widths_across(alloc, needs.as_slice(), width)
+}
+
+impl CellNeed {
+    /// Whether the cell stands over columns of a table with so many, over one or more, and needs no more at least than its
+    /// size.
+    fn stands(&self, columns: usize) -> bool
+        ensures { result ≡ cell_stands columns self.now }
+    {
+        let Some(end) = self.start.checked_add(self.count) else {
+            return false;
+        };
+        end <= columns && self.count > 0 && self.least <= self.size
+    }
+}
+
+/// Whether each cell stands over columns of a table with so many, and needs no more at least than its size, as
+/// [`table_widths`] asks.
+pub fn cells_stand(columns: usize, cells: &[CellNeed]) -> bool
+    ensures { result ≡ cells_stand columns cells.now }
+{
+    cells.iter().all(|cell| cell.stands(columns))
+}
+
+/// The widths of a table's columns where they stand side by side in `width`, as [`table_widths`] answers them; none also where
+/// a cell doesn't stand over the table's columns, or needs more than its size.
+///
+/// # Errors
+///
+/// `OutOfMemory`.
+#[tactic(auto, using(crate::specs::laws::Needs::cells_are))]
+pub fn standing_widths(
+    alloc: Global,
+    columns: usize,
+    cells: &[CellNeed],
+    width: usize,
+) -> Result<Option<Vec<usize>>, Error>
+    ensures ok { IfOk result (λ widths. option_map (λ all. all.items) widths ≡ standing_widths columns cells.now width) }
+    ensures err { IfErr result (λ e. e ≡ Error.OutOfMemory) }
+{
+    if cells_stand(columns, cells) {
+        table_widths(alloc, columns, cells, width)
+    } else {
+        Ok(None)
+    }
 }

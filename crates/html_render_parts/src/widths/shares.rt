@@ -85,7 +85,7 @@ pub fn stand_side_by_side(needs: &[ColumnNeed], width: usize) -> bool
 /// # Errors
 ///
 /// `OutOfMemory`.
-#[tactic(auto, using(crate::proofs::SharesFit::shares_fit))]
+#[tactic(auto, using(crate::specs::laws::SharesFit::shares_fit))]
 pub fn widths_across(
     alloc: Global,
     needs: &[ColumnNeed],

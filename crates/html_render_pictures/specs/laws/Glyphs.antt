@@ -30,7 +30,7 @@ use Rattle.html_render_lines.specs.Character.{width_of}
 use Rattle.html_render_pictures.specs.declared.picture.Frame.{Frame}
 use Rattle.html_render_pictures.specs.Picture.{joint, separator}
 
-drawn_widths : map width_of (0x20 ∷ 0x2502 ∷ 0x2500 ∷ 0x252C ∷ 0x2534 ∷ 0x253C ∷ []) ≡ 1 ∷ 1 ∷ 1 ∷ 1 ∷ 1 ∷ 1 ∷ []
+drawn_widths : map width_of (0x20 ∷ 0x2502 ∷ 0x2500 ∷ 0x252C ∷ 0x2534 ∷ 0x253C ∷ 0x2F ∷ []) ≡ 1 ∷ 1 ∷ 1 ∷ 1 ∷ 1 ∷ 1 ∷ 1 ∷ []
 unfolding width_of char_width alone kind named_kind named_rows unnamed_kind letter_kind width_kind is_ambiguous
     is_ambiguous_symbol is_jamo_after_lead is_marked_ambiguous is_prepended is_wide is_zero_width value_in in_ranges
     is_regional_indicator is_prepended_concatenation_mark regional_indicator_ranges prepended_concatenation_mark_ranges
@@ -52,3 +52,10 @@ separator_width frame = by frame.borders
     by : (b : Bool) → width_of (cond b 0x2502 0x20) ≡ 1
     by true = ap (λ ws. get_or ws 1 0) drawn_widths
     by false = ap (λ ws. get_or ws 0 0) drawn_widths
+
+-- those of tables whose cells stand one below another
+pub border_width : width_of 0x2500 ≡ 1
+border_width = ap (λ ws. get_or ws 2 0) drawn_widths
+
+pub slash_width : width_of 0x2F ≡ 1
+slash_width = ap (λ ws. get_or ws 6 0) drawn_widths

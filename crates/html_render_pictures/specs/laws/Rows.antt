@@ -2,7 +2,7 @@
 use Rattle.std.proofs.Common.{◌≡◌, ◌++◌, Bool, true, false, cond, Some, None, List, [], ◌∷◌, replicate, refl, sym, ap, ◌∙◌}
 use Rattle.std.proofs.lemmas.List.{append-nil, append_assoc}
 use Rattle.html_render_lines.specs.Line.{Line}
-use Rattle.html_render_blocks.specs.Joined.{marked_before}
+use Rattle.html_render_pictures.specs.Marked.{marked_before}
 use Rattle.html_render_pictures.specs.declared.picture.Frame.{Frame}
 use Rattle.html_render_pictures.specs.Picture.{TableRow, DrawnRow, is_drawn, waiting_in, separators_of, next_separators, drawn_rows}
 use Rattle.html_render_pictures.specs.Picture.{left_waiting, border, row_lines, rows_lines, has_top, top_border, picture}

@@ -6,10 +6,10 @@ use Rattle.std.proofs.lemmas.List.{map-append, length-map}
 use Rattle.html_render_lines.specs.Line.{Line, marks_line}
 use Rattle.html_render_lines.specs.Tags.{element_with, line_with, lines_with}
 use Rattle.html_render_lines.specs.laws.Tags.{if_with, marks-with}
-use Rattle.html_render_blocks.specs.Joined.{marked_before, marked_behind}
-use Rattle.html_render_blocks.specs.Padding.{filled}
-use Rattle.html_render_blocks.specs.laws.BlockTags.{marked_behind-with}
-use Rattle.html_render_blocks.specs.laws.Padding.{filled-with}
+use Rattle.html_render_pictures.specs.Marked.{marked_before, marked_behind}
+use Rattle.html_render_pictures.specs.Padding.{filled}
+use Rattle.html_render_pictures.specs.laws.Lines.{marked_behind-with}
+use Rattle.html_render_pictures.specs.laws.Padding.{filled-with}
 use Rattle.html_render_pictures.specs.declared.picture.Frame.{Frame}
 use Rattle.html_render_pictures.specs.Picture.{KeptCell, TableRow, is_empty, has_lines, is_drawn, waiting_of, waiting_in}
 use Rattle.html_render_pictures.specs.Picture.{separators_of, joint, height, separator, has_top, drawn, border}

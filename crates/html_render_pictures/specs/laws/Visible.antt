@@ -7,10 +7,10 @@ use Rattle.html_render_lines.specs.Line.{Line, marks_line}
 use Rattle.html_render_lines.specs.Visible.{visible_in_line, visible_in_lines, if_visible}
 use Rattle.html_render_lines.specs.laws.Cases.{if_cases}
 use Rattle.html_render_lines.specs.laws.Visible.{visible_in_line-append, visible_in_line-marks}
-use Rattle.html_render_blocks.specs.Joined.{marked_before, marked_behind}
-use Rattle.html_render_blocks.specs.Visible.{count}
-use Rattle.html_render_blocks.specs.laws.BlockVisible.{lines-append, marked_behind_same, count-append}
-use Rattle.html_render_blocks.specs.laws.Padding.{filled-visible}
+use Rattle.html_render_pictures.specs.Marked.{marked_before, marked_behind}
+use Rattle.html_render_pictures.specs.Visible.{count}
+use Rattle.html_render_pictures.specs.laws.Lines.{lines-append, marked_behind_same, count-append}
+use Rattle.html_render_pictures.specs.laws.Padding.{filled-visible}
 use Rattle.html_render_pictures.specs.declared.picture.Frame.{Frame}
 use Rattle.html_render_pictures.specs.Picture.{KeptCell, TableRow, is_empty, has_lines, is_drawn, waiting_in, separators_of, height, separator}
 use Rattle.html_render_pictures.specs.Picture.{drawn, cell_lines, beside, row_lines, picture_lines}

@@ -11,8 +11,8 @@ use Rattle.html_render_lines.specs.declared.line.Element.TheVariants.{Character}
 use Rattle.html_render_lines.specs.Character.{width_of}
 use Rattle.html_render_lines.specs.Line.{Line, columns, element_width, marks_line, AllWithinWidth}
 use Rattle.html_render_lines.specs.laws.Within.{columns-append, columns-marks, width-space}
-use Rattle.html_render_blocks.specs.Joined.{marked_before, marked_behind}
-use Rattle.html_render_blocks.specs.Padding.{spaces, filled_line}
+use Rattle.html_render_pictures.specs.Marked.{marked_before, marked_behind}
+use Rattle.html_render_pictures.specs.Padding.{spaces, filled_line}
 use Rattle.html_render_pictures.specs.declared.picture.Frame.{Frame}
 use Rattle.html_render_pictures.specs.Picture.{KeptCell, TableRow, DrawnRow, is_drawn, waiting_in, drawn_rows, separators_of, next_separators}
 use Rattle.html_render_pictures.specs.Picture.{joint, height, separator, has_top, drawn, border, cell_lines, beside, row_lines, rows_lines}

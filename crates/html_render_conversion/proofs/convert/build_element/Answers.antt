@@ -4,11 +4,20 @@ use Rattle.html_render_dom.specs.Forest.{node}
 use Rattle.std.specs.Result.{OnOk}
 use Rattle.std.proofs.lemmas.Result.{on_ok_weaker}
 use Rattle.html_render_conversion.specs.Converting.{put_mark}
-use Rattle.html_render_conversion.proofs.Closings.{split_held, build-held, build-alone, split_beside, build-beside}
+use Rattle.html_render_conversion.proofs.Closings.{split_outer, split_held, build-lost, build-held, build-alone, split_beside, build-beside}
 use Rattle.html_render_conversion.proofs.convert.build_element.Goals as goal
 use Rattle.html_render_conversion.proofs.convert.build_element.Goals.{else-is_none-via-then-is_none+then-is_none-2+else-inner-outer}
 use Rattle.html_render_conversion.proofs.convert.build_element.Goals.{else-is_none-via-then-is_none+else-is_none-2}
 use Rattle.html_render_conversion.proofs.convert.build_element.Goals.{else-is_none-via-else-is_none}
+
+pub truncate-requires : goal.truncate-requires
+truncate-requires c = split_outer _ _ _ c.requires
+
+pub returns-then-not-admits_insertions-clause-ok : goal.returns-then-not-admits_insertions-clause-ok
+returns-then-not-admits_insertions-clause-ok c =
+    on_ok_weaker c.put.result
+    (build-lost c.args.node c.args.mark c.args.before _ _ _ c.truncate.new.self _ (search rules) c.truncate.ensures)
+    c.put.ensures.ok
 
 pub enclose-requires : goal.enclose-requires
 enclose-requires c =
@@ -18,7 +27,7 @@ enclose-requires c =
 pub returns-then-holds_insertions-clause-ok : goal.returns-then-holds_insertions-clause-ok
 returns-then-holds_insertions-clause-ok c =
     on_ok_weaker c.enclose.result
-    (build-held c.args.node c.args.mark c.args.before _ _ _ c.put_mark.new.builder _ (sym c.holds_insertions.ensures
+    (build-held c.args.node c.args.mark c.args.before _ _ _ c.put_mark.new.builder _ (search rules) (sym c.holds_insertions.ensures
     ∙ c.if-holds_insertions.true) (c.in_ok-put_mark.ensures.ok ∙ ap (put_mark c.args.mark) c.in_ok-put_content.ensures.ok))
     c.enclose.ensures.ok
 

@@ -1,11 +1,18 @@
-use Rattle.std.proofs.Common.{◌≡◌, ◌<◌, suc, [], ◌∷◌, ◌++◌, length, arith, sym, ap, subst, ◌∙◌, map}
+use Rattle.std.proofs.Common.{◌≡◌, ◌<◌, suc, [], ◌∷◌, ◌++◌, length, arith, sym, ap, subst, ◌∙◌, map, Option, Some, None, is_some, Result, Ok, Err, IfErr}
+use Rattle.std.specs.Result.{IsErrAnd}
 use Rattle.html_render_dom.specs.Dom.{children_at}
 use Rattle.html_render_dom.specs.Rules.{rule_of}
-use Rattle.html_render_conversion.specs.Converting.{Progress, NextChild, outline_at, open_node, close_element}
+use Rattle.html_render_dom.specs.declared.errors.Error.{Error}
+use Rattle.html_render_dom.specs.declared.errors.Error.TheVariants.{TooNarrow, Fail, OutOfMemory}
+use Rattle.html_render_parts.specs.Refusal.{Fails}
+use Rattle.html_render_conversion.specs.Conversion.{tree_of_parts}
+use Rattle.html_render_conversion.specs.declared.convert.Open.{Open}
+use Rattle.html_render_conversion.specs.Converting.{Progress, progress, with_result, NextChild, outline_at, open_node, close_element, ClosingAt}
+use Rattle.html_render_conversion.specs.Tables.{placed}
 use Rattle.html_render_conversion.proofs.Conversions.{Converting, Opening, Opening-start, Opening-open_node, Converting-top, Converting-child}
-use Rattle.html_render_conversion.proofs.Conversions.{Closed, Converting-close, Converting-done, work, work-close, work-result, work-child}
+use Rattle.html_render_conversion.proofs.Conversions.{Closed, Converting-close, Converting-done, no_tree, work, work-close, work-result, work-child}
 use Rattle.html_render_conversion.proofs.convert.dom_to_render_tree.Goals as goal
-use Rattle.html_render_conversion.proofs.convert.dom_to_render_tree.Goals.{In-Some, In-Some-pop}
+use Rattle.html_render_conversion.proofs.convert.dom_to_render_tree.Goals.{In-Some, In-Some-pop, In_ok-close_element}
 
 pub converting-init : goal.converting-init
 converting-init c =
@@ -92,14 +99,52 @@ closed c =
     (c.in_default.ensures.over c.pop.new.self.items c.in-Some-pop.element (opened-are c))
     (subst (λ es. Converting rules dom es c.converting.builder) (opened-are c) c.converting.invariant)
 
+pub place_table-requires : goal.place_table-requires
+place_table-requires c = (closed (goal.at.place_table-requires c).In-Some-pop).0
+
+-- a table without a grid leaves the document without a tree
+fails-too : {X Y : Type 0} (e : Error) (o : Option X) (wanted : Option Y) → (o ≡ None → wanted ≡ None) → Fails e o → Fails e wanted
+fails-too TooNarrow o wanted so h = absurd h
+fails-too Fail o wanted so h = so h
+fails-too OutOfMemory o wanted so h = tt
+
+handed : {X Y : Type 0} (r : Result X Error) (e : Error) (wanted : Option Y) → IsErrAnd r (λ f. f ≡ e) → Fails e wanted →
+    IfErr r (λ f. Fails f wanted)
+handed (Ok x) e wanted h fails = tt
+handed (Err f) e wanted h fails = subst (λ g. Fails g wanted) (sym h) fails
+
+pub returns-in_err-place_table-clause-err : goal.returns-in_err-place_table-clause-err
+returns-in_err-place_table-clause-err c =
+    let dom = c.args.dom.now in
+    let rules = map rule_of c.args.rules.now in
+    let done = closed (goal.at.returns-in_err-place_table-clause-err c).In-Some-pop in
+    handed c.from_residual-in_err-place_table.result c.in_err-place_table.field-0.0 (tree_of_parts rules dom)
+    c.from_residual-in_err-place_table.ensures.1
+    (fails-too c.in_err-place_table.field-0.0 _ (tree_of_parts rules dom)
+    (λ none. no_tree rules dom c.get_document.ensures.forest (done.1 none)) (c.in_err-place_table.ensures.err done.0))
+
 pub close_element-requires : goal.close_element-requires
-close_element-requires c = (closed (goal.at.close_element-requires c).In-Some-pop).0
+close_element-requires c =
+    let s = (closed (goal.at.close_element-requires c).In-Some-pop).0 in
+    subst (λ (e : Open). ClosingAt c.converting.builder e.inner e.outer) (sym (c.in_ok-place_table.ensures.ok s).is) s
+
+-- what the element becomes, with its grid
+becomes : (c : In_ok-close_element) → (s : ClosingAt c.converting.builder c.in-Some-pop.element.inner c.in-Some-pop.element.outer) →
+    progress c.close_element.new.elements c.close_element.new.builder
+    ≡ with_result (close_element (record c.in-Some-pop.element { node = placed c.in-Some-pop.element.node s.children }) s.after s.children)
+    (progress c.pop.new.self s.beside)
+becomes c s =
+    let built = c.converting.builder in
+    let ok = subst (λ (e : Open). (r : ClosingAt built e.inner e.outer) → progress c.close_element.new.elements c.close_element.new.builder
+    ≡ with_result (close_element e r.after r.children) (progress c.pop.new.self r.beside))
+    (c.in_ok-place_table.ensures.ok s).is c.in_ok-close_element.ensures.ok in
+    ok s
 
 pub converting-preserved : goal.converting-preserved
 converting-preserved c =
     let done = closed (goal.at.converting-preserved c).In-Some-pop in
     subst (λ (q : Progress). Converting (map rule_of c.args.rules.now) c.args.dom.now q.open_elements q.made_nodes)
-    (sym (c.in_ok-close_element.ensures.ok done.0)) done.1
+    (sym (becomes c done.0)) (done.2 (ap is_some (c.in_ok-place_table.ensures.ok done.0).grid))
 
 pub converting-smaller : goal.converting-smaller
 converting-smaller c =
@@ -107,10 +152,10 @@ converting-smaller c =
     let element = c.in-Some-pop.element in
     let s = (closed (goal.at.converting-smaller c).In-Some-pop).0 in
     let p : Progress = record { open_elements = c.pop.new.self.items; made_nodes = s.beside } in
-    let r = close_element element s.after s.children in
+    let r = close_element (record element { node = placed element.node s.children }) s.after s.children in
     omega (
       arith,
-      ap (λ (q : Progress). work dom q.open_elements) (c.in_ok-close_element.ensures.ok s),
+      ap (λ (q : Progress). work dom q.open_elements) (becomes c s),
       work-result dom r p,
       work-close dom c.pop.new.self.items element,
       ap (work dom) (opened-are (goal.at.converting-smaller c).In-Some-pop),
@@ -123,4 +168,4 @@ returns-in_default-pop-clause-ok c =
     let rules = map rule_of c.args.rules.now in
     let empty : length c.converting.open.items ≡ 0 =
     omega (arith, c.in_default-pop.ensures.cases, ap length c.in_default.ensures.same) in
-    c.from.ensures ∙ Converting-done rules dom c.get_document.ensures.forest _ _ empty c.converting.invariant
+    Converting-done rules dom c.get_document.ensures.forest _ _ empty c.converting.invariant ∙ ap Some (sym c.from.ensures)

@@ -1,7 +1,8 @@
 use Rattle.std.proofs.Common.{◌≡◌, sym, subst, ◌∙◌, rules}
 use Rattle.std.proofs.lemmas.Option.{same_Some}
 use Rattle.html_render_dom.specs.declared.errors.Error.TheVariants.{OutOfMemory}
-use Rattle.html_render_drafts.specs.Finish.{mapped, Fails}
+use Rattle.html_render_drafts.specs.Finish.{mapped}
+use Rattle.html_render_parts.specs.Refusal.{Fails}
 use Rattle.html_render_drafts.specs.Store.{planted}
 use Rattle.html_render_drafts.specs.laws.Finish.{placed-mapped, Fails-Some}
 use Rattle.html_render_drafts.proofs.finish.finish.Goals as goal

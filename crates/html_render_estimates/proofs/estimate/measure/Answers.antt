@@ -1,48 +1,15 @@
-use Rattle.std.proofs.Common.{ap, ◌∙◌, arith}
+use Rattle.std.proofs.Common.{ap, ◌∙◌}
 use Rattle.html_render_nodes.specs.Preorder.{flatten}
-use Rattle.html_render_estimates.proofs.Measuring.{Measuring-start, Measuring-at, Measuring-done, Found-part, Found-next}
+use Rattle.html_render_estimates.proofs.Again.{done}
 use Rattle.html_render_estimates.proofs.estimate.measure.Goals as goal
 
-pub loop-at-init : goal.loop-at-init
-loop-at-init g c =
-    Measuring-start g.D.TextDecorator.decoration c.args.decorator.now c.args.min_wrap_width c.args.tree c.into_entries-entries.result.items
-    c.len-at.result (c.into_entries-entries.ensures ∙ ap flatten c.into_nodes.ensures)
-    (omega (arith, c.len-at.ensures, c.into_entries-entries.result.ok.0))
-
-pub overflow_add-below-in-loop-at : goal.overflow_add-below-in-loop-at
-overflow_add-below-in-loop-at g c =
-    let f = Measuring-at _ _ _ _ _ _ _ _ c.loop-at.invariant c.loop-at-test.true c.as_slice-all.ensures.value c.index-all-at.is in
-    omega (arith, f.end, c.loop-at.entries.ok.0)
-
-pub slice_bounds-below-count : goal.slice_bounds-below-count
-slice_bounds-below-count g c =
-    let f = Measuring-at _ _ _ _ _ _ _ _ c.loop-at.invariant c.loop-at-test.true c.as_slice-all.ensures.value c.index-all-at.is in
-    omega (arith, f.size)
-
-pub slice_bounds-below-start : goal.slice_bounds-below-start
-slice_bounds-below-start g c =
-    let f = Measuring-at _ _ _ _ _ _ _ _ c.loop-at.invariant c.loop-at-test.true c.as_slice-all.ensures.value c.index-all-at.is in
-    omega (arith, f.size)
-
-pub slice_bounds-below-end : goal.slice_bounds-below-end
-slice_bounds-below-end g c =
-    let f = Measuring-at _ _ _ _ _ _ _ _ c.loop-at.invariant c.loop-at-test.true c.as_slice-all.ensures.value c.index-all-at.is in
-    omega (arith, f.end, c.as_slice-all.ensures.len, c.loop-at.entries.ok.0)
-
-pub estimate_of-requires : goal.estimate_of-requires
-estimate_of-requires g c =
-    let f = Measuring-at _ _ _ _ _ _ _ _ c.loop-at.invariant c.loop-at-test.true c.as_slice-all.ensures.value c.index-all-at.is in
-    (Found-part _ _ _ _ _ _ _ _ _ f c.as_slice-all.ensures.value (omega arith)).kept
-
-pub loop-at-preserved : goal.loop-at-preserved
-loop-at-preserved g c =
-    let e = c.index-all-at.result in
-    let f = Measuring-at _ _ _ _ _ _ _ _ c.loop-at.invariant c.loop-at-test.true c.as_slice-all.ensures.value c.index-all-at.is in
-    Found-next _ _ _ _ _ _ _ _ e c.index_mut.result.now c.in_ok-estimate.estimate f c.as_slice-all.ensures.value (omega arith)
-    c.in_ok-estimate.ensures.ok c.index-all-at.is c.index_mut.ensures.value
-
 pub from_entries-requires : goal.from_entries-requires
-from_entries-requires g c = (Measuring-done _ _ _ _ _ _ c.loop-at.invariant (omega arith)).kept
+from_entries-requires g c =
+    (done g.D.TextDecorator.decoration c.args.decorator.now c.args.min_wrap_width c.args.tree _ _
+    (c.into_entries-entries.ensures ∙ ap flatten c.into_nodes.ensures) c.in_ok-measure_nodes.ensures.ok).kept
 
 pub returns-clause-ok : goal.returns-clause-ok
-returns-clause-ok g c = c.from.ensures ∙ c.from_entries.ensures ∙ (Measuring-done _ _ _ _ _ _ c.loop-at.invariant (omega arith)).is
+returns-clause-ok g c =
+    c.from.ensures ∙ c.from_entries.ensures
+    ∙ (done g.D.TextDecorator.decoration c.args.decorator.now c.args.min_wrap_width c.args.tree _ _
+    (c.into_entries-entries.ensures ∙ ap flatten c.into_nodes.ensures) c.in_ok-measure_nodes.ensures.ok).is

@@ -1,5 +1,5 @@
 use Rattle.std.proofs.Common.{◌≡◌, ◌++◌, [], replicate}
-use Rattle.html_render_blocks.specs.Joined.{marked_behind}
+use Rattle.html_render_pictures.specs.Marked.{marked_behind}
 use Rattle.html_render_pictures.proofs.line.fill_block.Given as goal
 
 abbrev pub invariant-loop-k : goal.invariant-loop-k

@@ -1,0 +1,6 @@
+mod Placing
+mod Picking
+mod Inserting
+mod Grids
+mod Captions
+mod Stacking

@@ -1,0 +1,73 @@
+-- What stands in a row of a table: its cells, placeholders and gaps over the table's columns.
+use Rattle.std.specs.Prelude.{ℕ, ◌+◌, ◌-◌, ◌==◌, Bool, true, false, List, [], ◌∷◌, ◌++◌, length, sum, take, drop}
+use Rattle.std.specs.Prelude.{Option, Some, None, flat_map, if◌then◌else◌}
+use Rattle.std.specs.List.{list_any}
+use Rattle.html_render_parts.specs.declared.table.CellKind.{CellKind}
+use Rattle.html_render_parts.specs.declared.table.CellKind.TheVariants.{Cell, Placeholder, Gap}
+use Rattle.html_render_nodes.specs.declared.tree.Slot.{Slot}
+use Rattle.html_render_pictures.specs.Picture.{KeptCell, TableRow}
+use Rattle.html_render_blocks.specs.declared.block.tables.RowPlace.{RowPlace}
+
+-- the columns of a cell over these columns, and of the separators that it covers; none where all of its columns are empty
+abbrev pub cell_width : List ℕ → Option ℕ
+cell_width columns = if sum columns == 0 then None else Some (sum columns + (length columns - 1))
+
+-- a cell of the row itself, and one of a row above it
+abbrev pub is_cell : CellKind → Bool
+is_cell Cell = true
+is_cell Placeholder = false
+is_cell Gap = false
+
+abbrev pub is_placeholder : CellKind → Bool
+is_placeholder Cell = false
+is_placeholder Placeholder = true
+is_placeholder Gap = false
+
+-- the places of a row over columns of these widths
+abbrev pub places : (widths : List ℕ) → List Slot → List RowPlace
+places widths [] = []
+places widths (s ∷ ss) =
+    record { is_cell = is_cell s.kind; width = cell_width (take s.columns widths) } ∷ places (drop s.columns widths) ss
+
+abbrev pub has_placeholder : List Slot → Bool
+has_placeholder slots = list_any (λ s. is_placeholder s.kind) slots
+
+-- the columns of the next cell of a row, unless it is skipped
+abbrev pub next_width : List RowPlace → Option ℕ
+next_width [] = None
+next_width (p ∷ ps) = if p.is_cell then p.width else next_width ps
+
+-- the places behind the next cell
+abbrev pub behind_cell : List RowPlace → List RowPlace
+behind_cell [] = []
+behind_cell (p ∷ ps) = if p.is_cell then ps else behind_cell ps
+
+-- a place in which nothing stands
+abbrev pub empty_cell : {T M : Type 0} → Option ℕ → List (KeptCell T M)
+empty_cell None = []
+empty_cell (Some width) = record { width = width; lines = []; marks = [] } ∷ []
+
+abbrev pub empty_cells : {T M : Type 0} → List RowPlace → List (KeptCell T M)
+empty_cells ps = flat_map (λ p. empty_cell p.width) ps
+
+-- the places before the next cell
+abbrev pub before_cell : List RowPlace → List RowPlace
+before_cell [] = []
+before_cell (p ∷ ps) = if p.is_cell then [] else p ∷ before_cell ps
+
+-- a row that is open: the places ahead, the kept cells before them, and whether a placeholder is among all of its cells
+pub record OpenRow (T M : Type 0) : Type 0 where
+  pub ahead : List RowPlace
+  pub cells : List (KeptCell T M)
+  pub placeholder : Bool
+
+abbrev pub open_row : {T M : Type 0} → (widths : List ℕ) → List Slot → OpenRow T M
+open_row widths slots = record { ahead = places widths slots; cells = []; placeholder = has_placeholder slots }
+
+-- with its next cell, or without that
+abbrev pub with_cell : {T M : Type 0} → OpenRow T M → List (KeptCell T M) → OpenRow T M
+with_cell r cell = record { ahead = behind_cell r.ahead; cells = r.cells ++ empty_cells (before_cell r.ahead) ++ cell; placeholder = r.placeholder }
+
+-- the whole row: places that no cell came to are empty
+abbrev pub whole_row : {T M : Type 0} → OpenRow T M → TableRow T M
+whole_row r = record { cells = r.cells ++ empty_cells r.ahead; has_placeholder = r.placeholder }

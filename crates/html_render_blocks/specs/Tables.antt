@@ -1,0 +1,75 @@
+-- The table that is open in a block: its cells stand side by side, or one below another.
+use Rattle.std.specs.Prelude.{ℕ, ◌+◌, ◌-◌, ◌==◌, Bool, false, not, ◌&&◌, List, [], ◌∷◌, ◌++◌, sum, count_by}
+use Rattle.std.specs.Prelude.{Option, Some, None, replicate, if◌then◌else◌}
+use Rattle.html_render_lines.specs.declared.line.Element.TheVariants.{Character}
+use Rattle.html_render_lines.specs.Line.{Line}
+use Rattle.html_render_nodes.specs.declared.tree.Slot.{Slot}
+use Rattle.html_render_pictures.specs.declared.picture.Frame.{Frame}
+use Rattle.html_render_pictures.specs.Picture.{TableRow, picture}
+use Rattle.html_render_pictures.specs.Drawing as drawing
+use Rattle.html_render_pictures.specs.Drawing.{Drawing}
+use Rattle.html_render_blocks.specs.declared.block.tables.OpenTable.{OpenTable}
+use Rattle.html_render_blocks.specs.declared.block.tables.OpenTable.TheVariants.{Across, Stacked}
+use Rattle.html_render_blocks.specs.OpenRows.{OpenRow, next_width, open_row, with_cell, whole_row}
+
+-- what pictures are made of
+pub record Pictures (P T M : Type 0) : Type 0 where
+  pub begun : Frame T → (waiting : List M) → P
+  pub with_row : P → TableRow T M → P
+  pub finished : P → List (Line T M) × List M
+
+-- a picture as all of its rows, behind marks that wait
+pub record Rows (T M : Type 0) : Type 0 where
+  pub frame : Frame T
+  pub waiting : List M
+  pub rows : List (TableRow T M)
+
+abbrev pub defined_pictures : {T M : Type 0} → Pictures (Rows T M) T M
+defined_pictures = record {
+  begun = λ frame waiting. record { frame = frame; waiting = waiting; rows = [] };
+  with_row = λ p r. record p { rows = p.rows ++ r ∷ [] };
+  finished = λ p. picture p.frame p.waiting p.rows;
+}
+
+-- and as the machine draws it, row by row
+abbrev pub drawn_pictures : {T M : Type 0} → Pictures (Drawing T M) T M
+drawn_pictures = record { begun = drawing.begun; with_row = drawing.with_row; finished = drawing.finished }
+
+-- the columns of a table: those of its columns, and the separators between the ones that aren't empty
+abbrev pub table_width : List ℕ → ℕ
+table_width widths = sum widths + (count_by (λ w. not (w == 0)) widths - 1)
+
+-- how a table is framed
+abbrev pub frame_of : {T : Type 0} → T → (borders : Bool) → List ℕ → Frame T
+frame_of tag borders widths = record { borders = borders; width = table_width widths; tag = tag }
+
+-- a line of one character, under a tag
+abbrev pub rule : {T M : Type 0} → T → (character width : ℕ) → Line T M
+rule tag character width = replicate width (Character character tag)
+
+-- the tag of the borders of a table whose cells stand one below another, if they are drawn
+abbrev pub stacked_border : {T : Type 0} → T → (borders : Bool) → (width : ℕ) → Option T
+stacked_border tag borders width = if borders && not (width == 0) then Some tag else None
+
+-- a table with another row: one that is open goes on
+abbrev pub with_row_open : {P T M : Type 0} → List Slot → OpenTable P T M → OpenTable P T M
+with_row_open slots (Across picture widths None) = Across picture widths (Some (open_row widths slots))
+with_row_open slots (Across picture widths (Some row)) = Across picture widths (Some row)
+with_row_open slots (Stacked border has_lines) = Stacked border false
+
+-- the columns of its next cell's block, unless the cell is skipped; in a block of this width
+abbrev pub next_cell_width : {P T M : Type 0} → (width : ℕ) → Option (OpenTable P T M) → Option ℕ
+next_cell_width width (Some (Across picture widths (Some row))) = next_width row.ahead
+next_cell_width width _ = Some width
+
+-- a table without its next cell
+abbrev pub skipped : {P T M : Type 0} → OpenTable P T M → OpenTable P T M
+skipped (Across picture widths (Some row)) = Across picture widths (Some (with_cell row []))
+skipped (Across picture widths None) = Across picture widths None
+skipped (Stacked border has_lines) = Stacked border has_lines
+
+module _ {P T M : Type 0} (pictures : Pictures P T M) where
+  -- a picture with the row that is open, if one is
+  abbrev pub with_open : P → Option (OpenRow T M) → P
+  with_open picture None = picture
+  with_open picture (Some row) = pictures.with_row picture (whole_row row)

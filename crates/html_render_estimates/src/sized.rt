@@ -1,0 +1,99 @@
+//! The sizes of nodes, and the estimates of tables, which stand on them.
+
+ghost use Rattle.std.specs.Prelude.{◌≡◌, ◌*◌, ◌/◌, sum_by, IfOk, IfErr};
+ghost use Rattle.html_render_parts.specs.Needs.{AreSome};
+ghost use Rattle.html_render_nodes.specs.Preorder.{flatten, forest_of};
+ghost use Rattle.html_render_estimates.specs.TextSize.{saturated};
+ghost use Rattle.html_render_estimates.specs.Cells.{cell_needs};
+ghost use Rattle.html_render_estimates.specs.Estimates.{trees, total_size, node_size, table_estimate};
+
+use crate::cells::{are_cells, cell_needs};
+use crate::estimate::{children_of, image_size_within};
+use crate::text::size_within;
+use crate::trees::first_tree;
+use html_render_dom::Error;
+use html_render_nodes::tree::{Entry, Estimate, NodeKind, RenderNode};
+use html_render_parts::widths::{CellNeed, ColumnNeed, column_needs};
+use std::alloc::Global;
+
+/// The sizes of trees together.
+fn total_size(trees: &[Entry<RenderNode>]) -> usize
+    requires { flatten (forest_of trees.now) ≡ trees.now }
+    ensures { result ≡ total_size (forest_of trees.now) }
+{
+    let mut size: usize = 0;
+    let mut rest = trees;
+    while let Some(first) = first_tree(rest) {
+        size = size.saturating_add(first.node.estimate.size);
+        rest = first.beside;
+    }
+    size
+}
+
+/// The size of a node that isn't a table, over measured ones, with this prefix.
+pub fn node_size(kind: &NodeKind, below: &[Entry<RenderNode>], prefix: usize) -> usize
+    requires { flatten (forest_of below.now) ≡ below.now }
+    ensures { result ≡ node_size kind.now (total_size (forest_of below.now)) prefix }
+{
+    match kind {
+        NodeKind::Text(text) | NodeKind::Svg(text) => size_within(text.as_str(), usize::MAX),
+        NodeKind::Break => 1,
+        NodeKind::Image(image) => image_size_within(image.title().as_str(), usize::MAX),
+        NodeKind::FragmentStart(_) => 0,
+        NodeKind::Link(_) => total_size(below).saturating_add(5),
+        _ => total_size(below).saturating_add(prefix),
+    }
+}
+
+/// The sizes of cells together, each as many columns as its columns have of it, in equal parts that are rounded down.
+fn size_of_cells(cells: &[CellNeed]) -> usize
+    requires { AreSome cells.now }
+    ensures { result ≡ saturated (sum_by (λ c. c.size / c.count * c.count) cells.now) }
+{
+    let mut size: usize = 0;
+    for cell in cells {
+        size = size.saturating_add(cell.size / cell.count * cell.count);
+    }
+    size
+}
+
+/// What columns need at least, together.
+fn least_of_columns(needs: &[ColumnNeed]) -> usize
+    ensures { result ≡ saturated (sum_by (λ n. n.least) needs.now) }
+{
+    let mut least: usize = 0;
+    for need in needs {
+        least = least.saturating_add(need.least);
+    }
+    least
+}
+
+/// The estimate of a table of so many columns over its measured rows.
+pub fn table_estimate(
+    alloc: Global,
+    columns: usize,
+    rows: &[Entry<RenderNode>],
+) -> Result<Estimate, Error>
+    requires { flatten (forest_of rows.now) ≡ rows.now }
+    ensures ok { IfOk result (λ e. e ≡ table_estimate columns (cell_needs (forest_of rows.now)) (trees (forest_of rows.now))) }
+    ensures err { IfErr result (λ e. e ≡ Error.OutOfMemory) }
+{
+    let children = children_of(rows).count;
+    let cells = cell_needs(alloc, rows)?;
+    if !are_cells(columns, cells.as_slice()) {
+        return Ok(Estimate {
+            least: 0,
+            size: 0,
+            prefix: 0,
+            children,
+        });
+    }
+    let needs = column_needs(alloc, columns, cells.as_slice())?;
+    let between = columns.saturating_sub(1);
+    Ok(Estimate {
+        least: least_of_columns(needs.as_slice()).saturating_add(between),
+        size: size_of_cells(cells.as_slice()).saturating_add(between),
+        prefix: 0,
+        children,
+    })
+}

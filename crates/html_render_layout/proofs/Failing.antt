@@ -1,0 +1,22 @@
+-- What a walk counted is what a call counted that failed with it.
+use Rattle.std.proofs.Common.{Result, Ok, Err}
+use Rattle.std.specs.Result.{IsErrAnd}
+use Rattle.html_render_dom.specs.Forest.{Forest}
+use Rattle.html_render_parts.specs.declared.widths.Meter.{Meter}
+use Rattle.html_render_nodes.specs.Counts.{CountsNodes}
+use Rattle.html_render_nodes.specs.Pass.{Steps, Inside}
+
+pub counts-failed : {X Y E K S : Type 0} (r : Result X E) (q : Result Y E) (Q : E → Type 0) → IsErrAnd q Q → (steps : Steps K S)
+    (inside : Inside K S) (t : Forest K) (s : S) (old new : Meter) → CountsNodes r steps inside t s old new →
+    CountsNodes q steps inside t s old new
+counts-failed r (Ok x) Q h steps inside t s old new c = absurd h
+counts-failed r (Err e) Q h steps inside t s old new c = record {
+  asks = c.asks;
+  entered = tt;
+  left = tt;
+  entered_at_most = c.entered_at_most;
+  left_at_most = c.left_at_most;
+  visited_at_most = c.visited_at_most;
+  frames_at_most = c.frames_at_most;
+  probes = c.probes;
+}

@@ -1,0 +1,88 @@
+-- What padding leaves as it is.
+use Rattle.std.proofs.Common.{◌≡◌, ℕ, suc, zero, ◌+◌, ◌-◌, ◌≤◌, List, [], ◌∷◌, ◌++◌, map, Option, Some, None, option_map, refl, sym, ap, ◌∙◌, arith, append-nil}
+use Rattle.std.proofs.lemmas.List.{map-append, replicate-append-replicate}
+use Rattle.std.proofs.lemmas.List.Elements.{All-nil, All-cons, All-head, All-tail}
+use Rattle.html_render_lines.specs.declared.line.Element.TheVariants.{Character}
+use Rattle.html_render_lines.specs.Character.{width_of}
+use Rattle.html_render_lines.specs.Line.{Line, columns, AllWithinWidth}
+use Rattle.html_render_lines.specs.Tags.{element_with, line_with, lines_with}
+use Rattle.html_render_lines.specs.Visible.{is_visible, visible_in_line, visible_in_lines}
+use Rattle.html_render_lines.specs.laws.Tags.{columns-with}
+use Rattle.html_render_lines.specs.laws.Visible.{visible_in_line-append}
+use Rattle.html_render_lines.specs.laws.Within.{columns-append, width-space}
+use Rattle.html_render_pictures.specs.Padding.{spaces, filled_line, filled}
+
+-- ---- under whatever tags
+
+spaces-with : {T U M : Type 0} (f : T → U) (tag : T) (n : ℕ) →
+    line_with f (spaces {M = M} tag n) ≡ spaces (f tag) n
+spaces-with f tag zero = refl
+spaces-with f tag (suc n) = ap (λ l. Character 32 (f tag) ∷ l) (spaces-with f tag n)
+
+filled_line-with : {T U M : Type 0} (f : T → U) (tag : T) (w : ℕ) (l : Line T M) →
+    line_with f (filled_line tag w l) ≡ filled_line (f tag) w (line_with f l)
+filled_line-with f tag w l =
+    map-append (element_with f) l (spaces tag (w - columns l))
+    ∙ ap (λ x. line_with f l ++ x) (spaces-with f tag (w - columns l))
+    ∙ ap (λ n. line_with f l ++ spaces (f tag) (w - n)) (sym (columns-with f l))
+
+pub filled-with : {T U M : Type 0} (f : T → U) (padding : Option T) (w : ℕ) (ls : List (Line T M)) →
+    lines_with f (filled padding w ls) ≡ filled (option_map f padding) w (lines_with f ls)
+filled-with f None w ls = refl
+filled-with {T} {U} {M} f (Some tag) w ls = by ls
+  where
+    by : (ls : List (Line T M)) → lines_with f (map (filled_line tag w) ls) ≡ map (filled_line (f tag) w) (lines_with f ls)
+    by [] = refl
+    by (l ∷ ls) = ap (λ x. x ∷ lines_with f (map (filled_line tag w) ls)) (filled_line-with f tag w l)
+        ∙ ap (λ xs. filled_line (f tag) w (line_with f l) ∷ xs) (by ls)
+
+-- ---- a line that is within the width stays so
+
+-- a space has one column
+pub space_is_one : width_of 32 ≡ 1
+space_is_one = width-space
+
+spaces-columns : {T : Type 0} (M : Type 0) (tag : T) (n : ℕ) → columns (spaces {M = M} tag n) ≡ n
+spaces-columns M tag zero = refl
+spaces-columns M tag (suc n) =
+    let e = columns-append {M = M} (Character 32 tag ∷ []) (spaces tag n) in omega (arith, e, spaces-columns M tag n, width-space)
+
+filled_line-within : {T M : Type 0} (tag : T) (w : ℕ) (l : Line T M) → columns l ≤ w → columns (filled_line tag w l) ≤ w
+filled_line-within {T} {M} tag w l h =
+    omega (arith, h, columns-append l (spaces tag (w - columns l)), spaces-columns M tag (w - columns l))
+
+pub filled-within : {T M : Type 0} (padding : Option T) (w : ℕ) (ls : List (Line T M)) → AllWithinWidth w ls →
+    AllWithinWidth w (filled padding w ls)
+filled-within None w ls h = h
+filled-within {T} {M} (Some tag) w ls h = by ls h
+  where
+    by : (ls : List (Line T M)) → AllWithinWidth w ls → AllWithinWidth w (map (filled_line tag w) ls)
+    by [] h = All-nil (λ (l : Line T M). columns l ≤ w)
+    by (l ∷ ls) h =
+        All-cons (λ (l : Line T M). columns l ≤ w) (filled_line tag w l) (map (filled_line tag w) ls)
+        (filled_line-within tag w l (All-head (λ (l : Line T M). columns l ≤ w) l ls h))
+        (by ls (All-tail (λ (l : Line T M). columns l ≤ w) l ls h))
+
+-- one space more
+pub space_more : {T : Type 0} (M : Type 0) (tag : T) (n : ℕ) → spaces {M = M} tag n ++ spaces tag 1 ≡ spaces tag (n + 1)
+space_more M tag n = replicate-append-replicate n 1 (Character 32 tag)
+
+-- ---- spaces aren't visible
+
+spaces-visible : {T : Type 0} (M : Type 0) (tag : T) (n : ℕ) → visible_in_line (spaces {M = M} tag n) ≡ []
+unfolding is_visible
+spaces-visible M tag zero = refl
+spaces-visible M tag (suc n) = spaces-visible M tag n
+
+pub filled-visible : {T M : Type 0} (padding : Option T) (w : ℕ) (ls : List (Line T M)) →
+    visible_in_lines (filled padding w ls) ≡ visible_in_lines ls
+filled-visible None w ls = refl
+filled-visible {T} {M} (Some tag) w ls = by ls
+  where
+    line : (l : Line T M) → visible_in_line (filled_line tag w l) ≡ visible_in_line l
+    line l = visible_in_line-append l (spaces tag (w - columns l))
+        ∙ ap (λ r. visible_in_line l ++ r) (spaces-visible M tag (w - columns l)) ∙ append-nil (visible_in_line l)
+
+    by : (ls : List (Line T M)) → visible_in_lines (map (filled_line tag w) ls) ≡ visible_in_lines ls
+    by [] = refl
+    by (l ∷ ls) = ap (λ r. r ++ visible_in_lines (map (filled_line tag w) ls)) (line l) ∙ ap (λ r. visible_in_line l ++ r) (by ls)
