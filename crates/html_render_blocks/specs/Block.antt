@@ -23,10 +23,11 @@ use Rattle.html_render_blocks.specs.declared.block.tables.OpenTable.{OpenTable}
 use Rattle.html_render_blocks.specs.declared.block.tables.OpenTable.TheVariants.{Across, Stacked}
 use Rattle.html_render_blocks.specs.OpenRows.{with_cell}
 use Rattle.html_render_blocks.specs.Tables.{Rows, defined_pictures, frame_of, rule, stacked_border, with_row_open, next_cell_width, skipped}
-use Rattle.html_render_blocks.specs.Tables.{with_open}
+use Rattle.html_render_blocks.specs.Tables.{with_open, picture_of}
 use Rattle.html_render_parts.specs.declared.widths.needs.CellNeed.{CellNeed}
 use Rattle.html_render_parts.specs.Needs.{standing_widths}
 use Rattle.html_render_nodes.specs.declared.tree.Slot.{Slot}
+use Rattle.html_render_nodes.specs.Grids.{GridRows}
 use Rattle.html_render_pictures.specs.Padding.{filled}
 use Rattle.html_render_pictures.specs.Picture.{KeptCell, is_empty}
 
@@ -148,7 +149,7 @@ with_picture d p = add_marks (record d { lines = d.lines ++ p.0; table = None })
 -- the table that is open is over, if one is
 abbrev pub end_open : {T M : Type 0} → DefinedBlock T M → Option (OpenTable (Rows T M) T M) → DefinedBlock T M
 end_open d None = d
-end_open d (Some (Across picture widths row)) = with_picture d (defined_pictures.finished (with_open defined_pictures picture row))
+end_open d (Some (Across picture widths below row)) = with_picture d (picture_of defined_pictures picture widths below row)
 end_open d (Some (Stacked border has_lines)) = record d { table = None }
 
 abbrev pub end_table : {T M : Type 0} → DefinedBlock T M → DefinedBlock T M
@@ -171,17 +172,17 @@ add_border d (Some tag) character = add_rule d tag character
 abbrev pub stacked_begun : {T M : Type 0} → DefinedBlock T M → Option T → DefinedBlock T M
 stacked_begun d border = record (add_border d border 0x2500) { table = Some (Stacked border false) }
 
-abbrev pub table_begun : {T M : Type 0} → DefinedBlock T M → T → (borders : Bool) → Option (List ℕ) → DefinedBlock T M
-table_begun d tag borders None = stacked_begun d (stacked_border tag borders d.setting.width)
-table_begun d tag borders (Some widths) =
-    record d { marks = []; table = Some (Across (defined_pictures.begun (frame_of tag borders widths) d.marks) widths None) }
+abbrev pub table_begun : {T M : Type 0} → DefinedBlock T M → T → (borders : Bool) → (below : List (List Slot)) → Option (List ℕ) → DefinedBlock T M
+table_begun d tag borders below None = stacked_begun d (stacked_border tag borders d.setting.width)
+table_begun d tag borders below (Some widths) =
+    record d { marks = []; table = Some (Across (defined_pictures.begun (frame_of tag borders widths) d.marks) widths below None) }
 
--- a table of so many columns begins, with borders under this tag if there are any. Its cells need so much, and stand one below
+-- a table begins on this grid, with borders under this tag if there are any. Its cells need so much, and stand one below
 -- another where the columns can't stand side by side, or where they are to
-abbrev pub begin_table : {T M : Type 0} → DefinedBlock T M → T → (borders stacked : Bool) → (columns : ℕ) → List CellNeed →
+abbrev pub begin_table : {T M : Type 0} → DefinedBlock T M → T → (borders stacked : Bool) → GridRows → List CellNeed →
     Option (DefinedBlock T M)
-begin_table {T} {M} d tag borders stacked columns cells = option_map
-    (λ (e : DefinedBlock T M). table_begun e tag borders (if stacked then None else standing_widths columns cells e.setting.width))
+begin_table {T} {M} d tag borders stacked grid cells = option_map
+    (λ (e : DefinedBlock T M). table_begun e tag borders grid.rows (if stacked then None else standing_widths grid.columns cells e.setting.width))
     (flush (end_table d))
 
 -- a row begins, in which this stands
@@ -201,29 +202,30 @@ skip_cell d = record d { table = option_map skipped d.table }
 abbrev pub kept_cell : {T M : Type 0} → DefinedBlock T M → KeptCell T M
 kept_cell d = record { width = d.setting.width; lines = d.lines; marks = d.marks }
 
+-- lines behind the block's own: the marks that wait in it stand before them, and others at their end. Where there are no lines,
+-- all of them wait
+abbrev pub put_lines : {T M : Type 0} → DefinedBlock T M → List (Line T M) → List M → DefinedBlock T M
+put_lines d [] ms = add_marks d ms
+put_lines d (l ∷ ls) ms = add_lines d (marked_behind ms (l ∷ ls))
+
 -- the lines of a flushed block behind the block's own
-abbrev pub put_below : {T M : Type 0} → DefinedBlock T M → DefinedBlock T M → Option (DefinedBlock T M)
-put_below d cell = append_lines d [] [] cell.lines cell.marks
+abbrev pub put_below : {T M : Type 0} → DefinedBlock T M → DefinedBlock T M → DefinedBlock T M
+put_below d cell = put_lines d cell.lines cell.marks
 
 -- a cell below others of its row: where there are lines above it and it has some more, a line of `/` stands between them
-abbrev pub put_stacked : {T M : Type 0} → DefinedBlock T M → Option T → (has_lines more : Bool) → DefinedBlock T M → Option (DefinedBlock T M)
-put_stacked {T} {M} d border has_lines more cell = option_map
-    (λ (e : DefinedBlock T M). record e { table = Some (Stacked border (has_lines || more)) })
-    (put_below (if has_lines && more then add_border d border 0x2F else d) cell)
+abbrev pub put_stacked : {T M : Type 0} → DefinedBlock T M → Option T → (has_lines more : Bool) → DefinedBlock T M → DefinedBlock T M
+put_stacked d border has_lines more cell = record (put_below (if has_lines && more then add_border d border 0x2F else d) cell) {
+  table = Some (Stacked border (has_lines || more));
+}
 
 -- the next cell is this flushed block
 abbrev pub cell_added : {T M : Type 0} → DefinedBlock T M → Option (OpenTable (Rows T M) T M) → DefinedBlock T M → Option (DefinedBlock T M)
-cell_added d None cell = do
-  e ← flush d
-  put_below e cell
-cell_added d (Some (Across picture widths None)) cell = do
-  e ← flush d
-  put_below e cell
-cell_added d (Some (Across picture widths (Some row))) cell =
-    Some (record d { table = Some (Across picture widths (Some (with_cell row (kept_cell cell ∷ [])))) })
-cell_added d (Some (Stacked border has_lines)) cell = do
-  e ← flush d
-  put_stacked e border has_lines (not (is_empty cell.lines)) cell
+cell_added {T} {M} d None cell = option_map (λ (e : DefinedBlock T M). put_below e cell) (flush d)
+cell_added {T} {M} d (Some (Across picture widths below None)) cell = option_map (λ (e : DefinedBlock T M). put_below e cell) (flush d)
+cell_added d (Some (Across picture widths below (Some row))) cell =
+    Some (record d { table = Some (Across picture widths below (Some (with_cell row (kept_cell cell ∷ [])))) })
+cell_added {T} {M} d (Some (Stacked border has_lines)) cell =
+    option_map (λ (e : DefinedBlock T M). put_stacked e border has_lines (not (is_empty cell.lines)) cell) (flush d)
 
 -- the next cell is this block
 abbrev pub add_cell : {T M : Type 0} → DefinedBlock T M → DefinedBlock T M → Option (DefinedBlock T M)
@@ -234,7 +236,8 @@ add_cell d cell = do
 -- the row that is open is over: below a row of cells one below another that have lines, there is a border
 abbrev pub row_ended : {T M : Type 0} → DefinedBlock T M → Option (OpenTable (Rows T M) T M) → Option (DefinedBlock T M)
 row_ended d None = Some d
-row_ended d (Some (Across picture widths row)) = Some (record d { table = Some (Across (with_open defined_pictures picture row) widths None) })
+row_ended d (Some (Across picture widths below row)) =
+    Some (record d { table = Some (Across (with_open defined_pictures picture row) widths below None) })
 row_ended {T} {M} d (Some (Stacked border true)) =
     option_map (λ (e : DefinedBlock T M). record (add_border e border 0x2500) { table = Some (Stacked border false) }) (flush d)
 row_ended d (Some (Stacked border false)) = Some d

@@ -15,9 +15,11 @@ use Rattle.html_render_blocks.specs.declared.block.tables.OpenTable.{OpenTable}
 use Rattle.html_render_blocks.specs.declared.block.tables.OpenTable.TheVariants.{Across, Stacked}
 use Rattle.html_render_blocks.specs.OpenRows.{with_cell}
 use Rattle.html_render_blocks.specs.Tables.{drawn_pictures, frame_of, rule, stacked_border, with_row_open, next_cell_width, skipped, with_open}
+use Rattle.html_render_blocks.specs.Tables.{picture_of}
 use Rattle.html_render_parts.specs.declared.widths.needs.CellNeed.{CellNeed}
 use Rattle.html_render_parts.specs.Needs.{standing_widths}
 use Rattle.html_render_nodes.specs.declared.tree.Slot.{Slot}
+use Rattle.html_render_nodes.specs.Grids.{GridRows}
 use Rattle.html_render_pictures.specs.Picture.{KeptCell, is_empty}
 use Rattle.html_render_pictures.specs.Drawing.{Drawing}
 use Rattle.html_render_pictures.specs.Padding.{filled}
@@ -139,7 +141,7 @@ with_picture b p = add_marks (record b { lines = b.lines ++ p.0; table = None })
 -- the table that is open is over, if one is
 abbrev pub end_open : {T M : Type 0} → MachineBlock T M → Option (OpenTable (Drawing T M) T M) → MachineBlock T M
 end_open b None = b
-end_open b (Some (Across picture widths row)) = with_picture b (drawn_pictures.finished (with_open drawn_pictures picture row))
+end_open b (Some (Across picture widths below row)) = with_picture b (picture_of drawn_pictures picture widths below row)
 end_open b (Some (Stacked border has_lines)) = record b { table = None }
 
 abbrev pub end_table : {T M : Type 0} → MachineBlock T M → MachineBlock T M
@@ -162,20 +164,20 @@ add_border b (Some tag) character = add_rule b tag character
 abbrev pub stacked_begun : {T M : Type 0} → MachineBlock T M → Option T → MachineBlock T M
 stacked_begun b border = record (add_border b border 0x2500) { table = Some (Stacked border false) }
 
-abbrev pub table_begun : {T M : Type 0} → MachineBlock T M → T → (borders : Bool) → Option (List ℕ) → MachineBlock T M
-table_begun b tag borders None = stacked_begun b (stacked_border tag borders b.setting.width)
-table_begun b tag borders (Some widths) =
+abbrev pub table_begun : {T M : Type 0} → MachineBlock T M → T → (borders : Bool) → (below : List (List Slot)) → Option (List ℕ) → MachineBlock T M
+table_begun b tag borders below None = stacked_begun b (stacked_border tag borders b.setting.width)
+table_begun b tag borders below (Some widths) =
     record b {
       paragraph = take_waiting b.paragraph;
-      table = Some (Across (drawn_pictures.begun (frame_of tag borders widths) (waiting b.paragraph)) widths None);
+      table = Some (Across (drawn_pictures.begun (frame_of tag borders widths) (waiting b.paragraph)) widths below None);
     }
 
--- a table of so many columns begins, with borders under this tag if there are any. Its cells need so much, and stand one below
+-- a table begins on this grid, with borders under this tag if there are any. Its cells need so much, and stand one below
 -- another where the columns can't stand side by side, or where they are to
-abbrev pub begin_table : {T M : Type 0} → MachineBlock T M → T → (borders stacked : Bool) → (columns : ℕ) → List CellNeed →
+abbrev pub begin_table : {T M : Type 0} → MachineBlock T M → T → (borders stacked : Bool) → GridRows → List CellNeed →
     Option (MachineBlock T M)
-begin_table {T} {M} b tag borders stacked columns cells = option_map
-    (λ (e : MachineBlock T M). table_begun e tag borders (if stacked then None else standing_widths columns cells e.setting.width))
+begin_table {T} {M} b tag borders stacked grid cells = option_map
+    (λ (e : MachineBlock T M). table_begun e tag borders grid.rows (if stacked then None else standing_widths grid.columns cells e.setting.width))
     (flush (end_table b))
 
 -- a row begins, in which this stands
@@ -195,29 +197,30 @@ skip_cell b = record b { table = option_map skipped b.table }
 abbrev pub kept_cell : {T M : Type 0} → MachineBlock T M → KeptCell T M
 kept_cell b = record { width = b.setting.width; lines = b.lines; marks = waiting b.paragraph }
 
+-- lines behind the block's own: the marks that wait in it stand before them, and others at their end. Where there are no lines,
+-- all of them wait
+abbrev pub put_lines : {T M : Type 0} → MachineBlock T M → List (Line T M) → List M → MachineBlock T M
+put_lines b [] ms = add_marks b ms
+put_lines b (l ∷ ls) ms = add_lines b (marked_behind ms (l ∷ ls))
+
 -- the lines of a flushed block behind the block's own
-abbrev pub put_below : {T M : Type 0} → MachineBlock T M → MachineBlock T M → Option (MachineBlock T M)
-put_below b cell = append_lines b [] [] cell.lines (waiting cell.paragraph)
+abbrev pub put_below : {T M : Type 0} → MachineBlock T M → MachineBlock T M → MachineBlock T M
+put_below b cell = put_lines b cell.lines (waiting cell.paragraph)
 
 -- a cell below others of its row: where there are lines above it and it has some more, a line of `/` stands between them
-abbrev pub put_stacked : {T M : Type 0} → MachineBlock T M → Option T → (has_lines more : Bool) → MachineBlock T M → Option (MachineBlock T M)
-put_stacked {T} {M} b border has_lines more cell = option_map
-    (λ (e : MachineBlock T M). record e { table = Some (Stacked border (has_lines || more)) })
-    (put_below (if has_lines && more then add_border b border 0x2F else b) cell)
+abbrev pub put_stacked : {T M : Type 0} → MachineBlock T M → Option T → (has_lines more : Bool) → MachineBlock T M → MachineBlock T M
+put_stacked b border has_lines more cell = record (put_below (if has_lines && more then add_border b border 0x2F else b) cell) {
+  table = Some (Stacked border (has_lines || more));
+}
 
 -- the next cell is this flushed block
 abbrev pub cell_added : {T M : Type 0} → MachineBlock T M → Option (OpenTable (Drawing T M) T M) → MachineBlock T M → Option (MachineBlock T M)
-cell_added b None cell = do
-  e ← flush b
-  put_below e cell
-cell_added b (Some (Across picture widths None)) cell = do
-  e ← flush b
-  put_below e cell
-cell_added b (Some (Across picture widths (Some row))) cell =
-    Some (record b { table = Some (Across picture widths (Some (with_cell row (kept_cell cell ∷ [])))) })
-cell_added b (Some (Stacked border has_lines)) cell = do
-  e ← flush b
-  put_stacked e border has_lines (not (is_empty cell.lines)) cell
+cell_added {T} {M} b None cell = option_map (λ (e : MachineBlock T M). put_below e cell) (flush b)
+cell_added {T} {M} b (Some (Across picture widths below None)) cell = option_map (λ (e : MachineBlock T M). put_below e cell) (flush b)
+cell_added b (Some (Across picture widths below (Some row))) cell =
+    Some (record b { table = Some (Across picture widths below (Some (with_cell row (kept_cell cell ∷ [])))) })
+cell_added {T} {M} b (Some (Stacked border has_lines)) cell =
+    option_map (λ (e : MachineBlock T M). put_stacked e border has_lines (not (is_empty cell.lines)) cell) (flush b)
 
 -- the next cell is this block
 abbrev pub add_cell : {T M : Type 0} → MachineBlock T M → MachineBlock T M → Option (MachineBlock T M)
@@ -228,7 +231,8 @@ add_cell b cell = do
 -- the row that is open is over: below a row of cells one below another that have lines, there is a border
 abbrev pub row_ended : {T M : Type 0} → MachineBlock T M → Option (OpenTable (Drawing T M) T M) → Option (MachineBlock T M)
 row_ended b None = Some b
-row_ended b (Some (Across picture widths row)) = Some (record b { table = Some (Across (with_open drawn_pictures picture row) widths None) })
+row_ended b (Some (Across picture widths below row)) =
+    Some (record b { table = Some (Across (with_open drawn_pictures picture row) widths below None) })
 row_ended {T} {M} b (Some (Stacked border true)) =
     option_map (λ (e : MachineBlock T M). record (add_border e border 0x2500) { table = Some (Stacked border false) }) (flush b)
 row_ended b (Some (Stacked border false)) = Some b

@@ -6,7 +6,7 @@ use Rattle.html_render_parts.specs.declared.table.CellKind.{CellKind}
 use Rattle.html_render_parts.specs.declared.table.CellKind.TheVariants.{Cell, Placeholder, Gap}
 use Rattle.html_render_nodes.specs.declared.tree.Slot.{Slot}
 use Rattle.html_render_pictures.specs.Picture.{KeptCell, TableRow}
-use Rattle.html_render_blocks.specs.declared.block.tables.RowPlace.{RowPlace}
+use Rattle.html_render_blocks.specs.declared.block.rows.RowPlace.{RowPlace}
 
 -- the columns of a cell over these columns, and of the separators that it covers; none where all of its columns are empty
 abbrev pub cell_width : List ℕ → Option ℕ

@@ -23,15 +23,19 @@ use html_render_lines::line::{Line, text_columns};
 use html_render_lines::paragraph::Paragraph;
 use html_render_lines::tag::Tag;
 use html_render_pictures::finished::{mark_behind, put_marks_front};
+use html_render_pictures::lines::Lines;
 use html_render_pictures::picture::Picture;
-use padding::flush_filled;
+use padding::flush_padded;
 use std::alloc::{AllocError, Global};
 use std::marker::Model;
 use std::mem;
 use tables::OpenTable;
 
+mod cells;
 mod closing;
+mod opening;
 mod padding;
+mod rows;
 mod tables;
 
 /// How wide a block is, and whether what is wider is laid out nevertheless.
@@ -56,7 +60,7 @@ pub struct Block<T, M> {
     /// The tag of the spaces that lines of paragraphs are filled with, if they are.
     padding: Option<T>,
     /// The finished lines.
-    lines: Vec<Line<T, M>>,
+    lines: Lines<T, M>,
     /// The open paragraph, unless a character was too wide for it.
     paragraph: Option<Paragraph<T, M>>,
     /// Whether a block ended here.
@@ -74,7 +78,7 @@ impl<T, M> Model for Block<T, M> {
     ghost view = { λ b. record {
       setting = b.setting;
       padding = b.padding;
-      lines = b.lines.items;
+      lines = b.lines;
       paragraph = b.paragraph;
       at_block_end = b.at_block_end;
       table = option_map (λ t. t.value) b.table;
@@ -168,7 +172,7 @@ impl<T: Tag, M: Copy> Block<T, M> {
             alloc,
             setting,
             padding,
-            lines: Vec::new(alloc),
+            lines: Lines::new(alloc),
             paragraph,
             at_block_end: false,
             table: None,
@@ -207,10 +211,14 @@ impl<T: Tag, M: Copy> Block<T, M> {
     }
 
     /// The finished lines.
-    pub fn into_lines(self) -> Vec<Line<T, M>>
-        ensures { result.items ≡ self.lines }
+    ///
+    /// # Errors
+    ///
+    /// Memory ran out.
+    pub fn into_lines(self) -> Result<Vec<Line<T, M>>, AllocError>
+        ensures { IfOk result (λ lines. lines.items ≡ self.lines) }
     {
-        self.lines
+        self.lines.into_vec()
     }
 
     /// Leaves no paragraph open.
@@ -239,26 +247,35 @@ impl<T: Tag, M: Copy> Block<T, M> {
         }
     }
 
+    /// Flushes the open paragraph, and says whether it had no line.
+    #[tactic(auto, using(html_render_dom::specs::laws::Outcome::refusals, crate::proofs::Behind::flushed))]
+    fn flush_paragraph(&mut self) -> Result<bool, Error>
+        ensures ok { OnOk result (machine.flush self.old ≡ Some self.new) }
+        ensures none { IfOk result (λ none. none ≡ (length self.new.lines == length self.old.lines)) }
+        ensures err { IfErr result (λ e. Refuses e (machine.flush self.old)) }
+    {
+        let padding = self.padding;
+        let width = self.setting.width;
+        let before = self.lines.last.len();
+        let Some(paragraph) = &mut self.paragraph else {
+            return Err(Error::TooNarrow);
+        };
+        flush_padded(self.alloc, paragraph, &mut self.lines.last, width, padding)?;
+        Ok(self.lines.last.len() == before)
+    }
+
     /// Adds the lines of the open paragraph, filled up to the width with spaces where there is padding, and opens another for
     /// the marks that wait.
     ///
     /// # Errors
     ///
     /// `TooNarrow`, where a character of the paragraph is wider than a line, with overflow off. `OutOfMemory`.
-    #[tactic(auto, using(html_render_dom::specs::laws::Outcome::refusals))]
     pub fn flush(&mut self) -> Result<(), Error>
         ensures ok { OnOk result (machine.flush self.old ≡ Some self.new) }
         ensures err { IfErr result (λ e. Refuses e (machine.flush self.old)) }
     {
-        let padding = self.padding;
-        let width = self.setting.width;
-        let Some(paragraph) = &mut self.paragraph else {
-            return Err(Error::TooNarrow);
-        };
-        match padding {
-            Some(tag) => flush_filled(self.alloc, paragraph, &mut self.lines, width, tag),
-            None => paragraph.flush(&mut self.lines),
-        }
+        self.flush_paragraph()?;
+        Ok(())
     }
 
     /// Takes out the marks that wait.
@@ -273,11 +290,11 @@ impl<T: Tag, M: Copy> Block<T, M> {
     }
 
     /// Takes the finished lines out.
-    fn take_lines(&mut self) -> Vec<Line<T, M>>
-        ensures lines { result.items ≡ self.old.lines }
+    fn take_lines(&mut self) -> Lines<T, M>
+        ensures lines { result ≡ self.old.lines }
         ensures after { self.new ≡ record self.old { lines = [] } }
     {
-        mem::replace(&mut self.lines, Vec::new(self.alloc))
+        mem::replace(&mut self.lines, Lines::new(self.alloc))
     }
 
     /// Adds a finished line.
@@ -360,9 +377,7 @@ impl<T: Tag, M: Copy> Block<T, M> {
         ensures ok { OnOk result (machine.new_line_hard self.old ≡ Some self.new) }
         ensures err { IfErr result (λ e. Refuses e (machine.new_line_hard self.old)) }
     {
-        let before = self.lines.len();
-        self.flush()?;
-        if self.lines.len() == before {
+        if self.flush_paragraph()? {
             self.add_empty_line()?;
         }
         self.set_at_block_end(false);
@@ -421,7 +436,7 @@ impl<T: Tag, M: Copy> Block<T, M> {
     }
 
     /// Moves lines behind its own, each behind its prefix. With overflow off none may pass the width.
-    #[tactic(auto, using(html_render_dom::specs::laws::Outcome::refusals))]
+    #[tactic(auto, using(html_render_dom::specs::laws::Outcome::refusals, crate::proofs::Behind::moved_behind))]
     fn move_lines(
         &mut self,
         lines: Vec<Line<T, M>>,
@@ -434,8 +449,15 @@ impl<T: Tag, M: Copy> Block<T, M> {
         ensures err { IfErr result (λ e. Refuses e (moved self.old.setting.width self.old.setting.overflow waiting.now
             (under first.now.tag (chars first.now.text.now)) (under later.now.tag (chars later.now.text.now)) self.old.lines lines.items)) }
     {
-        self.lines.reserve(lines.len())?;
-        move_lines(&mut self.lines, lines, waiting, first, later, self.setting)
+        self.lines.last.reserve(lines.len())?;
+        move_lines(
+            &mut self.lines.last,
+            lines,
+            waiting,
+            first,
+            later,
+            self.setting,
+        )
     }
 
     /// Adds the lines of a block that is flushed, as this one is, and the marks that wait behind them.
@@ -490,7 +512,7 @@ impl<T: Tag, M: Copy> Block<T, M> {
         self.flush()?;
         sub.flush_whole()?;
         let end = sub.take_waiting();
-        let lines = sub.take_lines();
+        let lines = sub.take_lines().into_vec()?;
         self.append_lines(lines, end.as_slice(), tag, first, later)
     }
 }

@@ -1,10 +1,8 @@
 //! The cells of a table: over which of its columns each stands, and what it needs there.
 
-ghost use Rattle.std.specs.Prelude.{◌≡◌, ◌↔◌, [], ◌∷◌, ◌++◌, IsTrue, IfOk, IfErr, IfSome, OnOk, MatchOption};
-ghost use Rattle.html_render_parts.specs.Needs.{AreCells};
+ghost use Rattle.std.specs.Prelude.{◌≡◌, [], ◌∷◌, ◌++◌, IfOk, IfErr, IfSome, OnOk, MatchOption};
 ghost use Rattle.html_render_nodes.specs.Preorder.{flatten, forest_of};
 ghost use Rattle.html_render_estimates.specs.Cells.{has_cell, cell_estimates, needs_in_slots, cell_needs};
-ghost use Rattle.html_render_parts.specs.Needs.{cell_stands, cells_stand};
 
 use crate::trees::first_tree;
 use html_render_dom::Error;
@@ -96,23 +94,4 @@ pub fn cell_needs(alloc: Global, rows: &[Entry<RenderNode>]) -> Result<Vec<CellN
         rest = row.beside;
     }
     Ok(cells)
-}
-
-/// Whether a cell is over one or more of these columns, and needs no more at least than its size.
-fn cell_stands(columns: usize, cell: CellNeed) -> bool
-    ensures { result ≡ cell_stands columns cell }
-{
-    cell.start <= columns
-        && cell.count <= columns - cell.start
-        && cell.count > 0
-        && cell.least <= cell.size
-}
-
-/// Whether all cells are over one or more of these columns, and need no more at least than their sizes: as
-/// [`column_needs`](html_render_parts::widths::column_needs) asks.
-pub fn are_cells(columns: usize, cells: &[CellNeed]) -> bool
-    ensures stand { result ≡ cells_stand columns cells.now }
-    ensures cells { IsTrue result ↔ AreCells columns cells.now }
-{
-    cells.iter().all(|cell| cell_stands(columns, *cell))
 }

@@ -7,13 +7,13 @@ ghost use Rattle.html_render_estimates.specs.TextSize.{saturated};
 ghost use Rattle.html_render_estimates.specs.Cells.{cell_needs};
 ghost use Rattle.html_render_estimates.specs.Estimates.{trees, total_size, node_size, table_estimate};
 
-use crate::cells::{are_cells, cell_needs};
+use crate::cells::cell_needs;
 use crate::estimate::{children_of, image_size_within};
 use crate::text::size_within;
 use crate::trees::first_tree;
 use html_render_dom::Error;
 use html_render_nodes::tree::{Entry, Estimate, NodeKind, RenderNode};
-use html_render_parts::widths::{CellNeed, ColumnNeed, column_needs};
+use html_render_parts::widths::{CellNeed, ColumnNeed, are_cells, column_needs};
 use std::alloc::Global;
 
 /// The sizes of trees together.

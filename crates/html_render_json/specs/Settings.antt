@@ -6,7 +6,7 @@ use Rattle.html_render_tree.specs.Rendering.{Options}
 use Rattle.html_render_json.specs.declared.configs.Setting.{Setting}
 use Rattle.html_render_json.specs.declared.configs.Setting.TheVariants.{AllowWidthOverflow, DoDecorate, AddStyleRule, LinkFootnotes}
 use Rattle.html_render_json.specs.declared.configs.Setting.TheVariants.{NoLinkWrapping, UnicodeStrikeout, EmptyImgMode}
-use Rattle.html_render_json.specs.declared.configs.Setting.TheVariants.{PadBlockWidth, MaxWrapWidth, MinWrapWidth}
+use Rattle.html_render_json.specs.declared.configs.Setting.TheVariants.{PadBlockWidth, MaxWrapWidth, MinWrapWidth, RawMode, NoTableBorders, FenceTables}
 
 -- the settings after a call
 abbrev pub changed : {S : Type 0} → Options S → Setting → Options S
@@ -20,6 +20,9 @@ changed options (EmptyImgMode mode) = record options { nodes = record options.no
 changed options PadBlockWidth = record options { nodes = record options.nodes { pad_block_width = true } }
 changed options (MaxWrapWidth columns) = record options { nodes = record options.nodes { max_wrap_width = Some columns } }
 changed options (MinWrapWidth columns) = record options { nodes = record options.nodes { min_wrap_width = columns } }
+changed options (RawMode raw) = record options { nodes = record options.nodes { raw_mode = raw; table_borders = false } }
+changed options NoTableBorders = record options { nodes = record options.nodes { table_borders = false } }
+changed options FenceTables = record options { nodes = record options.nodes { fence_tables = true } }
 
 -- the settings after calls, in order
 abbrev pub changed_by : {S : Type 0} → Options S → List Setting → Options S

@@ -62,6 +62,12 @@ pub enum Setting {
     MaxWrapWidth(usize),
     /// `["min_wrap_width",COLUMNS]`.
     MinWrapWidth(usize),
+    /// `["raw_mode",RAW]`.
+    RawMode(bool),
+    /// `["no_table_borders"]`.
+    NoTableBorders,
+    /// `["fence_tables"]`.
+    FenceTables,
 }
 
 /// The calls of a configuration.
@@ -142,6 +148,9 @@ impl Readable for Setting {
             Name::exact("pad_block_width"),
             Name::exact("max_wrap_width"),
             Name::exact("min_wrap_width"),
+            Name::exact("raw_mode"),
+            Name::exact("no_table_borders"),
+            Name::exact("fence_tables"),
         ];
         match begin_named(from, &names)? {
             0 => alone(from, Setting::AllowWidthOverflow),
@@ -154,6 +163,9 @@ impl Readable for Setting {
             7 => alone(from, Setting::PadBlockWidth),
             8 => last(alloc, from).map(Setting::MaxWrapWidth),
             9 => last(alloc, from).map(Setting::MinWrapWidth),
+            10 => last(alloc, from).map(Setting::RawMode),
+            11 => alone(from, Setting::NoTableBorders),
+            12 => alone(from, Setting::FenceTables),
             _ => Err(from.unknown_variant()),
         }
     }
@@ -198,6 +210,9 @@ fn with_setting<D: TextDecorator>(
         Setting::PadBlockWidth => Ok(config.pad_block_width()),
         Setting::MaxWrapWidth(columns) => Ok(config.max_wrap_width(columns)),
         Setting::MinWrapWidth(columns) => Ok(config.min_wrap_width(columns)),
+        Setting::RawMode(raw) => Ok(config.raw_mode(raw)),
+        Setting::NoTableBorders => Ok(config.no_table_borders()),
+        Setting::FenceTables => Ok(config.fence_tables()),
     }
 }
 

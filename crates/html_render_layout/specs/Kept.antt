@@ -1,7 +1,8 @@
 -- What the lines of a layout keep of the texts of its tree.
-use Rattle.std.specs.Prelude.{ℕ, ◌≤◌, Bool, List, [], ◌∷◌, ◌++◌}
+use Rattle.std.specs.Prelude.{ℕ, ◌≤◌, Bool, false, not, List, [], ◌∷◌, ◌++◌, if◌then◌else◌}
+use Rattle.std.specs.Option.{is_some}
 use Rattle.std.specs.Str.{chars}
-use Rattle.html_render_dom.specs.Forest.{Forest}
+use Rattle.html_render_dom.specs.Forest.{Forest, none, node}
 use Rattle.html_render_parts.specs.Decoration.{Decoration}
 use Rattle.html_render_lines.specs.Line.{Line}
 use Rattle.html_render_lines.specs.Visible.{visible_in_lines}
@@ -11,16 +12,38 @@ use Rattle.html_render_nodes.specs.declared.tree.NodeKind.TheVariants.{Header, B
 use Rattle.html_render_nodes.specs.declared.tree.NodeKind.TheVariants.{Strikeout, Superscript, Link, Image, Svg, FragmentStart, Table, TableRow}
 use Rattle.html_render_nodes.specs.declared.tree.NodeKind.TheVariants.{TableCell, Part}
 use Rattle.html_render_nodes.specs.declared.tree.RenderNode.{RenderNode}
-use Rattle.html_render_nodes.specs.Pass.{visited}
+use Rattle.html_render_nodes.specs.Pass.{Steps, Inside, run, from}
+use Rattle.html_render_blocks.specs.Block as definition
+use Rattle.html_render_blocks.specs.Operations.{Operations}
 use Rattle.html_render_blocks.specs.Visible.{text_count}
 use Rattle.html_render_pictures.specs.Visible.{count}
+use Rattle.html_render_layout.specs.declared.layout.state.Around.{Around}
+use Rattle.html_render_layout.specs.declared.layout.state.Around.TheVariants.{Plain, Bullets, Numbers, Cells}
+use Rattle.html_render_layout.specs.declared.layout.state.LayoutState.{LayoutState}
 use Rattle.html_render_layout.specs.declared.settings.LayoutSettings.{LayoutSettings}
-use Rattle.html_render_layout.specs.Layout.{defined, defined_inside, estimated, empty_state}
+use Rattle.html_render_layout.specs.Layout.{Defined, defined, defined_inside, estimated, empty_state}
 
--- the nodes that a layout visits, in order
+-- whether the next node is skipped, by what it stands in: as a cell of a row, where there is no block for that
+abbrev pub skips : {S K T B : Type 0} → Operations B T → LayoutState S K T B → Around → Bool
+skips o s Plain = false
+skips o s (Bullets least) = false
+skips o s (Numbers least number columns) = false
+skips o s Cells = not (is_some (o.cell_block s.block))
+
+-- THE NODES that a run visits and doesn't skip, in order: a node; those below it, where they are asked for; and those beside
+-- it, in the state behind it
+abbrev pub unskipped : {K S : Type 0} → (skipped : S → Bool) → Steps K S → Inside K S → Forest K → S → List K
+unskipped skipped steps inside none s = []
+unskipped skipped steps inside (node k children beside) s =
+    (if skipped s then [] else k ∷ [])
+    ++ (from (λ q. unskipped skipped steps inside children q) (inside k children s)
+    ++ from (λ t. unskipped skipped steps inside beside t) (steps k children (λ q. run steps children q) s))
+
+-- the nodes that a layout visits, in order, without the cells that it skips
 abbrev pub visited_nodes : {S A : Type 0} → Decoration S A → LayoutSettings → Forest RenderNode → S → (width : ℕ) → (overflow : Bool) → List RenderNode
-visited_nodes d settings t decorator width overflow =
-    visited (defined d) (defined_inside d) (estimated d settings decorator t) (empty_state d settings decorator width overflow)
+visited_nodes {S} {A} d settings t decorator width overflow =
+    unskipped (λ (s : Defined S A). skips definition.operations s s.around) (defined d) (defined_inside d) (estimated d settings decorator t)
+    (empty_state d settings decorator width overflow)
 
 -- the characters of a node, if it is a text
 abbrev pub node_characters : NodeKind → List ℕ

@@ -1,5 +1,5 @@
 -- THE DEFINITION of the layout, node kind by node kind.
-use Rattle.std.specs.Prelude.{ℕ, ℤ, pos, ◌+◌, ◌+ℤ◌, ◌-◌, ◌==◌, ◌||◌, Bool, true, false, List, [], ◌∷◌, ◌++◌, length, map, codes, slice_index_or}
+use Rattle.std.specs.Prelude.{ℕ, ℤ, pos, ◌+◌, ◌+ℤ◌, ◌-◌, ◌==◌, ◌||◌, ◌&&◌, not, Bool, true, false, List, [], ◌∷◌, ◌++◌, length, map, codes, slice_index_or}
 use Rattle.std.specs.Prelude.{Option, Some, None, option_map, replicate, if◌then◌else◌}
 use Rattle.std.specs.Char.{is_ascii_digit}
 use Rattle.std.specs.Fmt.{decimal}
@@ -12,6 +12,7 @@ use Rattle.html_render_dom.specs.declared.style.WhiteSpace.{WhiteSpace}
 use Rattle.html_render_dom.specs.declared.style.WhiteSpace.TheVariants.{Normal, Pre, PreWrap}
 use Rattle.html_render_dom.specs.declared.style.colours.Colour.{Colour}
 use Rattle.html_render_parts.specs.Decoration.{Decoration, Round, link}
+use Rattle.html_render_parts.specs.declared.widths.needs.CellNeed.{CellNeed}
 use Rattle.html_render_lines.specs.Character.{is_collapsible}
 use Rattle.html_render_lines.specs.declared.character.TextStyle.{TextStyle}
 use Rattle.html_render_lines.specs.Line.{Line}
@@ -26,14 +27,17 @@ use Rattle.html_render_nodes.specs.declared.tree.NodeKind.TheVariants.{TableCell
 use Rattle.html_render_nodes.specs.declared.tree.NodeStyle.{NodeStyle}
 use Rattle.html_render_nodes.specs.declared.tree.Estimate.{Estimate}
 use Rattle.html_render_nodes.specs.declared.tree.RenderNode.{RenderNode}
+use Rattle.html_render_nodes.specs.declared.tree.Slot.{Slot}
+use Rattle.html_render_nodes.specs.Grids.{GridRows}
 use Rattle.html_render_nodes.specs.Pass.{Steps, Inside, run}
 use Rattle.html_render_blocks.specs.declared.block.BlockSetting.{BlockSetting}
 use Rattle.html_render_blocks.specs.Operations.{Operations, Ending}
 use Rattle.html_render_blocks.specs.Block as definition
 use Rattle.html_render_blocks.specs.Block.{DefinedBlock}
+use Rattle.html_render_estimates.specs.Cells.{cell_needs}
 use Rattle.html_render_estimates.specs.Estimates.{prefix_columns, prefix_of, measured}
 use Rattle.html_render_layout.specs.declared.layout.state.Around.{Around}
-use Rattle.html_render_layout.specs.declared.layout.state.Around.TheVariants.{Plain, Bullets, Numbers}
+use Rattle.html_render_layout.specs.declared.layout.state.Around.TheVariants.{Plain, Bullets, Numbers, Cells}
 use Rattle.html_render_layout.specs.declared.layout.state.LayoutState.{LayoutState}
 use Rattle.html_render_layout.specs.declared.layout.state.TextContext.{TextContext}
 use Rattle.html_render_layout.specs.declared.settings.LayoutSettings.{LayoutSettings}
@@ -157,8 +161,21 @@ among around children s = do
   r ← children (record s { around = around })
   Some (record r { around = s.around })
 
+-- what is laid out as a cell, in this block: that is the row's next cell
+abbrev pub in_cell : {S A K T B : Type 0} → Decoration S A → B → LayoutState S K T B → LayoutState S K T B
+in_cell d cell s = record s { decorator = d.subblock s.decorator; block = cell; around = Plain }
+
+-- the next cell of the row, if it has a block; else it is skipped, and nothing in it is laid out
+abbrev pub as_cell : {S A K T B : Type 0} → Decoration S A → Operations B T → (LayoutState S K T B → Option (LayoutState S K T B)) →
+    LayoutState S K T B → Option B → Option (LayoutState S K T B)
+as_cell d o layout s None = Some (record s { block = o.skip_cell s.block })
+as_cell d o layout s (Some cell) = do
+  r ← layout (in_cell d cell s)
+  b ← o.add_cell s.block r.block
+  Some (resumed s b Cells r)
+
 -- what a node is to what it stands in, whatever it is: an item of a list stands in a block of its own, behind a bullet
--- or its number
+-- or its number, and a cell of a row in its place
 abbrev pub placed : {S A K T B : Type 0} → Decoration S A → Operations B T → (LayoutState S K T B → Option (LayoutState S K T B)) →
     LayoutState S K T B → Around → Option (LayoutState S K T B)
 placed d o layout s Plain = layout s
@@ -168,10 +185,41 @@ placed d o layout s (Bullets least) =
 placed d o layout s (Numbers least number columns) =
     indented d o (padded columns (d.ordered_item_prefix s.decorator number)) columns least
     (Numbers least (next_number number) columns) layout s
+placed d o layout s Cells = as_cell d o layout s (o.cell_block s.block)
 
 -- what the items of an ordered list stand in
 abbrev pub numbers : {S A : Type 0} → Decoration S A → Estimate → (first : ℤ) → S → Around
 numbers d e first decorator = Numbers (inner_least e) first (prefix_of d decorator (Ol first) e.children)
+
+-- ---- tables
+
+-- a line of three backquotes round a table that is in no other one, if tables are fenced. No annotation is on it
+abbrev pub fence_style : {T : Type 0} → T → TextStyle T
+fence_style tag = record { mode = Normal; tag = tag; continuation_tag = tag }
+
+abbrev pub with_fence : {S K T B : Type 0} → Operations B T → LayoutState S K T B → Option (LayoutState S K T B)
+with_fence o s = do
+  q ← on_block (λ b. o.add_inline_text b (fence_style s.blank) (codes "```")) s
+  on_block o.new_line q
+
+abbrev pub fenced : {S K T B : Type 0} → Operations B T → LayoutState S K T B → Option (LayoutState S K T B)
+fenced o s = if s.settings.fence_tables && not s.in_table then with_fence o s else Some s
+
+-- a table begins on this grid, as a block; its cells need so much. They stand one below another in raw mode
+abbrev pub table_begun : {S K T B : Type 0} → Operations B T → GridRows → List CellNeed → LayoutState S K T B → Option (LayoutState S K T B)
+table_begun o grid cells s = do
+  p ← on_block o.start_block s
+  q ← fenced o p
+  r ← on_block (λ b. o.begin_table b s.blank s.settings.table_borders s.settings.raw_mode grid cells) q
+  Some (record r { in_table = true })
+
+-- a table is over, where it stood in another one or didn't
+abbrev pub table_ended : {S K T B : Type 0} → Operations B T → (in_table : Bool) → LayoutState S K T B → Option (LayoutState S K T B)
+table_ended o in_table r = fenced o (record r { block = o.end_table r.block; in_table = in_table })
+
+-- a row begins, in which this stands
+abbrev pub row_begun : {S K T B : Type 0} → Operations B T → List Slot → LayoutState S K T B → LayoutState S K T B
+row_begun o slots s = record s { block = o.begin_row s.block slots }
 
 -- ---- images and superscripts
 
@@ -331,8 +379,13 @@ module _ {S A K T B : Type 0} (d : Decoration S A) (push : K → T → A → K �
   kind_steps (Image i) e trees children s = image i.source i.title s
   kind_steps (Svg title) e trees children s = image [] title s
   kind_steps (FragmentStart name) e trees children s = Some (marked o name s)
-  kind_steps (Table grid) e trees children s = children s
-  kind_steps (TableRow slots) e trees children s = children s
+  kind_steps (Table grid) e trees children s = do
+    q ← table_begun o grid (cell_needs trees) s
+    r ← children q
+    table_ended o s.in_table r
+  kind_steps (TableRow slots) e trees children s = do
+    r ← among Cells children (row_begun o slots s)
+    on_block o.end_row r
   kind_steps TableCell e trees children s = children s
   kind_steps (Part part) e trees children s = children s
 
@@ -373,8 +426,8 @@ module _ {S A K T B : Type 0} (d : Decoration S A) (push : K → T → A → K �
   kind_inside (Image i) e trees s = None
   kind_inside (Svg title) e trees s = None
   kind_inside (FragmentStart name) e trees s = None
-  kind_inside (Table grid) e trees s = Some s
-  kind_inside (TableRow slots) e trees s = Some s
+  kind_inside (Table grid) e trees s = table_begun o grid (cell_needs trees) s
+  kind_inside (TableRow slots) e trees s = Some (record (row_begun o slots s) { around = Cells })
   kind_inside TableCell e trees s = Some s
   kind_inside (Part part) e trees s = Some s
 
@@ -390,6 +443,9 @@ module _ {S A K T B : Type 0} (d : Decoration S A) (push : K → T → A → K �
   placed_inside n trees s (Numbers least number columns) = do
     q ← nested d o columns least s
     node_inside n trees q
+  placed_inside n trees s Cells = do
+    cell ← o.cell_block s.block
+    node_inside n trees (in_cell d cell s)
 
   abbrev pub inside : Inside RenderNode (LayoutState S K T B)
   inside n trees s = placed_inside n trees s s.around
@@ -429,6 +485,8 @@ begin_with settings decorator stacks tag block =
       text = plain_text tag;
       block = block;
       around = Plain;
+      blank = tag;
+      in_table = false;
       targets = [];
       names = [];
     }

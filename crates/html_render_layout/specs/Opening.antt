@@ -4,6 +4,8 @@ use Rattle.std.specs.Str.{chars}
 use Rattle.html_render_dom.specs.Forest.{Forest}
 use Rattle.html_render_dom.specs.Outcome.{◌>>=◌}
 use Rattle.html_render_parts.specs.Decoration.{Decoration, link}
+use Rattle.html_render_parts.specs.declared.widths.needs.CellNeed.{CellNeed}
+use Rattle.html_render_estimates.specs.Cells.{cell_needs}
 use Rattle.html_render_estimates.specs.Estimates.{prefix_columns}
 use Rattle.html_render_nodes.specs.declared.tree.Emphasis.TheVariants.{Em}
 use Rattle.html_render_nodes.specs.declared.tree.Estimate.{Estimate}
@@ -13,20 +15,26 @@ use Rattle.html_render_nodes.specs.declared.tree.NodeKind.TheVariants.{Header, B
 use Rattle.html_render_nodes.specs.declared.tree.NodeKind.TheVariants.{Strikeout, Superscript, Link, Image, Svg, FragmentStart, Table, TableRow}
 use Rattle.html_render_nodes.specs.declared.tree.NodeKind.TheVariants.{TableCell, Part}
 use Rattle.html_render_nodes.specs.declared.tree.RenderNode.{RenderNode}
+use Rattle.html_render_nodes.specs.declared.tree.Slot.{Slot}
+use Rattle.html_render_nodes.specs.Grids.{GridRows}
 use Rattle.html_render_nodes.specs.Pass.{Way, Into, Past, past}
 use Rattle.html_render_blocks.specs.Operations.{Operations}
 use Rattle.html_render_layout.specs.declared.layout.items.Place.{Place}
 use Rattle.html_render_layout.specs.declared.layout.state.Around.{Around}
-use Rattle.html_render_layout.specs.declared.layout.state.Around.TheVariants.{Plain, Bullets, Numbers}
+use Rattle.html_render_layout.specs.declared.layout.state.Around.TheVariants.{Plain, Bullets, Numbers, Cells}
 use Rattle.html_render_layout.specs.declared.layout.state.Closing.{Closing}
+use Rattle.html_render_layout.specs.declared.layout.state.Interruption.{Interruption}
+use Rattle.html_render_layout.specs.declared.layout.state.Interruption.TheVariants.{NoBlock, Indented, Cell}
 use Rattle.html_render_layout.specs.declared.layout.state.KindClosing.{KindClosing}
 use Rattle.html_render_layout.specs.declared.layout.state.KindClosing.TheVariants.{Nothing, EndBlock, NewLine, EndEmphasis}
 use Rattle.html_render_layout.specs.declared.layout.state.KindClosing.TheVariants.{EndList, EndQuote, EndIndent}
-use Rattle.html_render_layout.specs.declared.layout.state.KindClosing.TheVariants.{EndStrikeout, EndSuperscript, EndLink}
+use Rattle.html_render_layout.specs.declared.layout.state.KindClosing.TheVariants.{EndStrikeout, EndSuperscript, EndLink, EndTable, EndRow}
 use Rattle.html_render_layout.specs.declared.layout.state.LayoutState.{LayoutState}
 use Rattle.html_render_layout.specs.declared.layout.state.Outer.{Outer}
+use Rattle.html_render_layout.specs.declared.layout.state.OuterTable.{OuterTable}
 use Rattle.html_render_layout.specs.declared.layout.state.TextContext.{TextContext}
 use Rattle.html_render_layout.specs.Layout.{on_block, add_characters, add_text, begun, emphasis_decoration, nested, spaces, padded}
+use Rattle.html_render_layout.specs.Layout.{in_cell, table_begun, table_ended, row_begun}
 use Rattle.html_render_layout.specs.Layout.{next_number, inner_least, numbers, striking, raised, digits_of, in_style, image, link_number, with_target, marked}
 
 -- what a block inside the state's interrupts, with what the nodes stand in behind it
@@ -57,10 +65,17 @@ quote_closed o u r = do
   c ← o.append b r.block u.tag (chars u.prefix) (chars u.prefix)
   Some (outside u (o.end_block c) r)
 
--- an item is over, if the node is one
-abbrev pub item_closed : {S K T B : Type 0} → Operations B T → Option (Outer S T B) → LayoutState S K T B → Option (LayoutState S K T B)
-item_closed o None r = Some r
-item_closed o (Some u) r = indent_closed o u r
+-- a cell is over
+abbrev pub cell_closed : {S K T B : Type 0} → Operations B T → OuterTable S B → LayoutState S K T B → Option (LayoutState S K T B)
+cell_closed o u r = do
+  b ← o.add_cell u.block r.block
+  Some (record r { decorator = u.decorator; block = b; around = Cells })
+
+-- what a node interrupts goes on
+abbrev pub item_closed : {S K T B : Type 0} → Operations B T → Interruption S T B → LayoutState S K T B → Option (LayoutState S K T B)
+item_closed o NoBlock r = Some r
+item_closed o (Indented u) r = indent_closed o u r
+item_closed o (Cell u) r = cell_closed o u r
 
 -- where an item stands behind a bullet
 abbrev pub bullet_place : {S A : Type 0} → Decoration S A → S → (least : ℕ) → Place
@@ -82,6 +97,7 @@ abbrev pub place_of : {S A : Type 0} → Decoration S A → S → Around → Opt
 place_of d decorator Plain = None
 place_of d decorator (Bullets least) = Some (bullet_place d decorator least)
 place_of d decorator (Numbers least number columns) = Some (number_place d decorator least number columns)
+place_of d decorator Cells = None
 
 -- an item begins in a block of its own
 abbrev pub item_begun : {S A K T B : Type 0} → Decoration S A → Operations B T → Option Place → LayoutState S K T B →
@@ -90,12 +106,16 @@ item_begun d o None s = Some s
 item_begun d o (Some p) s = nested d o p.columns p.least s
 
 -- what it interrupts
-abbrev pub item_kept : {S K T B : Type 0} → Option Place → LayoutState S K T B → Option (Outer S T B)
-item_kept None s = None
-item_kept (Some p) s = Some (interrupted s p.behind p.prefix p.columns)
+abbrev pub item_kept : {S K T B : Type 0} → Option Place → LayoutState S K T B → Interruption S T B
+item_kept None s = NoBlock
+item_kept (Some p) s = Indented (interrupted s p.behind p.prefix p.columns)
+
+-- what a cell interrupts
+abbrev pub cell_kept : {S K T B : Type 0} → LayoutState S K T B → Interruption S T B
+cell_kept s = Cell (record { decorator = s.decorator; block = s.block })
 
 -- the way of a node, by that of its kind, with what it restores
-abbrev pub keeping : {S K T B : Type 0} → Operations B T → Option (Outer S T B) → TextContext T →
+abbrev pub keeping : {S K T B : Type 0} → Operations B T → Interruption S T B → TextContext T →
     Way (LayoutState S K T B) (KindClosing S T B) → Option (Way (LayoutState S K T B) (Closing S T B))
 keeping o item text (Into q k) = Some (Into q (record { item = item; text = text; kind = k }))
 keeping o item text (Past r) = past (item_closed o item (record r { text = text }))
@@ -128,6 +148,15 @@ module _ {S A K T B : Type 0} (d : Decoration S A) (push : K → T → A → K �
   link_opened target s = do
     q ← begun d push o (link d target) (with_target target s)
     Some (Into q (EndLink s.text (length s.targets + 1)))
+
+  -- a table, and a row of one
+  abbrev pub table_opened : GridRows → List CellNeed → LayoutState S K T B → Option (Way (LayoutState S K T B) (KindClosing S T B))
+  table_opened grid cells s = do
+    q ← table_begun o grid cells s
+    Some (Into q (EndTable s.in_table))
+
+  abbrev pub row_opened : List Slot → LayoutState S K T B → Option (Way (LayoutState S K T B) (KindClosing S T B))
+  row_opened slots s = Some (Into (record (row_begun o slots s) { around = Cells }) EndRow)
 
   -- a superscript, which is passed where it is of digits
   abbrev pub superscript_opened : (digits : Option (List ℕ)) → LayoutState S K T B → Option (Way (LayoutState S K T B) (KindClosing S T B))
@@ -169,8 +198,8 @@ module _ {S A K T B : Type 0} (d : Decoration S A) (push : K → T → A → K �
   kind_opened (Image i) e trees s = past (image d push o i.source i.title s)
   kind_opened (Svg title) e trees s = past (image d push o [] title s)
   kind_opened (FragmentStart name) e trees s = past (Some (marked o name s))
-  kind_opened (Table grid) e trees s = Some (Into s Nothing)
-  kind_opened (TableRow slots) e trees s = Some (Into s Nothing)
+  kind_opened (Table grid) e trees s = table_opened grid (cell_needs trees) s
+  kind_opened (TableRow slots) e trees s = row_opened slots s
   kind_opened TableCell e trees s = Some (Into s Nothing)
   kind_opened (Part part) e trees s = Some (Into s Nothing)
 
@@ -188,20 +217,41 @@ module _ {S A K T B : Type 0} (d : Decoration S A) (push : K → T → A → K �
   kind_closed (EndLink text number) r = do
     q ← add_text d push o (d.link_end r.decorator) r
     link_number d push o text number q
+  kind_closed (EndTable in_table) r = table_ended o in_table r
+  kind_closed EndRow r = on_block o.end_row (record r { around = Plain })
 
   abbrev pub node_opened : RenderNode → Forest RenderNode → LayoutState S K T B → Option (Way (LayoutState S K T B) (KindClosing S T B))
   node_opened n trees s = kind_opened n.kind n.estimate trees (in_style d push n.style s)
+
+  -- a node is opened in the block that it interrupts another one for, if it does
+  abbrev pub opened_in : Interruption S T B → RenderNode → Forest RenderNode → LayoutState S K T B →
+      Option (Way (LayoutState S K T B) (Closing S T B))
+  opened_in item n trees q = do
+    w ← node_opened n trees q
+    keeping o item q.text w
+
+  -- as a cell in this block, or skipped
+  abbrev pub cell_opened : RenderNode → Forest RenderNode → Option B → LayoutState S K T B →
+      Option (Way (LayoutState S K T B) (Closing S T B))
+  cell_opened n trees None s = Some (Past (record s { block = o.skip_cell s.block }))
+  cell_opened n trees (Some cell) s = opened_in (cell_kept s) n trees (in_cell d cell s)
 
   -- a node is opened where it stands, if it is an item
   abbrev pub placed_opened : RenderNode → Forest RenderNode → Option Place → LayoutState S K T B →
       Option (Way (LayoutState S K T B) (Closing S T B))
   placed_opened n trees p s = do
     q ← item_begun d o p s
-    w ← node_opened n trees q
-    keeping o (item_kept p s) q.text w
+    opened_in (item_kept p s) n trees q
+
+  abbrev pub opened_around : RenderNode → Forest RenderNode → LayoutState S K T B → Around →
+      Option (Way (LayoutState S K T B) (Closing S T B))
+  opened_around n trees s Plain = placed_opened n trees None s
+  opened_around n trees s (Bullets least) = placed_opened n trees (Some (bullet_place d s.decorator least)) s
+  opened_around n trees s (Numbers least number columns) = placed_opened n trees (Some (number_place d s.decorator least number columns)) s
+  opened_around n trees s Cells = cell_opened n trees (o.cell_block s.block) s
 
   abbrev pub opened : RenderNode → Forest RenderNode → LayoutState S K T B → Option (Way (LayoutState S K T B) (Closing S T B))
-  opened n trees s = placed_opened n trees (place_of d s.decorator s.around) s
+  opened n trees s = opened_around n trees s s.around
 
   abbrev pub closed : Closing S T B → LayoutState S K T B → Option (LayoutState S K T B)
   closed c r = do

@@ -44,6 +44,7 @@ pub mod state;
 mod steps;
 mod styles;
 mod superscripts;
+mod tables;
 mod texts;
 
 /// Lines, the stacks of annotations that the tags of their characters stand for, and the names of their marks.
@@ -121,6 +122,8 @@ fn begin_with<D: TextDecorator, G: Tagging<D::Annotation>>(
         },
         block,
         around: Around::Plain,
+        blank: tag,
+        in_table: false,
         targets: TextList::new(alloc),
         names: TextList::new(alloc),
     }
@@ -181,7 +184,7 @@ fn lines_from<D: TextDecorator>(
 {
     let state = laid_out_from(alloc, tree, state, meter)?;
     Ok(LaidOut {
-        lines: state.block.into_lines(),
+        lines: state.block.into_lines()?,
         stacks: state.stacks,
         names: state.names,
     })
@@ -300,7 +303,8 @@ fn untagged_lines_from<D: TextDecorator>(
 {
     let mut meter = Meter::default();
     let state = laid_out_from(alloc, tree, state, &mut meter)?;
-    Ok(state.block.into_lines())
+    let lines = state.block.into_lines()?;
+    Ok(lines)
 }
 
 /// The lines of a tree, as [`lay_out`] answers them, without what their characters are annotated with. Nothing is kept

@@ -50,6 +50,12 @@ pub struct LayoutSettings {
     pub max_wrap_width: Option<usize>,
     /// The columns that a text needs at least behind what its lines stand behind, unless its own are fewer.
     pub min_wrap_width: usize,
+    /// Whether the cells of every table stand one below another.
+    pub raw_mode: bool,
+    /// Whether tables have borders.
+    pub table_borders: bool,
+    /// Whether a line of three backquotes stands before a table that is in no other one, and another behind it.
+    pub fence_tables: bool,
 }
 
 impl Default for LayoutSettings {
@@ -60,7 +66,7 @@ impl Default for LayoutSettings {
 
     /// No numbers behind links; characters that are struck out have U+0336 behind them; images without a title aren't shown;
     /// the lines that close the document are cut; lines aren't filled with spaces, and are as wide as their block; a text needs
-    /// 3 columns.
+    /// 3 columns; tables have borders and no fences, and their cells stand side by side where they can.
     fn default() -> LayoutSettings {
         LayoutSettings {
             link_footnotes: false,
@@ -70,6 +76,9 @@ impl Default for LayoutSettings {
             pad_block_width: false,
             max_wrap_width: None,
             min_wrap_width: 3,
+            raw_mode: false,
+            table_borders: true,
+            fence_tables: false,
         }
     }
 }
@@ -92,6 +101,9 @@ impl LayoutSettings {
             pad_block_width: self.pad_block_width,
             max_wrap_width: self.max_wrap_width,
             min_wrap_width: self.min_wrap_width,
+            raw_mode: self.raw_mode,
+            table_borders: self.table_borders,
+            fence_tables: self.fence_tables,
         })
     }
 }

@@ -1,6 +1,8 @@
 -- marks at the ends of lines, and lines that are filled
 pub mod Marked
 pub mod Padding
+-- lines of at least so many columns
+pub mod Stretch
 -- THE DEFINITION of a picture
 pub mod Picture
 -- the picture row by row

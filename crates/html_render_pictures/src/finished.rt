@@ -1,6 +1,6 @@
 //! Finished lines: marks at their ends, and spaces that fill them.
 
-ghost use Rattle.std.specs.Prelude.{◌≡◌, ◌-◌, ◌++◌, Some, OnOk};
+ghost use Rattle.std.specs.Prelude.{◌≡◌, ◌-◌, ◌++◌, length, Some, OnOk};
 ghost use Rattle.html_render_lines.specs.Line.{columns, marks_line};
 ghost use Rattle.html_render_pictures.specs.Marked.{marked_before, marked_behind};
 ghost use Rattle.html_render_pictures.specs.Padding.{filled_line, filled};
@@ -48,6 +48,19 @@ pub fn fill_all<T: Tag, M: Copy>(
     Ok(())
 }
 
+/// Fills each line with spaces up to so many columns, under a tag; there stay as many lines, whatever comes.
+pub(crate) fn fill_lines<T: Tag, M: Copy>(
+    lines: &mut Vec<Line<T, M>>,
+    width: usize,
+    tag: T,
+) -> Result<(), AllocError>
+    ensures as_many { length lines.new.items ≡ length lines.old.items }
+    ensures ok { OnOk result (lines.new.items ≡ filled (Some tag) width lines.old.items) }
+{
+    fill_all(lines.as_mut_slice(), width, tag)?;
+    Ok(())
+}
+
 /// Puts marks at the end of the last line.
 ///
 /// # Errors
@@ -72,7 +85,10 @@ pub fn mark_behind<T: Tag, M: Copy>(
 }
 
 /// Puts marks at the end of a line.
-fn push_marks<T: Tag, M: Copy>(line: &mut Line<T, M>, marks: &[M]) -> Result<(), AllocError>
+pub(crate) fn push_marks<T: Tag, M: Copy>(
+    line: &mut Line<T, M>,
+    marks: &[M],
+) -> Result<(), AllocError>
     ensures { OnOk result (line.new ≡ line.old ++ marks_line marks.now) }
 {
     for mark in marks {

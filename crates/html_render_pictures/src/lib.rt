@@ -7,4 +7,5 @@
 pub mod finished;
 mod laws;
 mod line;
+pub mod lines;
 pub mod picture;

@@ -1,12 +1,14 @@
 //! The picture of a table: its rows' lines, with borders above, between and below them.
 
-ghost use Rattle.std.specs.Prelude.{◌≡◌, List, ◌++◌, ◌∷◌, false, get_or, replicate, OnOk, IfOk, IfErr};
+ghost use Rattle.std.specs.Prelude.{◌≡◌, List, [], ◌++◌, ◌∷◌, false, get_or, replicate, Some, OnOk, IfOk, IfErr};
 ghost use Rattle.html_render_pictures.specs.Picture as definition;
 ghost use Rattle.html_render_pictures.specs.Picture.{TableRow};
 ghost use Rattle.html_render_pictures.specs.Drawing as drawing;
+ghost use Rattle.html_render_pictures.specs.Padding.{filled};
 
-use crate::finished::{mark_before, put_marks_front};
+use crate::finished::put_marks_front;
 use crate::line::fill_block;
+use crate::lines::Lines;
 use html_render_dom::Error;
 use html_render_lines::line::Line;
 use html_render_lines::tag::Tag;
@@ -31,7 +33,7 @@ pub struct Cell<T, M> {
     /// Its columns.
     pub width: usize,
     /// Its lines.
-    pub lines: Vec<Line<T, M>>,
+    pub lines: Lines<T, M>,
     /// The marks that wait behind its lines.
     pub marks: Vec<M>,
 }
@@ -41,7 +43,7 @@ impl<T, M> Model for Cell<T, M> {
 
     ghost Value = { KeptCell T M };
 
-    ghost view = { λ c. record { width = c.width; lines = c.lines.items; marks = c.marks.items } };
+    ghost view = { λ c. record { width = c.width; lines = c.lines; marks = c.marks.items } };
 }
 
 /// A row of a table.
@@ -62,18 +64,28 @@ impl<T, M> Model for Row<T, M> {
 }
 
 /// A row is as high as its highest cell, and at least 1.
-fn height<T, M>(cells: &[Cell<T, M>]) -> usize
-    ensures { result ≡ definition.height cells.now }
+fn height_of<T: Tag, M: Copy>(cells: &mut [Cell<T, M>]) -> Result<usize, AllocError>
+    ensures same { OnOk result (cells.new ≡ cells.old) }
+    ensures height { IfOk result (λ h. h ≡ definition.height cells.old) }
 {
     let mut height = 1;
-    for cell in cells {
-        height = height.max(cell.lines.len());
+    for cell in cells.iter_mut() {
+        height = height.max(cell.lines.len()?);
     }
-    height
+    Ok(height)
+}
+
+/// A row is as high as its highest cell, and at least 1. The lines of each cell stand in one vector then.
+fn height<T: Tag, M: Copy>(cells: &mut Vec<Cell<T, M>>) -> Result<usize, AllocError>
+    ensures same { OnOk result (cells.new.items ≡ cells.old.items) }
+    ensures height { IfOk result (λ h. h ≡ definition.height cells.old.items) }
+{
+    let height = height_of(cells.as_mut_slice())?;
+    Ok(height)
 }
 
 /// Whether a cell has lines.
-fn has_lines<T, M>(cells: &[Cell<T, M>]) -> bool
+fn has_lines<T: Tag, M: Copy>(cells: &[Cell<T, M>]) -> bool
     ensures { result ≡ definition.has_lines cells.now }
 {
     for cell in cells {
@@ -85,14 +97,14 @@ fn has_lines<T, M>(cells: &[Cell<T, M>]) -> bool
 }
 
 /// Whether a row is drawn.
-fn is_drawn<T, M>(row: &Row<T, M>) -> bool
+fn is_drawn<T: Tag, M: Copy>(row: &Row<T, M>) -> bool
     ensures { result ≡ definition.is_drawn row.now }
 {
     has_lines(row.cells.as_slice()) || (row.has_placeholder && !row.cells.is_empty())
 }
 
 /// Adds the marks of a cell without lines to those that wait.
-fn wait_for_line<T, M: Copy>(waiting: &mut Vec<M>, cell: &Cell<T, M>) -> Result<(), AllocError>
+fn wait_for_line<T: Tag, M: Copy>(waiting: &mut Vec<M>, cell: &Cell<T, M>) -> Result<(), AllocError>
     ensures { OnOk result (waiting.new.items ≡ waiting.old.items ++ definition.waiting_of cell.now) }
 {
     if cell.lines.is_empty() {
@@ -102,7 +114,10 @@ fn wait_for_line<T, M: Copy>(waiting: &mut Vec<M>, cell: &Cell<T, M>) -> Result<
 }
 
 /// Adds the marks of cells without lines to those that wait, from left to right.
-fn wait_for_lines<T, M: Copy>(waiting: &mut Vec<M>, cells: &[Cell<T, M>]) -> Result<(), AllocError>
+fn wait_for_lines<T: Tag, M: Copy>(
+    waiting: &mut Vec<M>,
+    cells: &[Cell<T, M>],
+) -> Result<(), AllocError>
     ensures { OnOk result (waiting.new.items ≡ waiting.old.items ++ definition.waiting_in cells.now) }
 {
     for cell in cells {
@@ -194,9 +209,10 @@ impl<T: Tag> Frame<T> {
     {
         let Cell {
             width,
-            mut lines,
+            lines,
             marks,
         } = cell;
+        let mut lines = lines.into_vec()?;
         let empty = height.saturating_sub(lines.len());
         fill_block(alloc, &mut lines, marks.as_slice(), empty, width, self.tag)?;
         Ok(lines)
@@ -233,15 +249,15 @@ impl<T: Tag> Frame<T> {
         Ok(())
     }
 
-    /// The lines of a row.
-    fn row_lines<M: Copy>(
+    /// The lines of a row, over the lines of each cell.
+    fn lines_beside<M: Copy>(
         &self,
         alloc: Global,
-        cells: Vec<Cell<T, M>>,
+        mut cells: Vec<Cell<T, M>>,
     ) -> Result<Vec<Line<T, M>>, AllocError>
         ensures { IfOk result (λ v. v.items ≡ definition.row_lines self.now cells.items) }
     {
-        let height = height(cells.as_slice());
+        let height = height(&mut cells)?;
         let mut others = cells.into_iter();
         let Some(first) = others.next() else {
             return Ok(Vec::new(alloc));
@@ -251,6 +267,58 @@ impl<T: Tag> Frame<T> {
             let rights = self.cell_lines(alloc, cell, height)?;
             self.put_all_beside(lines.as_mut_slice(), rights)?;
         }
+        Ok(lines)
+    }
+
+    /// A line of so many spaces.
+    fn blank_lines<M: Copy>(&self, alloc: Global, width: usize) -> Result<Lines<T, M>, AllocError>
+        ensures { IfOk result (λ v. v ≡ filled (Some self.now.tag) width ([] ∷ [])) }
+    {
+        let mut lines = Lines::new(alloc);
+        lines.push(Line::new(alloc))?;
+        lines.fill(width, self.tag)?;
+        Ok(lines)
+    }
+
+    /// The lines of a row of one cell: those of the cell, filled.
+    #[tactic(auto, using(crate::proofs::OnlyCell::only_cells))]
+    fn only_cell_lines<M: Copy>(
+        &self,
+        alloc: Global,
+        cell: Cell<T, M>,
+    ) -> Result<Lines<T, M>, AllocError>
+        ensures { IfOk result (λ v. v ≡ definition.row_lines self.now (cell ∷ [])) }
+    {
+        if cell.lines.is_empty() {
+            return self.blank_lines(alloc, cell.width);
+        }
+        let Cell {
+            width,
+            mut lines,
+            marks,
+        } = cell;
+        lines.mark_last(marks.as_slice())?;
+        lines.fill(width, self.tag)?;
+        Ok(lines)
+    }
+
+    /// The lines of a row. Those of an only cell are passed over no more than they need.
+    #[tactic(auto, using(crate::proofs::OnlyCell::one_cell))]
+    fn row_lines<M: Copy>(
+        &self,
+        alloc: Global,
+        mut cells: Vec<Cell<T, M>>,
+    ) -> Result<Lines<T, M>, AllocError>
+        ensures { IfOk result (λ v. v ≡ definition.row_lines self.now cells.items) }
+    {
+        if cells.len() != 1 {
+            let lines = self.lines_beside(alloc, cells)?;
+            return Ok(Lines::of(alloc, lines));
+        }
+        let Some(cell) = cells.pop() else {
+            return Ok(Lines::new(alloc));
+        };
+        let lines = self.only_cell_lines(alloc, cell)?;
         Ok(lines)
     }
 }
@@ -275,11 +343,11 @@ impl<T: Tag> Frame<T> {
     fn add_due<M: Copy>(
         &self,
         alloc: Global,
-        lines: &mut Vec<Line<T, M>>,
+        lines: &mut Lines<T, M>,
         due: Option<Border<M>>,
         below: &[bool],
     ) -> Result<(), AllocError>
-        ensures { OnOk result (lines.new.items ≡ lines.old.items ++ drawing.due_lines self.now due below.now) }
+        ensures { OnOk result (lines.new ≡ lines.old ++ drawing.due_lines self.now due below.now) }
     {
         match due {
             Some(Border { marks, above }) => {
@@ -312,7 +380,7 @@ impl<T: Tag> Frame<T> {
 pub struct Picture<T, M> {
     alloc: Global,
     frame: Frame<T>,
-    lines: Vec<Line<T, M>>,
+    lines: Lines<T, M>,
     waiting: Vec<M>,
     due: Option<Border<M>>,
 }
@@ -322,14 +390,14 @@ impl<T, M> Model for Picture<T, M> {
 
     ghost Value = { Drawing T M };
 
-    ghost view = { λ p. record { frame = p.frame; lines = p.lines.items; waiting = p.waiting.items; due = p.due } };
+    ghost view = { λ p. record { frame = p.frame; lines = p.lines; waiting = p.waiting.items; due = p.due } };
 }
 
 /// A picture that is drawn.
 #[derive(Drop)]
 pub struct Drawn<T, M> {
     /// Its lines.
-    pub lines: Vec<Line<T, M>>,
+    pub lines: Lines<T, M>,
     /// The marks that wait behind it.
     pub waiting: Vec<M>,
 }
@@ -344,7 +412,7 @@ impl<T: Tag, M: Copy> Picture<T, M> {
         ensures ok { IfOk result (λ p. p ≡ drawing.begun frame waiting.items) }
         ensures err { IfErr result (λ e. e ≡ Error.OutOfMemory) }
     {
-        let lines = Vec::new(alloc);
+        let lines = Lines::new(alloc);
         if !frame.borders || frame.width == 0 {
             return Ok(Picture {
                 alloc,
@@ -408,9 +476,9 @@ impl<T: Tag, M: Copy> Picture<T, M> {
             .add_due(self.alloc, &mut self.lines, due, separators.as_slice())?;
         wait_for_lines(&mut self.waiting, cells.as_slice())?;
         let mut lines = self.frame.row_lines(self.alloc, cells)?;
-        mark_before(&mut lines, self.waiting.as_slice())?;
+        lines.mark_first(self.waiting.as_slice())?;
         self.waiting.clear();
-        self.lines.append(&mut lines)?;
+        self.lines.append(lines)?;
         self.due = self.frame.due_below(self.alloc, separators);
         Ok(())
     }
@@ -421,9 +489,9 @@ impl<T: Tag, M: Copy> Picture<T, M> {
     ///
     /// `OutOfMemory`.
     pub fn finish(self) -> Result<Drawn<T, M>, Error>
-        ensures ok { IfOk result (λ d. (d.lines.items, d.waiting.items) ≡ drawing.finished self) }
+        ensures ok { IfOk result (λ d. (d.lines, d.waiting.items) ≡ drawing.finished self) }
         ensures picture { (waiting : List M) (rows : List (TableRow T M)) → self ≡ drawing.with_rows (drawing.begun self.frame waiting) rows
-            → IfOk result (λ d. (d.lines.items, d.waiting.items) ≡ definition.picture self.frame waiting rows) }
+            → IfOk result (λ d. (d.lines, d.waiting.items) ≡ definition.picture self.frame waiting rows) }
         ensures err { IfErr result (λ e. e ≡ Error.OutOfMemory) }
     {
         let Picture {

@@ -191,6 +191,32 @@ impl<D: TextDecorator> Config<D> {
         self
     }
 
+    /// Whether the cells of every table stand one below another, and not side by side. Tables have no borders then, whatever is
+    /// said here.
+    pub fn raw_mode(mut self, raw: bool) -> Config<D>
+        ensures { result ≡ record self { nodes = record self.nodes { raw_mode = raw; table_borders = false } } }
+    {
+        self.nodes.raw_mode = raw;
+        self.nodes.table_borders = false;
+        self
+    }
+
+    /// Tables have no borders: cells side by side have a space between them, and cells one below another nothing.
+    pub fn no_table_borders(mut self) -> Config<D>
+        ensures { result ≡ record self { nodes = record self.nodes { table_borders = false } } }
+    {
+        self.nodes.table_borders = false;
+        self
+    }
+
+    /// A line of three backquotes stands before each table that is in no other one, and another behind it.
+    pub fn fence_tables(mut self) -> Config<D>
+        ensures { result ≡ record self { nodes = record self.nodes { fence_tables = true } } }
+    {
+        self.nodes.fence_tables = true;
+        self
+    }
+
     /// The render tree of a document.
     ///
     /// # Errors

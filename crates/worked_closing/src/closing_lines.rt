@@ -19,7 +19,7 @@ const TEXT: usize = 0;
 const CLOSING: usize = 1;
 
 /// How a text of the block is placed.
-fn style() -> TextStyle<usize> {
+pub fn style() -> TextStyle<usize> {
     TextStyle {
         mode: WhiteSpace::Normal,
         tag: TEXT,
@@ -117,7 +117,7 @@ fn show_line(shown: &mut String, line: &Line<usize, u8>) -> Result<(), AllocErro
 /// What the lines of a block hold.
 fn shown(alloc: Global, block: Block<usize, u8>) -> Result<String, AllocError> {
     let mut text = String::new(alloc);
-    let lines = block.into_lines();
+    let lines = block.into_lines()?;
     for line in lines.as_slice() {
         show_line(&mut text, line)?;
     }

@@ -191,7 +191,7 @@ impl Work {
         let mut blocks = self.blocks;
         let mut shown = self.noted;
         let block = blocks.pop().ok_or("a block")?;
-        push_lines(&mut shown, NAMES, &block.into_lines())?;
+        push_lines(&mut shown, NAMES, &block.into_lines()?)?;
         Ok(shown)
     }
 }

@@ -7,6 +7,8 @@
 #[cfg(test)]
 mod decorators;
 #[cfg(test)]
+mod large;
+#[cfg(test)]
 mod nesting;
 #[cfg(test)]
 mod rows;

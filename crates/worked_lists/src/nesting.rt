@@ -1,10 +1,10 @@
-//! Documents of 100,000 quotes or lists, one in the other.
+//! Documents of 100,000 quotes, lists or tables, one in the other.
 
 use crate::scripts::{TOO_NARROW, answer};
 use std::alloc::Global;
 use std::test::Fail;
 
-/// How many quotes or lists stand round the text.
+/// How many quotes, lists or tables stand round the text.
 const LEVELS: usize = 100_000;
 
 /// Whether so many elements round an `x` are too narrow without overflow, and with overflow one line of so many prefixes.
@@ -29,5 +29,18 @@ fn quotes_and_lists_nest_deeply(rt: HostRuntime) -> Result<(), Fail> {
         let is_one_line = is_one_line(rt.alloc(), opening, prefix)?;
         assert!(rt; is_one_line, "{opening}");
     }
+    Ok(())
+}
+
+#[test]
+fn tables_nest_deeply(rt: HostRuntime) -> Result<(), Fail> {
+    let alloc = rt.alloc();
+    let mut script = "<table\n<tbody\n<tr\n<td\n".repeat(alloc, LEVELS)?;
+    script.push_str("\"x\n")?;
+    let mut wanted = "─\n".repeat(alloc, LEVELS)?;
+    wanted.push_str("x\n")?;
+    wanted.push_str("─\n".repeat(alloc, LEVELS)?.as_str())?;
+    let text = answer(alloc, "5", script.as_str())?;
+    assert!(rt; text.as_str() == wanted.as_str());
     Ok(())
 }

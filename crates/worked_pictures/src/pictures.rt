@@ -5,6 +5,7 @@
 
 use html_render_dom::Error;
 use html_render_lines::line::{Element, Line, Parts, Run, text_columns};
+use html_render_pictures::lines::Lines;
 use html_render_pictures::picture::{Cell, Drawn, Frame, Picture, Row};
 use std::alloc::{AllocError, Global};
 use std::test::Fail;
@@ -68,7 +69,7 @@ fn cell_of(alloc: Global, field: &str) -> Result<Cell<usize, char>, Fail> {
     let (lines, marks) = fields.split_once(':').ok_or("lines")?;
     Ok(Cell {
         width: width.parse()?,
-        lines: lines_of(alloc, lines)?,
+        lines: Lines::of(alloc, lines_of(alloc, lines)?),
         marks: marks_of(alloc, marks)?,
     })
 }
@@ -127,9 +128,10 @@ fn show_line(shown: &mut String, line: &Line<usize, char>) -> Result<(), Fail> {
 }
 
 /// The lines, each behind `/`, and the marks that wait behind them.
-fn shown(alloc: Global, drawn: &Drawn<usize, char>) -> Result<String, Fail> {
+fn shown(alloc: Global, drawn: Drawn<usize, char>) -> Result<String, Fail> {
     let mut text = String::new(alloc);
-    for line in &drawn.lines {
+    let lines = drawn.lines.into_vec()?;
+    for line in &lines {
         text.push('/')?;
         show_line(&mut text, line)?;
     }
@@ -146,7 +148,7 @@ fn drawn(alloc: Global, frame: Frame<usize>, waiting: &str, rows: &[&str]) -> Re
     for row in rows {
         picture.add_row(row_of(alloc, row)?)?;
     }
-    shown(alloc, &picture.finish()?)
+    shown(alloc, picture.finish()?)
 }
 
 #[test]
@@ -263,6 +265,66 @@ fn rows_of_one_cell(rt: HostRuntime) -> Result<(), Fail> {
     assert_eq!(rt;
         drawn(alloc, bordered(3), "", &["3:a/bc:1", "2:d:"])?.as_str(),
         "/───/a  /bc1 /───/d /──."
+    );
+    Ok(())
+}
+
+/// Text in a picture of one cell, in a picture of one cell, and so on, so many deep: at each level the cell's columns are
+/// those of the text and one for each level below, where `wider` says so.
+fn nested(alloc: Global, text: &str, depth: usize, wider: bool) -> Result<String, Fail> {
+    let mut lines = Lines::of(alloc, lines_of(alloc, text)?);
+    let mut waiting = Vec::new(alloc);
+    for level in 0..depth {
+        let width = if wider { level.saturating_add(2) } else { 2 };
+        let mut picture = Picture::new(alloc, bordered(width), Vec::new(alloc))?;
+        let mut cells = Vec::new(alloc);
+        cells.push(Cell {
+            width,
+            lines,
+            marks: waiting,
+        })?;
+        picture.add_row(Row {
+            cells,
+            has_placeholder: false,
+        })?;
+        let drawn = picture.finish()?;
+        lines = drawn.lines;
+        waiting = marks_of(alloc, "1")?;
+    }
+    shown(alloc, Drawn { lines, waiting })
+}
+
+#[test]
+fn pictures_stand_in_cells(rt: HostRuntime) -> Result<(), Fail> {
+    let alloc = rt.alloc();
+    assert_eq!(rt;
+        nested(alloc, "a/bc", 3, false)?.as_str(),
+        "/──/──/──/a /bc/──1/──1/──.1"
+    );
+    assert_eq!(rt;
+        nested(alloc, "a/bc", 3, true)?.as_str(),
+        "/────/─── /──  /a   /bc  /──1  /───1 /────.1"
+    );
+    Ok(())
+}
+
+#[test]
+fn deep_pictures_keep_their_lines(rt: HostRuntime) -> Result<(), Fail> {
+    let alloc = rt.alloc();
+    assert_eq!(rt;
+        nested(alloc, "a", 6, false)?.as_str(),
+        "/──/──/──/──/──/──/a /──1/──1/──1/──1/──1/──.1"
+    );
+    Ok(())
+}
+
+#[test]
+fn ragged_lines_are_filled(rt: HostRuntime) -> Result<(), Fail> {
+    let alloc = rt.alloc();
+    let rows = ["4:a/bcd/./ef/abcde/g/h/i/世/j:1", "2:k:,1:l/m:"];
+    assert_eq!(rt;
+        drawn(alloc, plain(4), "2", &rows)?.as_str(),
+        "/2a   /bcd /    /ef  /abcde/g   /h   /i   /世  /j1   /k  l/   m."
     );
     Ok(())
 }

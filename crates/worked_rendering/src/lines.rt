@@ -119,6 +119,32 @@ const PREFORMATTED: &str = "\
 pad_block_width|4|<pre;a|{P}a{}   /
 ";
 
+/// Tables: borders and spaces that fill cells have no annotation; marks wait for a line.
+const TABLES: &str = "\
+|20|<em;<table;<tbody;<tr;<td;a;>;<td;b|{}─┬─/{E}a{}│{E}b/{}─┴─/
+|20|<table;<tbody;<tr;<td;a;<span@id=z;>;>;>;<tr;<td;bc|{}──/{}a<z>{} /{}──/{}bc/{}──/
+|20|<table;<tbody;<tr;<td;a;>;>;<tr;<td@id=z|{}─/{}a/{}─<z>/
+|20|<span@id=z;>;<table;<tbody;<tr;<td;a|<z>{}─/{}a/{}─/
+no_table_borders|20|<span@id=z;>;<table;<tbody;<tr;<td;a|<z>{}a/
+|20|<table@id=f;<caption;T;>;<tbody;<tr;<td;a|<f>{}T//{}─/{}a/{}─/
+|20|<table;<tbody;<tr;<td;>;<td;<em;b|{}─/{E}b/{}─/
+|20|<table;<tbody;<tr;<td;>;<td@id=z;>;<td;b|{}─/{}b/{}─/
+|20|<table;<tbody;<tr;<td;a;>;<td;>;>;<tr;<td@id=z;>;<td;b|{}─┬─/{}a│ /{}─┼─/<z>{} │b/{}─┴─/
+|3|<table;<tbody;<tr;<td;abc;>;<td@id=z;>;<td;def|{}───/{}abc/<z>{}////{}def/{}───/
+fence_tables|20|<em;<table;<tbody;<tr;<td;a|{}```/{}─/{E}a/{}─/{}```/
+|20|<ul;<li;<table;<tbody;<tr;<td;<em;a|{}* ─/{}  {E}a/{}  ─/
+link_footnotes|20|<table;<tbody;<tr;<td@colspan=7;<a@href=u;x;>;>;>;<tr;<td;>;<td;>;<td;>;<td;>;<td;>;<td;>;<td;>;>;>;>;<a@href=v;y|{L(v)}y{}[1]//{}[1]: v/
+";
+
+#[test]
+fn tables_have_their_tagged_lines(rt: HostRuntime) -> Result<(), Fail> {
+    let alloc = rt.alloc();
+    for case in TABLES.lines() {
+        has_its_lines(&rt, alloc, case)?;
+    }
+    Ok(())
+}
+
 #[test]
 fn documents_have_their_tagged_lines(rt: HostRuntime) -> Result<(), Fail> {
     let alloc = rt.alloc();

@@ -29,6 +29,10 @@ fn called<D: TextDecorator>(
         "allow_width_overflow" => Ok(config.allow_width_overflow()),
         "do_decorate" => config.do_decorate(alloc),
         "pad_block_width" => Ok(config.pad_block_width()),
+        "raw_mode" => Ok(config.raw_mode(true)),
+        "raw_mode=false" => Ok(config.raw_mode(false)),
+        "no_table_borders" => Ok(config.no_table_borders()),
+        "fence_tables" => Ok(config.fence_tables()),
         _ => Ok(with_columns(config, call)),
     }
 }

@@ -1,4 +1,5 @@
-//! Tests of column cuts, of what columns need, and of the grids of tables: worked rows, and cases that were not made with this code.
+//! Tests of column cuts, of what columns need, and of the grids of tables: worked rows, and cases that were not made with this
+//! code. A table printer is the example of their use.
 //!
 //! There is nothing to call here.
 #![tactic(auto)]
@@ -9,3 +10,5 @@ mod column_cuts;
 mod column_needs;
 #[cfg(test)]
 mod table_grids;
+#[cfg(test)]
+mod table_printer;

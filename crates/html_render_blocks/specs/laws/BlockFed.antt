@@ -12,15 +12,18 @@ use Rattle.html_render_blocks.specs.laws.Operations.{Commutes, map_map}
 use Rattle.html_render_blocks.specs.Block as definition
 use Rattle.html_render_blocks.specs.Block.{DefinedBlock, is_blank, paragraph_setting, inner_width, mark_items}
 use Rattle.html_render_blocks.specs.Joined.{joined}
+use Rattle.html_render_pictures.specs.Marked.{marked_behind}
 use Rattle.html_render_pictures.specs.Padding.{filled}
 use Rattle.html_render_blocks.specs.declared.block.tables.OpenTable.{OpenTable}
 use Rattle.html_render_blocks.specs.declared.block.tables.OpenTable.TheVariants.{Across, Stacked}
 use Rattle.html_render_blocks.specs.OpenRows.{with_cell}
-use Rattle.html_render_blocks.specs.Tables.{Rows, drawn_pictures, defined_pictures, rule, stacked_border, with_row_open, next_cell_width, skipped}
-use Rattle.html_render_blocks.specs.Tables.{with_open}
-use Rattle.html_render_blocks.specs.laws.TableFed.{drawing_of, table_of, with_row_open-of, next_cell_width-of, skipped-of, with_open-of, finished-of}
+use Rattle.html_render_blocks.specs.Tables.{Rows, defined_pictures, rule, stacked_border, with_row_open, next_cell_width, skipped}
+use Rattle.html_render_blocks.specs.Tables.{picture_of}
+use Rattle.html_render_blocks.specs.laws.TableFed.{drawing_of, table_of, with_row_open-of, next_cell_width-of, skipped-of, with_open-of, picture_of-of}
 use Rattle.html_render_parts.specs.declared.widths.needs.CellNeed.{CellNeed}
 use Rattle.html_render_parts.specs.Needs.{standing_widths}
+use Rattle.html_render_nodes.specs.declared.tree.Slot.{Slot}
+use Rattle.html_render_nodes.specs.Grids.{GridRows}
 use Rattle.html_render_pictures.specs.Drawing.{Drawing}
 use Rattle.html_render_pictures.specs.Picture.{is_empty}
 use Rattle.html_render_blocks.specs.BlockMachine as machine
@@ -181,10 +184,9 @@ with_picture-block d p = add_marks-block (record d { lines = d.lines ++ p.0; tab
 end_open-block : {T M : Type 0} (d : DefinedBlock T M) (o : Option (OpenTable (Rows T M) T M)) →
     machine.end_open (block_of d) (option_map table_of o) ≡ block_of (definition.end_open d o)
 end_open-block d None = refl
-end_open-block d (Some (Across p widths row)) =
-    ap (λ q. machine.with_picture (block_of d) (drawn_pictures.finished q)) (with_open-of p row)
-    ∙ ap (machine.with_picture (block_of d)) (finished-of (with_open defined_pictures p row))
-    ∙ with_picture-block d (defined_pictures.finished (with_open defined_pictures p row))
+end_open-block d (Some (Across p widths below row)) =
+    ap (machine.with_picture (block_of d)) (picture_of-of p widths below row)
+    ∙ with_picture-block d (picture_of defined_pictures p widths below row)
 end_open-block d (Some (Stacked border has_lines)) = refl
 
 pub end_table-block : {T M : Type 0} (d : DefinedBlock T M) → machine.end_table (block_of d) ≡ block_of (definition.end_table d)
@@ -200,23 +202,23 @@ stacked_begun-block : {T M : Type 0} (d : DefinedBlock T M) (border : Option T) 
 stacked_begun-block {T} {M} d border none =
     ap (λ (b : MachineBlock T M). record b { table = Some (Stacked border false) }) (add_border-block d border 0x2500 none)
 
-table_begun-block : {T M : Type 0} (d : DefinedBlock T M) (tag : T) (borders : Bool) (o : Option (List ℕ)) → d.fed ≡ [] →
-    machine.table_begun (block_of d) tag borders o ≡ block_of (definition.table_begun d tag borders o)
-table_begun-block d tag borders None none = stacked_begun-block d (stacked_border tag borders d.setting.width) none
-table_begun-block d tag borders (Some widths) none =
-    ap (λ xs. machine.table_begun (block_of (record d { fed = xs })) tag borders (Some widths)) none
-    ∙ ap (λ xs. block_of (record (definition.table_begun d tag borders (Some widths)) { fed = xs })) (sym none)
+table_begun-block : {T M : Type 0} (d : DefinedBlock T M) (tag : T) (borders : Bool) (below : List (List Slot)) (o : Option (List ℕ)) →
+    d.fed ≡ [] → machine.table_begun (block_of d) tag borders below o ≡ block_of (definition.table_begun d tag borders below o)
+table_begun-block d tag borders below None none = stacked_begun-block d (stacked_border tag borders d.setting.width) none
+table_begun-block d tag borders below (Some widths) none =
+    ap (λ xs. machine.table_begun (block_of (record d { fed = xs })) tag borders below (Some widths)) none
+    ∙ ap (λ xs. block_of (record (definition.table_begun d tag borders below (Some widths)) { fed = xs })) (sym none)
 
-begin_table-block : {T M : Type 0} (d : DefinedBlock T M) (tag : T) (borders stacked : Bool) (columns : ℕ) (cells : List CellNeed) →
-    machine.begin_table (block_of d) tag borders stacked columns cells
-    ≡ option_map block_of (definition.begin_table d tag borders stacked columns cells)
-begin_table-block {T} {M} d tag borders stacked columns cells =
-    ap (λ b. option_map (λ (c : MachineBlock T M). machine.table_begun c tag borders
-    (cond stacked None (standing_widths columns cells c.setting.width))) (machine.flush b)) (end_table-block d)
+begin_table-block : {T M : Type 0} (d : DefinedBlock T M) (tag : T) (borders stacked : Bool) (grid : GridRows) (cells : List CellNeed) →
+    machine.begin_table (block_of d) tag borders stacked grid cells
+    ≡ option_map block_of (definition.begin_table d tag borders stacked grid cells)
+begin_table-block {T} {M} d tag borders stacked grid cells =
+    ap (λ b. option_map (λ (c : MachineBlock T M). machine.table_begun c tag borders grid.rows
+    (cond stacked None (standing_widths grid.columns cells c.setting.width))) (machine.flush b)) (end_table-block d)
     ∙ after_flush (definition.end_table d)
-    (λ (e : DefinedBlock T M). definition.table_begun e tag borders (cond stacked None (standing_widths columns cells e.setting.width)))
-    (λ (c : MachineBlock T M). machine.table_begun c tag borders (cond stacked None (standing_widths columns cells c.setting.width)))
-    (λ e none. table_begun-block e tag borders (cond stacked None (standing_widths columns cells e.setting.width)) none)
+    (λ (e : DefinedBlock T M). definition.table_begun e tag borders grid.rows (cond stacked None (standing_widths grid.columns cells e.setting.width)))
+    (λ (c : MachineBlock T M). machine.table_begun c tag borders grid.rows (cond stacked None (standing_widths grid.columns cells c.setting.width)))
+    (λ e none. table_begun-block e tag borders grid.rows (cond stacked None (standing_widths grid.columns cells e.setting.width)) none)
 
 on_table : {T M : Type 0} (d : DefinedBlock T M) (k : OpenTable (Rows T M) T M → OpenTable (Rows T M) T M)
     (l : OpenTable (Drawing T M) T M → OpenTable (Drawing T M) T M) → ((t : OpenTable (Rows T M) T M) → l (table_of t) ≡ table_of (k t)) →
@@ -240,11 +242,14 @@ cell_block-block {T} {M} d =
 waiting-block : {T M : Type 0} (d : DefinedBlock T M) → d.fed ≡ [] → machine.waiting (block_of d).paragraph ≡ d.marks
 waiting-block {T} d none = ap (λ xs. machine.waiting (after (start {T = T} (paragraph_setting d.setting) d.marks) xs)) none
 
+put_lines-block : {T M : Type 0} (d : DefinedBlock T M) (ls : List (Line T M)) (ms : List M) → d.fed ≡ [] →
+    machine.put_lines (block_of d) ls ms ≡ block_of (definition.put_lines d ls ms)
+put_lines-block d [] ms none = add_marks-block d ms
+put_lines-block d (l ∷ ls) ms none = add_lines-block d (marked_behind ms (l ∷ ls)) none
+
 put_below-block : {T M : Type 0} (d c : DefinedBlock T M) → d.fed ≡ [] → c.fed ≡ [] →
-    machine.put_below (block_of d) (block_of c) ≡ option_map block_of (definition.put_below d c)
-put_below-block d c none empty =
-    ap (machine.append_lines (block_of d) [] [] c.lines) (waiting-block c empty)
-    ∙ append_lines-block d [] [] c.lines c.marks none
+    machine.put_below (block_of d) (block_of c) ≡ block_of (definition.put_below d c)
+put_below-block d c none empty = ap (machine.put_lines (block_of d) c.lines) (waiting-block c empty) ∙ put_lines-block d c.lines c.marks none
 
 border-empties : {T M : Type 0} (d : DefinedBlock T M) (border : Option T) (character : ℕ) → d.fed ≡ [] →
     (definition.add_border d border character).fed ≡ []
@@ -252,43 +257,34 @@ border-empties d None character none = none
 border-empties d (Some tag) character none = none
 
 put_stacked-block : {T M : Type 0} (d c : DefinedBlock T M) (border : Option T) (has_lines more : Bool) → d.fed ≡ [] → c.fed ≡ [] →
-    machine.put_stacked (block_of d) border has_lines more (block_of c)
-    ≡ option_map block_of (definition.put_stacked d border has_lines more c)
-put_stacked-block {T} {M} d c border has_lines more none empty = by (has_lines && more)
+    machine.put_stacked (block_of d) border has_lines more (block_of c) ≡ block_of (definition.put_stacked d border has_lines more c)
+put_stacked-block {T} {M} d c border has_lines more none empty =
+    ap (λ (b : MachineBlock T M). record b { table = Some (Stacked border (has_lines || more)) }) (by (has_lines && more))
   where
-    stacked : MachineBlock T M → MachineBlock T M
-    stacked b = record b { table = Some (Stacked border (has_lines || more)) }
-
-    below : (e : DefinedBlock T M) (b : MachineBlock T M) → b ≡ block_of e → e.fed ≡ [] →
-        option_map stacked (machine.put_below b (block_of c))
-        ≡ option_map block_of (option_map (λ (e : DefinedBlock T M). record e { table = Some (Stacked border (has_lines || more)) })
-        (definition.put_below e c))
-    below e b same clear =
-        ap (λ x. option_map stacked (machine.put_below x (block_of c))) same
-        ∙ map_both block_of (λ (e : DefinedBlock T M). record e { table = Some (Stacked border (has_lines || more)) }) stacked
-        (definition.put_below e c) _ (put_below-block e c clear empty) (λ e. refl)
+    put : (e : DefinedBlock T M) (b : MachineBlock T M) → b ≡ block_of e → e.fed ≡ [] →
+        machine.put_below b (block_of c) ≡ block_of (definition.put_below e c)
+    put e b same clear = ap (λ x. machine.put_below x (block_of c)) same ∙ put_below-block e c clear empty
 
     by : (x : Bool) →
-        option_map stacked (machine.put_below (cond x (machine.add_border (block_of d) border 0x2F) (block_of d)) (block_of c))
-        ≡ option_map block_of (option_map (λ (e : DefinedBlock T M). record e { table = Some (Stacked border (has_lines || more)) })
-        (definition.put_below (cond x (definition.add_border d border 0x2F) d) c))
-    by true = below (definition.add_border d border 0x2F) (machine.add_border (block_of d) border 0x2F)
+        machine.put_below (cond x (machine.add_border (block_of d) border 0x2F) (block_of d)) (block_of c)
+        ≡ block_of (definition.put_below (cond x (definition.add_border d border 0x2F) d) c)
+    by true = put (definition.add_border d border 0x2F) (machine.add_border (block_of d) border 0x2F)
         (add_border-block d border 0x2F none) (border-empties d border 0x2F none)
-    by false = below d (block_of d) refl none
+    by false = put d (block_of d) refl none
 
 cell_added-block : {T M : Type 0} (d : DefinedBlock T M) (o : Option (OpenTable (Rows T M) T M)) (c : DefinedBlock T M) → c.fed ≡ [] →
     machine.cell_added (block_of d) (option_map table_of o) (block_of c) ≡ option_map block_of (definition.cell_added d o c)
 cell_added-block {T} {M} d None c empty =
-    flushed_then d (λ e. definition.put_below e c) (λ b. machine.put_below b (block_of c)) (λ e none. put_below-block e c none empty)
-cell_added-block {T} {M} d (Some (Across p widths None)) c empty =
-    flushed_then d (λ e. definition.put_below e c) (λ b. machine.put_below b (block_of c)) (λ e none. put_below-block e c none empty)
-cell_added-block {T} {M} d (Some (Across p widths (Some row))) c empty =
+    after_flush d (λ e. definition.put_below e c) (λ b. machine.put_below b (block_of c)) (λ e none. put_below-block e c none empty)
+cell_added-block {T} {M} d (Some (Across p widths below None)) c empty =
+    after_flush d (λ e. definition.put_below e c) (λ b. machine.put_below b (block_of c)) (λ e none. put_below-block e c none empty)
+cell_added-block {T} {M} d (Some (Across p widths below (Some row))) c empty =
     ap (λ ms. Some (record (block_of d) {
-      table = Some (Across (drawing_of p) widths
+      table = Some (Across (drawing_of p) widths below
           (Some (with_cell row (record { width = c.setting.width; lines = c.lines; marks = ms } ∷ []))));
     })) (waiting-block c empty)
 cell_added-block {T} {M} d (Some (Stacked border has_lines)) c empty =
-    flushed_then d (λ e. definition.put_stacked e border has_lines (not (is_empty c.lines)) c)
+    after_flush d (λ e. definition.put_stacked e border has_lines (not (is_empty c.lines)) c)
     (λ b. machine.put_stacked b border has_lines (not (is_empty c.lines)) (block_of c))
     (λ e none. put_stacked-block e c border has_lines (not (is_empty c.lines)) none empty)
 
@@ -302,8 +298,8 @@ add_cell-block {T} {M} d c =
 row_ended-block : {T M : Type 0} (d : DefinedBlock T M) (o : Option (OpenTable (Rows T M) T M)) →
     machine.row_ended (block_of d) (option_map table_of o) ≡ option_map block_of (definition.row_ended d o)
 row_ended-block d None = refl
-row_ended-block d (Some (Across p widths row)) =
-    ap (λ q. Some (record (block_of d) { table = Some (Across q widths None) })) (with_open-of p row)
+row_ended-block d (Some (Across p widths below row)) =
+    ap (λ q. Some (record (block_of d) { table = Some (Across q widths below None) })) (with_open-of p row)
 row_ended-block {T} {M} d (Some (Stacked border true)) =
     after_flush d (λ (e : DefinedBlock T M). record (definition.add_border e border 0x2500) { table = Some (Stacked border false) })
     (λ (c : MachineBlock T M). record (machine.add_border c border 0x2500) { table = Some (Stacked border false) })

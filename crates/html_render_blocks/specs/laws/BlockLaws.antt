@@ -1,5 +1,5 @@
 -- With overflow off no line of a block passes its width; with overflow on no operation refuses.
-use Rattle.std.proofs.Common.{◌≡◌, ℕ, ◌-◌, ◌≤◌, ◌+◌, suc, zero, sum, ◌++◌, option_and_then, Bool, true, false, not, cond, eqb, leb, ◌||◌, ◌&&◌}
+use Rattle.std.proofs.Common.{◌≡◌, ℕ, ◌-◌, ◌≤◌, ◌+◌, suc, zero, sum, ◌++◌, Bool, true, false, not, cond, eqb, leb, ◌||◌, ◌&&◌}
 use Rattle.std.proofs.Common.{List, [], ◌∷◌, length, Option, Some, None}
 use Rattle.std.proofs.Common.{refl, sym, ap, ◌∙◌, subst, arith, max, IfSome, IsSome, option_map}
 use Rattle.std.specs.Option.{IsSomeAnd}
@@ -24,21 +24,24 @@ use Rattle.html_render_blocks.specs.Block.{DefinedBlock, wrap_width, paragraph_s
 use Rattle.html_render_blocks.specs.Block.{separate_behind, start_block, new_line_hard, add_inline_text, feed, is_blank, inner_width}
 use Rattle.html_render_blocks.specs.Block.{sub_block, append_lines, append, operations}
 use Rattle.html_render_blocks.specs.Block.{end_open, end_table, add_lines, add_border, table_begun, begin_table, begin_row, skip_cell}
+use Rattle.html_render_blocks.specs.Block.{put_lines}
 use Rattle.html_render_blocks.specs.Block.{kept_cell, put_below, put_stacked, cell_added, cell_block, add_cell, row_ended}
 use Rattle.html_render_blocks.specs.declared.block.tables.OpenTable.{OpenTable}
 use Rattle.html_render_blocks.specs.declared.block.tables.OpenTable.TheVariants.{Across, Stacked}
-use Rattle.html_render_blocks.specs.Tables.{Rows, defined_pictures, rule, stacked_border, with_row_open, next_cell_width, skipped, with_open}
+use Rattle.html_render_blocks.specs.Tables.{Rows, defined_pictures, rule, stacked_border, with_row_open, next_cell_width, skipped, with_open, with_below}
 use Rattle.html_render_blocks.specs.laws.TableWithin.{TableWithin, place_room, cell-within, picture_rows, picture_frame, with_row_open-within}
-use Rattle.html_render_blocks.specs.laws.TableWithin.{skipped-within, table_width-within, columns_room-within}
+use Rattle.html_render_blocks.specs.laws.TableWithin.{below_rows, below_frame}
+use Rattle.html_render_blocks.specs.laws.TableWithin.{skipped-within, table_width_within, columns_room-within}
 use Rattle.html_render_lines.specs.Character.{width_of}
 use Rattle.html_render_lines.specs.declared.line.Element.{Element}
 use Rattle.html_render_lines.specs.declared.line.Element.TheVariants.{Character}
 use Rattle.html_render_nodes.specs.declared.tree.Slot.{Slot}
+use Rattle.html_render_nodes.specs.Grids.{GridRows}
 use Rattle.html_render_parts.specs.declared.widths.needs.CellNeed.{CellNeed}
 use Rattle.html_render_parts.specs.Needs.{standing_widths}
 use Rattle.html_render_parts.specs.laws.Needs.{standing_within}
 use Rattle.html_render_pictures.specs.declared.picture.Frame.{Frame}
-use Rattle.html_render_pictures.specs.Marked.{marked_before}
+use Rattle.html_render_pictures.specs.Marked.{marked_before, marked_behind}
 use Rattle.html_render_pictures.specs.Picture.{KeptCell, is_empty, picture_lines}
 use Rattle.html_render_pictures.specs.Widths.{KeepsToWidth, RowWithin}
 use Rattle.html_render_pictures.specs.laws.Glyphs.{border_width, slash_width}
@@ -165,6 +168,16 @@ marked_before_within {T} {M} w ms (l ∷ ls) h =
     (let k = All-head (λ (l : Line T M). columns l ≤ w) l ls h in omega (arith, k, columns-append (marks_line ms) l, columns-marks T ms))
     (All-tail (λ (l : Line T M). columns l ≤ w) l ls h)
 
+pub marked_behind_within : {T M : Type 0} (w : ℕ) (ms : List M) (ls : List (Line T M)) → AllWithinWidth w ls → AllWithinWidth w (marked_behind ms ls)
+marked_behind_within w ms [] h = h
+marked_behind_within {T} {M} w ms (l ∷ []) h =
+    All-cons (λ (l : Line T M). columns l ≤ w) (l ++ marks_line ms) []
+    (let k = All-head (λ (l : Line T M). columns l ≤ w) l [] h in omega (arith, k, columns-append l (marks_line ms), columns-marks T ms))
+    (All-nil (λ (l : Line T M). columns l ≤ w))
+marked_behind_within {T} {M} w ms (l ∷ k ∷ ls) h =
+    All-cons (λ (l : Line T M). columns l ≤ w) l (marked_behind ms (k ∷ ls)) (All-head (λ (l : Line T M). columns l ≤ w) l (k ∷ ls) h)
+    (marked_behind_within w ms (k ∷ ls) (All-tail (λ (l : Line T M). columns l ≤ w) l (k ∷ ls) h))
+
 pub add_lines_within : {T M : Type 0} (w : ℕ) (d : DefinedBlock T M) (ls : List (Line T M)) → IsWithin w d → AllWithinWidth w ls →
     IsWithin w (add_lines d ls)
 add_lines_within {T} {M} w d ls h k = with_lines w d (add_lines d ls) h refl h.table
@@ -173,11 +186,13 @@ add_lines_within {T} {M} w d ls h k = with_lines w d (add_lines d ls) h refl h.t
 end_open_within : {T M : Type 0} (w : ℕ) (d : DefinedBlock T M) (o : Option (OpenTable (Rows T M) T M)) → IsWithin w d → TableWithin w o →
     IsWithin w (end_open d o)
 end_open_within w d None h k = h
-end_open_within {T} {M} w d (Some (Across p widths row)) h k =
-    let q : Rows T M = with_open defined_pictures p row in
+end_open_within {T} {M} w d (Some (Across p widths below row)) h k =
+    let own : Rows T M = with_open defined_pictures p row in
+    let q : Rows T M = with_below defined_pictures widths below own in
     with_lines w d _ h refl tt (All-append (λ (l : Line T M). columns l ≤ w) d.lines (picture_lines q.frame q.waiting q.rows) h.lines
-    (picture_within q.frame w q.waiting q.rows (subst (λ (f : Frame T). f.width ≤ w) (sym (picture_frame p row)) k.0.0)
-    (picture_rows w p row k.0.1 k.1.1)))
+    (picture_within q.frame w q.waiting q.rows
+    (subst (λ (f : Frame T). f.width ≤ w) (sym (below_frame own widths below ∙ picture_frame p row)) k.0.0)
+    (below_rows w own widths below k.1.0 (picture_rows w p row k.0.1 k.1.1))))
 end_open_within w d (Some (Stacked border has_lines)) h k = with_lines w d _ h refl tt h.lines
 
 pub end_table_within : {T M : Type 0} (w : ℕ) (d : DefinedBlock T M) → IsWithin w d → IsWithin w (end_table d)
@@ -208,14 +223,14 @@ with_table : {T M : Type 0} (w : ℕ) (d : DefinedBlock T M) (o : Option (OpenTa
     IsWithin w (record d { table = o })
 with_table w d o h k = with_lines w d (record d { table = o }) h refl k h.lines
 
-table_begun_within : {T M : Type 0} (w : ℕ) (d : DefinedBlock T M) (tag : T) (borders : Bool) (o : Option (List ℕ)) → IsWithin w d →
-    IfSome o (λ ws. sum ws + (length ws - 1) ≤ w) → IsWithin w (table_begun d tag borders o)
-table_begun_within w d tag borders None h k =
+table_begun_within : {T M : Type 0} (w : ℕ) (d : DefinedBlock T M) (tag : T) (borders : Bool) (below : List (List Slot)) (o : Option (List ℕ)) →
+    IsWithin w d → IfSome o (λ ws. sum ws + (length ws - 1) ≤ w) → IsWithin w (table_begun d tag borders below o)
+table_begun_within w d tag borders below None h k =
     with_table w (add_border d (stacked_border tag borders d.setting.width) 0x2500) _
     (add_border_within w d (stacked_border tag borders d.setting.width) 0x2500 border_width h) tt
-table_begun_within {T} {M} w d tag borders (Some ws) h k =
+table_begun_within {T} {M} w d tag borders below (Some ws) h k =
     with_lines w d _ h refl
-    (((let t = table_width-within ws in omega (arith, t, k)), All-nil (RowWithin {T = T} {M = M} w)), (columns_room-within w ws k, tt)) h.lines
+    (((let t = table_width_within ws in omega (arith, t, k)), All-nil (RowWithin {T = T} {M = M} w)), (columns_room-within w ws k, tt)) h.lines
 
 widths_within : {T M : Type 0} (w : ℕ) (d : DefinedBlock T M) (stacked : Bool) (columns : ℕ) (cells : List CellNeed) → IsWithin w d →
     IfSome (cond stacked None (standing_widths columns cells d.setting.width)) (λ ws. sum ws + (length ws - 1) ≤ w)
@@ -224,12 +239,12 @@ widths_within w d false columns cells h =
     subst (λ v. IfSome (standing_widths columns cells d.setting.width) (λ ws. sum ws + (length ws - 1) ≤ v)) h.width
     (standing_within columns cells d.setting.width)
 
-begin_table_within : {T M : Type 0} (w : ℕ) (d : DefinedBlock T M) (tag : T) (borders stacked : Bool) (columns : ℕ)
-    (cells : List CellNeed) → IsWithin w d → IfSome (begin_table d tag borders stacked columns cells) (IsWithin w)
-begin_table_within w d tag borders stacked columns cells h =
+begin_table_within : {T M : Type 0} (w : ℕ) (d : DefinedBlock T M) (tag : T) (borders stacked : Bool) (grid : GridRows)
+    (cells : List CellNeed) → IsWithin w d → IfSome (begin_table d tag borders stacked grid cells) (IsWithin w)
+begin_table_within w d tag borders stacked grid cells h =
     map_if (IsWithin w) (IsWithin w) _ (flush (end_table d)) (flush_within w (end_table d) (end_table_within w d h))
-    (λ e k. table_begun_within w e tag borders (cond stacked None (standing_widths columns cells e.setting.width)) k
-    (widths_within w e stacked columns cells k))
+    (λ e k. table_begun_within w e tag borders grid.rows (cond stacked None (standing_widths grid.columns cells e.setting.width)) k
+    (widths_within w e stacked grid.columns cells k))
 
 begin_row_within : {T M : Type 0} (w : ℕ) (d : DefinedBlock T M) (slots : List Slot) → IsWithin w d → IsWithin w (begin_row d slots)
 begin_row_within {T} {M} w d slots h = with_table w d (option_map (with_row_open slots) d.table) h (by d.table h.table)
@@ -245,28 +260,41 @@ skip_cell_within {T} {M} w d h = with_table w d (option_map skipped d.table) h (
     by None k = tt
     by (Some t) k = skipped-within w t k
 
-put_below_within : {T M : Type 0} (w : ℕ) (d c : DefinedBlock T M) → IsWithin w d → IfSome (put_below d c) (IsWithin w)
-put_below_within w d c h = append_lines_within w d [] [] c.lines c.marks h
+put_lines_within : {T M : Type 0} (w : ℕ) (d : DefinedBlock T M) (ls : List (Line T M)) (ms : List M) → IsWithin w d → AllWithinWidth w ls →
+    IsWithin w (put_lines d ls ms)
+put_lines_within w d [] ms h k = with_lines w d _ h refl h.table h.lines
+put_lines_within w d (l ∷ ls) ms h k = add_lines_within w d (marked_behind ms (l ∷ ls)) h (marked_behind_within w ms (l ∷ ls) k)
 
 put_stacked_within : {T M : Type 0} (w : ℕ) (d c : DefinedBlock T M) (border : Option T) (has_lines more : Bool) → IsWithin w d →
-    IfSome (put_stacked d border has_lines more c) (IsWithin w)
-put_stacked_within w d c border has_lines more h =
+    AllWithinWidth w c.lines → IsWithin w (put_stacked d border has_lines more c)
+put_stacked_within w d c border has_lines more h k =
     let above = cond (has_lines && more) (add_border d border 0x2F) d in
-    map_if (IsWithin w) (IsWithin w) _ (put_below above c)
-    (put_below_within w above c
-    (if_cases (IsWithin w) (has_lines && more) _ _ (λ _. add_border_within w d border 0x2F slash_width h) (λ _. h)))
-    (λ e k. with_table w e _ k tt)
+    with_table w (put_below above c) _
+    (put_lines_within w above c.lines c.marks
+    (if_cases (IsWithin w) (has_lines && more) _ _ (λ _. add_border_within w d border 0x2F slash_width h) (λ _. h)) k) tt
 
-flushed_within : {T M : Type 0} (w : ℕ) (d : DefinedBlock T M) (f : DefinedBlock T M → Option (DefinedBlock T M)) → IsWithin w d →
-    ((e : DefinedBlock T M) → IsWithin w e → IfSome (f e) (IsWithin w)) → IfSome (option_and_then f (flush d)) (IsWithin w)
-flushed_within w d f h next = then_if (IsWithin w) (IsWithin w) f (flush d) (flush_within w d h) next
+-- what a flush is followed by
+flushed_within : {T M : Type 0} (w : ℕ) (d : DefinedBlock T M) (f : DefinedBlock T M → DefinedBlock T M) → IsWithin w d →
+    ((e : DefinedBlock T M) → IsWithin w e → IsWithin w (f e)) → IfSome (option_map f (flush d)) (IsWithin w)
+flushed_within w d f h next = map_if (IsWithin w) (IsWithin w) f (flush d) (flush_within w d h) next
+
+-- the lines of a cell that is as wide as its block
+whole_within : {T M : Type 0} (w v : ℕ) (d c : DefinedBlock T M) → IsWithin w d → Some d.setting.width ≡ Some v → IsWithin v c →
+    AllWithinWidth w c.lines
+whole_within w v d c h e n =
+    let same = ap place_room e in
+    let wide = h.width in
+    let own : v ≡ w = omega (arith, same, wide) in
+    subst (λ u. AllWithinWidth u c.lines) own n.lines
 
 -- a cell in its own place
 cell_added_within : {T M : Type 0} (w v : ℕ) (d : DefinedBlock T M) (o : Option (OpenTable (Rows T M) T M)) (c : DefinedBlock T M) →
     IsWithin w d → TableWithin w o → next_cell_width d.setting.width o ≡ Some v → IsWithin v c → IfSome (cell_added d o c) (IsWithin w)
-cell_added_within w v d None c h k e n = flushed_within w d _ h (λ b p. put_below_within w b c p)
-cell_added_within w v d (Some (Across p widths None)) c h k e n = flushed_within w d _ h (λ b p. put_below_within w b c p)
-cell_added_within {T} {M} w v d (Some (Across p widths (Some row))) c h k e n =
+cell_added_within w v d None c h k e n =
+    flushed_within w d _ h (λ b p. put_lines_within w b c.lines c.marks p (whole_within w v d c h e n))
+cell_added_within w v d (Some (Across p widths below None)) c h k e n =
+    flushed_within w d _ h (λ b p. put_lines_within w b c.lines c.marks p (whole_within w v d c h e n))
+cell_added_within {T} {M} w v d (Some (Across p widths below (Some row))) c h k e n =
     with_table w d _ h (
       k.0,
       (
@@ -278,7 +306,7 @@ cell_added_within {T} {M} w v d (Some (Across p widths (Some row))) c h k e n =
       ),
     )
 cell_added_within w v d (Some (Stacked border has_lines)) c h k e n =
-    flushed_within w d _ h (λ b p. put_stacked_within w b c border has_lines (not (is_empty c.lines)) p)
+    flushed_within w d _ h (λ b p. put_stacked_within w b c border has_lines (not (is_empty c.lines)) p (whole_within w v d c h e n))
 
 cell_within : {T M : Type 0} (w : ℕ) (d : DefinedBlock T M) → IsWithin w d →
     IfSome (cell_block d) (λ c. (v : ℕ) × (IsWithin v c × ((e : DefinedBlock T M) → IsWithin v e → IfSome (add_cell d e) (IsWithin w))))
@@ -300,7 +328,7 @@ cell_within {T} {M} w d h = by (next_cell_width d.setting.width d.table) refl
 row_ended_within : {T M : Type 0} (w : ℕ) (d : DefinedBlock T M) (o : Option (OpenTable (Rows T M) T M)) → IsWithin w d → TableWithin w o →
     IfSome (row_ended d o) (IsWithin w)
 row_ended_within w d None h k = h
-row_ended_within w d (Some (Across p widths row)) h k =
+row_ended_within w d (Some (Across p widths below row)) h k =
     with_table w d _ h
     ((subst (λ f. f.width ≤ w) (sym (picture_frame p row)) k.0.0, picture_rows w p row k.0.1 k.1.1), (k.1.0, tt))
 row_ended_within w d (Some (Stacked border true)) h k =
@@ -405,7 +433,7 @@ append_lines_succeeds {T} {M} w d p q (l ∷ ls) ms h =
 end_open_succeeds : {T M : Type 0} (w : ℕ) (d : DefinedBlock T M) (o : Option (OpenTable (Rows T M) T M)) → Overflows w d →
     Overflows w (end_open d o)
 end_open_succeeds w d None h = h
-end_open_succeeds w d (Some (Across p widths row)) h = record { width = h.width; overflow = h.overflow }
+end_open_succeeds w d (Some (Across p widths below row)) h = record { width = h.width; overflow = h.overflow }
 end_open_succeeds w d (Some (Stacked border has_lines)) h = record { width = h.width; overflow = h.overflow }
 
 pub end_table_succeeds : {T M : Type 0} (w : ℕ) (d : DefinedBlock T M) → Overflows w d → Overflows w (end_table d)
@@ -420,40 +448,43 @@ table_succeeds : {T M : Type 0} (w : ℕ) (d : DefinedBlock T M) (o : Option (Op
     Overflows w (record d { table = o })
 table_succeeds w d o h = record { width = h.width; overflow = h.overflow }
 
-table_begun_succeeds : {T M : Type 0} (w : ℕ) (d : DefinedBlock T M) (tag : T) (borders : Bool) (o : Option (List ℕ)) → Overflows w d →
-    Overflows w (table_begun d tag borders o)
-table_begun_succeeds w d tag borders None h =
+table_begun_succeeds : {T M : Type 0} (w : ℕ) (d : DefinedBlock T M) (tag : T) (borders : Bool) (below : List (List Slot)) (o : Option (List ℕ)) →
+    Overflows w d → Overflows w (table_begun d tag borders below o)
+table_begun_succeeds w d tag borders below None h =
     table_succeeds w (add_border d (stacked_border tag borders d.setting.width) 0x2500) _
     (border_succeeds w d (stacked_border tag borders d.setting.width) 0x2500 h)
-table_begun_succeeds w d tag borders (Some ws) h = record { width = h.width; overflow = h.overflow }
+table_begun_succeeds w d tag borders below (Some ws) h = record { width = h.width; overflow = h.overflow }
 
-begin_table_succeeds : {T M : Type 0} (w : ℕ) (d : DefinedBlock T M) (tag : T) (borders stacked : Bool) (columns : ℕ)
-    (cells : List CellNeed) → Overflows w d → IsSomeAnd (begin_table d tag borders stacked columns cells) (Overflows w)
-begin_table_succeeds w d tag borders stacked columns cells h =
+begin_table_succeeds : {T M : Type 0} (w : ℕ) (d : DefinedBlock T M) (tag : T) (borders stacked : Bool) (grid : GridRows)
+    (cells : List CellNeed) → Overflows w d → IsSomeAnd (begin_table d tag borders stacked grid cells) (Overflows w)
+begin_table_succeeds w d tag borders stacked grid cells h =
     map_and (Overflows w) (Overflows w) _ (flush (end_table d)) (flush_succeeds w (end_table d) (end_table_succeeds w d h))
-    (λ e k. table_begun_succeeds w e tag borders (cond stacked None (standing_widths columns cells e.setting.width)) k)
+    (λ e k. table_begun_succeeds w e tag borders grid.rows (cond stacked None (standing_widths grid.columns cells e.setting.width)) k)
 
-put_below_succeeds : {T M : Type 0} (w : ℕ) (d c : DefinedBlock T M) → Overflows w d → IsSomeAnd (put_below d c) (Overflows w)
-put_below_succeeds w d c h = append_lines_succeeds w d [] [] c.lines c.marks h
+put_lines_succeeds : {T M : Type 0} (w : ℕ) (d : DefinedBlock T M) (ls : List (Line T M)) (ms : List M) → Overflows w d →
+    Overflows w (put_lines d ls ms)
+put_lines_succeeds w d [] ms h = record { width = h.width; overflow = h.overflow }
+put_lines_succeeds w d (l ∷ ls) ms h = record { width = h.width; overflow = h.overflow }
 
 put_stacked_succeeds : {T M : Type 0} (w : ℕ) (d c : DefinedBlock T M) (border : Option T) (has_lines more : Bool) → Overflows w d →
-    IsSomeAnd (put_stacked d border has_lines more c) (Overflows w)
+    Overflows w (put_stacked d border has_lines more c)
 put_stacked_succeeds w d c border has_lines more h =
     let above = cond (has_lines && more) (add_border d border 0x2F) d in
-    map_and (Overflows w) (Overflows w) _ (put_below above c)
-    (put_below_succeeds w above c
+    table_succeeds w (put_below above c) _
+    (put_lines_succeeds w above c.lines c.marks
     (if_cases (Overflows w) (has_lines && more) _ _ (λ _. border_succeeds w d border 0x2F h) (λ _. h)))
-    (λ e k. table_succeeds w e _ k)
+
+flushed_succeeds : {T M : Type 0} (w : ℕ) (d : DefinedBlock T M) (f : DefinedBlock T M → DefinedBlock T M) → Overflows w d →
+    ((e : DefinedBlock T M) → Overflows w e → Overflows w (f e)) → IsSomeAnd (option_map f (flush d)) (Overflows w)
+flushed_succeeds w d f h next = map_and (Overflows w) (Overflows w) f (flush d) (flush_succeeds w d h) next
 
 cell_added_succeeds : {T M : Type 0} (w : ℕ) (d : DefinedBlock T M) (o : Option (OpenTable (Rows T M) T M)) (c : DefinedBlock T M) →
     Overflows w d → IsSomeAnd (cell_added d o c) (Overflows w)
-cell_added_succeeds w d None c h = then_and (Overflows w) (Overflows w) _ (flush d) (flush_succeeds w d h) (λ b p. put_below_succeeds w b c p)
-cell_added_succeeds w d (Some (Across p widths None)) c h =
-    then_and (Overflows w) (Overflows w) _ (flush d) (flush_succeeds w d h) (λ b p. put_below_succeeds w b c p)
-cell_added_succeeds w d (Some (Across p widths (Some row))) c h = table_succeeds w d _ h
+cell_added_succeeds w d None c h = flushed_succeeds w d _ h (λ b p. put_lines_succeeds w b c.lines c.marks p)
+cell_added_succeeds w d (Some (Across p widths below None)) c h = flushed_succeeds w d _ h (λ b p. put_lines_succeeds w b c.lines c.marks p)
+cell_added_succeeds w d (Some (Across p widths below (Some row))) c h = table_succeeds w d _ h
 cell_added_succeeds w d (Some (Stacked border has_lines)) c h =
-    then_and (Overflows w) (Overflows w) _ (flush d) (flush_succeeds w d h)
-    (λ b p. put_stacked_succeeds w b c border has_lines (not (is_empty c.lines)) p)
+    flushed_succeeds w d _ h (λ b p. put_stacked_succeeds w b c border has_lines (not (is_empty c.lines)) p)
 
 cell_succeeds : {T M : Type 0} (w : ℕ) (d : DefinedBlock T M) → Overflows w d →
     IfSome (cell_block d)
@@ -476,7 +507,7 @@ cell_succeeds {T} {M} w d h = by (next_cell_width d.setting.width d.table)
 row_ended_succeeds : {T M : Type 0} (w : ℕ) (d : DefinedBlock T M) (o : Option (OpenTable (Rows T M) T M)) → Overflows w d →
     IsSomeAnd (row_ended d o) (Overflows w)
 row_ended_succeeds w d None h = h
-row_ended_succeeds w d (Some (Across p widths row)) h = table_succeeds w d _ h
+row_ended_succeeds w d (Some (Across p widths below row)) h = table_succeeds w d _ h
 row_ended_succeeds w d (Some (Stacked border true)) h =
     map_and (Overflows w) (Overflows w) _ (flush d) (flush_succeeds w d h)
     (λ e n. table_succeeds w (add_border e border 0x2500) _ (border_succeeds w e border 0x2500 n))

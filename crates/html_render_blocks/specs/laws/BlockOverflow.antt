@@ -1,5 +1,5 @@
 -- Where an operation on a block has an answer, it has the same with overflow on.
-use Rattle.std.proofs.Common.{◌≡◌, ℕ, ◌-◌, Bool, true, false, not, cond, eqb, leb, ◌||◌, ◌&&◌, List, [], ◌∷◌, ◌++◌, length, refl, ap, sym, subst, max}
+use Rattle.std.proofs.Common.{◌≡◌, ℕ, ◌-◌, Bool, true, false, not, cond, eqb, leb, ◌||◌, ◌&&◌, List, [], ◌∷◌, ◌++◌, length, refl, ap, sym, ◌∙◌, subst, max}
 use Rattle.std.proofs.Common.{Option, Some, None, option_map}
 use Rattle.html_render_lines.specs.declared.character.Item.{Item}
 use Rattle.html_render_lines.specs.declared.character.TextStyle.{TextStyle}
@@ -14,13 +14,15 @@ use Rattle.html_render_pictures.specs.Marked.{marked_behind}
 use Rattle.html_render_blocks.specs.Block.{DefinedBlock, wrap_width, paragraph_setting, empty_block, flush, add_page, add_empty_line}
 use Rattle.html_render_blocks.specs.Block.{separate_behind, start_block, new_line_hard, add_inline_text, feed, is_blank, inner_width}
 use Rattle.html_render_blocks.specs.Block.{sub_block, append_lines, append, operations}
-use Rattle.html_render_blocks.specs.Block.{end_open, end_table, add_border, table_begun, begin_table, cell_block, put_below, put_stacked}
+use Rattle.html_render_blocks.specs.Block.{end_open, end_table, add_border, table_begun, begin_table, cell_block, put_lines, put_below, put_stacked}
 use Rattle.html_render_blocks.specs.Block.{cell_added, add_cell, row_ended}
 use Rattle.html_render_blocks.specs.declared.block.tables.OpenTable.{OpenTable}
 use Rattle.html_render_blocks.specs.declared.block.tables.OpenTable.TheVariants.{Across, Stacked}
 use Rattle.html_render_blocks.specs.Tables.{Rows, stacked_border, next_cell_width}
 use Rattle.html_render_parts.specs.declared.widths.needs.CellNeed.{CellNeed}
 use Rattle.html_render_parts.specs.Needs.{standing_widths}
+use Rattle.html_render_nodes.specs.declared.tree.Slot.{Slot}
+use Rattle.html_render_nodes.specs.Grids.{GridRows}
 use Rattle.html_render_pictures.specs.Picture.{is_empty}
 
 -- the same block with overflow on
@@ -90,7 +92,7 @@ append_lines_stays {T} {M} d p q (l ∷ ls) ms =
 end_open_overflowing : {T M : Type 0} (d : DefinedBlock T M) (o : Option (OpenTable (Rows T M) T M)) →
     end_open (overflowing d) o ≡ overflowing (end_open d o)
 end_open_overflowing d None = refl
-end_open_overflowing d (Some (Across p widths row)) = refl
+end_open_overflowing d (Some (Across p widths below row)) = refl
 end_open_overflowing d (Some (Stacked border has_lines)) = refl
 
 pub end_table_overflowing : {T M : Type 0} (d : DefinedBlock T M) → end_table (overflowing d) ≡ overflowing (end_table d)
@@ -104,21 +106,21 @@ border_overflowing : {T M : Type 0} (d : DefinedBlock T M) (border : Option T) (
 border_overflowing d None character = refl
 border_overflowing d (Some tag) character = refl
 
-table_begun_overflowing : {T M : Type 0} (d : DefinedBlock T M) (tag : T) (borders : Bool) (o : Option (List ℕ)) →
-    table_begun (overflowing d) tag borders o ≡ overflowing (table_begun d tag borders o)
-table_begun_overflowing {T} {M} d tag borders None =
+table_begun_overflowing : {T M : Type 0} (d : DefinedBlock T M) (tag : T) (borders : Bool) (below : List (List Slot)) (o : Option (List ℕ)) →
+    table_begun (overflowing d) tag borders below o ≡ overflowing (table_begun d tag borders below o)
+table_begun_overflowing {T} {M} d tag borders below None =
     ap (λ (e : DefinedBlock T M). record e { table = Some (Stacked (stacked_border tag borders d.setting.width) false) })
     (border_overflowing d (stacked_border tag borders d.setting.width) 0x2500)
-table_begun_overflowing d tag borders (Some ws) = refl
+table_begun_overflowing d tag borders below (Some ws) = refl
 
-begin_table_stays : {T M : Type 0} (d : DefinedBlock T M) (tag : T) (borders stacked : Bool) (columns : ℕ) (cells : List CellNeed) →
-    Stays overflowing (begin_table d tag borders stacked columns cells) (begin_table (overflowing d) tag borders stacked columns cells)
-begin_table_stays {T} {M} d tag borders stacked columns cells =
+begin_table_stays : {T M : Type 0} (d : DefinedBlock T M) (tag : T) (borders stacked : Bool) (grid : GridRows) (cells : List CellNeed) →
+    Stays overflowing (begin_table d tag borders stacked grid cells) (begin_table (overflowing d) tag borders stacked grid cells)
+begin_table_stays {T} {M} d tag borders stacked grid cells =
     map_stays overflowing overflowing
-    (λ (e : DefinedBlock T M). table_begun e tag borders (cond stacked None (standing_widths columns cells e.setting.width)))
-    (λ (e : DefinedBlock T M). table_begun e tag borders (cond stacked None (standing_widths columns cells e.setting.width)))
+    (λ (e : DefinedBlock T M). table_begun e tag borders grid.rows (cond stacked None (standing_widths grid.columns cells e.setting.width)))
+    (λ (e : DefinedBlock T M). table_begun e tag borders grid.rows (cond stacked None (standing_widths grid.columns cells e.setting.width)))
     (flush (end_table d)) (flush (end_table (overflowing d))) (flush_ended_stays d)
-    (λ e. table_begun_overflowing e tag borders (cond stacked None (standing_widths columns cells e.setting.width)))
+    (λ e. table_begun_overflowing e tag borders grid.rows (cond stacked None (standing_widths grid.columns cells e.setting.width)))
 
 cell_block_overflowing : {T M : Type 0} (d : DefinedBlock T M) → cell_block (overflowing d) ≡ option_map overflowing (cell_block d)
 cell_block_overflowing {T} {M} d = by (next_cell_width d.setting.width d.table)
@@ -129,38 +131,37 @@ cell_block_overflowing {T} {M} d = by (next_cell_width d.setting.width d.table)
     by None = refl
     by (Some w) = refl
 
-put_stacked_stays : {T M : Type 0} (d c : DefinedBlock T M) (border : Option T) (has_lines more : Bool) →
-    Stays overflowing (put_stacked d border has_lines more c) (put_stacked (overflowing d) border has_lines more (overflowing c))
-put_stacked_stays {T} {M} d c border has_lines more = by (has_lines && more)
+put_lines_overflowing : {T M : Type 0} (d : DefinedBlock T M) (ls : List (Line T M)) (ms : List M) →
+    put_lines (overflowing d) ls ms ≡ overflowing (put_lines d ls ms)
+put_lines_overflowing d [] ms = refl
+put_lines_overflowing d (l ∷ ls) ms = refl
+
+put_stacked_overflowing : {T M : Type 0} (d c : DefinedBlock T M) (border : Option T) (has_lines more : Bool) →
+    put_stacked (overflowing d) border has_lines more (overflowing c) ≡ overflowing (put_stacked d border has_lines more c)
+put_stacked_overflowing {T} {M} d c border has_lines more =
+    ap (λ (e : DefinedBlock T M). record e { table = Some (Stacked border (has_lines || more)) }) (by (has_lines && more))
   where
-    stacked : DefinedBlock T M → DefinedBlock T M
-    stacked e = record e { table = Some (Stacked border (has_lines || more)) }
+    put : (e f : DefinedBlock T M) → f ≡ overflowing e → put_below f (overflowing c) ≡ overflowing (put_below e c)
+    put e f same = ap (λ g. put_below g (overflowing c)) same ∙ put_lines_overflowing e c.lines c.marks
 
-    below : (e f : DefinedBlock T M) → f ≡ overflowing e →
-        Stays overflowing (option_map stacked (put_below e c)) (option_map stacked (put_below f (overflowing c)))
-    below e f same =
-        subst (λ g. Stays overflowing (option_map stacked (put_below e c)) (option_map stacked (put_below g (overflowing c)))) (sym same)
-        (map_stays overflowing overflowing stacked stacked (put_below e c) (put_below (overflowing e) (overflowing c))
-        (append_lines_stays e [] [] c.lines c.marks) (λ g. refl))
-
-    by : (b : Bool) → Stays overflowing (option_map stacked (put_below (cond b (add_border d border 0x2F) d) c))
-        (option_map stacked (put_below (cond b (add_border (overflowing d) border 0x2F) (overflowing d)) (overflowing c)))
-    by true = below (add_border d border 0x2F) (add_border (overflowing d) border 0x2F) (border_overflowing d border 0x2F)
-    by false = below d (overflowing d) refl
+    by : (b : Bool) → put_below (cond b (add_border (overflowing d) border 0x2F) (overflowing d)) (overflowing c)
+        ≡ overflowing (put_below (cond b (add_border d border 0x2F) d) c)
+    by true = put (add_border d border 0x2F) (add_border (overflowing d) border 0x2F) (border_overflowing d border 0x2F)
+    by false = put d (overflowing d) refl
 
 cell_added_stays : {T M : Type 0} (d : DefinedBlock T M) (o : Option (OpenTable (Rows T M) T M)) (c : DefinedBlock T M) →
     Stays overflowing (cell_added d o c) (cell_added (overflowing d) o (overflowing c))
-cell_added_stays {T} {M} d None c = then_stays overflowing overflowing (λ (e : DefinedBlock T M). put_below e c)
+cell_added_stays {T} {M} d None c = map_stays overflowing overflowing (λ (e : DefinedBlock T M). put_below e c)
     (λ (e : DefinedBlock T M). put_below e (overflowing c)) (flush d) (flush (overflowing d)) (flush_stays d)
-    (λ e. append_lines_stays e [] [] c.lines c.marks)
-cell_added_stays {T} {M} d (Some (Across p widths None)) c = then_stays overflowing overflowing (λ (e : DefinedBlock T M). put_below e c)
+    (λ e. put_lines_overflowing e c.lines c.marks)
+cell_added_stays {T} {M} d (Some (Across p widths below None)) c = map_stays overflowing overflowing (λ (e : DefinedBlock T M). put_below e c)
     (λ (e : DefinedBlock T M). put_below e (overflowing c)) (flush d) (flush (overflowing d)) (flush_stays d)
-    (λ e. append_lines_stays e [] [] c.lines c.marks)
-cell_added_stays d (Some (Across p widths (Some row))) c = refl
+    (λ e. put_lines_overflowing e c.lines c.marks)
+cell_added_stays d (Some (Across p widths below (Some row))) c = refl
 cell_added_stays {T} {M} d (Some (Stacked border has_lines)) c =
-    then_stays overflowing overflowing (λ (e : DefinedBlock T M). put_stacked e border has_lines (not (is_empty c.lines)) c)
+    map_stays overflowing overflowing (λ (e : DefinedBlock T M). put_stacked e border has_lines (not (is_empty c.lines)) c)
     (λ (e : DefinedBlock T M). put_stacked e border has_lines (not (is_empty c.lines)) (overflowing c)) (flush d) (flush (overflowing d))
-    (flush_stays d) (λ e. put_stacked_stays e c border has_lines (not (is_empty c.lines)))
+    (flush_stays d) (λ e. put_stacked_overflowing e c border has_lines (not (is_empty c.lines)))
 
 add_cell_stays : {T M : Type 0} (d c : DefinedBlock T M) → Stays overflowing (add_cell d c) (add_cell (overflowing d) (overflowing c))
 add_cell_stays d c =
@@ -170,7 +171,7 @@ add_cell_stays d c =
 row_ended_stays : {T M : Type 0} (d : DefinedBlock T M) (o : Option (OpenTable (Rows T M) T M)) →
     Stays overflowing (row_ended d o) (row_ended (overflowing d) o)
 row_ended_stays d None = refl
-row_ended_stays d (Some (Across p widths row)) = refl
+row_ended_stays d (Some (Across p widths below row)) = refl
 row_ended_stays {T} {M} d (Some (Stacked border true)) =
     map_stays overflowing overflowing
     (λ (e : DefinedBlock T M). record (add_border e border 0x2500) { table = Some (Stacked border false) })

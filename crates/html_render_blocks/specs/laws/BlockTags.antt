@@ -23,14 +23,17 @@ use Rattle.html_render_blocks.specs.BlockMachine.{MachineBlock, flush, flush_par
 use Rattle.html_render_blocks.specs.BlockMachine.{start_block, new_line_hard, add_inline_text, feed, waiting, take_waiting, operations}
 use Rattle.html_render_blocks.specs.BlockMachine.{empty_block, sub_block, add_marks, append_lines, append}
 use Rattle.html_render_blocks.specs.BlockMachine.{with_picture, end_open, end_table, add_lines, add_border, stacked_begun, table_begun, begin_table}
-use Rattle.html_render_blocks.specs.BlockMachine.{begin_row, cell_block, skip_cell, kept_cell, put_below, put_stacked, cell_added, add_cell, row_ended}
+use Rattle.html_render_blocks.specs.BlockMachine.{begin_row, cell_block, skip_cell, kept_cell, put_lines, put_below, put_stacked}
+use Rattle.html_render_blocks.specs.BlockMachine.{cell_added, add_cell, row_ended}
 use Rattle.html_render_blocks.specs.declared.block.tables.OpenTable.{OpenTable}
 use Rattle.html_render_blocks.specs.declared.block.tables.OpenTable.TheVariants.{Across, Stacked}
 use Rattle.html_render_blocks.specs.OpenRows.{with_cell}
-use Rattle.html_render_blocks.specs.Tables.{drawn_pictures, frame_of, rule, stacked_border, with_row_open, next_cell_width, skipped, with_open}
+use Rattle.html_render_blocks.specs.Tables.{drawn_pictures, frame_of, rule, stacked_border, with_row_open, next_cell_width, skipped, picture_of}
 use Rattle.html_render_blocks.specs.laws.TableTags.{open_row_with, table_with, with_row_open-with, next_cell_width-with, with_cell-with, with_open-with}
+use Rattle.html_render_blocks.specs.laws.TableTags.{picture_of-with}
 use Rattle.html_render_blocks.specs.laws.TableTags.{skipped-with, rule-with, stacked_border-with}
 use Rattle.html_render_nodes.specs.declared.tree.Slot.{Slot}
+use Rattle.html_render_nodes.specs.Grids.{GridRows}
 use Rattle.html_render_parts.specs.declared.widths.needs.CellNeed.{CellNeed}
 use Rattle.html_render_parts.specs.Needs.{standing_widths}
 use Rattle.html_render_pictures.specs.declared.picture.Frame.{Frame}
@@ -38,7 +41,7 @@ use Rattle.html_render_pictures.specs.Drawing.{Drawing}
 use Rattle.html_render_pictures.specs.Marked.{marked_before}
 use Rattle.html_render_pictures.specs.Picture.{is_empty}
 use Rattle.html_render_pictures.specs.Tags.{drawing_with, drawn_with}
-use Rattle.html_render_pictures.specs.laws.Tags.{begun-with, finished-with as picture-with}
+use Rattle.html_render_pictures.specs.laws.Tags.{begun-with}
 
 same_map : {X : Type 0} (o : Option X) → option_map (λ x. x) o ≡ o
 same_map None = refl
@@ -228,10 +231,9 @@ module _ {T U M : Type 0} (f : T → U) where
   end_open-with : (b : MachineBlock T M) (o : Option (OpenTable (Drawing T M) T M)) →
       end_open (block_with b) (option_map (table_with f) o) ≡ block_with (end_open b o)
   end_open-with b None = refl
-  end_open-with b (Some (Across d widths row)) =
-      ap (λ e. with_picture (block_with b) (drawn_pictures.finished e)) (with_open-with f d row)
-      ∙ ap (with_picture (block_with b)) (picture-with f (with_open drawn_pictures d row))
-      ∙ with_picture-with b (drawn_pictures.finished (with_open drawn_pictures d row))
+  end_open-with b (Some (Across d widths below row)) =
+      ap (with_picture (block_with b)) (picture_of-with f d widths below row)
+      ∙ with_picture-with b (picture_of drawn_pictures d widths below row)
   end_open-with b (Some (Stacked border has_lines)) = refl
 
   pub end_table-with : (b : MachineBlock T M) → end_table (block_with b) ≡ block_with (end_table b)
@@ -252,31 +254,31 @@ module _ {T U M : Type 0} (f : T → U) where
   stacked_begun-with b border =
       ap (λ (c : MachineBlock U M). record c { table = Some (Stacked (option_map f border) false) }) (add_border-with b border 0x2500)
 
-  table_begun-with : (b : MachineBlock T M) (tag : T) (borders : Bool) (o : Option (List ℕ)) →
-      table_begun (block_with b) (f tag) borders o ≡ block_with (table_begun b tag borders o)
-  table_begun-with b tag borders None =
+  table_begun-with : (b : MachineBlock T M) (tag : T) (borders : Bool) (below : List (List Slot)) (o : Option (List ℕ)) →
+      table_begun (block_with b) (f tag) borders below o ≡ block_with (table_begun b tag borders below o)
+  table_begun-with b tag borders below None =
       ap (stacked_begun (block_with b)) (stacked_border-with f tag borders b.setting.width)
       ∙ stacked_begun-with b (stacked_border tag borders b.setting.width)
-  table_begun-with b tag borders (Some widths) =
+  table_begun-with b tag borders below (Some widths) =
       let frame : Frame T = frame_of tag borders widths in
       ap (λ ms. record (block_with b) {
         paragraph = take_waiting (option_map (state_with f) b.paragraph);
-        table = Some (Across (drawn_pictures.begun (frame_of (f tag) borders widths) ms) widths None);
+        table = Some (Across (drawn_pictures.begun (frame_of (f tag) borders widths) ms) widths below None);
       }) (waiting-with b.paragraph)
       ∙ ap (λ d. record (block_with b) {
         paragraph = take_waiting (option_map (state_with f) b.paragraph);
-        table = Some (Across d widths None);
+        table = Some (Across d widths below None);
       }) (begun-with f frame (waiting b.paragraph))
-      ∙ ap (λ o. record (block_with (table_begun b tag borders (Some widths))) { paragraph = o }) (take_waiting-with b.paragraph)
+      ∙ ap (λ o. record (block_with (table_begun b tag borders below (Some widths))) { paragraph = o }) (take_waiting-with b.paragraph)
 
-  begin_table-with : (b : MachineBlock T M) (tag : T) (borders stacked : Bool) (columns : ℕ) (cells : List CellNeed) →
-      begin_table (block_with b) (f tag) borders stacked columns cells ≡ option_map block_with (begin_table b tag borders stacked columns cells)
-  begin_table-with b tag borders stacked columns cells =
+  begin_table-with : (b : MachineBlock T M) (tag : T) (borders stacked : Bool) (grid : GridRows) (cells : List CellNeed) →
+      begin_table (block_with b) (f tag) borders stacked grid cells ≡ option_map block_with (begin_table b tag borders stacked grid cells)
+  begin_table-with b tag borders stacked grid cells =
       map_with block_with block_with
-      (λ e. table_begun e tag borders (cond stacked None (standing_widths columns cells e.setting.width)))
-      (λ e. table_begun e (f tag) borders (cond stacked None (standing_widths columns cells e.setting.width)))
+      (λ e. table_begun e tag borders grid.rows (cond stacked None (standing_widths grid.columns cells e.setting.width)))
+      (λ e. table_begun e (f tag) borders grid.rows (cond stacked None (standing_widths grid.columns cells e.setting.width)))
       (flush (end_table b)) _ (flush_ended-with b)
-      (λ e. table_begun-with e tag borders (cond stacked None (standing_widths columns cells e.setting.width)))
+      (λ e. table_begun-with e tag borders grid.rows (cond stacked None (standing_widths grid.columns cells e.setting.width)))
 
   begin_row-with : (b : MachineBlock T M) (slots : List Slot) → begin_row (block_with b) slots ≡ block_with (begin_row b slots)
   begin_row-with b slots = ap (λ o. record (block_with b) { table = o }) (by b.table)
@@ -301,32 +303,37 @@ module _ {T U M : Type 0} (f : T → U) where
       (next_cell_width b.setting.width b.table) _
       (next_cell_width-with f b.setting.width b.table ∙ sym (same_map (next_cell_width b.setting.width b.table))) (λ w. refl)
 
-  put_below-with : (b c : MachineBlock T M) → put_below (block_with b) (block_with c) ≡ option_map block_with (put_below b c)
+  put_lines-with : (b : MachineBlock T M) (ls : List (Line T M)) (ms : List M) →
+      put_lines (block_with b) (lines_with f ls) ms ≡ block_with (put_lines b ls ms)
+  put_lines-with b [] ms = add_marks-with b ms
+  put_lines-with b (l ∷ ls) ms =
+      ap (add_lines (block_with b)) (sym (marked_behind-with f ms (l ∷ ls))) ∙ add_lines-with b (marked_behind ms (l ∷ ls))
+
+  put_below-with : (b c : MachineBlock T M) → put_below (block_with b) (block_with c) ≡ block_with (put_below b c)
   put_below-with b c =
-      ap (append_lines (block_with b) [] [] (lines_with f c.lines)) (waiting-with c.paragraph)
-      ∙ append_lines-with b [] [] c.lines (waiting c.paragraph)
+      ap (put_lines (block_with b) (lines_with f c.lines)) (waiting-with c.paragraph) ∙ put_lines-with b c.lines (waiting c.paragraph)
 
   put_stacked-with : (b c : MachineBlock T M) (border : Option T) (has_lines more : Bool) →
-      put_stacked (block_with b) (option_map f border) has_lines more (block_with c) ≡ option_map block_with (put_stacked b border has_lines more c)
+      put_stacked (block_with b) (option_map f border) has_lines more (block_with c) ≡ block_with (put_stacked b border has_lines more c)
   put_stacked-with b c border has_lines more =
       let above : MachineBlock T M = cond (has_lines && more) (add_border b border 0x2F) b in
-      map_with block_with block_with (λ e. record e { table = Some (Stacked border (has_lines || more)) })
-      (λ e. record e { table = Some (Stacked (option_map f border) (has_lines || more)) }) (put_below above c) _
+      ap (λ (e : MachineBlock U M). record e { table = Some (Stacked (option_map f border) (has_lines || more)) })
       (ap (λ e. put_below e (block_with c))
       (if_with block_with (has_lines && more) _ (add_border b border 0x2F) b _ _ refl (add_border-with b border 0x2F) refl)
-      ∙ put_below-with above c) (λ e. refl)
+      ∙ put_below-with above c)
 
   cell_added-with : (b : MachineBlock T M) (o : Option (OpenTable (Drawing T M) T M)) (c : MachineBlock T M) →
       cell_added (block_with b) (option_map (table_with f) o) (block_with c) ≡ option_map block_with (cell_added b o c)
-  cell_added-with b None c = then_with block_with block_with _ _ (flush b) _ (flush-with b) (λ e. put_below-with e c)
-  cell_added-with b (Some (Across d widths None)) c = then_with block_with block_with _ _ (flush b) _ (flush-with b) (λ e. put_below-with e c)
-  cell_added-with b (Some (Across d widths (Some row))) c =
-      ap (λ q. Some (record (block_with b) { table = Some (Across (drawing_with f d) widths (Some q)) }))
+  cell_added-with b None c = map_with block_with block_with _ _ (flush b) _ (flush-with b) (λ e. put_below-with e c)
+  cell_added-with b (Some (Across d widths below None)) c =
+      map_with block_with block_with _ _ (flush b) _ (flush-with b) (λ e. put_below-with e c)
+  cell_added-with b (Some (Across d widths below (Some row))) c =
+      ap (λ q. Some (record (block_with b) { table = Some (Across (drawing_with f d) widths below (Some q)) }))
       (ap (λ ms. with_cell (open_row_with f row) (record { width = c.setting.width; lines = lines_with f c.lines; marks = ms } ∷ []))
       (waiting-with c.paragraph)
       ∙ with_cell-with f row (kept_cell c ∷ []))
   cell_added-with b (Some (Stacked border has_lines)) c =
-      then_with block_with block_with (λ e. put_stacked e border has_lines (not (is_empty c.lines)) c)
+      map_with block_with block_with (λ e. put_stacked e border has_lines (not (is_empty c.lines)) c)
       (λ e. put_stacked e (option_map f border) has_lines (not (is_empty (lines_with f c.lines))) (block_with c)) (flush b) _ (flush-with b)
       (λ e. ap (λ n. put_stacked (block_with e) (option_map f border) has_lines (not (n == 0)) (block_with c)) (length-map c.lines (line_with f))
       ∙ put_stacked-with e c border has_lines (not (is_empty c.lines)))
@@ -339,8 +346,8 @@ module _ {T U M : Type 0} (f : T → U) where
   row_ended-with : (b : MachineBlock T M) (o : Option (OpenTable (Drawing T M) T M)) →
       row_ended (block_with b) (option_map (table_with f) o) ≡ option_map block_with (row_ended b o)
   row_ended-with b None = refl
-  row_ended-with b (Some (Across d widths row)) =
-      ap (λ e. Some (record (block_with b) { table = Some (Across e widths None) })) (with_open-with f d row)
+  row_ended-with b (Some (Across d widths below row)) =
+      ap (λ e. Some (record (block_with b) { table = Some (Across e widths below None) })) (with_open-with f d row)
   row_ended-with b (Some (Stacked border true)) =
       map_with block_with block_with (λ e. record (add_border e border 0x2500) { table = Some (Stacked border false) })
       (λ e. record (add_border e (option_map f border) 0x2500) { table = Some (Stacked (option_map f border) false) }) (flush b) _ (flush-with b)

@@ -1,6 +1,6 @@
 -- No operation on blocks loses a visible character.
 use Rattle.std.proofs.Common.{◌≡◌, ℕ, ◌+◌, ◌≤◌, Bool, true, false, not, cond, eqb, ◌||◌, ◌&&◌, List, [], ◌∷◌, ◌++◌, length, Option, Some, None}
-use Rattle.std.proofs.Common.{refl, sym, ap, ◌∙◌, subst, arith, append_assoc, append-nil, IfSome, option_map, option_and_then}
+use Rattle.std.proofs.Common.{refl, sym, ap, ◌∙◌, subst, arith, append_assoc, append-nil, IfSome, option_map}
 use Rattle.std.specs.Char.{is_whitespace}
 use Rattle.std.specs.List.{list_all}
 use Rattle.std.proofs.lemmas.Bool.{eqb-true}
@@ -29,13 +29,14 @@ use Rattle.html_render_blocks.specs.Block.{DefinedBlock, paragraph_setting, empt
 use Rattle.html_render_blocks.specs.Block.{separate_behind, start_block, new_line_hard, add_inline_text, feed, is_blank, add_mark, inner_width, mark_items}
 use Rattle.html_render_blocks.specs.Block.{sub_block, append_lines, append, operations}
 use Rattle.html_render_blocks.specs.Block.{with_picture, end_open, end_table, add_lines, add_border, table_begun, begin_table}
-use Rattle.html_render_blocks.specs.Block.{kept_cell, put_below, put_stacked, cell_added, cell_block, add_cell, row_ended}
+use Rattle.html_render_blocks.specs.Block.{add_marks, kept_cell, put_lines, put_below, put_stacked, cell_added, cell_block, add_cell, row_ended}
 use Rattle.html_render_blocks.specs.declared.block.tables.OpenTable.{OpenTable}
 use Rattle.html_render_blocks.specs.declared.block.tables.OpenTable.TheVariants.{Across, Stacked}
-use Rattle.html_render_blocks.specs.declared.block.tables.RowPlace.{RowPlace}
-use Rattle.html_render_blocks.specs.OpenRows.{OpenRow, empty_cell, empty_cells, before_cell, with_cell, whole_row}
-use Rattle.html_render_blocks.specs.Tables.{Rows, defined_pictures, rule, stacked_border, with_row_open, next_cell_width, skipped, with_open}
+use Rattle.html_render_blocks.specs.declared.block.rows.RowPlace.{RowPlace}
+use Rattle.html_render_blocks.specs.OpenRows.{OpenRow, open_row, empty_cell, empty_cells, before_cell, with_cell, whole_row}
+use Rattle.html_render_blocks.specs.Tables.{Rows, defined_pictures, rule, stacked_border, with_row_open, next_cell_width, skipped, with_open, with_below}
 use Rattle.html_render_nodes.specs.declared.tree.Slot.{Slot}
+use Rattle.html_render_nodes.specs.Grids.{GridRows}
 use Rattle.html_render_parts.specs.declared.widths.needs.CellNeed.{CellNeed}
 use Rattle.html_render_parts.specs.Needs.{standing_widths}
 use Rattle.html_render_pictures.specs.Marked.{marked_before}
@@ -298,6 +299,16 @@ with_open_count {T} {M} c p (Some row) =
       whole_row_count c row,
     )
 
+-- the rows below have nothing
+with_below_count : {T M : Type 0} (c : ℕ) (p : Rows T M) (widths : List ℕ) (below : List (List Slot)) →
+    count c (visible_in_rows (with_below defined_pictures widths below p).rows) ≡ count c (visible_in_rows p.rows)
+with_below_count c p widths [] = refl
+with_below_count {T} {M} c p widths (slots ∷ rest) =
+    let row : OpenRow T M = open_row widths slots in
+    let one = with_open_count c p (Some row) in
+    let later = with_below_count c (with_open defined_pictures p (Some row)) widths rest in
+    omega (arith, one, later)
+
 -- a picture behind the lines
 with_picture_count : {T M : Type 0} (c : ℕ) (d : DefinedBlock T M) (ls : List (Line T M)) (ms : List M) →
     visible_count c (with_picture d (ls, ms)) ≡ count c (visible_in_block d) + count c (visible_in_lines ls)
@@ -317,13 +328,15 @@ with_picture_count {T} {M} c d ls ms =
 end_open_count : {T M : Type 0} (c : ℕ) (d : DefinedBlock T M) (o : Option (OpenTable (Rows T M) T M)) →
     d.table ≡ o → visible_count c d ≤ visible_count c (end_open d o)
 end_open_count c d None e = omega arith
-end_open_count {T} {M} c d (Some (Across p widths row)) e =
-    let q : Rows T M = with_open defined_pictures p row in
+end_open_count {T} {M} c d (Some (Across p widths below row)) e =
+    let own : Rows T M = with_open defined_pictures p row in
+    let q : Rows T M = with_below defined_pictures widths below own in
     let all = picture_times c q.frame q.waiting q.rows in
     omega (
       arith,
       ap (table_count c) e,
       with_open_count c p row,
+      with_below_count c own widths below,
       all,
       with_picture_count c d (picture_lines q.frame q.waiting q.rows) (defined_pictures.finished q).1,
     )
@@ -337,7 +350,7 @@ ended_none {T} {M} d = by d.table refl
   where
     by : (o : Option (OpenTable (Rows T M) T M)) → d.table ≡ o → (end_open d o).table ≡ None
     by None e = e
-    by (Some (Across p widths row)) e = refl
+    by (Some (Across p widths below row)) e = refl
     by (Some (Stacked border has_lines)) e = refl
 
 -- a flushed block, without its table: the lines have all
@@ -389,17 +402,28 @@ sub_block_count {T} {M} c d prefix inner =
     map_if (λ v. Unit {0}) (λ e. visible_count c e ≡ 0) (λ (w : ℕ). empty_block {T = T} {M = M} (record d.setting { width = w }) d.padding)
     (inner_width d.setting prefix inner) (any (inner_width d.setting prefix inner)) (λ w _. refl)
 
-pub add_lines_count : {T M : Type 0} (c : ℕ) (d : DefinedBlock T M) (ls : List (Line T M)) → visible_count c d ≤ visible_count c (add_lines d ls)
-add_lines_count c d ls =
+marked_before_same : {T M : Type 0} (ms : List M) (ls : List (Line T M)) → visible_in_lines (marked_before ms ls) ≡ visible_in_lines ls
+marked_before_same ms [] = refl
+marked_before_same {T} ms (l ∷ ls) = ap (λ r. r ++ visible_in_lines ls)
+    (visible_in_line-append (marks_line ms) l ∙ ap (λ r. r ++ visible_in_line l) (visible_in_line-marks T ms))
+
+add_lines_gains : {T M : Type 0} (c : ℕ) (d : DefinedBlock T M) (ls : List (Line T M)) →
+    visible_count c d + count c (visible_in_lines ls) ≤ visible_count c (add_lines d ls)
+add_lines_gains c d ls =
     let more = marked_before d.marks ls in
+    let same = ap (count c) (marked_before_same d.marks ls) in
     let e : count c (visible_in_lines (d.lines ++ more)) ≡ count c (visible_in_lines d.lines) + count c (visible_in_lines more) =
     ap (count c) (lines-append d.lines more) ∙ count-append c (visible_in_lines d.lines) (visible_in_lines more) in
     omega (
       arith,
       e,
+      same,
       count-append c (visible_in_lines d.lines) (visible_in_items d.fed),
       count-append c (visible_in_lines (d.lines ++ more)) (visible_in_items d.fed),
     )
+
+pub add_lines_count : {T M : Type 0} (c : ℕ) (d : DefinedBlock T M) (ls : List (Line T M)) → visible_count c d ≤ visible_count c (add_lines d ls)
+add_lines_count c d ls = let gains = add_lines_gains c d ls in omega (arith, gains)
 
 add_border_count : {T M : Type 0} (c : ℕ) (d : DefinedBlock T M) (border : Option T) (character : ℕ) →
     visible_count c d ≤ visible_count c (add_border d border character)
@@ -410,36 +434,36 @@ border_table : {T M : Type 0} (d : DefinedBlock T M) (border : Option T) (charac
 border_table d None character = refl
 border_table d (Some tag) character = refl
 
-table_begun_count : {T M : Type 0} (c : ℕ) (d : DefinedBlock T M) (tag : T) (borders : Bool) (o : Option (List ℕ)) → d.table ≡ None →
-    visible_count c d ≤ visible_count c (table_begun d tag borders o)
-table_begun_count c d tag borders None none =
+table_begun_count : {T M : Type 0} (c : ℕ) (d : DefinedBlock T M) (tag : T) (borders : Bool) (below : List (List Slot)) (o : Option (List ℕ)) →
+    d.table ≡ None → visible_count c d ≤ visible_count c (table_begun d tag borders below o)
+table_begun_count c d tag borders below None none =
     let border = stacked_border tag borders d.setting.width in
     let table = ap (table_count c) (border_table d border 0x2500) in
     let own = ap (table_count c) none in
     omega (arith, table, own, add_border_count c d border 0x2500)
-table_begun_count c d tag borders (Some ws) none = let own = ap (table_count c) none in omega (arith, own)
+table_begun_count c d tag borders below (Some ws) none = let own = ap (table_count c) none in omega (arith, own)
 
-begin_table_count : {T M : Type 0} (c : ℕ) (d : DefinedBlock T M) (tag : T) (borders stacked : Bool) (columns : ℕ)
-    (cells : List CellNeed) → IfSome (begin_table d tag borders stacked columns cells) (λ e. visible_count c d ≤ visible_count c e)
-begin_table_count {T} {M} c d tag borders stacked columns cells =
+begin_table_count : {T M : Type 0} (c : ℕ) (d : DefinedBlock T M) (tag : T) (borders stacked : Bool) (grid : GridRows)
+    (cells : List CellNeed) → IfSome (begin_table d tag borders stacked grid cells) (λ e. visible_count c d ≤ visible_count c e)
+begin_table_count {T} {M} c d tag borders stacked grid cells =
     map_if (Same (end_table d)) (λ (e : DefinedBlock T M). visible_count c d ≤ visible_count c e) _ (flush (end_table d)) (flush_same (end_table d))
     (λ e h.
     let block = ap (count c) h.0 in
     let table = ap (table_count c) h.1 in
-    let begun = table_begun_count c e tag borders (cond stacked None (standing_widths columns cells e.setting.width)) (h.1 ∙ ended_none d) in
+    let begun = table_begun_count c e tag borders grid.rows (cond stacked None (standing_widths grid.columns cells e.setting.width)) (h.1 ∙ ended_none d) in
     omega (arith, block, table, begun, end_table_count c d))
 
 begin_row_count : {T M : Type 0} (c : ℕ) (slots : List Slot) (o : Option (OpenTable (Rows T M) T M)) →
     table_count c (option_map (with_row_open slots) o) ≡ table_count c o
 begin_row_count c slots None = refl
-begin_row_count c slots (Some (Across p widths None)) = refl
-begin_row_count c slots (Some (Across p widths (Some row))) = refl
+begin_row_count c slots (Some (Across p widths below None)) = refl
+begin_row_count c slots (Some (Across p widths below (Some row))) = refl
 begin_row_count c slots (Some (Stacked border has_lines)) = refl
 
 skip_cell_count : {T M : Type 0} (c : ℕ) (o : Option (OpenTable (Rows T M) T M)) → table_count c (option_map skipped o) ≡ table_count c o
 skip_cell_count c None = refl
-skip_cell_count c (Some (Across p widths None)) = refl
-skip_cell_count c (Some (Across p widths (Some row))) = omega (arith, with_cell_count c row [])
+skip_cell_count c (Some (Across p widths below None)) = refl
+skip_cell_count c (Some (Across p widths below (Some row))) = omega (arith, with_cell_count c row [])
 skip_cell_count c (Some (Stacked border has_lines)) = refl
 
 cell_block_count : {T M : Type 0} (c : ℕ) (d : DefinedBlock T M) → IfSome (cell_block d) (λ e. visible_count c e ≡ 0)
@@ -451,60 +475,64 @@ cell_block_count {T} {M} c d =
 abbrev Gains : {T M : Type 0} → (c n : ℕ) → DefinedBlock T M → DefinedBlock T M → Type 0
 Gains c n d e = visible_count c d + n ≤ visible_count c e
 
-put_below_count : {T M : Type 0} (c : ℕ) (d cell : DefinedBlock T M) →
-    IfSome (put_below d cell) (Gains c (count c (visible_in_lines cell.lines)) d)
-put_below_count c d cell = append_lines_count c d [] [] cell.lines cell.marks
+-- marks that are fed to a block are nothing
+add_marks_count : {T M : Type 0} (c : ℕ) (d : DefinedBlock T M) (ms : List M) → visible_count c (add_marks d ms) ≡ visible_count c d
+add_marks_count {T} {M} c d ms =
+    let fed = ap (count c) (items-append d.fed (mark_items {T = T} ms)
+    ∙ ap (λ r. visible_in_items d.fed ++ r) (items-marks T ms) ∙ append-nil (visible_in_items d.fed)) in
+    omega (
+      arith,
+      fed,
+      count-append c (visible_in_lines d.lines) (visible_in_items d.fed),
+      count-append c (visible_in_lines d.lines) (visible_in_items (d.fed ++ mark_items {T = T} ms)),
+    )
+
+put_lines_count : {T M : Type 0} (c : ℕ) (d : DefinedBlock T M) (ls : List (Line T M)) (ms : List M) →
+    Gains c (count c (visible_in_lines ls)) d (put_lines d ls ms)
+put_lines_count c d [] ms = let same = add_marks_count c d ms in omega (arith, same)
+put_lines_count c d (l ∷ ls) ms =
+    let same = ap (count c) (marked_behind_same ms (l ∷ ls)) in
+    let gains = add_lines_gains c d (marked_behind ms (l ∷ ls)) in
+    omega (arith, same, gains)
 
 -- the open table of a block whose cells stand one below another has nothing
-append_lines_table : {T M : Type 0} (d : DefinedBlock T M) (p q : Line T M) (ls : List (Line T M)) (ms : List M) →
-    IfSome (append_lines d p q ls ms) (λ e. e.table ≡ d.table)
-append_lines_table d p q [] ms = refl
-append_lines_table {T} {M} d p q (l ∷ ls) ms =
-    map_if (λ all. Unit {0}) (λ (e : DefinedBlock T M). e.table ≡ d.table) _ (joined d.setting.width d.setting.overflow d.marks p q (l ∷ ls) ms)
-    (any (joined d.setting.width d.setting.overflow d.marks p q (l ∷ ls) ms)) (λ all _. refl)
-
-both_if : {X : Type 0} (P Q : X → Type 0) (o : Option X) → IfSome o P → IfSome o Q → IfSome o (λ x. P x × Q x)
-both_if P Q None h k = tt
-both_if P Q (Some x) h k = (h, k)
+put_lines_table : {T M : Type 0} (d : DefinedBlock T M) (ls : List (Line T M)) (ms : List M) → (put_lines d ls ms).table ≡ d.table
+put_lines_table d [] ms = refl
+put_lines_table d (l ∷ ls) ms = refl
 
 put_stacked_count : {T M : Type 0} (c : ℕ) (d cell : DefinedBlock T M) (border : Option T) (has_lines more : Bool) → table_count c d.table ≡ 0 →
-    IfSome (put_stacked d border has_lines more cell) (Gains c (count c (visible_in_lines cell.lines)) d)
+    Gains c (count c (visible_in_lines cell.lines)) d (put_stacked d border has_lines more cell)
 put_stacked_count {T} {M} c d cell border has_lines more none = by (has_lines && more)
   where
-    n : ℕ
-    n = count c (visible_in_lines cell.lines)
+    put : (e : DefinedBlock T M) → visible_count c d ≤ visible_count c e → table_count c e.table ≡ 0 →
+        Gains c (count c (visible_in_lines cell.lines)) d (record (put_below e cell) { table = Some (Stacked border (has_lines || more)) })
+    put e le empty =
+        let gains = put_lines_count c e cell.lines cell.marks in
+        let table = ap (table_count c) (put_lines_table e cell.lines cell.marks) in
+        omega (arith, gains, table, le, empty)
 
-    below : (e : DefinedBlock T M) → visible_count c d ≤ visible_count c e → table_count c e.table ≡ 0 →
-        IfSome (option_map (λ (f : DefinedBlock T M). record f { table = Some (Stacked border (has_lines || more)) }) (put_below e cell))
-        (Gains c n d)
-    below e le empty =
-        map_if (λ f. Gains c n e f × (f.table ≡ e.table)) (Gains c n d) _ (put_below e cell)
-        (both_if (Gains c n e) (λ f. f.table ≡ e.table) (put_below e cell) (put_below_count c e cell)
-        (append_lines_table e [] [] cell.lines cell.marks))
-        (λ f h. let gains = h.0 in let table = ap (table_count c) h.1 in omega (arith, gains, table, le, empty))
-
-    by : (b : Bool) →
-        IfSome (option_map (λ (f : DefinedBlock T M). record f { table = Some (Stacked border (has_lines || more)) })
-        (put_below (cond b (add_border d border 0x2F) d) cell)) (Gains c n d)
-    by true = below (add_border d border 0x2F) (add_border_count c d border 0x2F) (ap (table_count c) (border_table d border 0x2F) ∙ none)
-    by false = below d (omega arith) none
+    by : (b : Bool) → Gains c (count c (visible_in_lines cell.lines)) d
+        (record (put_below (cond b (add_border d border 0x2F) d) cell) { table = Some (Stacked border (has_lines || more)) })
+    by true = put (add_border d border 0x2F) (add_border_count c d border 0x2F) (ap (table_count c) (border_table d border 0x2F) ∙ none)
+    by false = put d (omega arith) none
 
 -- what a flush is followed by
-flushed_gains : {T M : Type 0} (c n : ℕ) (d : DefinedBlock T M) (f : DefinedBlock T M → Option (DefinedBlock T M)) →
-    ((e : DefinedBlock T M) → e.table ≡ d.table → IfSome (f e) (Gains c n e)) → IfSome (option_and_then f (flush d)) (Gains c n d)
+flushed_gains : {T M : Type 0} (c n : ℕ) (d : DefinedBlock T M) (f : DefinedBlock T M → DefinedBlock T M) →
+    ((e : DefinedBlock T M) → e.table ≡ d.table → Gains c n e (f e)) → IfSome (option_map f (flush d)) (Gains c n d)
 flushed_gains {T} {M} c n d f next =
-    then_if (Same d) (Gains c n d) f (flush d) (flush_same d) (λ e h. IfSome_then (f e) (next e h.1) (λ g k.
+    map_if (Same d) (Gains c n d) f (flush d) (flush_same d) (λ e h.
+    let gains = next e h.1 in
     let block = ap (count c) h.0 in
     let table = ap (table_count c) h.1 in
-    omega (arith, k, block, table)))
+    omega (arith, gains, block, table))
 
 cell_added_count : {T M : Type 0} (c : ℕ) (d : DefinedBlock T M) (o : Option (OpenTable (Rows T M) T M)) (cell : DefinedBlock T M) →
     d.table ≡ o → IfSome (cell_added d o cell) (Gains c (count c (visible_in_lines cell.lines)) d)
 cell_added_count c d None cell e =
-    flushed_gains c (count c (visible_in_lines cell.lines)) d (λ b. put_below b cell) (λ b _. put_below_count c b cell)
-cell_added_count c d (Some (Across p widths None)) cell e =
-    flushed_gains c (count c (visible_in_lines cell.lines)) d (λ b. put_below b cell) (λ b _. put_below_count c b cell)
-cell_added_count c d (Some (Across p widths (Some row))) cell e =
+    flushed_gains c (count c (visible_in_lines cell.lines)) d (λ b. put_below b cell) (λ b _. put_lines_count c b cell.lines cell.marks)
+cell_added_count c d (Some (Across p widths below None)) cell e =
+    flushed_gains c (count c (visible_in_lines cell.lines)) d (λ b. put_below b cell) (λ b _. put_lines_count c b cell.lines cell.marks)
+cell_added_count c d (Some (Across p widths below (Some row))) cell e =
     omega (
       arith,
       ap (table_count c) e,
@@ -526,7 +554,7 @@ add_cell_count {T} {M} c d cell =
 row_ended_count : {T M : Type 0} (c : ℕ) (d : DefinedBlock T M) (o : Option (OpenTable (Rows T M) T M)) → d.table ≡ o →
     IfSome (row_ended d o) (λ e. visible_count c d ≤ visible_count c e)
 row_ended_count c d None e = omega arith
-row_ended_count c d (Some (Across p widths row)) e = omega (arith, ap (table_count c) e, with_open_count c p row)
+row_ended_count c d (Some (Across p widths below row)) e = omega (arith, ap (table_count c) e, with_open_count c p row)
 row_ended_count {T} {M} c d (Some (Stacked border true)) e =
     map_if (Same d) (λ (f : DefinedBlock T M). visible_count c d ≤ visible_count c f) _ (flush d) (flush_same d)
     (λ f h.

@@ -4,15 +4,14 @@ use Rattle.std.proofs.Common.{◌≡◌, ℕ, ◌≤◌, Bool, true, false, List
 use Rattle.std.proofs.Common.{IfSome, IsSome, option_map, option_and_then}
 use Rattle.std.specs.Option.{IsSomeAnd}
 use Rattle.std.proofs.lemmas.List.{map-append}
-use Rattle.std.proofs.lemmas.List.Elements.{All-append, All-nil, All-cons, All-head, All-tail}
+use Rattle.std.proofs.lemmas.List.Elements.{All-append, All-nil}
 use Rattle.html_render_lines.specs.CutText.{text_lines, cut_lines}
-use Rattle.html_render_lines.specs.Line.{Line, columns, marks_line, AllWithinWidth}
+use Rattle.html_render_lines.specs.Line.{Line, columns, AllWithinWidth}
 use Rattle.html_render_lines.specs.Paragraph.{Setting, without_overflow, with_overflow}
 use Rattle.html_render_lines.specs.Tags.{line_with, lines_with}
 use Rattle.html_render_lines.specs.Visible.{visible_in_items, visible_in_lines}
 use Rattle.html_render_lines.specs.laws.CutText.{cut_within, cut_some, cut_same, cut-with}
 use Rattle.html_render_lines.specs.laws.Tags.{then_with, map_with, state_with}
-use Rattle.html_render_lines.specs.laws.Within.{columns-append, columns-marks}
 use Rattle.html_render_blocks.specs.Block as definition
 use Rattle.html_render_blocks.specs.Block.{DefinedBlock, paragraph_setting, add_page, end_behind, finish, add_lines, add_closing_lines, start_block}
 use Rattle.html_render_blocks.specs.Block.{flush, end_table}
@@ -24,7 +23,7 @@ use Rattle.html_render_blocks.specs.Visible.{table_count, visible_count}
 use Rattle.html_render_pictures.specs.Visible.{count}
 use Rattle.html_render_blocks.specs.laws.BlockFed.{block_of, after_flush, start_block-block, then_both, flush_empties, end_table-block, add_lines-block}
 use Rattle.html_render_blocks.specs.laws.BlockLaws.{IsWithin, Overflows, with_lines, flush_within, start_block_within, flush_succeeds}
-use Rattle.html_render_blocks.specs.laws.BlockLaws.{start_block_succeeds, add_lines_within, end_table_within}
+use Rattle.html_render_blocks.specs.laws.BlockLaws.{start_block_succeeds, add_lines_within, end_table_within, marked_behind_within}
 use Rattle.html_render_blocks.specs.laws.BlockLaws.{end_table_succeeds}
 use Rattle.html_render_blocks.specs.laws.BlockOverflow.{overflowing, start_block_stays, flush_ended_stays}
 use Rattle.html_render_blocks.specs.laws.BlockTags.{block_with, start_block-with, waiting-with, take_waiting-with, under-with}
@@ -131,16 +130,6 @@ module _ {T U M : Type 0} (f : T → U) where
       (closing-with (line_setting c.setting) cut tag (t ∷ ts)) (λ ls. ap Some (add_lines-with f c ls)))
 
 -- ---- the width
-
-marked_behind_within : {T M : Type 0} (w : ℕ) (ms : List M) (ls : List (Line T M)) → AllWithinWidth w ls → AllWithinWidth w (marked_behind ms ls)
-marked_behind_within w ms [] h = h
-marked_behind_within {T} {M} w ms (l ∷ []) h =
-    All-cons (λ (l : Line T M). columns l ≤ w) (l ++ marks_line ms) []
-    (let k = All-head (λ (l : Line T M). columns l ≤ w) l [] h in omega (arith, k, columns-append l (marks_line ms), columns-marks T ms))
-    (All-nil (λ (l : Line T M). columns l ≤ w))
-marked_behind_within {T} {M} w ms (l ∷ k ∷ ls) h =
-    All-cons (λ (l : Line T M). columns l ≤ w) l (marked_behind ms (k ∷ ls)) (All-head (λ (l : Line T M). columns l ≤ w) l (k ∷ ls) h)
-    (marked_behind_within w ms (k ∷ ls) (All-tail (λ (l : Line T M). columns l ≤ w) l (k ∷ ls) h))
 
 end_within : {T M : Type 0} (w : ℕ) (d : DefinedBlock T M) (ls : List (Line T M)) → d.lines ≡ ls → IsWithin w d → IsWithin w (end_behind d ls)
 end_within w d [] e h = h

@@ -5,6 +5,7 @@ use Rattle.html_render_parts.specs.declared.widths.needs.CellNeed.{CellNeed}
 use Rattle.html_render_lines.specs.declared.character.TextStyle.{TextStyle}
 use Rattle.html_render_lines.specs.laws.Tags.{style_with}
 use Rattle.html_render_nodes.specs.declared.tree.Slot.{Slot}
+use Rattle.html_render_nodes.specs.Grids.{GridRows}
 use Rattle.html_render_blocks.specs.Operations.{Operations}
 
 -- each operation keeps what P i says of a block, where it has an answer; a block inside it has an i of its own
@@ -17,8 +18,8 @@ pub record Keeps {B T I : Type 0} (o : Operations B T) (P : I → B → Type 0) 
   pub end_block : (i : I) (b : B) → P i b → P i (o.end_block b)
   pub sub_block : (i : I) (b : B) (prefix inner : ℕ) → P i b → IfSome (o.sub_block b prefix inner) (λ c. (j : I) × P j c)
   pub append : (i j : I) (b c : B) (t : T) (first later : List ℕ) → P i b → P j c → IfSome (o.append b c t first later) (P i)
-  pub begin_table : (i : I) (b : B) (t : T) (borders stacked : Bool) (columns : ℕ) (cells : List CellNeed) → P i b →
-      IfSome (o.begin_table b t borders stacked columns cells) (P i)
+  pub begin_table : (i : I) (b : B) (t : T) (borders stacked : Bool) (grid : GridRows) (cells : List CellNeed) → P i b →
+      IfSome (o.begin_table b t borders stacked grid cells) (P i)
   pub begin_row : (i : I) (b : B) (slots : List Slot) → P i b → P i (o.begin_row b slots)
   pub cell : (i : I) (b : B) → P i b →
       IfSome (o.cell_block b) (λ c. (j : I) × (P j c × ((e : B) → P j e → IfSome (o.add_cell b e) (P i))))
@@ -36,8 +37,8 @@ pub record Succeeds {B T I : Type 0} (o : Operations B T) (P : I → B → Type 
   pub end_block : (i : I) (b : B) → P i b → P i (o.end_block b)
   pub sub_block : (i : I) (b : B) (prefix inner : ℕ) → P i b → IsSomeAnd (o.sub_block b prefix inner) (λ c. (j : I) × P j c)
   pub append : (i j : I) (b c : B) (t : T) (first later : List ℕ) → P i b → P j c → IsSomeAnd (o.append b c t first later) (P i)
-  pub begin_table : (i : I) (b : B) (t : T) (borders stacked : Bool) (columns : ℕ) (cells : List CellNeed) → P i b →
-      IsSomeAnd (o.begin_table b t borders stacked columns cells) (P i)
+  pub begin_table : (i : I) (b : B) (t : T) (borders stacked : Bool) (grid : GridRows) (cells : List CellNeed) → P i b →
+      IsSomeAnd (o.begin_table b t borders stacked grid cells) (P i)
   pub begin_row : (i : I) (b : B) (slots : List Slot) → P i b → P i (o.begin_row b slots)
   pub cell : (i : I) (b : B) → P i b →
       IfSome (o.cell_block b) (λ c. (j : I) × (P j c × ((e : B) → P j e → IsSomeAnd (o.add_cell b e) (P i))))
@@ -57,8 +58,8 @@ pub record Commutes {A B T U : Type 0} (f : A → B) (g : T → U) (o : Operatio
   pub sub_block : (a : A) (prefix inner : ℕ) → p.sub_block (f a) prefix inner ≡ option_map f (o.sub_block a prefix inner)
   pub append : (a b : A) (t : T) (first later : List ℕ) →
       p.append (f a) (f b) (g t) first later ≡ option_map f (o.append a b t first later)
-  pub begin_table : (a : A) (t : T) (borders stacked : Bool) (columns : ℕ) (cells : List CellNeed) →
-      p.begin_table (f a) (g t) borders stacked columns cells ≡ option_map f (o.begin_table a t borders stacked columns cells)
+  pub begin_table : (a : A) (t : T) (borders stacked : Bool) (grid : GridRows) (cells : List CellNeed) →
+      p.begin_table (f a) (g t) borders stacked grid cells ≡ option_map f (o.begin_table a t borders stacked grid cells)
   pub begin_row : (a : A) (slots : List Slot) → p.begin_row (f a) slots ≡ f (o.begin_row a slots)
   pub cell_block : (a : A) → p.cell_block (f a) ≡ option_map f (o.cell_block a)
   pub add_cell : (a b : A) → p.add_cell (f a) (f b) ≡ option_map f (o.add_cell a b)
@@ -78,8 +79,8 @@ pub record Refines {B T : Type 0} (f : B → B) (o : Operations B T) : Type 0 wh
   pub sub_block : (b : B) (prefix inner : ℕ) → IfSome (o.sub_block b prefix inner) (λ c. o.sub_block (f b) prefix inner ≡ Some (f c))
   pub append : (b c : B) (t : T) (first later : List ℕ) →
       IfSome (o.append b c t first later) (λ d. o.append (f b) (f c) t first later ≡ Some (f d))
-  pub begin_table : (b : B) (t : T) (borders stacked : Bool) (columns : ℕ) (cells : List CellNeed) →
-      IfSome (o.begin_table b t borders stacked columns cells) (λ c. o.begin_table (f b) t borders stacked columns cells ≡ Some (f c))
+  pub begin_table : (b : B) (t : T) (borders stacked : Bool) (grid : GridRows) (cells : List CellNeed) →
+      IfSome (o.begin_table b t borders stacked grid cells) (λ c. o.begin_table (f b) t borders stacked grid cells ≡ Some (f c))
   pub begin_row : (b : B) (slots : List Slot) → o.begin_row (f b) slots ≡ f (o.begin_row b slots)
   pub cell_block : (b : B) → o.cell_block (f b) ≡ option_map f (o.cell_block b)
   pub add_cell : (b c : B) → IfSome (o.add_cell b c) (λ d. o.add_cell (f b) (f c) ≡ Some (f d))
@@ -97,8 +98,8 @@ pub record Counts {B T : Type 0} (v : B → ℕ) (w : List ℕ → ℕ) (o : Ope
   pub end_block : (b : B) → v (o.end_block b) ≡ v b
   pub sub_block : (b : B) (prefix inner : ℕ) → IfSome (o.sub_block b prefix inner) (λ c. v c ≡ 0)
   pub append : (b c : B) (t : T) (first later : List ℕ) → IfSome (o.append b c t first later) (λ d. v b + v c ≤ v d)
-  pub begin_table : (b : B) (t : T) (borders stacked : Bool) (columns : ℕ) (cells : List CellNeed) →
-      IfSome (o.begin_table b t borders stacked columns cells) (λ c. v b ≤ v c)
+  pub begin_table : (b : B) (t : T) (borders stacked : Bool) (grid : GridRows) (cells : List CellNeed) →
+      IfSome (o.begin_table b t borders stacked grid cells) (λ c. v b ≤ v c)
   pub begin_row : (b : B) (slots : List Slot) → v (o.begin_row b slots) ≡ v b
   pub cell_block : (b : B) → IfSome (o.cell_block b) (λ c. v c ≡ 0)
   pub add_cell : (b c : B) → IfSome (o.add_cell b c) (λ d. v b + v c ≤ v d)
@@ -126,8 +127,8 @@ Commutes-then f g h k o p q c d = record {
   sub_block = λ a n k. d.sub_block (f a) n k ∙ ap (option_map h) (c.sub_block a n k) ∙ map_map f h (o.sub_block a n k);
   append = λ a b t cs ds. d.append (f a) (f b) (g t) cs ds ∙ ap (option_map h) (c.append a b t cs ds)
       ∙ map_map f h (o.append a b t cs ds);
-  begin_table = λ a t borders stacked columns cells. d.begin_table (f a) (g t) borders stacked columns cells
-      ∙ ap (option_map h) (c.begin_table a t borders stacked columns cells) ∙ map_map f h (o.begin_table a t borders stacked columns cells);
+  begin_table = λ a t borders stacked grid cells. d.begin_table (f a) (g t) borders stacked grid cells
+      ∙ ap (option_map h) (c.begin_table a t borders stacked grid cells) ∙ map_map f h (o.begin_table a t borders stacked grid cells);
   begin_row = λ a slots. d.begin_row (f a) slots ∙ ap h (c.begin_row a slots);
   cell_block = λ a. d.cell_block (f a) ∙ ap (option_map h) (c.cell_block a) ∙ map_map f h (o.cell_block a);
   add_cell = λ a b. d.add_cell (f a) (f b) ∙ ap (option_map h) (c.add_cell a b) ∙ map_map f h (o.add_cell a b);

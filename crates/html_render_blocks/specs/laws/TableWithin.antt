@@ -10,10 +10,10 @@ use Rattle.html_render_pictures.specs.Picture.{KeptCell}
 use Rattle.html_render_pictures.specs.Widths.{row_width, KeepsToWidth, RowWithin}
 use Rattle.html_render_blocks.specs.declared.block.tables.OpenTable.{OpenTable}
 use Rattle.html_render_blocks.specs.declared.block.tables.OpenTable.TheVariants.{Across, Stacked}
-use Rattle.html_render_blocks.specs.declared.block.tables.RowPlace.{RowPlace}
+use Rattle.html_render_blocks.specs.declared.block.rows.RowPlace.{RowPlace}
 use Rattle.html_render_blocks.specs.OpenRows.{OpenRow, cell_width, places, next_width, behind_cell, empty_cell, empty_cells, before_cell}
 use Rattle.html_render_blocks.specs.OpenRows.{open_row, with_cell, whole_row}
-use Rattle.html_render_blocks.specs.Tables.{Rows, defined_pictures, table_width, with_row_open, skipped, with_open}
+use Rattle.html_render_blocks.specs.Tables.{Rows, defined_pictures, table_width, with_row_open, skipped, with_open, with_below}
 
 -- the columns of cells, each with a separator
 abbrev pub cells_room : {T M : Type 0} → List (KeptCell T M) → ℕ
@@ -42,7 +42,7 @@ RowOpenWithin w (Some row) = OpenWithin w row
 -- a table is
 abbrev pub TableWithin : {T M : Type 0} → ℕ → Option (OpenTable (Rows T M) T M) → Type 0
 TableWithin w None = Unit {0}
-TableWithin w (Some (Across p widths row)) =
+TableWithin w (Some (Across p widths below row)) =
     ((p.frame.width ≤ w) × All (RowWithin w) p.rows) × ((columns_room widths ≤ w + 1) × RowOpenWithin w row)
 TableWithin w (Some (Stacked border has_lines)) = Unit {0}
 
@@ -158,21 +158,33 @@ module _ {T M : Type 0} where
   picture_frame p None = refl
   picture_frame p (Some row) = refl
 
+  pub below_rows : (w : ℕ) (p : Rows T M) (widths : List ℕ) (below : List (List Slot)) → columns_room widths ≤ w + 1 →
+      All (RowWithin w) p.rows → All (RowWithin w) (with_below defined_pictures widths below p).rows
+  below_rows w p widths [] room h = h
+  below_rows w p widths (slots ∷ rest) room h =
+      let row : OpenRow T M = open_row widths slots in
+      below_rows w (defined_pictures.with_row p (whole_row row)) widths rest room
+      (All-push (RowWithin w) p.rows (whole_row row) h (whole-within w row (open-within w widths slots room)))
+
+  pub below_frame : (p : Rows T M) (widths : List ℕ) (below : List (List Slot)) → (with_below defined_pictures widths below p).frame ≡ p.frame
+  below_frame p widths [] = refl
+  below_frame p widths (slots ∷ rest) = below_frame (defined_pictures.with_row p (whole_row (open_row widths slots))) widths rest
+
   pub with_row_open-within : (w : ℕ) (slots : List Slot) (t : OpenTable (Rows T M) T M) → TableWithin w (Some t) →
       TableWithin w (Some (with_row_open slots t))
-  with_row_open-within w slots (Across p widths None) h = (h.0, (h.1.0, open-within w widths slots h.1.0))
-  with_row_open-within w slots (Across p widths (Some row)) h = h
+  with_row_open-within w slots (Across p widths below None) h = (h.0, (h.1.0, open-within w widths slots h.1.0))
+  with_row_open-within w slots (Across p widths below (Some row)) h = h
   with_row_open-within w slots (Stacked border has_lines) h = tt
 
   pub skipped-within : (w : ℕ) (t : OpenTable (Rows T M) T M) → TableWithin w (Some t) → TableWithin w (Some (skipped t))
-  skipped-within w (Across p widths None) h = h
-  skipped-within w (Across p widths (Some row)) h =
+  skipped-within w (Across p widths below None) h = h
+  skipped-within w (Across p widths below (Some row)) h =
       (h.0, (h.1.0, cell-within w row [] h.1.1 (All-nil KeepsToWidth) (omega arith)))
   skipped-within w (Stacked border has_lines) h = tt
 
 -- a table is no wider than its columns and the separators between them
-pub table_width-within : (ws : List ℕ) → table_width ws ≤ sum ws + (length ws - 1)
-table_width-within ws = omega (arith, count_by-le-length (λ w. not (w == 0)) ws)
+pub table_width_within : (ws : List ℕ) → table_width ws ≤ sum ws + (length ws - 1)
+table_width_within ws = omega (arith, count_by-le-length (λ w. not (w == 0)) ws)
 
 pub columns_room-within : (w : ℕ) (ws : List ℕ) → sum ws + (length ws - 1) ≤ w → columns_room ws ≤ w + 1
 columns_room-within w ws h = omega (arith, h)

@@ -16,7 +16,7 @@ use html_render_dom::Error;
 use html_render_lines::line::{Line, text_columns};
 use html_render_lines::paragraph::push_cut_text;
 use html_render_lines::tag::Tag;
-use html_render_pictures::finished::{mark_before, mark_behind};
+use html_render_pictures::lines::Lines;
 use std::alloc::{AllocError, Global};
 
 impl<T: Tag, M: Copy> Block<T, M> {
@@ -24,7 +24,7 @@ impl<T: Tag, M: Copy> Block<T, M> {
     fn mark_last_line(&mut self, marks: &[M]) -> Result<(), AllocError>
         ensures { OnOk result (self.new ≡ record self.old { lines = marked_behind marks.now self.old.lines }) }
     {
-        mark_behind(&mut self.lines, marks)
+        self.lines.mark_last(marks)
     }
 
     /// Puts the marks that wait at the end of the last line. Where there is no line, they wait on.
@@ -55,19 +55,19 @@ impl<T: Tag, M: Copy> Block<T, M> {
     }
 
     /// Adds finished lines.
-    fn push_lines(&mut self, mut lines: Vec<Line<T, M>>) -> Result<(), AllocError>
-        ensures { OnOk result (self.new ≡ record self.old { lines = self.old.lines ++ lines.items }) }
+    pub(super) fn push_lines(&mut self, lines: Lines<T, M>) -> Result<(), AllocError>
+        ensures { OnOk result (self.new ≡ record self.old { lines = self.old.lines ++ lines }) }
     {
-        self.lines.append(&mut lines)?;
+        self.lines.append(lines)?;
         Ok(())
     }
 
     /// Adds lines as they are, the first one behind the marks that wait.
-    fn add_lines(&mut self, mut lines: Vec<Line<T, M>>) -> Result<(), AllocError>
-        ensures { OnOk result (self.new ≡ machine.add_lines self.old lines.items) }
+    pub(super) fn add_lines(&mut self, mut lines: Lines<T, M>) -> Result<(), AllocError>
+        ensures { OnOk result (self.new ≡ machine.add_lines self.old lines) }
     {
         let marks = self.take_waiting();
-        mark_before(&mut lines, marks.as_slice())?;
+        lines.mark_first(marks.as_slice())?;
         self.push_lines(lines)
     }
 
@@ -90,7 +90,7 @@ impl<T: Tag, M: Copy> Block<T, M> {
         }
         self.start_block()?;
         let lines = closing_lines(self.alloc, self.setting, texts, tag, cut)?;
-        self.add_lines(lines)?;
+        self.add_lines(Lines::of(self.alloc, lines))?;
         Ok(())
     }
 }

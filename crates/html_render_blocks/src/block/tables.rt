@@ -1,57 +1,48 @@
 //! The table that is open in a block.
 
-ghost use Rattle.std.specs.Prelude.{◌≡◌, ◌+◌, ◌-◌, ◌^◌, ◌<◌, ◌++◌, length, reverse, sum, Some, OnOk, IfOk, IfErr};
+ghost use Rattle.std.specs.Prelude.{◌≡◌, ◌++◌, Some, OnOk, IfOk, IfErr, option_map};
 ghost use Rattle.html_render_dom.specs.Outcome.{Refuses};
-ghost use Rattle.html_render_blocks.specs.OpenRows as rows;
-ghost use Rattle.html_render_blocks.specs.Tables.{drawn_pictures, with_open};
+ghost use Rattle.html_render_pictures.specs.Picture.{TableRow};
+ghost use Rattle.html_render_blocks.specs.Tables.{drawn_pictures, with_open, with_below, picture_of};
 ghost use Rattle.html_render_blocks.specs.BlockMachine as machine;
 
 use super::Block;
+use super::rows::{OpenRow, Widths};
 use html_render_dom::Error;
-use html_render_lines::line::Line;
 use html_render_lines::tag::Tag;
-use html_render_pictures::picture::{Cell, Drawn, Picture, Row};
+use html_render_nodes::tree::Slots;
+use html_render_pictures::picture::{Drawn, Picture};
 use std::alloc::{AllocError, Global};
 use std::marker::Model;
 
-/// A place in a row: whether a cell of the row itself stands there, and its columns, unless it is skipped.
-#[derive(Clone, Copy, Debug)]
-struct RowPlace {
-    is_cell: bool,
-    width: Option<usize>,
-}
-
-/// A row that is open: the places ahead, in reverse, the kept cells before them, and whether a placeholder is among all of its
-/// cells.
+/// What stands in the rows below those of a table, in which no cell begins.
 #[derive(Drop)]
-pub struct OpenRow<T, M> {
-    ahead: Vec<RowPlace>,
-    cells: Vec<Cell<T, M>>,
-    placeholder: bool,
+pub struct RowsBelow {
+    rows: Vec<Slots>,
 }
 
-impl<T, M> Model for OpenRow<T, M> {
-    ghost use Rattle.std.specs.Prelude.{reverse};
-    ghost use Rattle.html_render_blocks.specs.OpenRows as rows;
+impl Model for RowsBelow {
+    ghost use Rattle.std.specs.Prelude.{List};
+    ghost use Rattle.html_render_nodes.specs.declared.tree.Slot.{Slot};
 
-    ghost Value = { rows.OpenRow T M };
+    ghost Value = { List (List Slot) };
 
-    ghost view = { λ r. record { ahead = reverse r.ahead.items; cells = r.cells.items; placeholder = r.placeholder } };
+    ghost view = { λ r. r.rows.items };
 }
 
-/// The widths of a table's columns. With the separators between them a machine word holds their sum.
-#[derive(Drop)]
-pub struct Widths {
-    widths: Vec<usize>,
-    ghost fit: { sum widths.items + (length widths.items - 1) < 2 ^ 64 },
-}
-
-impl Model for Widths {
-    ghost use Rattle.std.specs.Prelude.{List, ℕ};
-
-    ghost Value = { List ℕ };
-
-    ghost view = { λ w. w.widths.items };
+impl RowsBelow {
+    /// A copy of rows.
+    pub fn new(alloc: Global, rows: &[Slots]) -> Result<RowsBelow, Error>
+        ensures ok { IfOk result (λ below. below ≡ rows.now) }
+        ensures err { IfErr result (λ e. e ≡ Error.OutOfMemory) }
+    {
+        let mut copies = Vec::with_capacity(alloc, rows.len())?;
+        for slots in rows {
+            let copy = slots.try_clone(alloc)?;
+            copies.push(copy)?;
+        }
+        Ok(RowsBelow { rows: copies })
+    }
 }
 
 /// An open table.
@@ -63,6 +54,8 @@ pub enum OpenTable<P, T, M> {
         picture: P,
         /// The widths of its columns.
         widths: Widths,
+        /// What stands in the rows below its own.
+        below: RowsBelow,
         /// The row that is open, if one is.
         row: Option<OpenRow<T, M>>,
     },
@@ -73,51 +66,6 @@ pub enum OpenTable<P, T, M> {
         /// Whether a cell of the row has lines.
         has_lines: bool,
     },
-}
-
-/// Adds a cell in which nothing stands, unless it is skipped.
-fn push_empty<T: Tag, M: Copy>(
-    alloc: Global,
-    cells: &mut Vec<Cell<T, M>>,
-    width: Option<usize>,
-) -> Result<(), AllocError>
-    ensures { OnOk result (cells.new.items ≡ cells.old.items ++ rows.empty_cell width) }
-{
-    if let Some(width) = width {
-        cells.push(Cell {
-            width,
-            lines: Vec::new(alloc),
-            marks: Vec::new(alloc),
-        })?;
-    }
-    Ok(())
-}
-
-/// Adds the places that are ahead; they stand in reverse.
-fn push_rest<T: Tag, M: Copy>(
-    alloc: Global,
-    ahead: &[RowPlace],
-    cells: &mut Vec<Cell<T, M>>,
-) -> Result<(), AllocError>
-    ensures { OnOk result (cells.new.items ≡ cells.old.items ++ rows.empty_cells (reverse ahead.now)) }
-{
-    for place in ahead.iter().rev() {
-        push_empty(alloc, cells, place.width)?;
-    }
-    Ok(())
-}
-
-impl<T: Tag, M: Copy> OpenRow<T, M> {
-    /// The whole row.
-    fn finish(mut self, alloc: Global) -> Result<Row<T, M>, AllocError>
-        ensures { IfOk result (λ row. row ≡ rows.whole_row self) }
-    {
-        push_rest(alloc, self.ahead.as_slice(), &mut self.cells)?;
-        Ok(Row {
-            cells: self.cells,
-            has_placeholder: self.placeholder,
-        })
-    }
 }
 
 /// A picture with the row that is open, if one is.
@@ -137,14 +85,49 @@ fn with_open<T: Tag, M: Copy>(
     Ok(picture)
 }
 
+/// A picture with the rows below the table's own.
+fn with_below<T: Tag, M: Copy>(
+    alloc: Global,
+    picture: Picture<T, M>,
+    widths: &Widths,
+    below: &[Slots],
+) -> Result<Picture<T, M>, Error>
+    ensures ok { IfOk result (λ p. p ≡ with_below drawn_pictures widths.now below.now picture) }
+    ensures err { IfErr result (λ e. e ≡ Error.OutOfMemory) }
+{
+    let mut picture = picture;
+    for slots in below {
+        let row = OpenRow::new(alloc, widths, slots.as_slice())?;
+        let row = row.finish(alloc)?;
+        picture.add_row(row)?;
+    }
+    Ok(picture)
+}
+
+/// The lines of a table's picture, once its rows are over, and the marks that wait behind them.
+fn picture_of<T: Tag, M: Copy>(
+    alloc: Global,
+    picture: Picture<T, M>,
+    widths: &Widths,
+    below: &RowsBelow,
+    row: Option<OpenRow<T, M>>,
+) -> Result<Drawn<T, M>, Error>
+    ensures ok { IfOk result (λ d. (d.lines, d.waiting.items) ≡ picture_of drawn_pictures picture widths.now below.now row) }
+    ensures err { IfErr result (λ e. e ≡ Error.OutOfMemory) }
+{
+    let picture = with_open(alloc, picture, row)?;
+    let picture = with_below(alloc, picture, widths, below.rows.as_slice())?;
+    picture.finish()
+}
+
 impl<T: Tag, M: Copy> Block<T, M> {
     /// Adds a picture's lines; the marks that wait behind it wait on.
     fn add_drawn(&mut self, drawn: Drawn<T, M>) -> Result<(), Error>
-        ensures ok { OnOk result (self.new ≡ machine.with_picture self.old (drawn.lines.items, drawn.waiting.items)) }
+        ensures ok { OnOk result (self.new ≡ machine.with_picture self.old (drawn.lines, drawn.waiting.items)) }
         ensures err { IfErr result (λ e. e ≡ Error.OutOfMemory) }
     {
-        let Drawn { mut lines, waiting } = drawn;
-        self.lines.append(&mut lines)?;
+        let Drawn { lines, waiting } = drawn;
+        self.push_lines(lines)?;
         self.table = None;
         self.add_marks(waiting.as_slice())
     }
@@ -162,9 +145,13 @@ impl<T: Tag, M: Copy> Block<T, M> {
             return Ok(());
         };
         match Box::into_inner(table) {
-            OpenTable::Across { picture, row, .. } => {
-                let picture = with_open(self.alloc, picture, row)?;
-                let drawn = picture.finish()?;
+            OpenTable::Across {
+                picture,
+                widths,
+                below,
+                row,
+            } => {
+                let drawn = picture_of(self.alloc, picture, &widths, &below, row)?;
                 self.add_drawn(drawn)
             }
             OpenTable::Stacked { .. } => Ok(()),

@@ -1,12 +1,13 @@
 -- What a layout keeps, if each operation on blocks does, and what it gives back.
-use Rattle.std.proofs.Common.{◌≡◌, ℕ, ◌+◌, Bool, true, false, cond, List, [], ◌++◌, length, codes, Option, Some, None, MatchOption, IfSome}
-use Rattle.std.proofs.Common.{refl, ap, sym, ◌∙◌, subst, option_and_then}
+use Rattle.std.proofs.Common.{◌≡◌, ℕ, ◌+◌, Bool, true, false, cond, ◌&&◌, not, List, [], ◌++◌, length, codes, Option, Some, None}
+use Rattle.std.proofs.Common.{MatchOption, IfSome, refl, ap, sym, ◌∙◌, subst, option_and_then}
 use Rattle.std.specs.Fmt.{decimal}
 use Rattle.std.specs.Option.{IsSomeAnd}
 use Rattle.std.specs.Prelude.{map}
 use Rattle.std.specs.Str.{chars}
 use Rattle.html_render_dom.specs.Forest.{Forest, none, node}
 use Rattle.html_render_parts.specs.Decoration.{Decoration, Round, link}
+use Rattle.html_render_parts.specs.declared.widths.needs.CellNeed.{CellNeed}
 use Rattle.html_render_lines.specs.declared.character.TextStyle.{TextStyle}
 use Rattle.html_render_nodes.specs.declared.tree.Estimate.{Estimate}
 use Rattle.html_render_nodes.specs.declared.tree.NodeKind.{NodeKind}
@@ -15,20 +16,24 @@ use Rattle.html_render_nodes.specs.declared.tree.NodeKind.TheVariants.{Header, B
 use Rattle.html_render_nodes.specs.declared.tree.NodeKind.TheVariants.{Strikeout, Superscript, Link, Image, Svg, FragmentStart, Table, TableRow}
 use Rattle.html_render_nodes.specs.declared.tree.NodeKind.TheVariants.{TableCell, Part}
 use Rattle.html_render_nodes.specs.declared.tree.RenderNode.{RenderNode}
+use Rattle.html_render_nodes.specs.declared.tree.Slot.{Slot}
+use Rattle.html_render_nodes.specs.Grids.{GridRows}
 use Rattle.html_render_nodes.specs.Pass.{run}
 use Rattle.html_render_nodes.specs.laws.Runs.{MatchOption-then, IfSome-then, IfSome-weaken, NodesKeep, run-keeps}
+use Rattle.html_render_estimates.specs.Cells.{cell_needs}
 use Rattle.html_render_estimates.specs.Estimates.{prefix_columns}
 use Rattle.html_render_blocks.specs.Operations.{Operations}
 use Rattle.html_render_blocks.specs.laws.Operations.{Keeps, Succeeds}
 use Rattle.html_render_blocks.specs.laws.Cases.{any}
 use Rattle.html_render_layout.specs.declared.layout.state.Around.{Around}
-use Rattle.html_render_layout.specs.declared.layout.state.Around.TheVariants.{Plain, Bullets, Numbers}
+use Rattle.html_render_layout.specs.declared.layout.state.Around.TheVariants.{Plain, Bullets, Numbers, Cells}
 use Rattle.html_render_layout.specs.declared.layout.state.LayoutState.{LayoutState}
 use Rattle.html_render_layout.specs.declared.layout.state.TextContext.{TextContext}
 use Rattle.html_render_layout.specs.Images.{shown_title}
 use Rattle.html_render_layout.specs.Layout.{on_block, written, add_characters, add_text, text_style, under, emphasis_decoration}
 use Rattle.html_render_layout.specs.Layout.{begun, decorated, placed, inner_least, spaces, padded, next_number, nested, indented, quoted, among}
 use Rattle.html_render_layout.specs.Layout.{numbers, image_round, titled, image, raised, digits_of, superscript, striking, struck_out}
+use Rattle.html_render_layout.specs.Layout.{in_cell, as_cell, fence_style, fenced, table_begun, table_ended, row_begun}
 use Rattle.html_render_layout.specs.Layout.{with_target, link_number, linked, in_style, kind_steps, node_steps, steps}
 use Rattle.html_render_layout.specs.laws.Styles.{in_style-decorator, in_style-block, in_style-around}
 
@@ -42,6 +47,14 @@ record Each {B T I : Type 0} (o : Operations B T) (N : Type 0) (P : I → B → 
   pub end_block : (i : I) (b : B) → P i b → P i (o.end_block b)
   pub sub_block : (i : I) (b : B) (prefix inner : ℕ) → P i b → MatchOption (o.sub_block b prefix inner) N (λ c. (j : I) × P j c)
   pub append : (i j : I) (b c : B) (t : T) (first later : List ℕ) → P i b → P j c → MatchOption (o.append b c t first later) N (P i)
+  pub begin_table : (i : I) (b : B) (t : T) (borders stacked : Bool) (grid : GridRows) (cells : List CellNeed) → P i b →
+      MatchOption (o.begin_table b t borders stacked grid cells) N (P i)
+  pub begin_row : (i : I) (b : B) (slots : List Slot) → P i b → P i (o.begin_row b slots)
+  pub cell : (i : I) (b : B) → P i b →
+      IfSome (o.cell_block b) (λ c. (j : I) × (P j c × ((e : B) → P j e → MatchOption (o.add_cell b e) N (P i))))
+  pub skip_cell : (i : I) (b : B) → P i b → P i (o.skip_cell b)
+  pub end_row : (i : I) (b : B) → P i b → MatchOption (o.end_row b) N (P i)
+  pub end_table : (i : I) (b : B) → P i b → P i (o.end_table b)
 
 if_match : {X : Type 0} (Q : X → Type 0) (a : Option X) → IfSome a Q → MatchOption a (Unit {0}) Q
 if_match Q None h = tt
@@ -66,6 +79,7 @@ abbrev pub behind_node : Around → Around
 behind_node Plain = Plain
 behind_node (Bullets least) = Bullets least
 behind_node (Numbers least number columns) = Numbers least (next_number number) columns
+behind_node Cells = Cells
 
 abbrev pub behind_nodes : Forest RenderNode → Around → Around
 behind_nodes none a = a
@@ -128,6 +142,32 @@ module _ {S A K T B : Type 0} (d : Decoration S A) (push : K → T → A → K �
         ((q : State) → OfState i q → MatchOption (f q) N (OfState i)) → MatchOption (option_and_then f l) N (OfState i)
     then_keeps i l f k next = MatchOption-then N (OfState i) (OfState i) l f k next
 
+    fenced-keeps : (i : I) (s : State) → OfState i s → MatchOption (fenced o s) N (OfState i)
+    fenced-keeps i s p = by (s.settings.fence_tables && not s.in_table)
+      where
+        fence : B → Option B
+        fence b = o.add_inline_text b (fence_style s.blank) (codes "```")
+
+        by : (z : Bool) →
+            MatchOption (cond z (option_and_then (λ (q : State). on_block o.new_line q) (on_block fence s)) (Some s)) N (OfState i)
+        by true =
+            then_keeps i (on_block fence s) _
+            (on_block-keeps fence i s (h.add_inline_text i s.block (fence_style s.blank) (codes "```") p)) (λ q a. new_line-keeps i q a)
+        by false = p
+
+    table_begun-keeps : (grid : GridRows) (cells : List CellNeed) (i : I) (s : State) → OfState i s →
+        MatchOption (table_begun o grid cells s) N (OfState i)
+    table_begun-keeps grid cells i s p =
+        then_keeps i (on_block o.start_block s) _ (start_block-keeps i s p) (λ q a.
+        then_keeps i (fenced o q) _ (fenced-keeps i q a) (λ r b.
+        then_keeps i (on_block (λ c. o.begin_table c s.blank s.settings.table_borders s.settings.raw_mode grid cells) r) _
+        (on_block-keeps (λ c. o.begin_table c s.blank s.settings.table_borders s.settings.raw_mode grid cells) i r
+        (h.begin_table i r.block s.blank s.settings.table_borders s.settings.raw_mode grid cells b)) (λ t k. k)))
+
+    table_ended-keeps : (in_table : Bool) (i : I) (s : State) → OfState i s → MatchOption (table_ended o in_table s) N (OfState i)
+    table_ended-keeps in_table i s p =
+        fenced-keeps i (record s { block = o.end_table s.block; in_table = in_table }) (h.end_table i s.block p)
+
     -- in a block inside the state's, that has an i of its own
     inner_keeps : (prefix least : ℕ) (i : I) (s : State) (f : State → Option State) → OfState i s →
         ((j : I) (q : State) → OfState j q → MatchOption (f q) N (OfState i)) →
@@ -169,6 +209,29 @@ module _ {S A K T B : Type 0} (d : Decoration S A) (push : K → T → A → K �
 
       among-keeps : (around : Around) (i : I) (s : State) → OfState i s → MatchOption (among around layout s) N (OfState i)
       among-keeps around i s p = then_keeps i (layout (record s { around = around })) _ (below i _ p) (λ r b. b)
+
+      -- a cell's block has an i of its own
+      cell-keeps : (i : I) (s : State) → OfState i s → (b : Option B) →
+          IfSome b (λ c. (j : I) × (P j c × ((e : B) → P j e → MatchOption (o.add_cell s.block e) N (P i)))) →
+          MatchOption (as_cell d o layout s b) N (OfState i)
+      cell-keeps i s p None k = h.skip_cell i s.block p
+      cell-keeps i s p (Some c) k =
+          MatchOption-then N (OfState k.0) (OfState i) (layout (in_cell d c s)) _ (below k.0 (in_cell d c s) k.1.0) (λ r b.
+          MatchOption-then N (P i) (OfState i) (o.add_cell s.block r.block) _ (k.1.1 r.block b) (λ e m. m))
+
+      table-keeps : (grid : GridRows) (cells : List CellNeed) (i : I) (s : State) → OfState i s →
+          MatchOption (option_and_then (λ (q : State). option_and_then (λ (r : State). table_ended o s.in_table r) (layout q))
+          (table_begun o grid cells s)) N (OfState i)
+      table-keeps grid cells i s p =
+          then_keeps i (table_begun o grid cells s) _ (table_begun-keeps grid cells i s p) (λ q a.
+          then_keeps i (layout q) _ (below i q a) (λ r b. table_ended-keeps s.in_table i r b))
+
+      row-keeps : (slots : List Slot) (i : I) (s : State) → OfState i s →
+          MatchOption (option_and_then (λ (r : State). on_block o.end_row r) (among Cells layout (row_begun o slots s))) N (OfState i)
+      row-keeps slots i s p =
+          then_keeps i (among Cells layout (row_begun o slots s)) _
+          (among-keeps Cells i (row_begun o slots s) (h.begin_row i s.block slots p)) (λ r b.
+          on_block-keeps o.end_row i r (h.end_row i r.block b))
 
       struck_out-keeps : (i : I) (s : State) → OfState i s → MatchOption (struck_out d push o layout s) N (OfState i)
       struck_out-keeps i s p =
@@ -212,8 +275,8 @@ module _ {S A K T B : Type 0} (d : Decoration S A) (push : K → T → A → K �
       kind-keeps (Image m) e trees i s p = image-keeps m.source m.title i s p
       kind-keeps (Svg title) e trees i s p = image-keeps [] title i s p
       kind-keeps (FragmentStart name) e trees i s p = h.add_mark i s.block (length s.names) p
-      kind-keeps (Table grid) e trees i s p = below i s p
-      kind-keeps (TableRow slots) e trees i s p = below i s p
+      kind-keeps (Table grid) e trees i s p = table-keeps grid (cell_needs trees) i s p
+      kind-keeps (TableRow slots) e trees i s p = row-keeps slots i s p
       kind-keeps TableCell e trees i s p = below i s p
       kind-keeps (Part part) e trees i s p = below i s p
 
@@ -232,6 +295,7 @@ module _ {S A K T B : Type 0} (d : Decoration S A) (push : K → T → A → K �
       placed-keeps (Numbers least number columns) i s p =
           indented-keeps (padded columns (d.ordered_item_prefix s.decorator number)) columns least
           (Numbers least (next_number number) columns) i s p
+      placed-keeps Cells i s p = cell-keeps i s p (o.cell_block s.block) (h.cell i s.block p)
 
     steps-keep : NodesKeep N OfState (steps d push o)
     steps-keep n trees children below i s p =
@@ -243,6 +307,10 @@ module _ {S A K T B : Type 0} (d : Decoration S A) (push : K → T → A → K �
   module _ {I : Type 0} (P : I → B → Type 0) where
     abbrev Inner : B → Type 0
     Inner c = (j : I) × P j c
+
+    -- the block of a cell, and what may be added
+    abbrev Cell : (Option B → (B → Type 0) → Type 0) → I → B → B → Type 0
+    Cell Answers i b c = (j : I) × (P j c × ((e : B) → P j e → Answers (o.add_cell b e) (P i)))
 
     -- a layout keeps what each operation keeps, where it has an answer
     pub layout-keeps : Keeps o P → (t : Forest RenderNode) (i : I) (s : State) → P i s.block →
@@ -256,6 +324,14 @@ module _ {S A K T B : Type 0} (d : Decoration S A) (push : K → T → A → K �
       end_block = h.end_block;
       sub_block = λ i b n m k. if_match Inner (o.sub_block b n m) (h.sub_block i b n m k);
       append = λ i j b c x cs ds k l. if_match (P i) (o.append b c x cs ds) (h.append i j b c x cs ds k l);
+      begin_table = λ i b t borders stacked grid cells k.
+          if_match (P i) (o.begin_table b t borders stacked grid cells) (h.begin_table i b t borders stacked grid cells k);
+      begin_row = h.begin_row;
+      cell = λ i b k. IfSome-weaken (Cell (λ a Q. IfSome a Q) i b) (Cell (λ a Q. MatchOption a (Unit {0}) Q) i b) (o.cell_block b) (h.cell i b k) (λ c m.
+          (m.0, (m.1.0, λ e n. if_match (P i) (o.add_cell b e) (m.1.1 e n))));
+      skip_cell = h.skip_cell;
+      end_row = λ i b k. if_match (P i) (o.end_row b) (h.end_row i b k);
+      end_table = h.end_table;
     }) t i s p)
 
     -- a layout has an answer, if each operation has
@@ -270,6 +346,14 @@ module _ {S A K T B : Type 0} (d : Decoration S A) (push : K → T → A → K �
       end_block = h.end_block;
       sub_block = λ i b n m k. and_match Inner (o.sub_block b n m) (h.sub_block i b n m k);
       append = λ i j b c x cs ds k l. and_match (P i) (o.append b c x cs ds) (h.append i j b c x cs ds k l);
+      begin_table = λ i b t borders stacked grid cells k.
+          and_match (P i) (o.begin_table b t borders stacked grid cells) (h.begin_table i b t borders stacked grid cells k);
+      begin_row = h.begin_row;
+      cell = λ i b k. IfSome-weaken (Cell (λ a Q. IsSomeAnd a Q) i b) (Cell (λ a Q. MatchOption a ⊥ Q) i b) (o.cell_block b) (h.cell i b k) (λ c m.
+          (m.0, (m.1.0, λ e n. and_match (P i) (o.add_cell b e) (m.1.1 e n))));
+      skip_cell = h.skip_cell;
+      end_row = λ i b k. and_match (P i) (o.end_row b) (h.end_row i b k);
+      end_table = h.end_table;
     }) t i s p)
 
   -- ---- what is given back
@@ -322,6 +406,26 @@ module _ {S A K T B : Type 0} (d : Decoration S A) (push : K → T → A → K �
       by true = text-same (codes "[" ++ decimal number ++ codes "]") (record s { text = text })
       by false = (refl, λ e. e)
 
+  fenced-same : (s : State) → IfSome (fenced o s) (SamePlace s)
+  fenced-same s = by (s.settings.fence_tables && not s.in_table)
+    where
+      fence : B → Option B
+      fence b = o.add_inline_text b (fence_style s.blank) (codes "```")
+
+      by : (z : Bool) → IfSome (cond z (option_and_then (λ (q : State). on_block o.new_line q) (on_block fence s)) (Some s)) (SamePlace s)
+      by true = then_same s (on_block fence s) _ (on_block-same fence s) (λ q. on_block-same o.new_line q)
+      by false = (refl, λ e. e)
+
+  table_begun-same : (grid : GridRows) (cells : List CellNeed) (s : State) → IfSome (table_begun o grid cells s) (SamePlace s)
+  table_begun-same grid cells s =
+      then_same s (on_block o.start_block s) _ (on_block-same o.start_block s) (λ q.
+      then_same q (fenced o q) _ (fenced-same q) (λ r.
+      then_same r (on_block (λ b. o.begin_table b s.blank s.settings.table_borders s.settings.raw_mode grid cells) r) _
+      (on_block-same (λ b. o.begin_table b s.blank s.settings.table_borders s.settings.raw_mode grid cells) r) (λ t. (refl, λ e. e))))
+
+  table_ended-same : (in_table : Bool) (s : State) → IfSome (table_ended o in_table s) (SamePlace s)
+  table_ended-same in_table s = fenced-same (record s { block = o.end_table s.block; in_table = in_table })
+
   -- what comes back from a block inside the state's
   inner-same : (Q : State → Type 0) (prefix least : ℕ) (s : State) (f : State → Option State) →
       ((q : State) → q.text ≡ s.text → IfSome (f q) Q) → IfSome (option_and_then f (nested d o prefix least s)) Q
@@ -372,6 +476,19 @@ module _ {S A K T B : Type 0} (d : Decoration S A) (push : K → T → A → K �
         let u : State = record s { around = around } in
         IfSome-then (SamePlace u) (SamePlace s) (children u) _ (below-same u) (λ r a. (a.0, λ e. e))
 
+    table-same : (grid : GridRows) (cells : List CellNeed) (s : State) →
+        IfSome (option_and_then (λ (q : State). option_and_then (λ (r : State). table_ended o s.in_table r) (children q))
+        (table_begun o grid cells s)) (SamePlace s)
+    table-same grid cells s =
+        then_same s (table_begun o grid cells s) _ (table_begun-same grid cells s) (λ q.
+        then_same q (children q) _ (below-same q) (λ r. table_ended-same s.in_table r))
+
+    row-same : (slots : List Slot) (s : State) →
+        IfSome (option_and_then (λ (r : State). on_block o.end_row r) (among Cells children (row_begun o slots s))) (SamePlace s)
+    row-same slots s =
+        then_same s (among Cells children (row_begun o slots s)) _ (among-same Cells (row_begun o slots s)) (λ r.
+        on_block-same o.end_row r)
+
     struck_out-same : (s : State) → IfSome (struck_out d push o children s) (SamePlace s)
     struck_out-same s =
         then_same s (begun d push o d.strikeout s) _ (begun-same d.strikeout s) (λ q.
@@ -415,8 +532,8 @@ module _ {S A K T B : Type 0} (d : Decoration S A) (push : K → T → A → K �
     kind-same (Image m) e trees s = image-same m.source m.title s
     kind-same (Svg title) e trees s = image-same [] title s
     kind-same (FragmentStart name) e trees s = (refl, λ e. e)
-    kind-same (Table grid) e trees s = below-same s
-    kind-same (TableRow slots) e trees s = below-same s
+    kind-same (Table grid) e trees s = table-same grid (cell_needs trees) s
+    kind-same (TableRow slots) e trees s = row-same slots s
     kind-same TableCell e trees s = below-same s
     kind-same (Part part) e trees s = below-same s
 
@@ -440,6 +557,13 @@ module _ {S A K T B : Type 0} (d : Decoration S A) (push : K → T → A → K �
         (indented-same (λ x. x ≡ s.text) layout prefix columns least behind s (λ q e.
         IfSome-weaken (Same q) (λ (r : State). r.text ≡ s.text) (layout q) (each q) (λ r a. a.0 ∙ e))) (λ r a. (a.0, a.1, a.2 ∙ is))
 
+    cell-behind : (s : State) → s.around ≡ Cells → (b : Option B) → IfSome (as_cell d o layout s b) (Behind s)
+    cell-behind s e None = (refl, refl, e ∙ ap behind_node (sym e))
+    cell-behind s e (Some c) =
+        IfSome-then (Same (in_cell d c s)) (Behind s) (layout (in_cell d c s)) _ (each (in_cell d c s)) (λ r a.
+        IfSome-then (λ b. Unit {0}) (Behind s) (o.add_cell s.block r.block) _ (any (o.add_cell s.block r.block)) (λ b k.
+        (a.0, refl, ap behind_node (sym e))))
+
     placed-behind : (s : State) (a : Around) → s.around ≡ a → IfSome (placed d o layout s a) (Behind s)
     placed-behind s Plain e =
         IfSome-weaken (Same s) (Behind s) (layout s) (each s) (λ r a. (a.0, a.1, a.2 e ∙ ap behind_node (sym e)))
@@ -449,6 +573,7 @@ module _ {S A K T B : Type 0} (d : Decoration S A) (push : K → T → A → K �
     placed-behind s (Numbers least number columns) e =
         item-behind (padded columns (d.ordered_item_prefix s.decorator number)) columns least
         (Numbers least (next_number number) columns) s (ap behind_node (sym e))
+    placed-behind s Cells e = cell-behind s e (o.cell_block s.block)
 
   -- behind trees
   abbrev Returned : Forest RenderNode → State → State → Type 0

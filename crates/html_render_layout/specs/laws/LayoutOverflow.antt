@@ -1,5 +1,5 @@
 -- Where a layout has lines with overflow off, it has the same with overflow on.
-use Rattle.std.specs.Prelude.{codes, if◌then◌else◌}
+use Rattle.std.specs.Prelude.{codes, if◌then◌else◌, ◌&&◌, not}
 use Rattle.std.specs.Fmt.{decimal}
 use Rattle.std.specs.Str.{chars}
 use Rattle.std.proofs.Common.{◌≡◌, ℕ, ◌+◌, ◌==◌, Bool, true, false, cond, List, [], ◌++◌, length, map, Option, Some, None}
@@ -9,6 +9,7 @@ use Rattle.html_render_dom.specs.declared.errors.Error.{Error}
 use Rattle.html_render_dom.specs.Forest.{Forest}
 use Rattle.html_render_dom.specs.declared.style.colours.Colour.{Colour}
 use Rattle.html_render_parts.specs.Decoration.{Decoration, Round, link}
+use Rattle.html_render_parts.specs.declared.widths.needs.CellNeed.{CellNeed}
 use Rattle.html_render_lines.specs.Line.{Line}
 use Rattle.html_render_lines.specs.Tags.{lines_with}
 use Rattle.html_render_nodes.specs.declared.tree.Estimate.{Estimate}
@@ -19,6 +20,8 @@ use Rattle.html_render_nodes.specs.declared.tree.NodeKind.TheVariants.{Strikeout
 use Rattle.html_render_nodes.specs.declared.tree.NodeKind.TheVariants.{TableRow, TableCell, Part}
 use Rattle.html_render_nodes.specs.declared.tree.NodeStyle.{NodeStyle}
 use Rattle.html_render_nodes.specs.declared.tree.RenderNode.{RenderNode}
+use Rattle.html_render_nodes.specs.declared.tree.Slot.{Slot}
+use Rattle.html_render_nodes.specs.Grids.{GridRows}
 use Rattle.html_render_nodes.specs.Pass.{run}
 use Rattle.html_render_nodes.specs.laws.Images.{Image, image-then, NodesImage, run-image}
 use Rattle.html_render_blocks.specs.Operations.{Operations, Ending}
@@ -26,9 +29,10 @@ use Rattle.html_render_blocks.specs.Block as definition
 use Rattle.html_render_blocks.specs.laws.Operations.{Refines}
 use Rattle.html_render_blocks.specs.laws.BlockOverflow.{overflowing, operations_refine}
 use Rattle.html_render_blocks.specs.laws.Closing.{finish_stays, add_closing_lines_stays}
+use Rattle.html_render_estimates.specs.Cells.{cell_needs}
 use Rattle.html_render_estimates.specs.Estimates.{prefix_columns}
 use Rattle.html_render_layout.specs.declared.layout.state.Around.{Around}
-use Rattle.html_render_layout.specs.declared.layout.state.Around.TheVariants.{Plain, Bullets, Numbers}
+use Rattle.html_render_layout.specs.declared.layout.state.Around.TheVariants.{Plain, Bullets, Numbers, Cells}
 use Rattle.html_render_layout.specs.declared.layout.state.LayoutState.{LayoutState}
 use Rattle.html_render_layout.specs.declared.layout.state.TextContext.{TextContext}
 use Rattle.html_render_layout.specs.declared.settings.LayoutSettings.{LayoutSettings}
@@ -42,6 +46,7 @@ use Rattle.html_render_layout.specs.Layout.{in_white_space, preformatting, in_st
 use Rattle.html_render_dom.specs.declared.style.WhiteSpace.{WhiteSpace}
 use Rattle.html_render_dom.specs.declared.style.WhiteSpace.TheVariants.{Normal, Pre, PreWrap}
 use Rattle.html_render_layout.specs.Layout.{emphasis_decoration, begun, decorated, titled, image, struck_out, superscript, linked}
+use Rattle.html_render_layout.specs.Layout.{fence_style, fenced, table_begun, table_ended, row_begun, in_cell, as_cell}
 use Rattle.html_render_layout.specs.Layout.{numbers, kind_steps, node_steps, steps}
 use Rattle.html_render_layout.specs.Layout.{shown_after, onto, Defined, empty_state, estimated, layout_lines, mark_names, no_tag, untagged_lines}
 
@@ -104,6 +109,40 @@ module _ {S A K T B : Type 0} (d : Decoration S A) (push : K → T → A → K �
           (if z then add_text d push o digits (record (mapped s) { text = text }) else Some (mapped s))
       by true = text-stays digits (record s { text = text })
       by false = refl
+
+  -- a line of a fence, where it is written
+  fence-stays : (fence : Bool) (s : State) → Image mapped
+      (if fence then option_and_then (λ q. on_block o.new_line q) (on_block (λ b. o.add_inline_text b (fence_style s.blank) (codes "```")) s)
+      else Some s)
+      (if fence
+      then option_and_then (λ q. on_block o.new_line q) (on_block (λ b. o.add_inline_text b (fence_style s.blank) (codes "```")) (mapped s))
+      else Some (mapped s))
+  fence-stays true s =
+      both (on_block (λ b. o.add_inline_text b (fence_style s.blank) (codes "```")) s)
+      (on_block (λ b. o.add_inline_text b (fence_style s.blank) (codes "```")) (mapped s)) _ _
+      (on_block-stays (λ b. o.add_inline_text b (fence_style s.blank) (codes "```")) s
+      (h.add_inline_text s.block (fence_style s.blank) (codes "```")))
+      (λ q. on_block-stays o.new_line q (h.new_line q.block))
+  fence-stays false s = refl
+
+  fenced-stays : Stays (fenced o) (fenced o)
+  fenced-stays s = fence-stays (s.settings.fence_tables && not s.in_table) s
+
+  table_begun-stays : (grid : GridRows) (cells : List CellNeed) → Stays (table_begun o grid cells) (table_begun o grid cells)
+  table_begun-stays grid cells s =
+      let begin : B → Option B = λ b. o.begin_table b s.blank s.settings.table_borders s.settings.raw_mode grid cells in
+      both (on_block o.start_block s) (on_block o.start_block (mapped s)) _ _ (on_block-stays o.start_block s (h.start_block s.block)) (λ p.
+      both (fenced o p) (fenced o (mapped p)) _ _ (fenced-stays p) (λ q.
+      both (on_block begin q) (on_block begin (mapped q)) (λ r. Some (record r { in_table = true })) (λ r. Some (record r { in_table = true }))
+      (on_block-stays begin q (h.begin_table q.block s.blank s.settings.table_borders s.settings.raw_mode grid cells)) (λ r. refl)))
+
+  table_ended-stays : (in_table : Bool) → Stays (table_ended o in_table) (table_ended o in_table)
+  table_ended-stays in_table r =
+      let q : State = record r { block = o.end_table r.block; in_table = in_table } in
+      subst (λ e. Image mapped (fenced o q) (fenced o (record q { block = e }))) (sym (h.end_table r.block)) (fenced-stays q)
+
+  row_begun-stays : (slots : List Slot) (s : State) → row_begun o slots (mapped s) ≡ mapped (row_begun o slots s)
+  row_begun-stays slots s = ap (λ b. record s { block = b }) (h.begin_row s.block slots)
 
   -- the style of a node doesn't touch the block
   annotated-stays : (a : Option A) (s : State) → annotated push a (mapped s) ≡ mapped (annotated push a s)
@@ -177,6 +216,22 @@ module _ {S A K T B : Type 0} (d : Decoration S A) (push : K → T → A → K �
         both (decorated d push o (link d target) l (with_target target s)) (decorated d push o (link d target) m (with_target target (mapped s)))
         _ _ (decorated-stays (link d target) (with_target target s)) (λ r. link_number-stays s.text (length s.targets + 1) r)
 
+    -- a row of a table
+    row-stays : (slots : List Slot) → Stays (λ s. option_and_then (λ r. on_block o.end_row r) (among Cells l (row_begun o slots s)))
+        (λ s. option_and_then (λ r. on_block o.end_row r) (among Cells m (row_begun o slots s)))
+    row-stays slots s =
+        both (among Cells l (row_begun o slots s)) (among Cells m (row_begun o slots (mapped s))) _ _
+        (subst (λ q. Image mapped (among Cells l (row_begun o slots s)) (among Cells m q)) (sym (row_begun-stays slots s))
+        (among-stays Cells (row_begun o slots s))) (λ r. on_block-stays o.end_row r (h.end_row r.block))
+
+    -- a cell of it, in its block or skipped
+    as_cell-stays : (s : State) (cell : Option B) → Image mapped (as_cell d o l s cell) (as_cell d o m (mapped s) (option_map f cell))
+    as_cell-stays s None = ap (λ b. Some (record s { block = b })) (h.skip_cell s.block)
+    as_cell-stays s (Some cell) =
+        both (l (in_cell d cell s)) (m (in_cell d (f cell) (mapped s))) _ _ (below (in_cell d cell s)) (λ r.
+        image-then f mapped (λ b. Some (resumed s b Cells r)) (λ b. Some (resumed (mapped s) b Cells (mapped r)))
+        (o.add_cell s.block r.block) (o.add_cell (f s.block) (f r.block)) (h.add_cell s.block r.block) (λ b. refl))
+
     -- nodes between the start and the end of a block
     block-stays : (e : Estimate) (trees : Forest RenderNode) →
         Stays (kind_steps d push o Block e trees l) (kind_steps d push o Block e trees m)
@@ -216,8 +271,11 @@ module _ {S A K T B : Type 0} (d : Decoration S A) (push : K → T → A → K �
     kind-stays (Svg title) e trees s = image-stays [] title s
     kind-stays (FragmentStart name) e trees s =
         ap (λ b. Some (record (marked o name s) { block = b })) (h.add_mark s.block (length s.names))
-    kind-stays (Table grid) e trees s = below s
-    kind-stays (TableRow slots) e trees s = below s
+    kind-stays (Table grid) e trees s =
+        both (table_begun o grid (cell_needs trees) s) (table_begun o grid (cell_needs trees) (mapped s)) _ _
+        (table_begun-stays grid (cell_needs trees) s) (λ q.
+        both (l q) (m (mapped q)) (table_ended o s.in_table) (table_ended o s.in_table) (below q) (table_ended-stays s.in_table))
+    kind-stays (TableRow slots) e trees s = row-stays slots s
     kind-stays TableCell e trees s = below s
     kind-stays (Part part) e trees s = below s
 
@@ -237,6 +295,9 @@ module _ {S A K T B : Type 0} (d : Decoration S A) (push : K → T → A → K �
     placed-stays (Numbers least number columns) s =
         indented-stays (padded columns (d.ordered_item_prefix s.decorator number)) columns least
         (Numbers least (next_number number) columns) s
+    placed-stays Cells s =
+        subst (λ cell. Image mapped (as_cell d o l s (o.cell_block s.block)) (as_cell d o m (mapped s) cell)) (sym (h.cell_block s.block))
+        (as_cell-stays s (o.cell_block s.block))
 
   steps-stay : NodesImage mapped (steps d push o) (steps d push o)
   steps-stay n trees l m below s =

@@ -3,12 +3,14 @@ use Rattle.std.specs.Fmt.{decimal}
 use Rattle.std.specs.Str.{chars}
 use Rattle.std.proofs.Common.{◌≡◌, ℕ, ◌+◌, ◌≤◌, ◌==◌, Bool, true, false, cond, List, [], ◌∷◌, ◌++◌, length, codes, Option, Some, None}
 use Rattle.std.proofs.Common.{option_map, option_and_then, IfSome, IfOk, Result, Ok, Err, refl, ap, sym, ◌∙◌, subst, arith, append_assoc}
-use Rattle.std.specs.Prelude.{map, sum_by}
+use Rattle.std.specs.Option.{is_some}
+use Rattle.std.specs.Prelude.{map, sum_by, not, ◌&&◌, if◌then◌else◌}
 use Rattle.std.proofs.lemmas.Option.{same_Some}
 use Rattle.std.proofs.lemmas.List.Sums.{sum_by-cons, sum_by-append}
 use Rattle.html_render_dom.specs.declared.errors.Error.{Error}
-use Rattle.html_render_dom.specs.Forest.{Forest}
+use Rattle.html_render_dom.specs.Forest.{Forest, none, node}
 use Rattle.html_render_parts.specs.Decoration.{Decoration, Round, link}
+use Rattle.html_render_parts.specs.declared.widths.needs.CellNeed.{CellNeed}
 use Rattle.html_render_lines.specs.Character.{is_collapsible}
 use Rattle.html_render_lines.specs.Line.{Line}
 use Rattle.html_render_lines.specs.Tags.{line_with, lines_with}
@@ -21,9 +23,11 @@ use Rattle.html_render_nodes.specs.declared.tree.NodeKind.TheVariants.{Header, B
 use Rattle.html_render_nodes.specs.declared.tree.NodeKind.TheVariants.{Strikeout, Superscript, Link, Image, Svg, FragmentStart, Table, TableRow}
 use Rattle.html_render_nodes.specs.declared.tree.NodeKind.TheVariants.{TableCell, Part}
 use Rattle.html_render_nodes.specs.declared.tree.RenderNode.{RenderNode}
-use Rattle.html_render_nodes.specs.Pass.{run, visited}
+use Rattle.html_render_nodes.specs.declared.tree.Slot.{Slot}
+use Rattle.html_render_nodes.specs.Grids.{GridRows}
+use Rattle.html_render_nodes.specs.Pass.{Steps, Inside, run, from}
 use Rattle.html_render_nodes.specs.laws.Runs.{IfSome-then, IfSome-weaken}
-use Rattle.html_render_nodes.specs.laws.Growth.{count_from, NodesGrow, run-grows}
+use Rattle.html_render_nodes.specs.laws.Growth.{count_from}
 use Rattle.html_render_blocks.specs.Operations.{Operations}
 use Rattle.html_render_blocks.specs.Block as definition
 use Rattle.html_render_blocks.specs.Block.{DefinedBlock}
@@ -32,23 +36,74 @@ use Rattle.html_render_pictures.specs.Visible.{count}
 use Rattle.html_render_blocks.specs.laws.Operations.{Counts}
 use Rattle.html_render_blocks.specs.laws.BlockVisible.{operations_keep_visible}
 use Rattle.html_render_blocks.specs.laws.Closing.{IsClear, finish_count, closed_count}
+use Rattle.html_render_estimates.specs.Cells.{cell_needs}
 use Rattle.html_render_estimates.specs.Estimates.{prefix_columns}
 use Rattle.html_render_layout.specs.declared.layout.state.Around.{Around}
-use Rattle.html_render_layout.specs.declared.layout.state.Around.TheVariants.{Plain, Bullets, Numbers}
+use Rattle.html_render_layout.specs.declared.layout.state.Around.TheVariants.{Plain, Bullets, Numbers, Cells}
 use Rattle.html_render_layout.specs.declared.layout.state.LayoutState.{LayoutState}
 use Rattle.html_render_layout.specs.declared.layout.state.TextContext.{TextContext}
 use Rattle.html_render_layout.specs.declared.settings.LayoutSettings.{LayoutSettings}
 use Rattle.html_render_layout.specs.Images.{shown_title}
-use Rattle.html_render_layout.specs.Kept.{visited_nodes, node_characters, text_characters, KeepsTexts}
+use Rattle.html_render_layout.specs.Kept.{skips, unskipped, visited_nodes, node_characters, text_characters, KeepsTexts}
 use Rattle.html_render_layout.specs.Layout.{on_block, struck, written, add_characters, add_text, text_style, under, inner_least}
 use Rattle.html_render_layout.specs.Layout.{spaces, padded, next_number, nested, resumed, indented, quoted, among, placed}
 use Rattle.html_render_layout.specs.Layout.{emphasis_decoration, begun, decorated, numbers, image_round, titled, image, raised, digits_of}
 use Rattle.html_render_layout.specs.Layout.{superscript, superscript_inside, striking, with_target, link_number, linked}
+use Rattle.html_render_layout.specs.Layout.{fence_style, fenced, table_begun, table_ended, row_begun, in_cell, as_cell}
 use Rattle.html_render_layout.specs.Layout.{in_style, kind_steps, node_steps, steps, kind_inside, node_inside, placed_inside, inside}
 use Rattle.html_render_layout.specs.Layout.{shown_after, onto, Defined, defined, empty_state, estimated, layout_lines, no_tag, untagged_lines}
 use Rattle.html_render_layout.specs.Ending.{ended}
 use Rattle.html_render_layout.specs.laws.Ending.{ended-keeps}
 use Rattle.html_render_layout.specs.laws.Styles.{in_style-block}
+
+-- ---- nodes that are skipped
+
+-- what is counted of a node, unless it is skipped
+abbrev weight : (skipped : Bool) → ℕ → ℕ
+weight skipped n = if skipped then 0 else n
+
+-- what is counted of the nodes behind a state, if there is one
+count_from-nodes : {K S : Type 0} (w : K → ℕ) (nodes : S → List K) (o : Option S) →
+    count_from (λ q. sum_by w (nodes q)) o ≡ sum_by w (from nodes o)
+count_from-nodes w nodes None = refl
+count_from-nodes w nodes (Some s) = refl
+
+-- what v counts in a state grows by what w counts of a node that isn't skipped, and by what its children add in the state in
+-- which they are asked for
+abbrev NodesAdd : {K S : Type 0} → (S → Bool) → (v : S → ℕ) → (w : K → ℕ) → Steps K S → Inside K S → Type 0
+NodesAdd {K} {S} skipped v w steps inside = (k : K) (trees : Forest K) (children : S → Option S) (added : S → ℕ) →
+    ((q : S) → IfSome (children q) (λ r. v q + added q ≤ v r)) →
+    (s : S) → IfSome (steps k trees children s) (λ r. v s + (weight (skipped s) (w k) + count_from added (inside k trees s)) ≤ v r)
+
+-- and so it does over a run
+run-adds : {K S : Type 0} (skipped : S → Bool) (v : S → ℕ) (w : K → ℕ) (steps : Steps K S) (inside : Inside K S) →
+    NodesAdd skipped v w steps inside →
+    (t : Forest K) (s : S) → IfSome (run steps t s) (λ r. v s + sum_by w (unskipped skipped steps inside t s) ≤ v r)
+run-adds skipped v w steps inside each none s = omega arith
+run-adds {K} {S} skipped v w steps inside each (node k children beside) s =
+    let below = from (λ q. unskipped skipped steps inside children q) (inside k children s) in
+    by (skipped s) below (count_from-nodes w (λ q. unskipped skipped steps inside children q) (inside k children s))
+    (steps k children (λ q. run steps children q) s)
+    (each k children (λ q. run steps children q) (λ q. sum_by w (unskipped skipped steps inside children q))
+    (λ q. run-adds skipped v w steps inside each children q) s) (λ t. run-adds skipped v w steps inside each beside t)
+  where
+    itself : (z : Bool) → weight z (w k) ≡ sum_by w (if z then [] else k ∷ [])
+    itself true = refl
+    itself false = omega (arith, sum_by-cons w k [])
+
+    by : (z : Bool) (below : List K) → {n : ℕ} → n ≡ sum_by w below → (o : Option S) → IfSome o (λ t. v s + (weight z (w k) + n) ≤ v t) →
+        ((t : S) → IfSome (run steps beside t) (λ r. v t + sum_by w (unskipped skipped steps inside beside t) ≤ v r)) →
+        IfSome (option_and_then (λ t. run steps beside t) o)
+        (λ r. v s
+        + sum_by w ((if z then [] else k ∷ []) ++ (below ++ from (λ t. unskipped skipped steps inside beside t) o)) ≤ v r)
+    by z below e None h next = tt
+    by z below e (Some t) h next =
+        let own : List K = if z then [] else k ∷ [] in
+        let behind : List K = unskipped skipped steps inside beside t in
+        IfSome-weaken (λ r. v t + sum_by w behind ≤ v r) (λ r. v s + sum_by w (own ++ (below ++ behind)) ≤ v r) (run steps beside t) (next t)
+        (λ r a. omega (arith, e, h, a, itself z, sum_by-append w own (below ++ behind), sum_by-append w below behind))
+
+-- ---- the layout
 
 -- what v counts in a block grows by what w counts in a text, and nothing counts less; w counts no less in a text as it is
 -- written
@@ -111,6 +166,39 @@ module _ {S A K T B : Type 0} (d : Decoration S A) (push : K → T → A → K �
           IfSome (cond z (add_text d push o (codes "[" ++ decimal number ++ codes "]") (record s { text = text })) (Some s)) (AtLeast (counted s))
       by true = round-counts (codes "[" ++ decimal number ++ codes "]") (record s { text = text })
       by false = omega arith
+
+  -- a line of a fence, where it is written
+  fence-counts : (fence : Bool) (s : State) → IfSome
+      (cond fence (option_and_then (λ q. on_block o.new_line q) (on_block (λ b. o.add_inline_text b (fence_style s.blank) (codes "```")) s)) (Some s))
+      (AtLeast (counted s))
+  fence-counts true s =
+      let fence : B → Option B = λ b. o.add_inline_text b (fence_style s.blank) (codes "```") in
+      IfSome-then (AtLeast (counted s)) (AtLeast (counted s)) (on_block fence s) (λ q. on_block o.new_line q)
+      (on_block-counts (counted s) fence s
+      (IfSome-weaken (λ b. v b ≡ v s.block + w (codes "```")) (λ b. counted s ≤ v b) (fence s.block)
+      (h.add_inline_text s.block (fence_style s.blank) (codes "```")) (λ b e. omega arith)))
+      (λ q a. IfSome-weaken (AtLeast (counted q)) (AtLeast (counted s)) (on_block o.new_line q)
+      (keeps-counts o.new_line q (h.new_line q.block)) (λ r b. omega arith))
+  fence-counts false s = omega arith
+
+  fenced-counts : (s : State) → IfSome (fenced o s) (AtLeast (counted s))
+  fenced-counts s = fence-counts (s.settings.fence_tables && not s.in_table) s
+
+  table_begun-counts : (grid : GridRows) (cells : List CellNeed) (s : State) → IfSome (table_begun o grid cells s) (AtLeast (counted s))
+  table_begun-counts grid cells s =
+      let n = counted s in
+      let begin : B → Option B = λ b. o.begin_table b s.blank s.settings.table_borders s.settings.raw_mode grid cells in
+      IfSome-then (AtLeast n) (AtLeast n) (on_block o.start_block s) _ (keeps-counts o.start_block s (h.start_block s.block)) (λ p a.
+      IfSome-then (AtLeast (counted p)) (AtLeast n) (fenced o p) _ (fenced-counts p) (λ q b.
+      IfSome-then (AtLeast (counted q)) (AtLeast n) (on_block begin q) _
+      (on_block-counts (counted q) begin q (h.begin_table q.block s.blank s.settings.table_borders s.settings.raw_mode grid cells))
+      (λ r c. omega arith)))
+
+  table_ended-counts : (in_table : Bool) (r : State) → IfSome (table_ended o in_table r) (AtLeast (counted r))
+  table_ended-counts in_table r =
+      let q : State = record r { block = o.end_table r.block; in_table = in_table } in
+      IfSome-weaken (AtLeast (counted q)) (AtLeast (counted r)) (fenced o q) (fenced-counts q)
+      (λ t a. let e = h.end_table r.block in omega arith)
 
   -- nothing is counted in a block that begins
   nested-counts : (prefix least : ℕ) (s : State) → IfSome (nested d o prefix least s) (λ q. counted q ≡ 0)
@@ -184,6 +272,16 @@ module _ {S A K T B : Type 0} (d : Decoration S A) (push : K → T → A → K �
         let n = counted s + added (record s { around = around }) in
         IfSome-then (AtLeast n) (AtLeast n) (children (record s { around = around })) _ (below (record s { around = around })) (λ r a. a)
 
+    row-counts : (slots : List Slot) (s : State) →
+        IfSome (option_and_then (λ r. on_block o.end_row r) (among Cells children (row_begun o slots s)))
+        (AtLeast (counted s + added (record (row_begun o slots s) { around = Cells })))
+    row-counts slots s =
+        let q : State = row_begun o slots s in
+        let more = added (record q { around = Cells }) in
+        IfSome-then (AtLeast (counted q + more)) (AtLeast (counted s + more)) (among Cells children q) _ (among-counts Cells q) (λ r a.
+        on_block-counts (counted s + more) o.end_row r (IfSome-weaken (λ b. counted r ≤ v b) (λ b. counted s + more ≤ v b)
+        (o.end_row r.block) (h.end_row r.block) (λ b e. let same = h.begin_row s.block slots in omega arith)))
+
     -- what a kind without a text adds
     abbrev Adds : NodeKind → Estimate → Forest RenderNode → State → Type 0
     Adds k e trees s =
@@ -197,8 +295,8 @@ module _ {S A K T B : Type 0} (d : Decoration S A) (push : K → T → A → K �
 
     grows : (k : NodeKind) (e : Estimate) (trees : Forest RenderNode) (s : State) → node_characters k ≡ [] → Adds k e trees s →
         Grows k e trees s
-    grows k e trees s none a =
-        let zero : w (node_characters k) ≡ 0 = ap w none ∙ empty in
+    grows k e trees s textless a =
+        let zero : w (node_characters k) ≡ 0 = ap w textless ∙ empty in
         IfSome-weaken (AtLeast (counted s + count_from added (kind_inside d push o k e trees s)))
         (AtLeast (counted s + (w (node_characters k) + count_from added (kind_inside d push o k e trees s))))
         (kind_steps d push o k e trees children s) a (λ r b. omega arith)
@@ -206,9 +304,9 @@ module _ {S A K T B : Type 0} (d : Decoration S A) (push : K → T → A → K �
     -- what a kind that asks for no children adds
     lone : (k : NodeKind) (e : Estimate) (trees : Forest RenderNode) (s : State) → node_characters k ≡ [] →
         kind_inside d push o k e trees s ≡ None → IfSome (kind_steps d push o k e trees children s) (AtLeast (counted s)) → Grows k e trees s
-    lone k e trees s none nowhere a =
+    lone k e trees s textless nowhere a =
         let zero : count_from added (kind_inside d push o k e trees s) ≡ 0 = ap (count_from added) nowhere in
-        grows k e trees s none (IfSome-weaken (AtLeast (counted s))
+        grows k e trees s textless (IfSome-weaken (AtLeast (counted s))
         (AtLeast (counted s + count_from added (kind_inside d push o k e trees s))) (kind_steps d push o k e trees children s) a
         (λ r b. omega arith))
 
@@ -286,8 +384,10 @@ module _ {S A K T B : Type 0} (d : Decoration S A) (push : K → T → A → K �
     kind-counts (Svg title) e trees s = lone (Svg title) e trees s refl refl (image-counts [] title s)
     kind-counts (FragmentStart name) e trees s =
         lone (FragmentStart name) e trees s refl refl (omega (arith, h.add_mark s.block (length s.names)))
-    kind-counts (Table grid) e trees s = grows (Table grid) e trees s refl (below s)
-    kind-counts (TableRow slots) e trees s = grows (TableRow slots) e trees s refl (below s)
+    kind-counts (Table grid) e trees s =
+        grows (Table grid) e trees s refl (between-counts (counted s) (table_begun o grid (cell_needs trees) s) (table_ended o s.in_table)
+        (table_begun-counts grid (cell_needs trees) s) (table_ended-counts s.in_table))
+    kind-counts (TableRow slots) e trees s = grows (TableRow slots) e trees s refl (row-counts slots s)
     kind-counts TableCell e trees s = grows TableCell e trees s refl (below s)
     kind-counts (Part part) e trees s = grows (Part part) e trees s refl (below s)
 
@@ -321,9 +421,23 @@ module _ {S A K T B : Type 0} (d : Decoration S A) (push : K → T → A → K �
             (append-counts s r s.block (chars prefix) (spaces columns) (λ c. resumed s c behind r) (λ c. refl))
             (λ t x. omega arith))
 
+    -- a cell of a row: in its block, or skipped with its texts
+    cell-counts : (n : RenderNode) (trees : Forest RenderNode) (s : State) (cell : Option B) → IfSome cell (λ c. v c ≡ 0) →
+        IfSome (as_cell d o (λ q. node_steps d push o n trees children q) s cell)
+        (AtLeast (counted s + (weight (not (is_some cell)) (node_count n)
+        + count_from added (option_and_then (λ c. node_inside d push o n trees (in_cell d c s)) cell))))
+    cell-counts n trees s None a = omega (arith, h.skip_cell s.block)
+    cell-counts n trees s (Some cell) a =
+        let q : State = in_cell d cell s in
+        let inner = node_count n + count_from added (node_inside d push o n trees q) in
+        IfSome-then (AtLeast (counted q + inner)) (AtLeast (counted s + inner)) (node_steps d push o n trees children q) _
+        (node-counts n trees q) (λ r b.
+        IfSome-then (λ c. v s.block + counted r ≤ v c) (AtLeast (counted s + inner)) (o.add_cell s.block r.block) _
+        (h.add_cell s.block r.block) (λ c e. omega arith))
+
     placed-counts : (n : RenderNode) (trees : Forest RenderNode) (s : State) (a : Around) →
         IfSome (placed d o (λ q. node_steps d push o n trees children q) s a)
-        (AtLeast (counted s + (w (node_characters n.kind) + count_from added (placed_inside d push o n trees s a))))
+        (AtLeast (counted s + (weight (skips o s a) (node_count n) + count_from added (placed_inside d push o n trees s a))))
     placed-counts n trees s Plain = node-counts n trees s
     placed-counts n trees s (Bullets least) =
         let bullet = d.unordered_item_prefix s.decorator in
@@ -331,15 +445,20 @@ module _ {S A K T B : Type 0} (d : Decoration S A) (push : K → T → A → K �
     placed-counts n trees s (Numbers least number columns) =
         item-counts n trees (padded columns (d.ordered_item_prefix s.decorator number)) columns least
         (Numbers least (next_number number) columns) s
+    placed-counts n trees s Cells = cell-counts n trees s (o.cell_block s.block) (h.cell_block s.block)
 
-  steps-grow : NodesGrow counted node_count (steps d push o) (inside d push o)
-  steps-grow n trees children added below s = placed-counts children added below n trees s s.around
+  -- whether the next node is skipped
+  abbrev skipped : State → Bool
+  skipped s = skips o s s.around
 
-  -- what is counted grows by what is counted in the texts that are visited
+  steps-add : NodesAdd skipped counted node_count (steps d push o) (inside d push o)
+  steps-add n trees children added below s = placed-counts children added below n trees s s.around
+
+  -- what is counted grows by what is counted in the texts that are visited and aren't skipped
   pub layout-grows : (t : Forest RenderNode) (s : State) → IfSome (run (steps d push o) t s)
       (λ r. v s.block
-      + sum_by (λ (n : RenderNode). w (node_characters n.kind)) (visited (steps d push o) (inside d push o) t s) ≤ v r.block)
-  layout-grows t s = run-grows counted node_count (steps d push o) (inside d push o) steps-grow t s
+      + sum_by (λ (n : RenderNode). w (node_characters n.kind)) (unskipped skipped (steps d push o) (inside d push o) t s) ≤ v r.block)
+  layout-grows t s = run-adds skipped counted node_count (steps d push o) (inside d push o) steps-add t s
 
 -- ---- how often a character stands in texts
 

@@ -104,6 +104,8 @@ module _ {S A : Type 0} (d : Decoration S A) (settings : LayoutSettings) where
     text = record { tag = λ i. ap (λ x. stack_at x 0) i.1.1; mode = refl; preformatted = refl; struck_out = refl };
     block = λ i. shows-empty (stack_at i.0) (λ s. s) 0 [] w o (ap (λ x. stack_at x 0) i.1.1);
     around = refl;
+    blank = λ i. ap (λ x. stack_at x 0) i.1.1;
+    in_table = refl;
     targets = refl;
     names = refl;
   }
@@ -186,6 +188,8 @@ module _ {S A : Type 0} (d : Decoration S A) (settings : LayoutSettings) where
         text = record { tag = λ i. refl; mode = refl; preformatted = refl; struck_out = refl };
         block = λ i. shows-empty (λ t. t) (λ s. tt) tt [] w o refl;
         around = refl;
+        blank = λ i. refl;
+        in_table = refl;
         targets = refl;
         names = refl;
       })

@@ -3,6 +3,7 @@ use Rattle.std.specs.Prelude.{◌≡◌, ℕ, List, [], map, Option, Some, None,
 use Rattle.std.proofs.Common.{ap, ◌∙◌, sym}
 use Rattle.html_render_dom.specs.Forest.{Forest}
 use Rattle.html_render_parts.specs.Decoration.{Decoration, link}
+use Rattle.html_render_estimates.specs.Cells.{cell_needs}
 use Rattle.html_render_estimates.specs.Estimates.{prefix_columns}
 use Rattle.html_render_nodes.specs.declared.tree.Estimate.{Estimate}
 use Rattle.html_render_nodes.specs.declared.tree.NodeKind.{NodeKind}
@@ -16,18 +17,21 @@ use Rattle.html_render_nodes.specs.laws.Visits.{opened-asks, asks-same}
 use Rattle.html_render_blocks.specs.Operations.{Operations}
 use Rattle.html_render_layout.specs.declared.layout.items.Place.{Place}
 use Rattle.html_render_layout.specs.declared.layout.state.Around.{Around}
-use Rattle.html_render_layout.specs.declared.layout.state.Around.TheVariants.{Plain, Bullets, Numbers}
+use Rattle.html_render_layout.specs.declared.layout.state.Around.TheVariants.{Plain, Bullets, Numbers, Cells}
 use Rattle.html_render_layout.specs.declared.layout.state.Closing.{Closing}
+use Rattle.html_render_layout.specs.declared.layout.state.Interruption.{Interruption}
+use Rattle.html_render_layout.specs.declared.layout.state.Interruption.TheVariants.{NoBlock, Indented}
 use Rattle.html_render_layout.specs.declared.layout.state.KindClosing.{KindClosing}
 use Rattle.html_render_layout.specs.declared.layout.state.LayoutState.{LayoutState}
-use Rattle.html_render_layout.specs.declared.layout.state.Outer.{Outer}
 use Rattle.html_render_layout.specs.declared.layout.state.TextContext.{TextContext}
 use Rattle.html_render_layout.specs.Layout.{on_block, add_characters, add_text, begun, emphasis_decoration, nested, indented}
 use Rattle.html_render_layout.specs.Layout.{inner_least, among, numbers, placed, digits_of, raised, superscript, image}
-use Rattle.html_render_layout.specs.Layout.{with_target, marked, in_style, kind_steps, node_steps, steps}
+use Rattle.html_render_layout.specs.Layout.{with_target, marked, in_style, in_cell, as_cell, table_begun, row_begun}
+use Rattle.html_render_layout.specs.Layout.{kind_steps, node_steps, steps}
 use Rattle.html_render_layout.specs.Layout.{superscript_inside, kind_inside, node_inside, placed_inside, inside}
-use Rattle.html_render_layout.specs.Opening.{interrupted, item_closed, bullet_place, number_place, place_of, keeping}
-use Rattle.html_render_layout.specs.Opening.{superscript_opened, kind_opened, kind_closed, node_opened, placed_opened, opened, closed}
+use Rattle.html_render_layout.specs.Opening.{interrupted, item_closed, bullet_place, number_place, cell_kept, keeping}
+use Rattle.html_render_layout.specs.Opening.{superscript_opened, kind_opened, kind_closed, node_opened, cell_opened, placed_opened}
+use Rattle.html_render_layout.specs.Opening.{opened_around, opened, closed}
 use Rattle.html_render_layout.specs.laws.Styles.{in_style-around}
 
 and_then_some : {A : Type 0} (o : Option A) → o ≡ option_and_then (λ x. Some x) o
@@ -70,6 +74,15 @@ module _ {S A K T B : Type 0} (d : Decoration S A) (push : K → T → A → K �
   among-told around children s plain =
       ap (λ a. option_and_then (λ (r : State). Some (record r { around = a })) (children (record s { around = around }))) plain
 
+  -- and behind a row
+  row-told : (row : State) (children : State → Option State) → row.around ≡ Plain →
+      option_and_then (λ (r : State). on_block o.end_row r) (among Cells children row)
+      ≡ option_and_then (λ (r : State). on_block o.end_row (record r { around = Plain })) (children (record row { around = Cells }))
+  row-told row children plain =
+      ap (option_and_then (λ (r : State). on_block o.end_row r)) (among-told Cells children row plain)
+      ∙ sym (and_then_assoc (children (record row { around = Cells })) (λ (r : State). Some (record r { around = Plain }))
+      (λ (r : State). on_block o.end_row r))
+
   -- a superscript, of digits or of anything else
   superscript-told : (digits : Option (List ℕ)) (children : State → Option State) (s : State) →
       superscript d push o digits children s
@@ -110,8 +123,8 @@ module _ {S A K T B : Type 0} (d : Decoration S A) (push : K → T → A → K �
   kind-told (Image i) e trees children s plain = past-told (kind_closed d push o) children (image d push o i.source i.title s)
   kind-told (Svg title) e trees children s plain = past-told (kind_closed d push o) children (image d push o [] title s)
   kind-told (FragmentStart name) e trees children s plain = past-told (kind_closed d push o) children (Some (marked o name s))
-  kind-told (Table grid) e trees children s plain = and_then_some (children s)
-  kind-told (TableRow slots) e trees children s plain = and_then_some (children s)
+  kind-told (Table grid) e trees children s plain = and_then_assoc (table_begun o grid (cell_needs trees) s) _ _
+  kind-told (TableRow slots) e trees children s plain = row-told (row_begun o slots s) children plain
   kind-told TableCell e trees children s plain = and_then_some (children s)
   kind-told (Part part) e trees children s plain = and_then_some (children s)
 
@@ -120,7 +133,7 @@ module _ {S A K T B : Type 0} (d : Decoration S A) (push : K → T → A → K �
   back text r = Some (record r { text = text })
 
   -- from what the kind does to what the node does
-  keeping-told : (children : State → Option State) (item : Option (Outer S T B)) (text : TextContext T)
+  keeping-told : (children : State → Option State) (item : Interruption S T B) (text : TextContext T)
       (w : Option (Way State (KindClosing S T B))) →
       option_and_then (item_closed o item)
       (option_and_then (back text) (option_and_then (through (kind_closed d push o) children) w))
@@ -144,28 +157,37 @@ module _ {S A K T B : Type 0} (d : Decoration S A) (push : K → T → A → K �
       ≡ option_and_then (through (closed d push o) children) (placed_opened d push o n trees None s)
   node-told n trees children s plain =
       and_then_some (node_steps d push o n trees children s)
-      ∙ ap (λ x. option_and_then (item_closed o None) (option_and_then (back s.text) x)) (styled-told n trees children s plain)
-      ∙ keeping-told children None s.text (node_opened d push o n trees s)
+      ∙ ap (λ x. option_and_then (item_closed o NoBlock) (option_and_then (back s.text) x)) (styled-told n trees children s plain)
+      ∙ keeping-told children NoBlock s.text (node_opened d push o n trees s)
 
   item-told : (n : RenderNode) (trees : Forest RenderNode) (p : Place) (children : State → Option State) (s : State) →
       indented d o p.prefix p.columns p.least p.behind (node_steps d push o n trees children) s
       ≡ option_and_then (through (closed d push o) children) (placed_opened d push o n trees (Some p) s)
   item-told n trees p children s = by (o.sub_block s.block p.columns p.least)
     where
-      item : Outer S T B
-      item = interrupted s p.behind p.prefix p.columns
+      item : Interruption S T B
+      item = Indented (interrupted s p.behind p.prefix p.columns)
 
       by : (b : Option B) →
-          option_and_then (λ (q : State). option_and_then (item_closed o (Some item)) (node_steps d push o n trees children q))
+          option_and_then (λ (q : State). option_and_then (item_closed o item) (node_steps d push o n trees children q))
           (option_and_then (λ c. Some (record s { decorator = d.subblock s.decorator; block = c; around = Plain })) b)
           ≡ option_and_then (through (closed d push o) children)
-          (option_and_then (λ (q : State). option_and_then (keeping o (Some item) q.text) (node_opened d push o n trees q))
+          (option_and_then (λ (q : State). option_and_then (keeping o item q.text) (node_opened d push o n trees q))
           (option_and_then (λ c. Some (record s { decorator = d.subblock s.decorator; block = c; around = Plain })) b))
       by None = refl
       by (Some c) =
           let q : State = record s { decorator = d.subblock s.decorator; block = c; around = Plain } in
-          ap (λ x. option_and_then (item_closed o (Some item)) (option_and_then (back s.text) x)) (styled-told n trees children q refl)
-          ∙ keeping-told children (Some item) s.text (node_opened d push o n trees q)
+          ap (λ x. option_and_then (item_closed o item) (option_and_then (back s.text) x)) (styled-told n trees children q refl)
+          ∙ keeping-told children item s.text (node_opened d push o n trees q)
+
+  cell-told : (n : RenderNode) (trees : Forest RenderNode) (children : State → Option State) (s : State) (b : Option B) →
+      as_cell d o (node_steps d push o n trees children) s b
+      ≡ option_and_then (through (closed d push o) children) (cell_opened d push o n trees b s)
+  cell-told n trees children s None = refl
+  cell-told n trees children s (Some cell) =
+      let q : State = in_cell d cell s in
+      ap (λ x. option_and_then (item_closed o (cell_kept s)) (option_and_then (back s.text) x)) (styled-told n trees children q refl)
+      ∙ keeping-told children (cell_kept s) s.text (node_opened d push o n trees q)
 
   -- THE LAW: a node's steps are that it is opened, its children come, and it is closed
   pub steps-told : (n : RenderNode) (trees : Forest RenderNode) (children : State → Option State) (s : State) →
@@ -173,10 +195,11 @@ module _ {S A K T B : Type 0} (d : Decoration S A) (push : K → T → A → K �
   steps-told n trees children s = by s.around refl
     where
       by : (a : Around) → s.around ≡ a → placed d o (node_steps d push o n trees children) s a
-          ≡ option_and_then (through (closed d push o) children) (placed_opened d push o n trees (place_of d s.decorator a) s)
+          ≡ option_and_then (through (closed d push o) children) (opened_around d push o n trees s a)
       by Plain h = node-told n trees children s h
       by (Bullets least) h = item-told n trees (bullet_place d s.decorator least) children s
       by (Numbers least number columns) h = item-told n trees (number_place d s.decorator least number columns) children s
+      by Cells h = cell-told n trees children s (o.cell_block s.block)
 
   -- ---- where its children are laid out
 
@@ -211,18 +234,18 @@ module _ {S A K T B : Type 0} (d : Decoration S A) (push : K → T → A → K �
   kind-inside (Image i) e trees s = past-inside (KindClosing S T B) (image d push o i.source i.title s)
   kind-inside (Svg title) e trees s = past-inside (KindClosing S T B) (image d push o [] title s)
   kind-inside (FragmentStart name) e trees s = refl
-  kind-inside (Table grid) e trees s = refl
+  kind-inside (Table grid) e trees s = into-inside (KindClosing S T B) (table_begun o grid (cell_needs trees) s) _
   kind-inside (TableRow slots) e trees s = refl
   kind-inside TableCell e trees s = refl
   kind-inside (Part part) e trees s = refl
 
-  keeping-inside : (item : Option (Outer S T B)) (text : TextContext T) (w : Option (Way State (KindClosing S T B))) →
+  keeping-inside : (item : Interruption S T B) (text : TextContext T) (w : Option (Way State (KindClosing S T B))) →
       option_and_then (λ v. into v) (option_and_then (keeping o item text) w) ≡ option_and_then (λ v. into v) w
   keeping-inside item text None = refl
   keeping-inside item text (Some (Into q k)) = refl
   keeping-inside item text (Some (Past r)) = past-inside (Closing S T B) (item_closed o item (record r { text = text }))
 
-  node-inside : (n : RenderNode) (trees : Forest RenderNode) (item : Option (Outer S T B)) (text : TextContext T) (s : State) →
+  node-inside : (n : RenderNode) (trees : Forest RenderNode) (item : Interruption S T B) (text : TextContext T) (s : State) →
       option_and_then (λ w. into w) (option_and_then (keeping o item text) (node_opened d push o n trees s))
       ≡ node_inside d push o n trees s
   node-inside n trees item text s =
@@ -235,17 +258,24 @@ module _ {S A K T B : Type 0} (d : Decoration S A) (push : K → T → A → K �
   item-inside n trees p s =
       sym (and_then_assoc (nested d o p.columns p.least s) _ _)
       ∙ and_then_same (nested d o p.columns p.least s) _ _ (λ q.
-      node-inside n trees (Some (interrupted s p.behind p.prefix p.columns)) q.text q)
+      node-inside n trees (Indented (interrupted s p.behind p.prefix p.columns)) q.text q)
+
+  cell-inside : (n : RenderNode) (trees : Forest RenderNode) (s : State) (b : Option B) →
+      option_and_then (λ w. into w) (cell_opened d push o n trees b s)
+      ≡ option_and_then (λ cell. node_inside d push o n trees (in_cell d cell s)) b
+  cell-inside n trees s None = refl
+  cell-inside n trees s (Some cell) = node-inside n trees (cell_kept s) s.text (in_cell d cell s)
 
   pub opened-inside : (n : RenderNode) (trees : Forest RenderNode) (s : State) →
       inside_of (opened d push o) n trees s ≡ inside d push o n trees s
   opened-inside n trees s = by s.around
     where
-      by : (a : Around) → option_and_then (λ w. into w) (placed_opened d push o n trees (place_of d s.decorator a) s)
+      by : (a : Around) → option_and_then (λ w. into w) (opened_around d push o n trees s a)
           ≡ placed_inside d push o n trees s a
-      by Plain = node-inside n trees None s.text s
+      by Plain = node-inside n trees NoBlock s.text s
       by (Bullets least) = item-inside n trees (bullet_place d s.decorator least) s
       by (Numbers least number columns) = item-inside n trees (number_place d s.decorator least number columns) s
+      by Cells = cell-inside n trees s (o.cell_block s.block)
 
   -- THE LAW: a node's steps ask for its children there
   pub layout-asks : AsksIn (steps d push o) (inside d push o)

@@ -1,14 +1,15 @@
 -- THE THEOREM: a layout whose characters carry tags represents the layout by stacks, through each node.
 use Rattle.std.specs.Prelude.{codes, if◌then◌else◌}
 use Rattle.std.specs.Fmt.{decimal}
-use Rattle.std.proofs.Common.{◌≡◌, ℕ, ◌+◌, ◌||◌, Bool, true, false, List, [], ◌∷◌, ◌++◌, length, map, Option, Some, None}
-use Rattle.std.proofs.Common.{refl, sym, ap, ◌∙◌, subst, option_map, option_and_then}
+use Rattle.std.proofs.Common.{◌≡◌, ℕ, ◌+◌, ◌||◌, ◌&&◌, not, Bool, true, false, List, [], ◌∷◌, ◌++◌, length, map}
+use Rattle.std.proofs.Common.{Option, Some, None, refl, sym, ap, ◌∙◌, subst, option_map, option_and_then}
 use Rattle.std.specs.Str.{chars}
 use Rattle.html_render_dom.specs.Forest.{Forest}
 use Rattle.html_render_dom.specs.declared.style.WhiteSpace.{WhiteSpace}
 use Rattle.html_render_dom.specs.declared.style.WhiteSpace.TheVariants.{Normal, Pre, PreWrap}
 use Rattle.html_render_dom.specs.declared.style.colours.Colour.{Colour}
 use Rattle.html_render_parts.specs.Decoration.{Decoration, Round, Start, link}
+use Rattle.html_render_parts.specs.declared.widths.needs.CellNeed.{CellNeed}
 use Rattle.html_render_lines.specs.declared.character.TextStyle.{TextStyle}
 use Rattle.html_render_lines.specs.Line.{Line}
 use Rattle.html_render_lines.specs.Tags.{lines_with}
@@ -21,10 +22,14 @@ use Rattle.html_render_nodes.specs.declared.tree.NodeKind.TheVariants.{Strikeout
 use Rattle.html_render_nodes.specs.declared.tree.NodeKind.TheVariants.{TableCell, Part}
 use Rattle.html_render_nodes.specs.declared.tree.NodeStyle.{NodeStyle}
 use Rattle.html_render_nodes.specs.declared.tree.RenderNode.{RenderNode}
+use Rattle.html_render_nodes.specs.declared.tree.Slot.{Slot}
+use Rattle.html_render_nodes.specs.Grids.{GridRows}
+use Rattle.html_render_estimates.specs.Cells.{cell_needs}
 use Rattle.html_render_estimates.specs.Estimates.{prefix_columns}
 use Rattle.html_render_nodes.specs.laws.Agree.{Agree, Agree-then, Agree-weaken, Agree-along, mapped-Agree, run-agree, visited-agree}
 use Rattle.html_render_nodes.specs.laws.Visits.{visited-same}
 use Rattle.html_render_nodes.specs.Pass.{run, visited, inside_of}
+use Rattle.html_render_blocks.specs.Operations.{Operations}
 use Rattle.html_render_blocks.specs.Block as definition
 use Rattle.html_render_blocks.specs.Block.{DefinedBlock}
 use Rattle.html_render_blocks.specs.laws.BlockFed.{block_of, block_of-commutes}
@@ -34,7 +39,7 @@ use Rattle.html_render_blocks.specs.laws.BlockTags.{block_with, block_with-commu
 use Rattle.html_render_blocks.specs.laws.Closing.{finish-with, finish-block, add_closing_lines-with, add_closing_lines-block}
 use Rattle.html_render_blocks.specs.laws.Operations.{Commutes, Commutes-then, map_map}
 use Rattle.html_render_layout.specs.declared.layout.state.Around.{Around}
-use Rattle.html_render_layout.specs.declared.layout.state.Around.TheVariants.{Plain, Bullets, Numbers}
+use Rattle.html_render_layout.specs.declared.layout.state.Around.TheVariants.{Plain, Bullets, Numbers, Cells}
 use Rattle.html_render_layout.specs.declared.layout.state.LayoutState.{LayoutState}
 use Rattle.html_render_layout.specs.declared.layout.state.TextContext.{TextContext}
 use Rattle.html_render_layout.specs.declared.settings.LayoutSettings.{LayoutSettings}
@@ -42,7 +47,8 @@ use Rattle.html_render_layout.specs.Images.{shown_title}
 use Rattle.html_render_layout.specs.Ending.{closing_texts, ended}
 use Rattle.html_render_layout.specs.Layout.{on_block, written, text_style, add_styled, add_characters, add_text, under, striking, onto}
 use Rattle.html_render_layout.specs.Layout.{inner_least, spaces, padded, next_number, numbers, nested, resumed}
-use Rattle.html_render_layout.specs.Layout.{indented, quoted, among, placed}
+use Rattle.html_render_layout.specs.Layout.{indented, quoted, among, in_cell, as_cell, placed}
+use Rattle.html_render_layout.specs.Layout.{fence_style, fenced, table_begun, table_ended, row_begun}
 use Rattle.html_render_layout.specs.Layout.{image_round, raised, digits_of, with_target, marked, link_number, annotated, coloured}
 use Rattle.html_render_layout.specs.Layout.{with_mode, in_white_space, preformatting, in_style}
 use Rattle.html_render_layout.specs.Layout.{emphasis_decoration, begun, decorated, titled, image, struck_out, superscript, linked}
@@ -64,6 +70,14 @@ same-answer (Some x) None h = absurd h
 same_style : {T U V : Type 0} (f : T → V) (g : U → V) (x : TextStyle T) (y : TextStyle U) → f x.tag ≡ g y.tag →
     f x.continuation_tag ≡ g y.continuation_tag → x.mode ≡ y.mode → style_with f x ≡ style_with g y
 same_style f g x y e c m = cc (e, c, m)
+
+-- ---- the line round a table
+
+abbrev fence_text : {S K T B : Type 0} → Operations B T → LayoutState S K T B → Option (LayoutState S K T B)
+fence_text o s = on_block (λ b. o.add_inline_text b (fence_style s.blank) (codes "```")) s
+
+abbrev fence : {S K T B : Type 0} → Operations B T → LayoutState S K T B → Option (LayoutState S K T B)
+fence o s = option_and_then (λ q. on_block o.new_line q) (fence_text o s)
 
 -- seen is what is seen of a stack; f is what is seen of a tag, in whatever will be kept of the annotations
 module _ {I T A V : Type 0} (f : I → T → V) (seen : List A → V) (now : I) where
@@ -144,6 +158,55 @@ module _ {I T A V : Type 0} (f : I → T → V) (seen : List A → V) (now : I) 
       ∙ ap (λ z. machine.operations.append (seen_block e) z (seen y) first later) (k i)
       ∙ seen-commutes.append e g y first later)
 
+  -- tables, their rows and cells
+  begin_table-shows : (x : T) (y : List A) → ((i : I) → f i x ≡ seen y) → (borders stacked : Bool) (grid : GridRows) (cells : List CellNeed)
+      (b : MachineBlock T ℕ) (e : DefinedBlock (List A) ℕ) → Shows b e →
+      Agree Shows (machine.operations.begin_table b x borders stacked grid cells)
+      (definition.operations.begin_table e y borders stacked grid cells)
+  begin_table-shows x y t borders stacked grid cells b e h =
+      Agree-along (λ i. block_with (f i)) seen_block now (machine.operations.begin_table b x borders stacked grid cells)
+      (definition.operations.begin_table e y borders stacked grid cells) (λ i.
+      sym ((block_with-commutes (f i)).begin_table b x borders stacked grid cells)
+      ∙ ap (λ z. machine.operations.begin_table (block_with (f i) b) z borders stacked grid cells) (t i)
+      ∙ ap (λ z. machine.operations.begin_table z (seen y) borders stacked grid cells) (h i)
+      ∙ seen-commutes.begin_table e y borders stacked grid cells)
+
+  begin_row-shows : (slots : List Slot) (b : MachineBlock T ℕ) (e : DefinedBlock (List A) ℕ) → Shows b e →
+      Shows (machine.operations.begin_row b slots) (definition.operations.begin_row e slots)
+  begin_row-shows slots b e h = λ i.
+      sym ((block_with-commutes (f i)).begin_row b slots)
+      ∙ ap (λ c. machine.operations.begin_row c slots) (h i)
+      ∙ seen-commutes.begin_row e slots
+
+  cell_block-shows : (b : MachineBlock T ℕ) (e : DefinedBlock (List A) ℕ) → Shows b e →
+      Agree Shows (machine.operations.cell_block b) (definition.operations.cell_block e)
+  cell_block-shows = operation-shows machine.operations.cell_block machine.operations.cell_block definition.operations.cell_block
+      (λ g. (block_with-commutes g).cell_block) seen-commutes.cell_block
+
+  add_cell-shows : (b c : MachineBlock T ℕ) (e g : DefinedBlock (List A) ℕ) → Shows b e → Shows c g →
+      Agree Shows (machine.operations.add_cell b c) (definition.operations.add_cell e g)
+  add_cell-shows b c e g h k =
+      Agree-along (λ i. block_with (f i)) seen_block now (machine.operations.add_cell b c) (definition.operations.add_cell e g) (λ i.
+      sym ((block_with-commutes (f i)).add_cell b c)
+      ∙ ap (λ z. machine.operations.add_cell z (block_with (f i) c)) (h i)
+      ∙ ap (λ z. machine.operations.add_cell (seen_block e) z) (k i)
+      ∙ seen-commutes.add_cell e g)
+
+  skip_cell-shows : (b : MachineBlock T ℕ) (e : DefinedBlock (List A) ℕ) → Shows b e →
+      Shows (machine.operations.skip_cell b) (definition.operations.skip_cell e)
+  skip_cell-shows b e h = λ i.
+      sym ((block_with-commutes (f i)).skip_cell b) ∙ ap machine.operations.skip_cell (h i) ∙ seen-commutes.skip_cell e
+
+  end_row-shows : (b : MachineBlock T ℕ) (e : DefinedBlock (List A) ℕ) → Shows b e →
+      Agree Shows (machine.operations.end_row b) (definition.operations.end_row e)
+  end_row-shows = operation-shows machine.operations.end_row machine.operations.end_row definition.operations.end_row
+      (λ g. (block_with-commutes g).end_row) seen-commutes.end_row
+
+  end_table-shows : (b : MachineBlock T ℕ) (e : DefinedBlock (List A) ℕ) → Shows b e →
+      Shows (machine.operations.end_table b) (definition.operations.end_table e)
+  end_table-shows b e h = λ i.
+      sym ((block_with-commutes (f i)).end_table b) ∙ ap machine.operations.end_table (h i) ∙ seen-commutes.end_table e
+
   finish-shows : (b : MachineBlock T ℕ) (e : DefinedBlock (List A) ℕ) → Shows b e →
       Agree Shows (machine.ending.finish b) (definition.ending.finish e)
   finish-shows = operation-shows machine.ending.finish machine.ending.finish definition.ending.finish
@@ -189,9 +252,13 @@ module _ {S A K T V : Type 0} (d : Decoration S A) (push : K → T → A → K �
   abbrev ShowsBlock : K → MachineBlock T ℕ → DefinedBlock (List A) ℕ → Type 0
   ShowsBlock k b c = Shows (seen_since k) seen (now k) b c
 
+  -- and a tag shows a stack
+  abbrev ShowsTag : K → T → List A → Type 0
+  ShowsTag k x y = (i : Since k) → shown i.0 x ≡ seen y
+
   -- texts are treated alike, and will be
   pub record ShowsText (k : K) (x : TextContext T) (y : TextContext (List A)) : Type 0 where
-    pub tag : (i : Since k) → shown i.0 x.tag ≡ seen y.tag
+    pub tag : ShowsTag k x.tag y.tag
     pub mode : x.mode ≡ y.mode
     pub preformatted : x.preformatted ≡ y.preformatted
     pub struck_out : x.struck_out ≡ y.struck_out
@@ -203,6 +270,8 @@ module _ {S A K T V : Type 0} (d : Decoration S A) (push : K → T → A → K �
     pub text : ShowsText s.stacks s.text e.text
     pub block : ShowsBlock s.stacks s.block e.block
     pub around : s.around ≡ e.around
+    pub blank : ShowsTag s.stacks s.blank e.blank
+    pub in_table : s.in_table ≡ e.in_table
     pub targets : s.targets ≡ e.targets
     pub names : s.names ≡ e.names
 
@@ -213,7 +282,11 @@ module _ {S A K T V : Type 0} (d : Decoration S A) (push : K → T → A → K �
   text-later k l x y h g =
       record { tag = λ i. h.tag (i.0, goes k l i.0 g i.1); mode = h.mode; preformatted = h.preformatted; struck_out = h.struck_out }
 
-  -- what is kept aside is shown when more is kept
+  -- a tag is shown when more is kept
+  tag-later : (k l : K) (x : T) (y : List A) → ShowsTag k x y → Later k l → ShowsTag l x y
+  tag-later k l x y h g = λ i. h (i.0, goes k l i.0 g i.1)
+
+  -- and so is what is kept aside
   block-later : (k l : K) (b : MachineBlock T ℕ) (c : DefinedBlock (List A) ℕ) → ShowsBlock k b c → Later k l → ShowsBlock l b c
   block-later k l b c h g = λ i. h (i.0, goes k l i.0 g i.1)
 
@@ -238,6 +311,8 @@ module _ {S A K T V : Type 0} (d : Decoration S A) (push : K → T → A → K �
     text = h.text;
     block = n;
     around = h.around;
+    blank = h.blank;
+    in_table = h.in_table;
     targets = h.targets;
     names = h.names;
   }
@@ -257,6 +332,8 @@ module _ {S A K T V : Type 0} (d : Decoration S A) (push : K → T → A → K �
     text = text-later s.stacks k s.text e.text h.text g;
     block = block-later s.stacks k s.block e.block h.block g;
     around = h.around;
+    blank = tag-later s.stacks k s.blank e.blank h.blank g;
+    in_table = h.in_table;
     targets = h.targets;
     names = h.names;
   }
@@ -358,6 +435,8 @@ module _ {S A K T V : Type 0} (d : Decoration S A) (push : K → T → A → K �
           };
           block = λ i. h.block (i.0, goes s.stacks (push s.stacks s.text.tag a).0 i.0 grown i.1);
           around = h.around;
+          blank = tag-later s.stacks (push s.stacks s.text.tag a).0 s.blank e.blank h.blank grown;
+          in_table = h.in_table;
           targets = h.targets;
           names = h.names;
         },
@@ -402,6 +481,8 @@ module _ {S A K T V : Type 0} (d : Decoration S A) (push : K → T → A → K �
       text = record { tag = h.text.tag; mode = refl; preformatted = h.text.preformatted; struck_out = h.text.struck_out };
       block = h.block;
       around = h.around;
+      blank = h.blank;
+      in_table = h.in_table;
       targets = h.targets;
       names = h.names;
     },
@@ -422,6 +503,8 @@ module _ {S A K T V : Type 0} (d : Decoration S A) (push : K → T → A → K �
     text = record { tag = h.text.tag; mode = h.text.mode; preformatted = ap (λ x. x || p) h.text.preformatted; struck_out = h.text.struck_out };
     block = h.block;
     around = h.around;
+    blank = h.blank;
+    in_table = h.in_table;
     targets = h.targets;
     names = h.names;
   }
@@ -452,6 +535,8 @@ module _ {S A K T V : Type 0} (d : Decoration S A) (push : K → T → A → K �
     text = record { tag = h.text.tag; mode = h.text.mode; preformatted = h.text.preformatted; struck_out = same };
     block = h.block;
     around = h.around;
+    blank = h.blank;
+    in_table = h.in_table;
     targets = h.targets;
     names = h.names;
   }
@@ -476,6 +561,8 @@ module _ {S A K T V : Type 0} (d : Decoration S A) (push : K → T → A → K �
     text = h.text;
     block = h.block;
     around = h.around;
+    blank = h.blank;
+    in_table = h.in_table;
     targets = ap (λ xs. xs ++ target ∷ []) h.targets;
     names = h.names;
   }
@@ -489,6 +576,8 @@ module _ {S A K T V : Type 0} (d : Decoration S A) (push : K → T → A → K �
     block = add_mark-shows (seen_since s.stacks) seen (now s.stacks) (length s.names) (length e.names)
         (ap (λ (xs : List (List ℕ)). length xs) h.names) s.block e.block h.block;
     around = h.around;
+    blank = h.blank;
+    in_table = h.in_table;
     targets = h.targets;
     names = ap (λ xs. xs ++ name ∷ []) h.names;
   }
@@ -502,6 +591,8 @@ module _ {S A K T V : Type 0} (d : Decoration S A) (push : K → T → A → K �
     text = t;
     block = h.block;
     around = h.around;
+    blank = h.blank;
+    in_table = h.in_table;
     targets = h.targets;
     names = h.names;
   }
@@ -523,6 +614,107 @@ module _ {S A K T V : Type 0} (d : Decoration S A) (push : K → T → A → K �
           (with_text s e x y t h)
       by false = (h, stays s.stacks)
 
+  -- ---- tables
+
+  fence_text-represents : (s : Worked) (e : Defined S A) → Represents s e →
+      Agree (Reached s) (fence_text machine.operations s) (fence_text definition.operations e)
+  fence_text-represents s e h =
+      on_block-represents (λ b. machine.operations.add_inline_text b (fence_style s.blank) (codes "```"))
+      (λ c. definition.operations.add_inline_text c (fence_style e.blank) (codes "```")) s e h
+      (add_inline_text-shows (seen_since s.stacks) seen (now s.stacks) (codes "```") (fence_style s.blank) (fence_style e.blank)
+      (λ i. same_style (shown i.0) seen (fence_style s.blank) (fence_style e.blank) (h.blank i) (h.blank i) refl) s.block e.block h.block)
+
+  fenced-represents : (s : Worked) (e : Defined S A) → Represents s e →
+      Agree (Reached s) (fenced machine.operations s) (fenced definition.operations e)
+  fenced-represents s e h =
+      subst (λ z. Agree (Reached s) (fenced machine.operations s) (if z then fence definition.operations e else Some e))
+      (ap (λ (x : LayoutSettings). x.fence_tables && not s.in_table) h.settings
+      ∙ ap (λ x. e.settings.fence_tables && not x) h.in_table)
+      (by (s.settings.fence_tables && not s.in_table))
+    where
+      by : (z : Bool) → Agree (Reached s) (if z then fence machine.operations s else Some s)
+          (if z then fence definition.operations e else Some e)
+      by true = then-represents s _ _ _ _ (fence_text-represents s e h) new_line-represents
+      by false = (h, stays s.stacks)
+
+  -- with another answer to whether a table is open
+  with_in_table : (s : Worked) (e : Defined S A) (x y : Bool) → x ≡ y → Represents s e →
+      Represents (record s { in_table = x }) (record e { in_table = y })
+  with_in_table s e x y same h = record {
+    settings = h.settings;
+    decorator = h.decorator;
+    text = h.text;
+    block = h.block;
+    around = h.around;
+    blank = h.blank;
+    in_table = same;
+    targets = h.targets;
+    names = h.names;
+  }
+
+  -- a table begins in q as s says
+  begin_table-represents : (grid : GridRows) (cells : List CellNeed) (s q : Worked) (e v : Defined S A) → Represents s e →
+      Represents q v → Grows s q →
+      Agree (Reached q)
+      (on_block (λ b. machine.operations.begin_table b s.blank s.settings.table_borders s.settings.raw_mode grid cells) q)
+      (on_block (λ c. definition.operations.begin_table c e.blank e.settings.table_borders e.settings.raw_mode grid cells) v)
+  begin_table-represents grid cells s q e v h k grown =
+      subst (λ (x : LayoutSettings). Agree (Reached q)
+      (on_block (λ b. machine.operations.begin_table b s.blank s.settings.table_borders s.settings.raw_mode grid cells) q)
+      (on_block (λ c. definition.operations.begin_table c e.blank x.table_borders x.raw_mode grid cells) v)) h.settings
+      (on_block-represents
+      (λ b. machine.operations.begin_table b s.blank s.settings.table_borders s.settings.raw_mode grid cells)
+      (λ c. definition.operations.begin_table c e.blank s.settings.table_borders s.settings.raw_mode grid cells) q v k
+      (begin_table-shows (seen_since q.stacks) seen (now q.stacks) s.blank e.blank
+      (tag-later s.stacks q.stacks s.blank e.blank h.blank grown) s.settings.table_borders s.settings.raw_mode grid cells
+      q.block v.block k.block))
+
+  table_begun-represents : (grid : GridRows) (cells : List CellNeed) (s : Worked) (e : Defined S A) → Represents s e →
+      Agree (Reached s) (table_begun machine.operations grid cells s) (table_begun definition.operations grid cells e)
+  table_begun-represents grid cells s e h =
+      Agree-then (Reached s) (Reached s) _ _ (on_block machine.operations.start_block s)
+      (on_block definition.operations.start_block e) (start_block-represents s e h) (λ p u a.
+      Agree-then (Reached p) (Reached s) _ _ (fenced machine.operations p) (fenced definition.operations u)
+      (fenced-represents p u a.0) (λ q v b.
+      let grown : Grows s q = goes s.stacks p.stacks q.stacks a.1 b.1 in
+      Agree-then (Reached q) (Reached s) _ _ _ _ (begin_table-represents grid cells s q e v h b.0 grown) (λ r w c.
+      (with_in_table r w true true refl c.0, goes s.stacks q.stacks r.stacks grown c.1))))
+
+  table_ended-represents : (x y : Bool) (s : Worked) (e : Defined S A) → x ≡ y → Represents s e →
+      Agree (Reached s) (table_ended machine.operations x s) (table_ended definition.operations y e)
+  table_ended-represents x y s e same h =
+      let b = machine.operations.end_table s.block in
+      let c = definition.operations.end_table e.block in
+      fenced-represents (record s { block = b; in_table = x }) (record e { block = c; in_table = y })
+      (with_in_table (record s { block = b }) (record e { block = c }) x y same
+      (with_block s e b c h (end_table-shows (seen_since s.stacks) seen (now s.stacks) s.block e.block h.block)))
+
+  row_begun-represents : (slots : List Slot) (s : Worked) (e : Defined S A) → Represents s e →
+      Represents (row_begun machine.operations slots s) (row_begun definition.operations slots e)
+  row_begun-represents slots s e h =
+      with_block s e _ _ h (begin_row-shows (seen_since s.stacks) seen (now s.stacks) slots s.block e.block h.block)
+
+  end_row-represents : (s : Worked) (e : Defined S A) → Represents s e →
+      Agree (Reached s) (on_block machine.operations.end_row s) (on_block definition.operations.end_row e)
+  end_row-represents s e h =
+      on_block-represents machine.operations.end_row definition.operations.end_row s e h
+      (end_row-shows (seen_since s.stacks) seen (now s.stacks) s.block e.block h.block)
+
+  -- as a cell in these blocks
+  in_cell-represents : (s : Worked) (e : Defined S A) (b : MachineBlock T ℕ) (c : DefinedBlock (List A) ℕ) → Represents s e →
+      ShowsBlock s.stacks b c → Represents (in_cell d b s) (in_cell d c e)
+  in_cell-represents s e b c h n = record {
+    settings = h.settings;
+    decorator = ap d.subblock h.decorator;
+    text = h.text;
+    block = n;
+    around = refl;
+    blank = h.blank;
+    in_table = h.in_table;
+    targets = h.targets;
+    names = h.names;
+  }
+
   -- ---- blocks in blocks
 
   nested-represents : (p q least : ℕ) (s : Worked) (e : Defined S A) → p ≡ q → Represents s e →
@@ -538,6 +730,8 @@ module _ {S A K T V : Type 0} (d : Decoration S A) (push : K → T → A → K �
           text = h.text;
           block = n;
           around = refl;
+          blank = h.blank;
+          in_table = h.in_table;
           targets = h.targets;
           names = h.names;
         },
@@ -553,6 +747,8 @@ module _ {S A K T V : Type 0} (d : Decoration S A) (push : K → T → A → K �
     text = h.text;
     block = h.block;
     around = same;
+    blank = h.blank;
+    in_table = h.in_table;
     targets = h.targets;
     names = h.names;
   }
@@ -566,6 +762,8 @@ module _ {S A K T V : Type 0} (d : Decoration S A) (push : K → T → A → K �
     text = k.text;
     block = n;
     around = same;
+    blank = k.blank;
+    in_table = k.in_table;
     targets = k.targets;
     names = k.names;
   }
@@ -621,6 +819,24 @@ module _ {S A K T V : Type 0} (d : Decoration S A) (push : K → T → A → K �
               (end_block-shows (seen_since r.stacks) seen (now r.stacks) x y m),
           grown,
         )))))
+
+    -- the next cell, or none on both sides
+    as_cell-represents : (o : Option (MachineBlock T ℕ)) (p : Option (DefinedBlock (List A) ℕ)) (s : Worked) (e : Defined S A) →
+        Agree (ShowsBlock s.stacks) o p → Represents s e →
+        Agree (Reached s) (as_cell d machine.operations f s o) (as_cell d definition.operations g e p)
+    as_cell-represents None None s e n h =
+        (with_block s e _ _ h (skip_cell-shows (seen_since s.stacks) seen (now s.stacks) s.block e.block h.block), stays s.stacks)
+    as_cell-represents (Some b) (Some c) s e n h =
+        let q : Worked = in_cell d b s in
+        let u : Defined S A = in_cell d c e in
+        Agree-then (Reached q) (Reached s) _ _ (f q) (g u) (below q u (in_cell-represents s e b c h n)) (λ r v a.
+        Agree-then (ShowsBlock r.stacks) (Reached s) _ _ (machine.operations.add_cell s.block r.block)
+        (definition.operations.add_cell e.block v.block)
+        (add_cell-shows (seen_since r.stacks) seen (now r.stacks) s.block r.block e.block v.block
+        (block-later s.stacks r.stacks s.block e.block h.block a.1) a.0.block) (λ x y m.
+        (resumed-represents s r e v x y Cells Cells refl h a.0 m, a.1)))
+    as_cell-represents None (Some c) s e n h = absurd n
+    as_cell-represents (Some b) None s e n h = absurd n
 
     among-represents : (x y : Around) (s : Worked) (e : Defined S A) → x ≡ y → Represents s e →
         Agree (Reached s) (among x f s) (among y g e)
@@ -698,8 +914,14 @@ module _ {S A K T V : Type 0} (d : Decoration S A) (push : K → T → A → K �
     kind-represents (Image i) m trees s e h = image-represents i.source i.title s e h
     kind-represents (Svg title) m trees s e h = image-represents [] title s e h
     kind-represents (FragmentStart name) m trees s e h = (marked-represents name s e h, stays s.stacks)
-    kind-represents (Table grid) m trees s e h = below s e h
-    kind-represents (TableRow slots) m trees s e h = below s e h
+    kind-represents (Table grid) m trees s e h =
+        then-represents s _ _ _ _ (table_begun-represents grid (cell_needs trees) s e h) (λ q u a.
+        then-represents q (f q) (g u) _ _ (below q u a) (λ r v k.
+        table_ended-represents s.in_table e.in_table r v h.in_table k))
+    kind-represents (TableRow slots) m trees s e h =
+        then-represents s _ _ _ _
+        (among-represents Cells Cells (row_begun machine.operations slots s) (row_begun definition.operations slots e) refl
+        (row_begun-represents slots s e h)) end_row-represents
     kind-represents TableCell m trees s e h = below s e h
     kind-represents (Part part) m trees s e h = below s e h
 
@@ -731,6 +953,9 @@ module _ {S A K T V : Type 0} (d : Decoration S A) (push : K → T → A → K �
         subst (λ x. Agree (Reached s) (placed d machine.operations f s (Numbers least number columns))
         (indented d definition.operations (padded columns (d.ordered_item_prefix x number)) columns least behind g e)) h.decorator
         (indented-represents f g below (padded columns (d.ordered_item_prefix s.decorator number)) columns least behind behind s e refl h)
+    placed-represents Cells s e h =
+        as_cell-represents f g below (machine.operations.cell_block s.block) (definition.operations.cell_block e.block) s e
+        (cell_block-shows (seen_since s.stacks) seen (now s.stacks) s.block e.block h.block) h
 
   steps-represents : (n : RenderNode) (trees : Forest RenderNode) (f : Worked → Option Worked)
       (g : Defined S A → Option (Defined S A)) → ((q : Worked) (e : Defined S A) → Represents q e → Agree (Reached q) (f q) (g e)) →
@@ -793,8 +1018,11 @@ module _ {S A K T V : Type 0} (d : Decoration S A) (push : K → T → A → K �
   kind_inside-represents (Image i) m trees s e h = tt
   kind_inside-represents (Svg title) m trees s e h = tt
   kind_inside-represents (FragmentStart name) m trees s e h = tt
-  kind_inside-represents (Table grid) m trees s e h = h
-  kind_inside-represents (TableRow slots) m trees s e h = h
+  kind_inside-represents (Table grid) m trees s e h =
+      reached-represents s _ _ (table_begun-represents grid (cell_needs trees) s e h)
+  kind_inside-represents (TableRow slots) m trees s e h =
+      with_around (row_begun machine.operations slots s) (row_begun definition.operations slots e) Cells Cells refl
+      (row_begun-represents slots s e h)
   kind_inside-represents TableCell m trees s e h = h
   kind_inside-represents (Part part) m trees s e h = h
 
@@ -818,6 +1046,11 @@ module _ {S A K T V : Type 0} (d : Decoration S A) (push : K → T → A → K �
       Agree-then (Reached s) (λ q e. Represents q e) _ _ (nested d machine.operations columns least s)
       (nested d definition.operations columns least e) (nested-represents columns columns least s e refl h)
       (λ q u a. node_inside-represents n trees q u a.0)
+  placed_inside-represents n trees Cells s e h =
+      Agree-then (ShowsBlock s.stacks) (λ q e. Represents q e) _ _ (machine.operations.cell_block s.block)
+      (definition.operations.cell_block e.block)
+      (cell_block-shows (seen_since s.stacks) seen (now s.stacks) s.block e.block h.block)
+      (λ b c m. node_inside-represents n trees (in_cell d b s) (in_cell d c e) (in_cell-represents s e b c h m))
 
   inside-represents : (n : RenderNode) (trees : Forest RenderNode) (s : Worked) (e : Defined S A) → Represents s e →
       Agree (λ q e. Represents q e) (inside d push machine.operations n trees s) (defined_inside d n trees e)
@@ -841,7 +1074,7 @@ module _ {S A K T V : Type 0} (d : Decoration S A) (push : K → T → A → K �
 
   -- the end under a tag, where as much is kept of annotations as may be from now on
   ended-represents : (footnotes cut : Bool) (x : T) (y : List A) (s : Worked) (e : Defined S A) →
-      ((i : Since s.stacks) → shown i.0 x ≡ seen y) → Represents s e →
+      ShowsTag s.stacks x y → Represents s e →
       Agree (Reached s) (ended d machine.ending footnotes cut x s) (ended d definition.ending footnotes cut y e)
   ended-represents footnotes cut x y s e t h =
       let ts : List (List ℕ) = map chars (closing_texts d footnotes s.decorator s.targets) in

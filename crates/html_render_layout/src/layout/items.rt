@@ -89,7 +89,7 @@ pub fn place_of<D: TextDecorator>(
     ensures err { IfErr result (λ e. e ≡ Error.OutOfMemory) }
 {
     match around {
-        Around::Plain => Ok(None),
+        Around::Plain | Around::Cells => Ok(None),
         Around::Bullets { least } => Ok(Some(bullet_place(alloc, decorator, *least)?)),
         Around::Numbers {
             least,

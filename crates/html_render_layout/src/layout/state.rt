@@ -42,6 +42,8 @@ pub enum Around {
         /// The columns of each prefix.
         columns: usize,
     },
+    /// A row of a table: each is a cell.
+    Cells,
 }
 
 /// Texts, in the order in which they were met.
@@ -119,6 +121,10 @@ pub struct LayoutState<D, K, T, B> {
     pub block: B,
     /// What the nodes that come stand in.
     pub around: Around,
+    /// The tag of what no annotation is on: borders of tables, and fences. It doesn't change.
+    pub blank: T,
+    /// Whether a table is open that the nodes that come stand in.
+    pub in_table: bool,
     /// The targets of the links so far.
     pub targets: TextList,
     /// The names of the marks so far.
@@ -178,11 +184,67 @@ impl<D: Drop, T: Drop, B: Drop> Interrupted<D, T, B> {
     }
 }
 
+/// A block with an open row of a table, that is interrupted by a cell of it.
+#[derive(Drop)]
+pub struct OuterTable<D, B> {
+    /// The decorator of the block.
+    pub decorator: D,
+    /// The block.
+    pub block: B,
+}
+
+/// The same, held so that it is moved in few bytes.
+#[derive(Drop)]
+pub struct InterruptedTable<D, B> {
+    outer: Box<OuterTable<D, B>>,
+}
+
+impl<D, B> Model for InterruptedTable<D, B> {
+    ghost use Rattle.html_render_layout.specs.declared.layout.state.OuterTable.{OuterTable};
+
+    ghost Value = { OuterTable D B };
+
+    ghost view = { λ i. i.outer.value };
+}
+
+impl<D: Drop, B: Drop> InterruptedTable<D, B> {
+    /// Holds an interrupted block.
+    ///
+    /// # Errors
+    ///
+    /// `OutOfMemory`.
+    pub fn new(alloc: Global, outer: OuterTable<D, B>) -> Result<InterruptedTable<D, B>, Error>
+        ensures ok { IfOk result (λ i. i ≡ outer) }
+        ensures err { IfErr result (λ e. e ≡ Error.OutOfMemory) }
+    {
+        let outer = Box::new(alloc, outer)?;
+        Ok(InterruptedTable { outer })
+    }
+
+    /// Gives it back.
+    pub fn into_outer(self) -> OuterTable<D, B>
+        ensures { result ≡ self }
+    {
+        Box::into_inner(self.outer)
+    }
+}
+
+/// What an open node interrupts.
+#[derive(Drop)]
+pub enum Interruption<D, T, B> {
+    /// No block: it is laid out into the one that stands round it.
+    NoBlock,
+    /// The block that it is an item of a list in.
+    Indented(Interrupted<D, T, B>),
+    /// The block that it is a cell of a table in.
+    Cell(InterruptedTable<D, B>),
+}
+
 /// What is to be done once the children of an open node are laid out.
 #[derive(Drop)]
 pub struct Closing<D, T, B> {
-    /// What the node interrupts, where it is an item of a list.
-    pub item: Option<Interrupted<D, T, B>>,
+    /// What the node interrupts.
+    pub item: Interruption<D, T, B>,
     /// How texts were treated before the node.
     pub text: TextContext<T>,
     /// What the node's kind does.
@@ -212,4 +274,8 @@ pub enum KindClosing<D, T, B> {
     EndSuperscript,
     /// The link of this number ends; how texts were treated before it.
     EndLink(TextContext<T>, usize),
+    /// The table ends; whether it stands in another one.
+    EndTable(bool),
+    /// The row of a table ends: the nodes that come stand in nothing that matters to them, as the row did.
+    EndRow,
 }

@@ -5,20 +5,22 @@ ghost use Rattle.html_render_dom.specs.Outcome.{Refuses};
 ghost use Rattle.html_render_blocks.specs.BlockMachine as machine;
 ghost use Rattle.html_render_nodes.specs.Pass.{way};
 ghost use Rattle.html_render_nodes.specs.Preorder.{flatten, forest_of};
+ghost use Rattle.html_render_estimates.specs.Cells.{cell_needs};
 ghost use Rattle.html_render_layout.specs.Layout.{inner_least, numbers, digits_of};
 ghost use Rattle.html_render_layout.specs.Opening.{place_of, item_begun, item_kept, item_closed, quote_opened};
 ghost use Rattle.html_render_layout.specs.Opening.{term_opened, description_opened, strikeout_opened, superscript_opened, link_opened};
-ghost use Rattle.html_render_layout.specs.Opening.{kind_opened, kind_closed, node_opened};
-ghost use Rattle.html_render_layout.specs.Opening.{placed_opened, closed};
+ghost use Rattle.html_render_layout.specs.Opening.{table_opened, row_opened, kind_opened, kind_closed, node_opened};
+ghost use Rattle.html_render_layout.specs.Opening.{opened_in, cell_opened, opened, closed};
 
 use super::emphasis::{begin_emphasis, begin_strikeout, begin_superscript, end_of};
 use super::images::add_image;
 use super::items::place_of;
 use super::links::{add_mark, begin_link, close_link};
 use super::nesting::{close_indent, close_quote, nest};
-use super::state::{Around, Closing, Interrupted, KindClosing, LayoutState};
+use super::state::{Around, Closing, Interruption, KindClosing, LayoutState};
 use super::styles::begin_style;
 use super::superscripts::{digits_of, write_raised};
+use super::tables::{begin_cell, begin_table, end_cell, end_table};
 use super::texts::add_text;
 use crate::tagging::Tagging;
 use html_render_blocks::block::Block;
@@ -26,7 +28,7 @@ use html_render_dom::Error;
 use html_render_dom::text::Text;
 use html_render_estimates::estimate::number_columns;
 use html_render_estimates::text::columns;
-use html_render_nodes::tree::{Emphasis, Entry, Estimate, NodeKind, RenderNode};
+use html_render_nodes::tree::{Emphasis, Entry, Estimate, Grid, NodeKind, RenderNode, Slot};
 use html_render_parts::decorate::TextDecorator;
 use std::alloc::Global;
 
@@ -164,6 +166,39 @@ fn open_link<D: TextDecorator, G: Tagging<D::Annotation>>(
     Ok(Some(KindClosing::EndLink(text, state.targets.len())))
 }
 
+/// A table begins.
+#[inline(never)]
+#[tactic(auto, using(html_render_dom::specs::laws::Outcome::refusals))]
+fn open_table<D: TextDecorator, G: Tagging<D::Annotation>>(
+    alloc: Global,
+    grid: &Grid,
+    rows: &[Entry<RenderNode>],
+    state: &mut LayoutState<D, G, G::Tag, Block<G::Tag, usize>>,
+) -> Result<Option<KindClosing<D, G::Tag, Block<G::Tag, usize>>>, Error>
+    requires { flatten (forest_of rows.now) ≡ rows.now }
+    ensures ok { IfOk result (λ c. table_opened D.decoration G.annotated machine.operations grid.now (cell_needs (forest_of rows.now)) state.old
+        ≡ Some (way state.new c)) }
+    ensures err { IfErr result (λ e. Refuses e (table_opened D.decoration G.annotated machine.operations grid.now (cell_needs (forest_of rows.now))
+        state.old)) }
+{
+    let in_table = state.in_table;
+    begin_table(alloc, grid, rows, state)?;
+    Ok(Some(KindClosing::EndTable(in_table)))
+}
+
+/// A row of a table begins.
+fn open_row<D: TextDecorator, G: Tagging<D::Annotation>>(
+    slots: &[Slot],
+    state: &mut LayoutState<D, G, G::Tag, Block<G::Tag, usize>>,
+) -> Result<Option<KindClosing<D, G::Tag, Block<G::Tag, usize>>>, Error>
+    ensures ok { IfOk result (λ c. row_opened D.decoration G.annotated machine.operations slots.now state.old ≡ Some (way state.new c)) }
+    ensures err { IfErr result (λ e. e ≡ Error.OutOfMemory) }
+{
+    state.block.begin_row(slots)?;
+    state.around = Around::Cells;
+    Ok(Some(KindClosing::EndRow))
+}
+
 /// Opens a node of a kind over these trees. With nothing kept the state becomes the one behind it.
 #[tactic(auto, using(html_render_dom::specs::laws::Outcome::refusals))]
 fn open_kind<D: TextDecorator, G: Tagging<D::Annotation>>(
@@ -184,11 +219,11 @@ fn open_kind<D: TextDecorator, G: Tagging<D::Annotation>>(
             add_text(alloc, text.as_str(), state)?;
             Ok(None)
         }
-        NodeKind::Container
-        | NodeKind::Table(_)
-        | NodeKind::TableRow(_)
-        | NodeKind::TableCell
-        | NodeKind::Part(_) => Ok(Some(KindClosing::Nothing)),
+        NodeKind::Container | NodeKind::TableCell | NodeKind::Part(_) => {
+            Ok(Some(KindClosing::Nothing))
+        }
+        NodeKind::Table(grid) => open_table(alloc, grid, children, state),
+        NodeKind::TableRow(slots) => open_row(slots.as_slice(), state),
         NodeKind::Break => {
             state.block.new_line_hard()?;
             Ok(None)
@@ -292,6 +327,12 @@ fn close_kind<D: TextDecorator, G: Tagging<D::Annotation>>(
             add_text(alloc, end.as_str(), state)
         }
         KindClosing::EndLink(text, number) => close_link(alloc, text, number, state),
+        KindClosing::EndTable(in_table) => end_table(in_table, state),
+        KindClosing::EndRow => {
+            state.around = Around::Plain;
+            state.block.end_row()?;
+            Ok(())
+        }
     }
 }
 
@@ -304,7 +345,7 @@ fn close_kind<D: TextDecorator, G: Tagging<D::Annotation>>(
 fn begin_placed<D: TextDecorator, G: Tagging<D::Annotation>>(
     alloc: Global,
     state: &mut LayoutState<D, G, G::Tag, Block<G::Tag, usize>>,
-) -> Result<Option<Interrupted<D, G::Tag, Block<G::Tag, usize>>>, Error>
+) -> Result<Interruption<D, G::Tag, Block<G::Tag, usize>>, Error>
     ensures ok { OnOk result (item_begun D.decoration machine.operations
         (place_of D.decoration state.old.decorator state.old.around) state.old ≡ Some state.new) }
     ensures item { IfOk result (λ item. item ≡ item_kept (place_of D.decoration state.old.decorator state.old.around) state.old) }
@@ -312,7 +353,7 @@ fn begin_placed<D: TextDecorator, G: Tagging<D::Annotation>>(
         (place_of D.decoration state.old.decorator state.old.around) state.old)) }
 {
     let Some(place) = place_of(alloc, &state.decorator, &state.around)? else {
-        return Ok(None);
+        return Ok(Interruption::NoBlock);
     };
     let outer = nest(
         alloc,
@@ -322,7 +363,7 @@ fn begin_placed<D: TextDecorator, G: Tagging<D::Annotation>>(
         place.behind,
         state,
     )?;
-    Ok(Some(outer))
+    Ok(Interruption::Indented(outer))
 }
 
 /// An item of a list begins, if the node is one.
@@ -331,7 +372,7 @@ fn begin_placed<D: TextDecorator, G: Tagging<D::Annotation>>(
 fn begin_item<D: TextDecorator, G: Tagging<D::Annotation>>(
     alloc: Global,
     state: &mut LayoutState<D, G, G::Tag, Block<G::Tag, usize>>,
-) -> Result<Option<Interrupted<D, G::Tag, Block<G::Tag, usize>>>, Error>
+) -> Result<Interruption<D, G::Tag, Block<G::Tag, usize>>, Error>
     ensures ok { OnOk result (item_begun D.decoration machine.operations
         (place_of D.decoration state.old.decorator state.old.around) state.old ≡ Some state.new) }
     ensures item { IfOk result (λ item. item ≡ item_kept (place_of D.decoration state.old.decorator state.old.around) state.old) }
@@ -339,25 +380,26 @@ fn begin_item<D: TextDecorator, G: Tagging<D::Annotation>>(
         (place_of D.decoration state.old.decorator state.old.around) state.old)) }
 {
     match state.around {
-        Around::Plain => Ok(None),
+        Around::Plain | Around::Cells => Ok(Interruption::NoBlock),
         Around::Bullets { .. } | Around::Numbers { .. } => begin_placed(alloc, state),
     }
 }
 
-/// An item is over, if the node is one.
+/// What the node interrupts goes on.
 #[inline]
 #[tactic(auto, using(html_render_dom::specs::laws::Outcome::refusals))]
 fn end_item<D: TextDecorator, G: Tagging<D::Annotation>>(
     alloc: Global,
-    item: Option<Interrupted<D, G::Tag, Block<G::Tag, usize>>>,
+    item: Interruption<D, G::Tag, Block<G::Tag, usize>>,
     state: &mut LayoutState<D, G, G::Tag, Block<G::Tag, usize>>,
 ) -> Result<(), Error>
     ensures ok { OnOk result (item_closed machine.operations item state.old ≡ Some state.new) }
     ensures err { IfErr result (λ e. Refuses e (item_closed machine.operations item state.old)) }
 {
     match item {
-        Some(outer) => close_indent(alloc, outer, state),
-        None => Ok(()),
+        Interruption::NoBlock => Ok(()),
+        Interruption::Indented(outer) => close_indent(alloc, outer, state),
+        Interruption::Cell(outer) => end_cell(outer, state),
     }
 }
 
@@ -380,6 +422,56 @@ fn open_in_style<D: TextDecorator, G: Tagging<D::Annotation>>(
     open_kind(alloc, &node.kind, &node.estimate, children, state)
 }
 
+/// Opens a node in the state's block, and keeps what it interrupts, and how texts were treated before it.
+#[inline]
+#[tactic(auto, using(html_render_dom::specs::laws::Outcome::refusals))]
+fn open_in<D: TextDecorator, G: Tagging<D::Annotation>>(
+    alloc: Global,
+    item: Interruption<D, G::Tag, Block<G::Tag, usize>>,
+    node: &RenderNode,
+    children: &[Entry<RenderNode>],
+    state: &mut LayoutState<D, G, G::Tag, Block<G::Tag, usize>>,
+) -> Result<Option<Closing<D, G::Tag, Block<G::Tag, usize>>>, Error>
+    requires { flatten (forest_of children.now) ≡ children.now }
+    ensures ok { IfOk result (λ c. opened_in D.decoration G.annotated machine.operations item node.now (forest_of children.now) state.old
+        ≡ Some (way state.new c)) }
+    ensures err { IfErr result (λ e. Refuses e (opened_in D.decoration G.annotated machine.operations item node.now (forest_of children.now)
+        state.old)) }
+{
+    let text = state.text;
+    match open_in_style(alloc, node, children, state)? {
+        Some(kind) => Ok(Some(Closing { item, text, kind })),
+        None => {
+            state.text = text;
+            end_item(alloc, item, state)?;
+            Ok(None)
+        }
+    }
+}
+
+/// Opens a node as the next cell of a row. Where that is skipped, so is all that stands in it.
+#[inline(never)]
+#[tactic(auto, using(html_render_dom::specs::laws::Outcome::refusals))]
+fn open_cell<D: TextDecorator, G: Tagging<D::Annotation>>(
+    alloc: Global,
+    node: &RenderNode,
+    children: &[Entry<RenderNode>],
+    state: &mut LayoutState<D, G, G::Tag, Block<G::Tag, usize>>,
+) -> Result<Option<Closing<D, G::Tag, Block<G::Tag, usize>>>, Error>
+    requires { flatten (forest_of children.now) ≡ children.now }
+    ensures ok { IfOk result (λ c. cell_opened D.decoration G.annotated machine.operations node.now (forest_of children.now)
+        (machine.cell_block state.old.block) state.old ≡ Some (way state.new c)) }
+    ensures err { IfErr result (λ e. Refuses e (cell_opened D.decoration G.annotated machine.operations node.now (forest_of children.now)
+        (machine.cell_block state.old.block) state.old)) }
+{
+    let Some(cell) = state.block.cell_block() else {
+        state.block.skip_cell()?;
+        return Ok(None);
+    };
+    let outer = begin_cell(alloc, cell, state)?;
+    open_in(alloc, Interruption::Cell(outer), node, children, state)
+}
+
 /// Opens a node, as what it stands in says, and keeps how texts were treated before it: the state becomes that of its
 /// children, or, with nothing kept, the one behind it.
 ///
@@ -395,21 +487,15 @@ pub fn open<D: TextDecorator, G: Tagging<D::Annotation>>(
     state: &mut LayoutState<D, G, G::Tag, Block<G::Tag, usize>>,
 ) -> Result<Option<Closing<D, G::Tag, Block<G::Tag, usize>>>, Error>
     requires { flatten (forest_of children.now) ≡ children.now }
-    ensures ok { IfOk result (λ c. placed_opened D.decoration G.annotated machine.operations node.now (forest_of children.now)
-        (place_of D.decoration state.old.decorator state.old.around) state.old ≡ Some (way state.new c)) }
-    ensures err { IfErr result (λ e. Refuses e (placed_opened D.decoration G.annotated machine.operations node.now (forest_of children.now)
-        (place_of D.decoration state.old.decorator state.old.around) state.old)) }
+    ensures ok { IfOk result (λ c. opened D.decoration G.annotated machine.operations node.now (forest_of children.now) state.old
+        ≡ Some (way state.new c)) }
+    ensures err { IfErr result (λ e. Refuses e (opened D.decoration G.annotated machine.operations node.now (forest_of children.now) state.old)) }
 {
-    let item = begin_item(alloc, state)?;
-    let text = state.text;
-    match open_in_style(alloc, node, children, state)? {
-        Some(kind) => Ok(Some(Closing { item, text, kind })),
-        None => {
-            state.text = text;
-            end_item(alloc, item, state)?;
-            Ok(None)
-        }
+    if let Around::Cells = state.around {
+        return open_cell(alloc, node, children, state);
     }
+    let item = begin_item(alloc, state)?;
+    open_in(alloc, item, node, children, state)
 }
 
 /// Closes a node: the state becomes the one behind it.

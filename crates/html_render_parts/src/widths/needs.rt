@@ -1,6 +1,6 @@
 //! What the columns of a table need for its cells, and how wide they are then side by side.
 
-ghost use Rattle.std.specs.Prelude.{◌≡◌, ◌<◌, ℕ, length, map, option_map, slice_index, slice_index_or, IfOk, IfErr};
+ghost use Rattle.std.specs.Prelude.{◌≡◌, ◌<◌, ◌↔◌, ℕ, length, map, option_map, slice_index, slice_index_or, IfOk, IfErr, IsTrue};
 ghost use Rattle.html_render_parts.specs.Needs.{no_need, size_part, least_part, column_needs, table_widths, AreSome, AreCells};
 ghost use Rattle.html_render_parts.specs.Needs.{cell_stands, cells_stand, standing_widths};
 
@@ -115,25 +115,23 @@ pub fn table_widths(
     widths_across(alloc, needs.as_slice(), width)
 }
 
-impl CellNeed {
-    /// Whether the cell stands over columns of a table with so many, over one or more, and needs no more at least than its
-    /// size.
-    fn stands(&self, columns: usize) -> bool
-        ensures { result ≡ cell_stands columns self.now }
-    {
-        let Some(end) = self.start.checked_add(self.count) else {
-            return false;
-        };
-        end <= columns && self.count > 0 && self.least <= self.size
-    }
+/// Whether a cell is over one or more of these columns, and needs no more at least than its size.
+fn cell_stands(columns: usize, cell: CellNeed) -> bool
+    ensures { result ≡ cell_stands columns cell }
+{
+    cell.start <= columns
+        && cell.count <= columns - cell.start
+        && cell.count > 0
+        && cell.least <= cell.size
 }
 
-/// Whether each cell stands over columns of a table with so many, and needs no more at least than its size, as
-/// [`table_widths`] asks.
-pub fn cells_stand(columns: usize, cells: &[CellNeed]) -> bool
-    ensures { result ≡ cells_stand columns cells.now }
+/// Whether all cells are over one or more of these columns, and need no more at least than their sizes, as [`column_needs`] and
+/// [`table_widths`] ask.
+pub fn are_cells(columns: usize, cells: &[CellNeed]) -> bool
+    ensures stand { result ≡ cells_stand columns cells.now }
+    ensures cells { IsTrue result ↔ AreCells columns cells.now }
 {
-    cells.iter().all(|cell| cell.stands(columns))
+    cells.iter().all(|cell| cell_stands(columns, *cell))
 }
 
 /// The widths of a table's columns where they stand side by side in `width`, as [`table_widths`] answers them; none also where
@@ -152,7 +150,7 @@ pub fn standing_widths(
     ensures ok { IfOk result (λ widths. option_map (λ all. all.items) widths ≡ standing_widths columns cells.now width) }
     ensures err { IfErr result (λ e. e ≡ Error.OutOfMemory) }
 {
-    if cells_stand(columns, cells) {
+    if are_cells(columns, cells) {
         table_widths(alloc, columns, cells, width)
     } else {
         Ok(None)

@@ -30,7 +30,7 @@ module _ {T M : Type 0} where
   pub row_highest : (cells : List (KeptCell T M)) → All (IsNoHigher (height cells)) cells
   row_highest cells = none_higher 1 cells
 
-  marked_behind-length : (ms : List M) (ls : List (Line T M)) → length (marked_behind ms ls) ≡ length ls
+  pub marked_behind-length : (ms : List M) (ls : List (Line T M)) → length (marked_behind ms ls) ≡ length ls
   marked_behind-length ms [] = refl
   marked_behind-length ms (l ∷ []) = refl
   marked_behind-length ms (l ∷ k ∷ ls) = ap suc (marked_behind-length ms (k ∷ ls))

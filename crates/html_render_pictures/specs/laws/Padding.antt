@@ -42,7 +42,7 @@ filled-with {T} {U} {M} f (Some tag) w ls = by ls
 pub space_is_one : width_of 32 ≡ 1
 space_is_one = width-space
 
-spaces-columns : {T : Type 0} (M : Type 0) (tag : T) (n : ℕ) → columns (spaces {M = M} tag n) ≡ n
+pub spaces-columns : {T : Type 0} (M : Type 0) (tag : T) (n : ℕ) → columns (spaces {M = M} tag n) ≡ n
 spaces-columns M tag zero = refl
 spaces-columns M tag (suc n) =
     let e = columns-append {M = M} (Character 32 tag ∷ []) (spaces tag n) in omega (arith, e, spaces-columns M tag n, width-space)

@@ -1,6 +1,6 @@
 use Rattle.std.proofs.Common.{◌≡◌, ◌++◌, map}
 use Rattle.html_render_blocks.specs.OpenRows.{empty_cells}
-use Rattle.html_render_blocks.proofs.block.tables.push_rest.Given as goal
+use Rattle.html_render_blocks.proofs.block.rows.push_rest.Given as goal
 
 -- the places so far
 abbrev pub invariant-loop-place : goal.invariant-loop-place

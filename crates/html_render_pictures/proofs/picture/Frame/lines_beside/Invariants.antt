@@ -2,7 +2,7 @@ use Rattle.std.proofs.Common.{◌≡◌, map}
 use Rattle.std.specs.List.{fold}
 use Rattle.std.specs.Vec.Iter.{into_iter_items}
 use Rattle.html_render_pictures.specs.Picture.{beside, cell_lines, row_lines}
-use Rattle.html_render_pictures.proofs.picture.Frame.row_lines.Given as goal
+use Rattle.html_render_pictures.proofs.picture.Frame.lines_beside.Given as goal
 
 -- what is wanted is what the cells that are left give from here
 abbrev pub invariant-loop-cell : goal.invariant-loop-cell

@@ -1,0 +1,96 @@
+-- The places of a row as the code passes them, and columns that are parted.
+use Rattle.std.proofs.Common.{◌≡◌, ℕ, ◌+◌, ◌-◌, ◌<◌, Bool, true, false, List, [], ◌∷◌, ◌++◌, length, sum, take, drop, reverse, ap, ◌∙◌}
+use Rattle.std.proofs.Common.{arith, cond, get_or, sym, append_assoc, Option, length-append}
+use Rattle.std.proofs.lemmas.List.{take-append-drop, take_min, drop_min, reverse-append, at_drop_more}
+use Rattle.std.proofs.lemmas.List.Sums.{sum_by-append}
+use Rattle.html_render_nodes.specs.declared.tree.Slot.{Slot}
+use Rattle.html_render_blocks.specs.declared.block.rows.RowPlace.{RowPlace}
+use Rattle.html_render_blocks.specs.OpenRows.{is_cell, cell_width, places, next_width, behind_cell, before_cell, empty_cell, empty_cells}
+
+pub ruleset columns_at = (take_min, drop_min)
+
+-- ---- a part of columns is no wider
+
+pub own_fits : (n b : ℕ) (ws : List ℕ) → sum ws + (length ws - 1) < b → sum (take n ws) + (length (take n ws) - 1) < b
+own_fits n b ws h =
+    let whole = take-append-drop n ws in
+    omega (
+      arith,
+      h,
+      ap sum whole,
+      sum_by-append (λ x. x) (take n ws) (drop n ws),
+      ap length whole,
+      length-append (take n ws) (drop n ws),
+    )
+
+pub behind_fits : (n b : ℕ) (ws : List ℕ) → sum ws + (length ws - 1) < b → sum (drop n ws) + (length (drop n ws) - 1) < b
+behind_fits n b ws h =
+    let whole = take-append-drop n ws in
+    omega (
+      arith,
+      h,
+      ap sum whole,
+      sum_by-append (λ x. x) (take n ws) (drop n ws),
+      ap length whole,
+      length-append (take n ws) (drop n ws),
+    )
+
+-- ---- places that stand in reverse: the last one comes next
+
+last-first : {X : Type 0} (xs before : List X) (x : X) → xs ≡ before ++ x ∷ [] → reverse xs ≡ x ∷ reverse before
+last-first xs before x e = ap reverse e ∙ reverse-append before (x ∷ [])
+
+-- a cell
+pub next-here : (xs before : List RowPlace) (p : RowPlace) → xs ≡ before ++ p ∷ [] → p.is_cell ≡ true → next_width (reverse xs) ≡ p.width
+next-here xs before p e stands = ap next_width (last-first xs before p e) ∙ ap (λ b. cond b p.width (next_width (reverse before))) stands
+
+pub behind-here : (xs before : List RowPlace) (p : RowPlace) → xs ≡ before ++ p ∷ [] → p.is_cell ≡ true → behind_cell (reverse xs) ≡ reverse before
+behind-here xs before p e stands =
+    ap behind_cell (last-first xs before p e) ∙ ap (λ b. cond b (reverse before) (behind_cell (reverse before))) stands
+
+pub none-here : {T M : Type 0} (xs before : List RowPlace) (p : RowPlace) → xs ≡ before ++ p ∷ [] → p.is_cell ≡ true →
+    empty_cells {T = T} {M = M} (before_cell (reverse xs)) ≡ []
+none-here {T} {M} xs before p e stands =
+    ap (λ ps. empty_cells {T = T} {M = M} (before_cell ps)) (last-first xs before p e)
+    ∙ ap (λ b. empty_cells {T = T} {M = M} (cond b [] (p ∷ before_cell (reverse before)))) stands
+
+-- another place
+pub next-later : (xs before : List RowPlace) (p : RowPlace) → xs ≡ before ++ p ∷ [] → p.is_cell ≡ false →
+    next_width (reverse xs) ≡ next_width (reverse before)
+next-later xs before p e stands = ap next_width (last-first xs before p e) ∙ ap (λ b. cond b p.width (next_width (reverse before))) stands
+
+pub behind-later : (xs before : List RowPlace) (p : RowPlace) → xs ≡ before ++ p ∷ [] → p.is_cell ≡ false →
+    behind_cell (reverse xs) ≡ behind_cell (reverse before)
+behind-later xs before p e stands =
+    ap behind_cell (last-first xs before p e) ∙ ap (λ b. cond b (reverse before) (behind_cell (reverse before))) stands
+
+pub empties-later : {T M : Type 0} (xs before : List RowPlace) (p : RowPlace) → xs ≡ before ++ p ∷ [] → p.is_cell ≡ false →
+    empty_cells {T = T} {M = M} (before_cell (reverse xs)) ≡ empty_cell p.width ++ empty_cells (before_cell (reverse before))
+empties-later {T} {M} xs before p e stands =
+    ap (λ ps. empty_cells {T = T} {M = M} (before_cell ps)) (last-first xs before p e)
+    ∙ ap (λ b. empty_cells {T = T} {M = M} (cond b [] (p ∷ before_cell (reverse before)))) stands
+
+-- ---- the places of slots
+
+pub places-more : (widths : List ℕ) (slots : List Slot) (i : ℕ) (d : Slot) → i < length slots →
+    places widths (drop i slots)
+    ≡ record { is_cell = is_cell (get_or slots i d).kind; width = cell_width (take (get_or slots i d).columns widths) }
+    ∷ places (drop (get_or slots i d).columns widths) (drop (i + 1) slots)
+places-more widths slots i d h = at_drop_more (places widths) slots i d h
+
+-- a place more
+pub places-step : (all : List RowPlace) (rest own behind : List ℕ) (slots : List Slot) (i : ℕ) (d : Slot) (row more : List RowPlace) (is : Bool)
+    (width : Option ℕ) → all ≡ row ++ places rest (drop i slots) → i < length slots → own ≡ take (get_or slots i d).columns rest →
+    behind ≡ drop (get_or slots i d).columns rest → is ≡ is_cell (get_or slots i d).kind → width ≡ cell_width own →
+    more ≡ row ++ record { is_cell = is; width = width } ∷ [] → all ≡ more ++ places behind (drop (i + 1) slots)
+places-step all rest own behind slots i d row more is width whole inside own_is behind_is is_is width_is more_is =
+    let s : Slot = get_or slots i d in
+    let here : RowPlace = record { is_cell = is_cell s.kind; width = cell_width (take s.columns rest) } in
+    let step : more ≡ row ++ here ∷ [] = more_is
+    ∙ ap (λ b. row ++ record { is_cell = b; width = width } ∷ []) is_is
+    ∙ ap (λ w. row ++ record { is_cell = is_cell s.kind; width = w } ∷ []) (width_is ∙ ap cell_width own_is) in
+    whole
+    ∙ ap (λ ps. row ++ ps) (places-more rest slots i d inside)
+    ∙ sym (append_assoc row (here ∷ []) (places (drop s.columns rest) (drop (i + 1) slots)))
+    ∙ ap (λ ps. ps ++ places (drop s.columns rest) (drop (i + 1) slots)) (sym step)
+    ∙ ap (λ ws. more ++ places ws (drop (i + 1) slots)) (sym behind_is)

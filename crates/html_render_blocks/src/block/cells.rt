@@ -1,0 +1,352 @@
+//! The rows and the cells of the table that is open in a block.
+
+ghost use Rattle.std.specs.Prelude.{◌≡◌, ◌==◌, Some, OnOk, IfErr, not, option_map};
+ghost use Rattle.html_render_dom.specs.Outcome.{Refuses};
+ghost use Rattle.html_render_pictures.specs.Picture.{is_empty};
+ghost use Rattle.html_render_blocks.specs.Tables.{drawn_pictures, with_row_open, next_cell_width, skipped, with_next, with_row_over, cell_place};
+ghost use Rattle.html_render_blocks.specs.BlockMachine as machine;
+
+use super::rows::OpenRow;
+use super::tables::OpenTable;
+use super::{Block, BlockSetting};
+use html_render_dom::Error;
+use html_render_lines::tag::Tag;
+use html_render_nodes::tree::Slot;
+use html_render_pictures::lines::Lines;
+use html_render_pictures::picture::{Cell, Picture};
+use std::alloc::{AllocError, Global};
+
+/// Where the next cell goes.
+#[derive(Clone, Copy)]
+pub enum CellPlace<T> {
+    /// Into the row that is open.
+    InRow,
+    /// Below the lines of the block.
+    Below,
+    /// Below the other cells of a table whose cells stand one below another.
+    InStack {
+        /// The tag of the table's borders, if they are drawn.
+        border: Option<T>,
+        /// Whether a cell of the row has lines.
+        has_lines: bool,
+    },
+}
+
+impl<T: Tag, M: Copy> OpenTable<Picture<T, M>, T, M> {
+    /// Begins a row, in which this stands; a row that is open goes on.
+    fn begin_row(&mut self, alloc: Global, slots: &[Slot]) -> Result<(), AllocError>
+        ensures { OnOk result (self.new ≡ with_row_open slots.now self.old) }
+    {
+        match self {
+            OpenTable::Across { widths, row, .. } => {
+                if row.is_none() {
+                    *row = Some(OpenRow::new(alloc, widths, slots)?);
+                }
+            }
+            OpenTable::Stacked { has_lines, .. } => *has_lines = false,
+        }
+        Ok(())
+    }
+
+    /// The columns of the next cell's block, unless it is skipped; in a block of this width.
+    fn next_cell_width(&self, width: usize) -> Option<usize>
+        ensures { result ≡ next_cell_width width (Some self.now) }
+    {
+        match self {
+            OpenTable::Across { row: Some(row), .. } => row.next_width(),
+            OpenTable::Across { row: None, .. } | OpenTable::Stacked { .. } => Some(width),
+        }
+    }
+
+    /// Where the next cell goes.
+    fn cell_place(&self) -> CellPlace<T>
+        ensures { result ≡ cell_place (Some self.now) }
+    {
+        match self {
+            OpenTable::Across { row: Some(_), .. } => CellPlace::InRow,
+            OpenTable::Across { row: None, .. } => CellPlace::Below,
+            OpenTable::Stacked { border, has_lines } => CellPlace::InStack {
+                border: *border,
+                has_lines: *has_lines,
+            },
+        }
+    }
+
+    /// Skips the next cell.
+    fn skip_cell(&mut self, alloc: Global) -> Result<(), AllocError>
+        ensures { OnOk result (self.new ≡ skipped self.old) }
+    {
+        match self {
+            OpenTable::Across { row: Some(row), .. } => row.skip_cell(alloc),
+            OpenTable::Across { row: None, .. } | OpenTable::Stacked { .. } => Ok(()),
+        }
+    }
+
+    /// Puts a cell in its place in the row that is open, if one is.
+    fn add_cell(&mut self, alloc: Global, cell: Cell<T, M>) -> Result<(), AllocError>
+        ensures { OnOk result (self.new ≡ with_next cell self.old) }
+    {
+        match self {
+            OpenTable::Across { row: Some(row), .. } => row.add_cell(alloc, cell),
+            OpenTable::Across { row: None, .. } | OpenTable::Stacked { .. } => Ok(()),
+        }
+    }
+
+    /// Draws the row that is open, if one is: it is over.
+    fn end_row(&mut self, alloc: Global) -> Result<(), Error>
+        ensures ok { OnOk result (self.new ≡ with_row_over drawn_pictures self.old) }
+        ensures err { IfErr result (λ e. e ≡ Error.OutOfMemory) }
+    {
+        match self {
+            OpenTable::Across { picture, row, .. } => {
+                let Some(row) = row.take() else {
+                    return Ok(());
+                };
+                let row = row.finish(alloc)?;
+                picture.add_row(row)
+            }
+            OpenTable::Stacked { .. } => Ok(()),
+        }
+    }
+}
+
+impl<T: Tag, M: Copy> Block<T, M> {
+    /// Begins a row of the table that is open, in which this stands: a slot for each of its cells, and for what stands between
+    /// them. A row that is open goes on. Without a table nothing is done.
+    ///
+    /// # Errors
+    ///
+    /// `OutOfMemory`.
+    pub fn begin_row(&mut self, slots: &[Slot]) -> Result<(), Error>
+        ensures ok { OnOk result (self.new ≡ machine.begin_row self.old slots.now) }
+        ensures err { IfErr result (λ e. e ≡ Error.OutOfMemory) }
+    {
+        let alloc = self.alloc;
+        if let Some(table) = &mut self.table {
+            table.begin_row(alloc, slots)?;
+        }
+        Ok(())
+    }
+
+    /// The columns of the next cell's block, unless it is skipped.
+    fn next_cell_width(&self) -> Option<usize>
+        ensures { result ≡ next_cell_width self.now.setting.width self.now.table }
+    {
+        match &self.table {
+            Some(table) => table.next_cell_width(self.setting.width),
+            None => Some(self.setting.width),
+        }
+    }
+
+    /// An empty block for the next cell of the row that is open, as wide as the cell's place; none where the cell is skipped,
+    /// since it has no columns. Where no row is open and where cells stand one below another, it is as wide as this block.
+    pub fn cell_block(&self) -> Option<Block<T, M>>
+        ensures { result ≡ machine.cell_block self.now }
+    {
+        let width = self.next_cell_width()?;
+        let setting = BlockSetting {
+            width,
+            max_wrap_width: self.setting.max_wrap_width,
+            overflow: self.setting.overflow,
+        };
+        Some(Block::new(self.alloc, setting, self.padding))
+    }
+
+    /// Skips the next cell of the row that is open, if one is.
+    ///
+    /// # Errors
+    ///
+    /// `OutOfMemory`.
+    pub fn skip_cell(&mut self) -> Result<(), Error>
+        ensures ok { OnOk result (self.new ≡ machine.skip_cell self.old) }
+        ensures err { IfErr result (λ e. e ≡ Error.OutOfMemory) }
+    {
+        let alloc = self.alloc;
+        if let Some(table) = &mut self.table {
+            table.skip_cell(alloc)?;
+        }
+        Ok(())
+    }
+
+    /// Where the next cell goes.
+    fn cell_place(&self) -> CellPlace<T>
+        ensures { result ≡ cell_place self.now.table }
+    {
+        match &self.table {
+            Some(table) => table.cell_place(),
+            None => CellPlace::Below,
+        }
+    }
+
+    /// A flushed block as a cell.
+    fn into_cell(mut self) -> Cell<T, M>
+        ensures { result ≡ machine.kept_cell self }
+    {
+        let marks = self.take_waiting();
+        Cell {
+            width: self.setting.width,
+            lines: self.lines,
+            marks,
+        }
+    }
+
+    /// Puts a cell in its place in the row that is open, if one is.
+    fn add_to_row(&mut self, cell: Cell<T, M>) -> Result<(), AllocError>
+        ensures { OnOk result (self.new ≡ record self.old { table = option_map (with_next cell) self.old.table }) }
+    {
+        let alloc = self.alloc;
+        match &mut self.table {
+            Some(table) => table.add_cell(alloc, cell),
+            None => Ok(()),
+        }
+    }
+
+    /// Draws the row that is open, if one is: it is over.
+    fn draw_row(&mut self) -> Result<(), Error>
+        ensures ok { OnOk result (self.new ≡ record self.old { table = option_map (with_row_over drawn_pictures) self.old.table }) }
+        ensures err { IfErr result (λ e. e ≡ Error.OutOfMemory) }
+    {
+        let alloc = self.alloc;
+        match &mut self.table {
+            Some(table) => table.end_row(alloc),
+            None => Ok(()),
+        }
+    }
+
+    /// Adds lines and the marks that wait behind them. Where there are no lines, all marks wait.
+    fn put_lines(&mut self, mut lines: Lines<T, M>, marks: &[M]) -> Result<(), Error>
+        ensures ok { OnOk result (self.new ≡ machine.put_lines self.old lines marks.now) }
+        ensures err { IfErr result (λ e. e ≡ Error.OutOfMemory) }
+    {
+        if lines.is_empty() {
+            return self.add_marks(marks);
+        }
+        lines.mark_last(marks)?;
+        lines.compact()?;
+        self.add_lines(lines)?;
+        Ok(())
+    }
+
+    /// Adds the lines of a flushed block, as this one is.
+    fn put_below(&mut self, cell: Block<T, M>) -> Result<(), Error>
+        ensures ok { OnOk result (self.new ≡ machine.put_below self.old cell) }
+        ensures err { IfErr result (λ e. e ≡ Error.OutOfMemory) }
+    {
+        let Cell { lines, marks, .. } = cell.into_cell();
+        self.put_lines(lines, marks.as_slice())
+    }
+
+    /// Adds a cell below others of its row, to a flushed block.
+    #[tactic(auto, using(html_render_pictures::specs::laws::Glyphs::slash_width))]
+    fn put_stacked(
+        &mut self,
+        border: Option<T>,
+        has_lines: bool,
+        cell: Block<T, M>,
+    ) -> Result<(), Error>
+        ensures ok { OnOk result (self.new ≡ machine.put_stacked self.old border has_lines (not (is_empty cell.lines)) cell) }
+        ensures err { IfErr result (λ e. e ≡ Error.OutOfMemory) }
+    {
+        let more = !cell.lines.is_empty();
+        if has_lines && more {
+            self.add_border(border, '/')?;
+        }
+        self.put_below(cell)?;
+        self.set_stacked(border, has_lines || more)?;
+        Ok(())
+    }
+
+    /// Adds a cell that is flushed below the lines of this block.
+    #[tactic(auto, using(html_render_dom::specs::laws::Outcome::refusals))]
+    fn flush_and_put_below(&mut self, cell: Block<T, M>) -> Result<(), Error>
+        ensures ok { OnOk result (option_map (λ e. machine.put_below e cell) (machine.flush self.old) ≡ Some self.new) }
+        ensures err { IfErr result (λ e. Refuses e (option_map (λ e. machine.put_below e cell) (machine.flush self.old))) }
+    {
+        self.flush()?;
+        self.put_below(cell)
+    }
+
+    /// Adds a cell that is flushed below others of its row.
+    #[tactic(auto, using(html_render_dom::specs::laws::Outcome::refusals))]
+    fn flush_and_put_stacked(
+        &mut self,
+        border: Option<T>,
+        has_lines: bool,
+        cell: Block<T, M>,
+    ) -> Result<(), Error>
+        ensures ok { OnOk result (option_map (λ e. machine.put_stacked e border has_lines (not (is_empty cell.lines)) cell) (machine.flush self.old)
+            ≡ Some self.new) }
+        ensures err { IfErr result (λ e. Refuses e (option_map (λ e. machine.put_stacked e border has_lines (not (is_empty cell.lines)) cell)
+            (machine.flush self.old))) }
+    {
+        self.flush()?;
+        self.put_stacked(border, has_lines, cell)
+    }
+
+    /// Adds a cell that is flushed.
+    #[tactic(auto, using(html_render_dom::specs::laws::Outcome::refusals, crate::proofs::Cells::cells_added))]
+    fn add_flushed(&mut self, cell: Block<T, M>) -> Result<(), Error>
+        ensures ok { OnOk result (machine.cell_added self.old self.old.table cell ≡ Some self.new) }
+        ensures err { IfErr result (λ e. Refuses e (machine.cell_added self.old self.old.table cell)) }
+    {
+        match self.cell_place() {
+            CellPlace::InRow => {
+                self.add_to_row(cell.into_cell())?;
+                Ok(())
+            }
+            CellPlace::Below => self.flush_and_put_below(cell),
+            CellPlace::InStack { border, has_lines } => {
+                self.flush_and_put_stacked(border, has_lines, cell)
+            }
+        }
+    }
+
+    /// Adds the next cell of the row that is open: this block, flushed, and a table that is open in it is over. In a table
+    /// whose cells stand side by side it is kept until the row is over; where cells stand one below another, and where no row is
+    /// open, its lines come below those of this block, which is flushed. Above the lines of a cell below others of its row,
+    /// there is a line of `/`, where borders are drawn.
+    ///
+    /// # Errors
+    ///
+    /// `TooNarrow`, as in [`flush`](Block::flush) of either block. `OutOfMemory`.
+    #[tactic(auto, using(html_render_dom::specs::laws::Outcome::refusals))]
+    pub fn add_cell(&mut self, mut cell: Block<T, M>) -> Result<(), Error>
+        ensures ok { OnOk result (machine.add_cell self.old cell ≡ Some self.new) }
+        ensures err { IfErr result (λ e. Refuses e (machine.add_cell self.old cell)) }
+    {
+        cell.flush_whole()?;
+        self.add_flushed(cell)
+    }
+
+    /// Draws a border below a row of cells one below another.
+    #[tactic(auto, using(html_render_dom::specs::laws::Outcome::refusals))]
+    fn end_stacked_row(&mut self, border: Option<T>) -> Result<(), Error>
+        ensures ok { OnOk result (option_map (λ e. machine.stacked_begun e border) (machine.flush self.old) ≡ Some self.new) }
+        ensures err { IfErr result (λ e. Refuses e (option_map (λ e. machine.stacked_begun e border) (machine.flush self.old))) }
+    {
+        self.flush()?;
+        self.begin_stacked(border)?;
+        Ok(())
+    }
+
+    /// Ends the row that is open. Where its cells stand side by side, it is drawn; below a row of cells one below another that
+    /// have lines there is a border, where borders are drawn, and the block is flushed.
+    ///
+    /// # Errors
+    ///
+    /// `TooNarrow`, as in [`flush`](Block::flush). `OutOfMemory`.
+    #[tactic(auto, using(html_render_dom::specs::laws::Outcome::refusals, crate::proofs::Cells::rows_ended))]
+    pub fn end_row(&mut self) -> Result<(), Error>
+        ensures ok { OnOk result (machine.end_row self.old ≡ Some self.new) }
+        ensures err { IfErr result (λ e. Refuses e (machine.end_row self.old)) }
+    {
+        match self.cell_place() {
+            CellPlace::InRow => self.draw_row(),
+            CellPlace::InStack {
+                border,
+                has_lines: true,
+            } => self.end_stacked_row(border),
+            CellPlace::Below | CellPlace::InStack { .. } => Ok(()),
+        }
+    }
+}

@@ -1,0 +1,203 @@
+//! How a table begins in a block: whether its cells stand side by side, and the borders of one whose cells stand one below
+//! another.
+
+ghost use Rattle.std.specs.Prelude.{◌≡◌, cond, Some, None, OnOk, IfOk, IfErr};
+ghost use Rattle.html_render_dom.specs.Outcome.{Refuses};
+ghost use Rattle.html_render_lines.specs.Character.{width_of};
+ghost use Rattle.html_render_parts.specs.Needs.{standing_widths};
+ghost use Rattle.html_render_blocks.specs.declared.block.tables.OpenTable.TheVariants.{Stacked};
+ghost use Rattle.html_render_blocks.specs.Tables.{frame_of, rule, stacked_border};
+ghost use Rattle.html_render_blocks.specs.BlockMachine as machine;
+
+use super::Block;
+use super::rows::Widths;
+use super::tables::{OpenTable, RowsBelow};
+use html_render_dom::Error;
+use html_render_lines::line::Line;
+use html_render_lines::tag::Tag;
+use html_render_nodes::tree::{Grid, Slots};
+use html_render_parts::widths::{CellNeed, standing_widths};
+use html_render_pictures::finished::put_marks_front;
+use html_render_pictures::picture::{Frame, Picture};
+use std::alloc::{AllocError, Global};
+
+/// The widths of a table's columns side by side in so many columns; none where they can't stand so, or aren't to.
+#[tactic(auto, using(html_render_parts::specs::laws::Needs::standing_within))]
+fn widths_across(
+    alloc: Global,
+    width: usize,
+    stacked: bool,
+    columns: usize,
+    cells: &[CellNeed],
+) -> Result<Option<Widths>, Error>
+    ensures ok { IfOk result (λ widths. widths ≡ cond stacked None (standing_widths columns cells.now width)) }
+    ensures err { IfErr result (λ e. e ≡ Error.OutOfMemory) }
+{
+    if stacked {
+        return Ok(None);
+    }
+    match standing_widths(alloc, columns, cells, width)? {
+        Some(widths) => Ok(Some(Widths::new(widths))),
+        None => Ok(None),
+    }
+}
+
+/// How a table is framed.
+fn frame_of<T: Tag>(tag: T, borders: bool, widths: &Widths) -> Frame<T>
+    ensures { result ≡ frame_of tag borders widths.now }
+{
+    Frame {
+        borders,
+        width: widths.table_width(),
+        tag,
+    }
+}
+
+/// The tag of the borders of a table whose cells stand one below another, if they are drawn.
+fn stacked_border<T: Tag>(tag: T, borders: bool, width: usize) -> Option<T>
+    ensures { result ≡ stacked_border tag borders width }
+{
+    if borders && width != 0 {
+        Some(tag)
+    } else {
+        None
+    }
+}
+
+/// A line of one character, which takes a column, under a tag.
+fn rule<T: Tag, M: Copy>(
+    alloc: Global,
+    tag: T,
+    character: char,
+    width: usize,
+) -> Result<Line<T, M>, AllocError>
+    requires { width_of character ≡ 1 }
+    ensures { IfOk result (λ line. line ≡ rule tag character width) }
+{
+    let mut line = Line::new(alloc);
+    for _column in 0..width {
+        line.push_char(character, 1, tag)?;
+    }
+    Ok(line)
+}
+
+impl<T: Tag, M: Copy> Block<T, M> {
+    /// Draws a border, if borders are drawn, of a character that takes a column. The marks that wait stand at its front.
+    pub(super) fn add_border(
+        &mut self,
+        border: Option<T>,
+        character: char,
+    ) -> Result<(), AllocError>
+        requires { width_of character ≡ 1 }
+        ensures { OnOk result (self.new ≡ machine.add_border self.old border character) }
+    {
+        let Some(tag) = border else {
+            return Ok(());
+        };
+        let mut line = rule(self.alloc, tag, character, self.setting.width)?;
+        let marks = self.take_waiting();
+        put_marks_front(&mut line, marks.as_slice())?;
+        self.push_line(line)
+    }
+
+    /// Has a table whose cells stand one below another, in the place of one that was open.
+    pub(super) fn set_stacked(
+        &mut self,
+        border: Option<T>,
+        has_lines: bool,
+    ) -> Result<(), AllocError>
+        ensures { OnOk result (self.new ≡ record self.old { table = Some (Stacked border has_lines) }) }
+    {
+        let stacked = OpenTable::Stacked { border, has_lines };
+        match &mut self.table {
+            Some(table) => **table = stacked,
+            None => self.table = Some(Box::new(self.alloc, stacked)?),
+        }
+        Ok(())
+    }
+
+    /// Begins a table, or another row of one, whose cells stand one below another: below a border, if borders are drawn.
+    #[tactic(auto, using(html_render_pictures::specs::laws::Glyphs::border_width))]
+    pub(super) fn begin_stacked(&mut self, border: Option<T>) -> Result<(), AllocError>
+        ensures { OnOk result (self.new ≡ machine.stacked_begun self.old border) }
+    {
+        self.add_border(border, '─')?;
+        self.set_stacked(border, false)
+    }
+
+    /// Begins a table whose cells stand side by side, in a block that is flushed.
+    fn begin_across(
+        &mut self,
+        tag: T,
+        borders: bool,
+        below: &[Slots],
+        widths: Widths,
+    ) -> Result<(), Error>
+        ensures ok { OnOk result (self.new ≡ machine.table_begun self.old tag borders below.now (Some widths)) }
+        ensures err { IfErr result (λ e. e ≡ Error.OutOfMemory) }
+    {
+        let below = RowsBelow::new(self.alloc, below)?;
+        let frame = frame_of(tag, borders, &widths);
+        let waiting = self.take_waiting();
+        let picture = Picture::new(self.alloc, frame, waiting)?;
+        let table = OpenTable::Across {
+            picture,
+            widths,
+            below,
+            row: None,
+        };
+        self.table = Some(Box::new(self.alloc, table)?);
+        Ok(())
+    }
+
+    /// Begins a table in a block that is flushed: side by side in columns of these widths, or else one below another.
+    fn open_table(
+        &mut self,
+        tag: T,
+        borders: bool,
+        below: &[Slots],
+        widths: Option<Widths>,
+    ) -> Result<(), Error>
+        ensures ok { OnOk result (self.new ≡ machine.table_begun self.old tag borders below.now widths) }
+        ensures err { IfErr result (λ e. e ≡ Error.OutOfMemory) }
+    {
+        match widths {
+            Some(widths) => self.begin_across(tag, borders, below, widths),
+            None => {
+                self.begin_stacked(stacked_border(tag, borders, self.setting.width))?;
+                Ok(())
+            }
+        }
+    }
+
+    /// Begins a table, whose borders stand under this tag, if there are any; a table that is open is over, and the block is
+    /// flushed. Its cells need so much over the columns of the grid. They stand side by side where the columns have room in
+    /// this block, and one below another where they haven't, or where they are to stand so (`stacked`). The rows of the
+    /// grid are those below the table's own, in which no cell begins: they are drawn at its end.
+    ///
+    /// # Errors
+    ///
+    /// `TooNarrow`, as in [`flush`](Block::flush). `OutOfMemory`.
+    #[tactic(auto, using(html_render_dom::specs::laws::Outcome::refusals))]
+    pub fn begin_table(
+        &mut self,
+        tag: T,
+        borders: bool,
+        stacked: bool,
+        grid: &Grid,
+        cells: &[CellNeed],
+    ) -> Result<(), Error>
+        ensures ok { OnOk result (machine.begin_table self.old tag borders stacked grid.now cells.now ≡ Some self.new) }
+        ensures err { IfErr result (λ e. Refuses e (machine.begin_table self.old tag borders stacked grid.now cells.now)) }
+    {
+        self.flush_whole()?;
+        let widths = widths_across(
+            self.alloc,
+            self.setting.width,
+            stacked,
+            grid.columns(),
+            cells,
+        )?;
+        self.open_table(tag, borders, grid.rows(), widths)
+    }
+}

@@ -1,0 +1,163 @@
+//! Tables: how one begins and ends, with the fences round it, and where its cells are laid out.
+
+ghost use Rattle.std.specs.Prelude.{◌≡◌, Some, OnOk, IfOk, IfErr, codes};
+ghost use Rattle.std.specs.Str.{chars};
+ghost use Rattle.html_render_dom.specs.Outcome.{Refuses};
+ghost use Rattle.html_render_blocks.specs.BlockMachine as machine;
+ghost use Rattle.html_render_estimates.specs.Cells.{cell_needs};
+ghost use Rattle.html_render_nodes.specs.Preorder.{flatten, forest_of};
+ghost use Rattle.html_render_layout.specs.Layout.{fence_style, with_fence, fenced, table_begun, table_ended, in_cell};
+ghost use Rattle.html_render_layout.specs.Opening.{cell_closed};
+
+use super::state::{Around, InterruptedTable, LayoutState, OuterTable};
+use crate::tagging::Tagging;
+use html_render_blocks::block::Block;
+use html_render_dom::Error;
+use html_render_dom::style::WhiteSpace;
+use html_render_estimates::cells::cell_needs;
+use html_render_lines::character::TextStyle;
+use html_render_nodes::tree::{Entry, Grid, RenderNode};
+use html_render_parts::decorate::TextDecorator;
+use std::alloc::Global;
+use std::mem;
+
+/// What stands before a table that is fenced, and behind it.
+#[tactic(auto, using(crate::proofs::Fences::chars_fence))]
+fn fence_text() -> &'static str
+    ensures { chars result.now ≡ codes "```" }
+{
+    "```"
+}
+
+/// The style of a fence.
+fn fence_style<T: Copy>(tag: T) -> TextStyle<T>
+    ensures { result ≡ fence_style tag }
+{
+    TextStyle {
+        mode: WhiteSpace::Normal,
+        tag,
+        continuation_tag: tag,
+    }
+}
+
+/// Adds a fence.
+#[tactic(auto, using(html_render_dom::specs::laws::Outcome::refusals))]
+fn write_fence<D: TextDecorator, G: Tagging<D::Annotation>>(
+    state: &mut LayoutState<D, G, G::Tag, Block<G::Tag, usize>>,
+) -> Result<(), Error>
+    ensures ok { OnOk result (with_fence machine.operations state.old ≡ Some state.new) }
+    ensures err { IfErr result (λ e. Refuses e (with_fence machine.operations state.old)) }
+{
+    let style = fence_style(state.blank);
+    state.block.add_inline_text(fence_text(), style)?;
+    state.block.new_line()?;
+    Ok(())
+}
+
+/// Adds a fence, where tables are fenced and the state stands in none.
+#[tactic(auto, using(html_render_dom::specs::laws::Outcome::refusals))]
+fn add_fence<D: TextDecorator, G: Tagging<D::Annotation>>(
+    state: &mut LayoutState<D, G, G::Tag, Block<G::Tag, usize>>,
+) -> Result<(), Error>
+    ensures ok { OnOk result (fenced machine.operations state.old ≡ Some state.new) }
+    ensures err { IfErr result (λ e. Refuses e (fenced machine.operations state.old)) }
+{
+    if !state.settings.fence_tables {
+        return Ok(());
+    }
+    if state.in_table {
+        return Ok(());
+    }
+    write_fence(state)
+}
+
+/// A table begins on a grid, with these rows.
+///
+/// # Errors
+///
+/// `TooNarrow`, where a block is flushed for which a character is too wide. `OutOfMemory`.
+#[tactic(auto, using(html_render_dom::specs::laws::Outcome::refusals))]
+pub fn begin_table<D: TextDecorator, G: Tagging<D::Annotation>>(
+    alloc: Global,
+    grid: &Grid,
+    rows: &[Entry<RenderNode>],
+    state: &mut LayoutState<D, G, G::Tag, Block<G::Tag, usize>>,
+) -> Result<(), Error>
+    requires { flatten (forest_of rows.now) ≡ rows.now }
+    ensures ok { OnOk result (table_begun machine.operations grid.now (cell_needs (forest_of rows.now)) state.old ≡ Some state.new) }
+    ensures err { IfErr result (λ e. Refuses e (table_begun machine.operations grid.now (cell_needs (forest_of rows.now)) state.old)) }
+{
+    let cells = cell_needs(alloc, rows)?;
+    let blank = state.blank;
+    let borders = state.settings.table_borders;
+    let stacked = state.settings.raw_mode;
+    state.block.start_block()?;
+    add_fence(state)?;
+    state
+        .block
+        .begin_table(blank, borders, stacked, grid, cells.as_slice())?;
+    state.in_table = true;
+    Ok(())
+}
+
+/// A table is over, where it stood in another one or didn't.
+///
+/// # Errors
+///
+/// As where one begins.
+#[tactic(auto, using(html_render_dom::specs::laws::Outcome::refusals))]
+pub fn end_table<D: TextDecorator, G: Tagging<D::Annotation>>(
+    in_table: bool,
+    state: &mut LayoutState<D, G, G::Tag, Block<G::Tag, usize>>,
+) -> Result<(), Error>
+    ensures ok { OnOk result (table_ended machine.operations in_table state.old ≡ Some state.new) }
+    ensures err { IfErr result (λ e. Refuses e (table_ended machine.operations in_table state.old)) }
+{
+    state.block.end_table()?;
+    state.in_table = in_table;
+    add_fence(state)
+}
+
+/// A cell of a row begins in this block, and what it interrupts is answered.
+///
+/// # Errors
+///
+/// `OutOfMemory`.
+pub fn begin_cell<D: TextDecorator, G: Tagging<D::Annotation>>(
+    alloc: Global,
+    cell: Block<G::Tag, usize>,
+    state: &mut LayoutState<D, G, G::Tag, Block<G::Tag, usize>>,
+) -> Result<InterruptedTable<D, Block<G::Tag, usize>>, Error>
+    ensures ok { OnOk result (state.new ≡ in_cell D.decoration cell state.old) }
+    ensures outer { IfOk result (λ outer. outer ≡ record { decorator = state.old.decorator; block = state.old.block }) }
+    ensures err { IfErr result (λ e. e ≡ Error.OutOfMemory) }
+{
+    let decorator = state.decorator.make_subblock_decorator(alloc)?;
+    let outer = OuterTable {
+        decorator: mem::replace(&mut state.decorator, decorator),
+        block: mem::replace(&mut state.block, cell),
+    };
+    state.around = Around::Plain;
+    InterruptedTable::new(alloc, outer)
+}
+
+/// A cell is over: the block that it interrupted goes on with it.
+///
+/// # Errors
+///
+/// As where a table begins.
+#[tactic(auto, using(html_render_dom::specs::laws::Outcome::refusals))]
+pub fn end_cell<D: TextDecorator, G: Tagging<D::Annotation>>(
+    outer: InterruptedTable<D, Block<G::Tag, usize>>,
+    state: &mut LayoutState<D, G, G::Tag, Block<G::Tag, usize>>,
+) -> Result<(), Error>
+    ensures ok { OnOk result (cell_closed machine.operations outer state.old ≡ Some state.new) }
+    ensures err { IfErr result (λ e. Refuses e (cell_closed machine.operations outer state.old)) }
+{
+    let outer = outer.into_outer();
+    let cell = mem::replace(&mut state.block, outer.block);
+    state.block.add_cell(cell)?;
+    state.decorator = outer.decorator;
+    state.around = Around::Cells;
+    Ok(())
+}
