@@ -69,11 +69,17 @@ pub enum Outline {
     },
 }
 
-/// What becomes of an element of HTML whose node holds no text, by its local name and its attributes.
+/// What becomes of an element of HTML whose node holds no text, by its local name and its attributes. Cells and rows, of which
+/// there are most in a long table, are looked for first.
 fn html_mapping(name: &str, attributes: &[Attribute]) -> Mapping
     ensures { result ≡ html_mapping name.now (map property_of attributes.now) }
 {
     match name {
+        "td" | "th" => Mapping::Parent(
+            NodeKind::Part(Part::Cell(span_of(attributes))),
+            IfEmpty::Stands,
+        ),
+        "tr" => Mapping::Parent(NodeKind::Part(Part::Row), IfEmpty::Stands),
         "p" => Mapping::Parent(NodeKind::Block, IfEmpty::Vanishes),
         "pre" => Mapping::Parent(NodeKind::Block, IfEmpty::Stands),
         "li" => Mapping::Parent(NodeKind::ListItem, IfEmpty::Stands),
@@ -99,11 +105,6 @@ fn html_mapping(name: &str, attributes: &[Attribute]) -> Mapping
         "table" => Mapping::Parent(NodeKind::Part(Part::Table), IfEmpty::Vanishes),
         "thead" | "tbody" => Mapping::Parent(NodeKind::Part(Part::Body), IfEmpty::Vanishes),
         "tfoot" => Mapping::Parent(NodeKind::Part(Part::Foot), IfEmpty::Vanishes),
-        "tr" => Mapping::Parent(NodeKind::Part(Part::Row), IfEmpty::Stands),
-        "td" | "th" => Mapping::Parent(
-            NodeKind::Part(Part::Cell(span_of(attributes))),
-            IfEmpty::Stands,
-        ),
         "caption" => Mapping::Parent(NodeKind::Part(Part::Caption), IfEmpty::Vanishes),
         "html" | "body" => Mapping::Parent(NodeKind::Container, IfEmpty::Stands),
         "head" | "link" | "meta" | "hr" | "script" | "style" => Mapping::Nothing,
