@@ -1,8 +1,8 @@
 //! What columns need for their cells, and how wide they are then.
 
 use html_render_parts::widths::{
-    CellNeed, ColumnNeed, Span, column_needs, greatest_values, stand_side_by_side, table_widths,
-    widths_across,
+    CellNeed, ColumnNeed, Span, are_cells, column_needs, greatest_values, stand_side_by_side,
+    standing_widths, table_widths, widths_across,
 };
 use std::alloc::Global;
 use std::process::Abort;
@@ -113,5 +113,34 @@ fn columns_stand_side_by_side_where_they_fit(rt: HostRuntime) -> Result<(), Fail
         return Err("the columns fit".into());
     };
     assert_eq!(rt; widths.as_slice(), [5, 3].as_slice());
+    Ok(())
+}
+
+/// A cell over the last two of three columns.
+const LAST: CellNeed = CellNeed {
+    start: 1,
+    count: 2,
+    size: 5,
+    least: 2,
+};
+
+#[test]
+fn no_cell_stands_past_the_last_column(rt: HostRuntime) -> Result<(), Fail> {
+    let alloc = rt.alloc();
+    assert!(rt; are_cells(3, &[LAST]));
+    assert!(rt; !are_cells(2, &[LAST]));
+    let Some(widths) = standing_widths(alloc, 3, &[LAST], 9)? else {
+        return Err("the columns fit".into());
+    };
+    assert_eq!(rt; widths.as_slice(), [0, 2, 2].as_slice());
+    assert!(rt; standing_widths(alloc, 2, &[LAST], 9)?.is_none());
+    Ok(())
+}
+
+#[test]
+fn no_cell_needs_more_at_least_than_its_size(rt: HostRuntime) -> Result<(), Fail> {
+    let cell = CellNeed { least: 6, ..LAST };
+    assert!(rt; !are_cells(3, &[cell]));
+    assert!(rt; standing_widths(rt.alloc(), 3, &[cell], 9)?.is_none());
     Ok(())
 }
