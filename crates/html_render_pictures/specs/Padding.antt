@@ -1,7 +1,19 @@
 -- Lines that are filled with spaces.
 use Rattle.std.specs.Prelude.{ℕ, ◌-◌, List, ◌++◌, Option, Some, None, map, replicate}
+use Rattle.html_render_pictures.specs.declared.fillers.Filler.{Filler}
+use Rattle.html_render_pictures.specs.declared.fillers.Filler.TheVariants.{Space, Slash, Dash}
 use Rattle.html_render_lines.specs.declared.line.Element.TheVariants.{Character}
 use Rattle.html_render_lines.specs.Line.{Line, columns}
+
+-- the character of a filler: a space, a slash, or the dash of borders
+abbrev pub character_of : Filler → ℕ
+character_of Space = 0x20
+character_of Slash = 0x2F
+character_of Dash = 0x2500
+
+-- so many of a filler's characters under a tag
+abbrev pub fillers : {T M : Type 0} → Filler → T → (count : ℕ) → Line T M
+fillers filler tag count = replicate count (Character (character_of filler) tag)
 
 -- so many spaces under a tag
 abbrev pub spaces : {T M : Type 0} → T → (count : ℕ) → Line T M

@@ -4,6 +4,8 @@ pub mod Padding
 pub mod Lines
 -- the characters of the frame have one column
 pub mod Glyphs
+-- characters many times in a row
+pub mod Fillers
 -- row by row the picture is drawn
 pub mod Rows
 -- each cell of a row has as many lines as the row

@@ -5,6 +5,7 @@ ghost use Rattle.html_render_lines.specs.Line.{columns, marks_line};
 ghost use Rattle.html_render_pictures.specs.Marked.{marked_before, marked_behind};
 ghost use Rattle.html_render_pictures.specs.Padding.{filled_line, filled};
 
+use crate::fillers::{Filler, push_fillers};
 use html_render_lines::line::{Element, Line};
 use html_render_lines::tag::Tag;
 use std::alloc::AllocError;
@@ -20,14 +21,26 @@ fn missing<T: Tag, M: Copy>(line: &Line<T, M>, width: usize) -> usize
 }
 
 /// Fills a line with spaces up to so many columns, under a tag.
-#[tactic(auto, using(crate::specs::laws::Padding::space_is_one, crate::specs::laws::Padding::space_more))]
 fn fill<T: Tag, M: Copy>(line: &mut Line<T, M>, width: usize, tag: T) -> Result<(), AllocError>
     ensures { OnOk result (line.new ≡ filled_line tag width line.old) }
 {
-    for _ in 0..missing(line, width) {
-        line.push_char(' ', 1, tag)?;
-    }
-    Ok(())
+    let missing = missing(line, width);
+    push_fillers(line, Filler::Space, missing, tag)
+}
+
+/// Puts another line at the end of a line, and fills that one with spaces up to so many columns, under a tag.
+#[tactic(auto, using(crate::proofs::LawSets::besides))]
+pub(crate) fn append_filled<T: Tag, M: Copy>(
+    line: &mut Line<T, M>,
+    right: Line<T, M>,
+    width: usize,
+    tag: T,
+) -> Result<(), AllocError>
+    ensures { OnOk result (line.new ≡ line.old ++ filled_line tag width right) }
+{
+    let missing = missing(&right, width);
+    line.append(right)?;
+    push_fillers(line, Filler::Space, missing, tag)
 }
 
 /// Fills each line with spaces up to so many columns, under a tag.

@@ -4,6 +4,7 @@
 //! second row is three columns wide.
 #![tactic(auto)]
 
+pub mod fillers;
 pub mod finished;
 mod laws;
 mod line;

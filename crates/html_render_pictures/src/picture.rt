@@ -1,13 +1,16 @@
 //! The picture of a table: its rows' lines, with borders above, between and below them.
 
-ghost use Rattle.std.specs.Prelude.{◌≡◌, List, [], ◌++◌, ◌∷◌, false, get_or, replicate, Some, OnOk, IfOk, IfErr};
+ghost use Rattle.std.specs.Prelude.{◌≡◌, ◌-◌, ◌+◌, ◌^◌, ◌<◌, ◌≤◌, List, [], ◌++◌, ◌∷◌, false, get_or, length, replicate, Some, OnOk, IfOk, IfErr};
 ghost use Rattle.html_render_pictures.specs.Picture as definition;
 ghost use Rattle.html_render_pictures.specs.Picture.{TableRow};
 ghost use Rattle.html_render_pictures.specs.Drawing as drawing;
-ghost use Rattle.html_render_pictures.specs.Padding.{filled};
+ghost use Rattle.html_render_pictures.specs.declared.fillers.Filler.TheVariants as filler;
+ghost use Rattle.html_render_pictures.specs.Marked.{marked_behind};
+ghost use Rattle.html_render_pictures.specs.Padding.{filled, filled_line, fillers};
 
-use crate::finished::put_marks_front;
-use crate::line::fill_block;
+use crate::fillers::{Filler, push_fillers};
+use crate::finished::{append_filled, fill_all, mark_behind, put_marks_front};
+use crate::line::lengthen;
 use crate::lines::Lines;
 use html_render_dom::Error;
 use html_render_lines::line::Line;
@@ -44,6 +47,29 @@ impl<T, M> Model for Cell<T, M> {
     ghost Value = { KeptCell T M };
 
     ghost view = { λ c. record { width = c.width; lines = c.lines; marks = c.marks.items } };
+}
+
+impl<T: Tag, M: Copy> Cell<T, M> {
+    /// Its lines, the last with its marks at the end.
+    fn marked_lines(self) -> Result<Vec<Line<T, M>>, AllocError>
+        ensures { IfOk result (λ v. v.items ≡ marked_behind self.marks self.lines) }
+    {
+        let Cell { lines, marks, .. } = self;
+        let mut lines = lines.into_vec()?;
+        mark_behind(&mut lines, marks.as_slice())?;
+        Ok(lines)
+    }
+
+    /// Its lines, the last with its marks at the end, and empty ones below them, so many in all.
+    fn high_lines(self, alloc: Global, height: usize) -> Result<Vec<Line<T, M>>, AllocError>
+        ensures { IfOk result (λ v. v.items ≡ marked_behind self.marks self.lines ++ replicate (height - length self.lines) []) }
+    {
+        let Cell { lines, marks, .. } = self;
+        let mut lines = lines.into_vec()?;
+        let empty = height.saturating_sub(lines.len());
+        lengthen(alloc, &mut lines, marks.as_slice(), empty)?;
+        Ok(lines)
+    }
 }
 
 /// A row of a table.
@@ -179,8 +205,44 @@ impl<T: Tag> Frame<T> {
         if self.borders { '│' } else { ' ' }
     }
 
-    /// A border between rows with these separators.
+    /// Draws what a border has where a separator stands above or below.
     #[tactic(auto, using(crate::specs::laws::Glyphs::joint_width))]
+    fn draw_joint<M: Copy>(
+        &self,
+        line: &mut Line<T, M>,
+        above: bool,
+        below: bool,
+    ) -> Result<(), AllocError>
+        ensures { OnOk result (line.new ≡ line.old ++ definition.drawn self.now (definition.joint above below) ∷ []) }
+    {
+        line.push_char(joint(above, below), 1, self.tag)
+    }
+
+    /// Draws a border at a column. Dashes are counted, and drawn once another character stands behind them.
+    #[tactic(auto, using(crate::proofs::LawSets::dashes))]
+    fn draw_column<M: Copy>(
+        &self,
+        line: &mut Line<T, M>,
+        dashes: &mut usize,
+        above: bool,
+        below: bool,
+    ) -> Result<(), AllocError>
+        requires { dashes.old + 1 < 2 ^ 64 }
+        ensures drawn { OnOk result (line.new ++ fillers filler.Dash self.now.tag dashes.new
+            ≡ (line.old ++ fillers filler.Dash self.now.tag dashes.old) ++ definition.drawn self.now (definition.joint above below) ∷ []) }
+        ensures due { OnOk result (dashes.new ≤ dashes.old + 1) }
+    {
+        if above || below {
+            push_fillers(line, Filler::Dash, *dashes, self.tag)?;
+            self.draw_joint(line, above, below)?;
+            *dashes = 0;
+        } else {
+            *dashes += 1;
+        }
+        Ok(())
+    }
+
+    /// A border between rows with these separators.
     fn border<M: Copy>(
         &self,
         alloc: Global,
@@ -190,16 +252,18 @@ impl<T: Tag> Frame<T> {
         ensures { IfOk result (λ l. l ≡ definition.border self.now above.now below.now) }
     {
         let width = above.len().max(below.len());
-        let mut line = Line::new(alloc);
+        let mut line = Line::with_capacity(alloc, width.saturating_mul(3))?;
+        let mut dashes = 0;
         for column in 0..width {
-            let shown = joint(separator_at(above, column), separator_at(below, column));
-            line.push_char(shown, 1, self.tag)?;
+            let (up, down) = (separator_at(above, column), separator_at(below, column));
+            self.draw_column(&mut line, &mut dashes, up, down)?;
         }
+        push_fillers(&mut line, Filler::Dash, dashes, self.tag)?;
         Ok(line)
     }
 
-    /// The lines of a cell, as many as its row is high.
-    fn cell_lines<M: Copy>(
+    /// The lines of a row's first cell, as many as the row is high.
+    fn first_lines<M: Copy>(
         &self,
         alloc: Global,
         cell: Cell<T, M>,
@@ -207,49 +271,79 @@ impl<T: Tag> Frame<T> {
     ) -> Result<Vec<Line<T, M>>, AllocError>
         ensures { IfOk result (λ v. v.items ≡ definition.cell_lines self.now height cell) }
     {
-        let Cell {
-            width,
-            lines,
-            marks,
-        } = cell;
-        let mut lines = lines.into_vec()?;
-        let empty = height.saturating_sub(lines.len());
-        fill_block(alloc, &mut lines, marks.as_slice(), empty, width, self.tag)?;
+        let width = cell.width;
+        let mut lines = cell.high_lines(alloc, height)?;
+        fill_all(lines.as_mut_slice(), width, self.tag)?;
         Ok(lines)
     }
 
-    /// Puts a line beside another, behind a separator.
+    /// Puts a line, or an empty one, beside another, behind a separator, and fills it.
     #[tactic(auto, using(crate::proofs::LawSets::besides))]
     fn put_beside<M: Copy>(
         &self,
         line: &mut Line<T, M>,
-        right: Line<T, M>,
+        right: Option<Line<T, M>>,
+        width: usize,
     ) -> Result<(), AllocError>
-        ensures { OnOk result (line.new ≡ line.old ++ definition.drawn self.now (definition.separator self.now) ∷ right) }
+        ensures { OnOk result (line.new ≡ line.old ++ definition.drawn self.now (definition.separator self.now)
+            ∷ filled_line self.now.tag width (drawing.line_or_empty right)) }
     {
         line.push_char(self.separator(), 1, self.tag)?;
-        line.append(right)?;
-        Ok(())
+        match right {
+            Some(right) => append_filled(line, right, width, self.tag),
+            None => push_fillers(line, Filler::Space, width, self.tag),
+        }
     }
 
-    /// Puts lines beside others.
+    /// Puts lines beside others, and empty ones beside those that are left.
     fn put_all_beside<M: Copy>(
         &self,
         lines: &mut [Line<T, M>],
         rights: Vec<Line<T, M>>,
+        width: usize,
     ) -> Result<(), AllocError>
-        ensures { OnOk result (lines.new ≡ definition.beside self.now lines.old rights.items) }
+        ensures { OnOk result (lines.new ≡ definition.beside self.now lines.old
+            (filled (Some self.now.tag) width (drawing.as_many lines.old rights.items))) }
     {
         let mut rights = rights.into_iter();
         for line in lines.iter_mut() {
-            if let Some(right) = rights.next() {
-                self.put_beside(line, right)?;
-            }
+            let right = rights.next();
+            self.put_beside(line, right, width)?;
         }
         Ok(())
     }
 
+    /// Puts lines beside others, and empty ones beside those that are left.
+    fn put_lines_beside<M: Copy>(
+        &self,
+        lines: &mut Vec<Line<T, M>>,
+        rights: Vec<Line<T, M>>,
+        width: usize,
+    ) -> Result<(), AllocError>
+        ensures { OnOk result (lines.new.items ≡ definition.beside self.now lines.old.items
+            (filled (Some self.now.tag) width (drawing.as_many lines.old.items rights.items))) }
+    {
+        self.put_all_beside(lines.as_mut_slice(), rights, width)?;
+        Ok(())
+    }
+
+    /// Puts the lines of a cell beside those of the cells before it.
+    #[tactic(auto, using(crate::proofs::Beside::cell_as_many))]
+    fn put_cell_beside<M: Copy>(
+        &self,
+        lines: &mut Vec<Line<T, M>>,
+        cell: Cell<T, M>,
+    ) -> Result<(), AllocError>
+        ensures { OnOk result (lines.new.items
+            ≡ definition.beside self.now lines.old.items (definition.cell_lines self.now (length lines.old.items) cell)) }
+    {
+        let width = cell.width;
+        let rights = cell.marked_lines()?;
+        self.put_lines_beside(lines, rights, width)
+    }
+
     /// The lines of a row, over the lines of each cell.
+    #[tactic(auto, using(crate::proofs::LawSets::heights))]
     fn lines_beside<M: Copy>(
         &self,
         alloc: Global,
@@ -262,10 +356,9 @@ impl<T: Tag> Frame<T> {
         let Some(first) = others.next() else {
             return Ok(Vec::new(alloc));
         };
-        let mut lines = self.cell_lines(alloc, first, height)?;
+        let mut lines = self.first_lines(alloc, first, height)?;
         for cell in others {
-            let rights = self.cell_lines(alloc, cell, height)?;
-            self.put_all_beside(lines.as_mut_slice(), rights)?;
+            self.put_cell_beside(&mut lines, cell)?;
         }
         Ok(lines)
     }

@@ -12,6 +12,7 @@ use super::{Block, BlockSetting};
 use html_render_dom::Error;
 use html_render_lines::tag::Tag;
 use html_render_nodes::tree::Slot;
+use html_render_pictures::fillers::Filler;
 use html_render_pictures::lines::Lines;
 use html_render_pictures::picture::{Cell, Picture};
 use std::alloc::{AllocError, Global};
@@ -237,7 +238,6 @@ impl<T: Tag, M: Copy> Block<T, M> {
     }
 
     /// Adds a cell below others of its row, to a flushed block.
-    #[tactic(auto, using(html_render_pictures::specs::laws::Glyphs::slash_width))]
     fn put_stacked(
         &mut self,
         border: Option<T>,
@@ -249,7 +249,7 @@ impl<T: Tag, M: Copy> Block<T, M> {
     {
         let more = !cell.lines.is_empty();
         if has_lines && more {
-            self.add_border(border, '/')?;
+            self.add_border(border, Filler::Slash)?;
         }
         self.put_below(cell)?;
         self.set_stacked(border, has_lines || more)?;

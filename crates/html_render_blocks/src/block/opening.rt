@@ -3,11 +3,11 @@
 
 ghost use Rattle.std.specs.Prelude.{◌≡◌, cond, Some, None, OnOk, IfOk, IfErr};
 ghost use Rattle.html_render_dom.specs.Outcome.{Refuses};
-ghost use Rattle.html_render_lines.specs.Character.{width_of};
 ghost use Rattle.html_render_parts.specs.Needs.{standing_widths};
 ghost use Rattle.html_render_blocks.specs.declared.block.tables.OpenTable.TheVariants.{Stacked};
 ghost use Rattle.html_render_blocks.specs.Tables.{frame_of, rule, stacked_border};
 ghost use Rattle.html_render_blocks.specs.BlockMachine as machine;
+ghost use Rattle.html_render_pictures.specs.Padding.{character_of};
 
 use super::Block;
 use super::rows::Widths;
@@ -17,6 +17,7 @@ use html_render_lines::line::Line;
 use html_render_lines::tag::Tag;
 use html_render_nodes::tree::{Grid, Slots};
 use html_render_parts::widths::{CellNeed, standing_widths};
+use html_render_pictures::fillers::{Filler, push_fillers};
 use html_render_pictures::finished::put_marks_front;
 use html_render_pictures::picture::{Frame, Picture};
 use std::alloc::{AllocError, Global};
@@ -64,37 +65,29 @@ fn stacked_border<T: Tag>(tag: T, borders: bool, width: usize) -> Option<T>
     }
 }
 
-/// A line of one character, which takes a column, under a tag.
+/// A line of one character, under a tag.
 fn rule<T: Tag, M: Copy>(
     alloc: Global,
     tag: T,
-    character: char,
+    filler: Filler,
     width: usize,
 ) -> Result<Line<T, M>, AllocError>
-    requires { width_of character ≡ 1 }
-    ensures { IfOk result (λ line. line ≡ rule tag character width) }
+    ensures { IfOk result (λ line. line ≡ rule tag (character_of filler) width) }
 {
-    let mut line = Line::new(alloc);
-    for _column in 0..width {
-        line.push_char(character, 1, tag)?;
-    }
+    let mut line = Line::with_capacity(alloc, width)?;
+    push_fillers(&mut line, filler, width, tag)?;
     Ok(line)
 }
 
 impl<T: Tag, M: Copy> Block<T, M> {
-    /// Draws a border, if borders are drawn, of a character that takes a column. The marks that wait stand at its front.
-    pub(super) fn add_border(
-        &mut self,
-        border: Option<T>,
-        character: char,
-    ) -> Result<(), AllocError>
-        requires { width_of character ≡ 1 }
-        ensures { OnOk result (self.new ≡ machine.add_border self.old border character) }
+    /// Draws a border, if borders are drawn, of one character. The marks that wait stand at its front.
+    pub(super) fn add_border(&mut self, border: Option<T>, filler: Filler) -> Result<(), AllocError>
+        ensures { OnOk result (self.new ≡ machine.add_border self.old border (character_of filler)) }
     {
         let Some(tag) = border else {
             return Ok(());
         };
-        let mut line = rule(self.alloc, tag, character, self.setting.width)?;
+        let mut line = rule(self.alloc, tag, filler, self.setting.width)?;
         let marks = self.take_waiting();
         put_marks_front(&mut line, marks.as_slice())?;
         self.push_line(line)
@@ -117,11 +110,10 @@ impl<T: Tag, M: Copy> Block<T, M> {
     }
 
     /// Begins a table, or another row of one, whose cells stand one below another: below a border, if borders are drawn.
-    #[tactic(auto, using(html_render_pictures::specs::laws::Glyphs::border_width))]
     pub(super) fn begin_stacked(&mut self, border: Option<T>) -> Result<(), AllocError>
         ensures { OnOk result (self.new ≡ machine.stacked_begun self.old border) }
     {
-        self.add_border(border, '─')?;
+        self.add_border(border, Filler::Dash)?;
         self.set_stacked(border, false)
     }
 

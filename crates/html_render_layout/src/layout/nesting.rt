@@ -7,7 +7,7 @@ ghost use Rattle.html_render_blocks.specs.BlockMachine as machine;
 ghost use Rattle.html_render_layout.specs.Layout.{nested, spaces};
 ghost use Rattle.html_render_layout.specs.Opening.{interrupted, indent_closed, quote_closed};
 
-use super::spaces::{FEW, few_spaces, many_spaces};
+use super::spaces::many_spaces;
 use super::state::{Around, Interrupted, LayoutState, Outer};
 use crate::tagging::Tagging;
 use html_render_blocks::block::Block;
@@ -15,6 +15,7 @@ use html_render_dom::Error;
 use html_render_dom::text::Text;
 use html_render_lines::tag::Tag;
 use html_render_parts::decorate::TextDecorator;
+use html_render_pictures::fillers::{FEW, few_spaces};
 use std::alloc::Global;
 use std::mem;
 

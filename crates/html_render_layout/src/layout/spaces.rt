@@ -1,26 +1,12 @@
 //! Spaces that lines stand behind.
 
-ghost use Rattle.std.specs.Prelude.{◌≡◌, ◌≤◌, ◌-◌, ◌++◌, IfOk, OnOk, IfErr, string_bytes};
+ghost use Rattle.std.specs.Prelude.{◌≡◌, ◌-◌, ◌++◌, IfOk, OnOk, IfErr, string_bytes};
 ghost use Rattle.std.specs.Str.{chars};
 ghost use Rattle.html_render_layout.specs.Layout.{spaces, padded};
 
 use html_render_dom::Error;
 use html_render_estimates::text::columns;
 use std::alloc::{AllocError, Global};
-
-/// As many spaces as [`few_spaces`] has.
-const FEW_SPACES: &str = "                                                                ";
-
-/// How many these are.
-pub const FEW: usize = 64;
-
-/// So many spaces, without an allocation.
-pub fn few_spaces(count: usize) -> &'static str
-    requires { count ≤ FEW }
-    ensures { chars result.now ≡ spaces count }
-{
-    &FEW_SPACES[..count]
-}
 
 /// Writes so many spaces behind a text.
 fn push_spaces(text: &mut String, count: usize) -> Result<(), AllocError>

@@ -40,6 +40,9 @@ unfolding width_of char_width alone kind named_kind named_rows unnamed_kind lett
     east_asian_width_rows hangul_syllable_type hangul_syllable_type_rows decomposition decomposition_rows
 drawn_widths = refl
 
+pub space_width : width_of 0x20 ≡ 1
+space_width = ap (λ ws. get_or ws 0 0) drawn_widths
+
 pub joint_width : (above below : Bool) → width_of (joint above below) ≡ 1
 joint_width false false = ap (λ ws. get_or ws 2 0) drawn_widths
 joint_width false true = ap (λ ws. get_or ws 3 0) drawn_widths

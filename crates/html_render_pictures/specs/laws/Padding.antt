@@ -1,9 +1,8 @@
 -- What padding leaves as it is.
-use Rattle.std.proofs.Common.{◌≡◌, ℕ, suc, zero, ◌+◌, ◌-◌, ◌≤◌, List, [], ◌∷◌, ◌++◌, map, Option, Some, None, option_map, refl, sym, ap, ◌∙◌, arith, append-nil}
-use Rattle.std.proofs.lemmas.List.{map-append, replicate-append-replicate}
+use Rattle.std.proofs.Common.{◌≡◌, ℕ, suc, zero, ◌-◌, ◌≤◌, List, [], ◌∷◌, ◌++◌, map, Option, Some, None, option_map, refl, sym, ap, ◌∙◌, arith, append-nil}
+use Rattle.std.proofs.lemmas.List.{map-append}
 use Rattle.std.proofs.lemmas.List.Elements.{All-nil, All-cons, All-head, All-tail}
 use Rattle.html_render_lines.specs.declared.line.Element.TheVariants.{Character}
-use Rattle.html_render_lines.specs.Character.{width_of}
 use Rattle.html_render_lines.specs.Line.{Line, columns, AllWithinWidth}
 use Rattle.html_render_lines.specs.Tags.{element_with, line_with, lines_with}
 use Rattle.html_render_lines.specs.Visible.{is_visible, visible_in_line, visible_in_lines}
@@ -38,10 +37,6 @@ filled-with {T} {U} {M} f (Some tag) w ls = by ls
 
 -- ---- a line that is within the width stays so
 
--- a space has one column
-pub space_is_one : width_of 32 ≡ 1
-space_is_one = width-space
-
 pub spaces-columns : {T : Type 0} (M : Type 0) (tag : T) (n : ℕ) → columns (spaces {M = M} tag n) ≡ n
 spaces-columns M tag zero = refl
 spaces-columns M tag (suc n) =
@@ -62,10 +57,6 @@ filled-within {T} {M} (Some tag) w ls h = by ls h
         All-cons (λ (l : Line T M). columns l ≤ w) (filled_line tag w l) (map (filled_line tag w) ls)
         (filled_line-within tag w l (All-head (λ (l : Line T M). columns l ≤ w) l ls h))
         (by ls (All-tail (λ (l : Line T M). columns l ≤ w) l ls h))
-
--- one space more
-pub space_more : {T : Type 0} (M : Type 0) (tag : T) (n : ℕ) → spaces {M = M} tag n ++ spaces tag 1 ≡ spaces tag (n + 1)
-space_more M tag n = replicate-append-replicate n 1 (Character 32 tag)
 
 -- ---- spaces aren't visible
 

@@ -1,7 +1,7 @@
 use Rattle.std.proofs.Common.{◌++◌, ◌∙◌, ap}
 use Rattle.std.specs.Str.{chars}
 use Rattle.html_render_layout.specs.Layout.{spaces}
-use Rattle.html_render_layout.proofs.Spaces.{chars-spaces}
+use Rattle.html_render_pictures.specs.laws.Fillers.{chars-spaces}
 use Rattle.html_render_layout.proofs.layout.spaces.many_spaces.Goals as goal
 
 pub returns-clause-ok : goal.returns-clause-ok
