@@ -1,6 +1,6 @@
 -- Values over many columns, spread over fewer and fewer columns, are in the end the greatest over each.
 use Rattle.std.proofs.Common.{◌≡◌, ℕ, zero, suc, ◌+◌, ◌-◌, ◌*◌, ◌≤◌, ◌<◌, ◌==◌, ◌||◌, Bool, true, false}
-use Rattle.std.proofs.Common.{cond, List, [], ◌∷◌, length, max, inl, inr, refl, sym, ap, ◌∙◌, subst, arith}
+use Rattle.std.proofs.Common.{cond, List, [], ◌∷◌, length, min, max, inl, inr, refl, sym, ap, ◌∙◌, subst, arith}
 use Rattle.std.specs.Prelude.{slice_index}
 use Rattle.std.proofs.lemmas.Bool.Decides.{leb_tells, eqb_tells}
 use Rattle.html_render_parts.proofs.NumberTests.{ltb-tells}
@@ -60,13 +60,24 @@ reaches-more values more columns s le h = λ j a b.
     let r = h j a b in
     (r.0, r.1, r.2, let e = le r.0 in let v = r.3 in omega (arith, e, v))
 
+-- one span more
+pub counts_more : (spans : List Span) (at most : ℕ) → ((k : ℕ) → k < at → (span_at spans k).count ≤ most) →
+    (k : ℕ) → k < at + 1 → (span_at spans k).count ≤ max most (span_at spans at).count
+counts_more spans at most h k inside = elim (ltb-tells k at) [
+  | inl y ↦ let e = h k y.1 in omega (arith, e)
+  | inr n ↦
+      let same : k ≡ at = omega (arith, n.1, inside) in
+      subst (λ n. (span_at spans n).count ≤ max most (span_at spans at).count) (sym same) (omega arith)
+]
+
 -- at first nothing is spread
-pub begun : (all : ℕ) (spans : List Span) (values : List ℕ) → AreOver all spans → length values ≡ all →
-    ((k : ℕ) → slice_index values k ≡ 0) → IsSpread all (all + 1) (all + 1) 0 spans values
-begun all spans values over places zeros = record {
+pub begun : (all most : ℕ) (spans : List Span) (values : List ℕ) → AreOver all spans → length values ≡ all →
+    ((k : ℕ) → slice_index values k ≡ 0) → ((k : ℕ) → k < length spans → (span_at spans k).count ≤ most) →
+    IsSpread all (min most all + 1) (min most all + 1) 0 spans values
+begun all most spans values over places zeros counts = record {
   places = places;
   within = λ i j a b c. let z = zeros i in omega (arith, z);
-  long = λ k inside longer. absurd (let o = span-over all spans k over inside in omega (arith, o, longer));
+  long = λ k inside longer. absurd (let o = span-over all spans k over inside in let n = counts k inside in omega (arith, o, n, longer));
   short = λ k none. absurd (omega (arith, none));
 }
 

@@ -37,7 +37,7 @@ pub(crate) fn edges_of(alloc: Global, placed: &[Vec<Place>]) -> Result<Vec<u128>
     ensures rising { IfOk result (λ v. IsStrictlyIncreasing v.items) }
 {
     let mut edges = zero_and_ends(alloc, placed)?;
-    edges.sort_unstable();
+    edges.sort()?;
     edges.dedup();
     Ok(edges)
 }

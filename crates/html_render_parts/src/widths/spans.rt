@@ -2,7 +2,7 @@
 
 ghost use Rattle.std.specs.Prelude.{◌≡◌, ◌≤◌, ◌<◌, ◌+◌, ◌-◌, ◌*◌, ◌==◌, ℕ, length, max, slice_index, if◌then◌else◌, IfOk, IfErr};
 ghost use Rattle.html_render_parts.specs.Spans.{AreOver, AreGreatest};
-ghost use Rattle.html_render_parts.specs.SpanSteps.{IsSpread, split_at, raised_at};
+ghost use Rattle.html_render_parts.specs.SpanSteps.{IsSpread, span_at, split_at, raised_at};
 
 use html_render_dom::Error;
 use std::alloc::{AllocError, Global};
@@ -28,6 +28,18 @@ fn zeros(alloc: Global, count: usize) -> Result<Vec<usize>, AllocError>
         zeros.push(0)?;
     }
     Ok(zeros)
+}
+
+/// As many columns as the longest of the spans is over.
+#[tactic(auto, using(crate::proofs::Spreading::counts_more))]
+fn longest(spans: &[Span]) -> usize
+    ensures { (k : ℕ) → k < length spans.now → (span_at spans.now k).count ≤ result }
+{
+    let mut longest = 0;
+    for at in 0..spans.len() {
+        longest = longest.max(spans[at].count);
+    }
+    longest
 }
 
 /// Each place gets the greater of its value and the one so many places before it.
@@ -98,7 +110,7 @@ fn add_all(values: &mut Vec<usize>, spans: &[Span], columns: usize, longer: usiz
 }
 
 /// The greatest of the values over each column; 0 where there is none. It takes as many passes over columns and spans as the
-/// number of columns has binary digits.
+/// number of columns of the longest span has binary digits.
 ///
 /// # Errors
 ///
@@ -110,7 +122,7 @@ pub fn greatest_values(alloc: Global, columns: usize, spans: &[Span]) -> Result<
     ensures err { IfErr result (λ e. e ≡ Error.OutOfMemory) }
 {
     let mut values = zeros(alloc, columns)?;
-    let mut longer = columns + 1;
+    let mut longer = longest(spans).min(columns) + 1;
     while longer > 1 {
         let offset = longer / 2;
         split(&mut values, offset);

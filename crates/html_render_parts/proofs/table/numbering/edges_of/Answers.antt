@@ -10,12 +10,12 @@ use Rattle.html_render_parts.proofs.table.numbering.edges_of.Goals as goal
 pub returns-clause-edges : goal.returns-clause-edges
 returns-clause-edges c =
     let is = dedup_is _ _ _ c.dedup.ensures.filtered in
-    let moved = c.sort_unstable.ensures.permutation in
-    let only = rising-only _ c.in_ok-edges.edges.items (rw is (IsStrictlyIncreasing-dedup _ c.sort_unstable.ensures.sorted))
+    let moved = c.in_ok-sort.ensures.permutation in
+    let only = rising-only _ c.in_ok-edges.edges.items (rw is (IsStrictlyIncreasing-dedup _ c.in_ok-sort.ensures.sorted))
     (λ n h. Contains-permutation _ _ n (IsPermutation-sym _ _ moved) (Contains-from_dedup _ _ n (rw is at h)))
     (λ n h. rw is (Contains-dedup_nat _ n (Contains-permutation _ _ n moved h))) in
     only ∙ ap rising c.in_ok-edges.ensures
 
 pub returns-clause-rising : goal.returns-clause-rising
 returns-clause-rising c =
-    rw (dedup_is _ _ _ c.dedup.ensures.filtered) (IsStrictlyIncreasing-dedup _ c.sort_unstable.ensures.sorted)
+    rw (dedup_is _ _ _ c.dedup.ensures.filtered) (IsStrictlyIncreasing-dedup _ c.in_ok-sort.ensures.sorted)
