@@ -123,7 +123,8 @@ impl<T: Tag, M: Copy> Paragraph<T, M> {
         if bytes < 16 {
             return Ok(());
         }
-        self.line.reserve(bytes.min(self.width).saturating_add(16))
+        self.line
+            .reserve_at_start(bytes.min(self.width).saturating_add(16))
     }
 
     /// Moves the finished lines behind the given ones.

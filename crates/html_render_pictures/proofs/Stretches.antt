@@ -1,5 +1,6 @@
 -- Lines in stretches: what stands at their ends, and what fills them.
-use Rattle.std.proofs.Common.{◌≡◌, ℕ, ◌+◌, ◌-◌, ◌<◌, ◌≤◌, min, List, [], ◌∷◌, ◌++◌, Some, All, length, map, reverse, zero, suc, refl, sym, ap, ◌∙◌, subst, arith}
+use Rattle.std.proofs.Common.{◌≡◌, ℕ, ◌+◌, ◌-◌, ◌<◌, ◌≤◌, min, List, [], ◌∷◌, ◌++◌, Some}
+use Rattle.std.proofs.Common.{All, length, map, reverse, zero, suc, refl, sym, ap, ◌∙◌, subst, arith}
 use Rattle.std.proofs.Common.{false, ◌==◌, get_or, set, take, length-set, append-nil, append_assoc, length-append}
 use Rattle.std.proofs.lemmas.List.{reverse-append, reverse-reverse, length-map, length-reverse, map-append, take_all, take_more, take_more_set}
 use Rattle.std.proofs.lemmas.Bool.Decides.{nat_tests}

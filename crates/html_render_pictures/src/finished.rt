@@ -1,4 +1,4 @@
-//! Finished lines: marks at their ends, and spaces that fill them.
+//! Finished lines: marks at their ends, spaces that fill them, and room for what comes beside them.
 
 ghost use Rattle.std.specs.Prelude.{◌≡◌, ◌-◌, ◌++◌, length, Some, OnOk};
 ghost use Rattle.html_render_lines.specs.Line.{columns, marks_line};
@@ -71,6 +71,19 @@ pub(crate) fn fill_lines<T: Tag, M: Copy>(
     ensures ok { OnOk result (lines.new.items ≡ filled (Some tag) width lines.old.items) }
 {
     fill_all(lines.as_mut_slice(), width, tag)?;
+    Ok(())
+}
+
+/// Makes room for so many more bytes on each line.
+pub(crate) fn reserve_all<T: Tag, M: Copy>(
+    lines: &mut [Line<T, M>],
+    bytes: usize,
+) -> Result<(), AllocError>
+    ensures { OnOk result (lines.new ≡ lines.old) }
+{
+    for line in lines.iter_mut() {
+        line.reserve(bytes)?;
+    }
     Ok(())
 }
 

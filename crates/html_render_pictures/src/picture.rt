@@ -9,7 +9,7 @@ ghost use Rattle.html_render_pictures.specs.Marked.{marked_behind};
 ghost use Rattle.html_render_pictures.specs.Padding.{filled, filled_line, fillers};
 
 use crate::fillers::{Filler, push_fillers};
-use crate::finished::{append_filled, fill_all, mark_behind, put_marks_front};
+use crate::finished::{append_filled, fill_all, mark_behind, put_marks_front, reserve_all};
 use crate::line::lengthen;
 use crate::lines::Lines;
 use html_render_dom::Error;
@@ -110,6 +110,15 @@ fn height<T: Tag, M: Copy>(cells: &mut Vec<Cell<T, M>>) -> Result<usize, AllocEr
     Ok(height)
 }
 
+/// As many bytes as a line of a row may have: its columns, and the separators, of three bytes each.
+fn room_of<T, M>(cells: &[Cell<T, M>]) -> usize {
+    let mut room: usize = 0;
+    for cell in cells {
+        room = room.saturating_add(cell.width).saturating_add(3);
+    }
+    room
+}
+
 /// Whether a cell has lines.
 fn has_lines<T: Tag, M: Copy>(cells: &[Cell<T, M>]) -> bool
     ensures { result ≡ definition.has_lines cells.now }
@@ -167,7 +176,7 @@ fn add_columns(separators: &mut Vec<bool>, width: usize) -> Result<(), AllocErro
 fn separators_of<T, M>(alloc: Global, cells: &[Cell<T, M>]) -> Result<Vec<bool>, AllocError>
     ensures { IfOk result (λ v. v.items ≡ definition.separators_of cells.now) }
 {
-    let mut separators = Vec::new(alloc);
+    let mut separators = Vec::with_capacity(alloc, room_of(cells))?;
     if let [first, others @ ..] = cells {
         add_columns(&mut separators, first.width)?;
         for cell in others {
@@ -262,17 +271,19 @@ impl<T: Tag> Frame<T> {
         Ok(line)
     }
 
-    /// The lines of a row's first cell, as many as the row is high.
+    /// The lines of a row's first cell, as many as the row is high, with room for so many bytes more.
     fn first_lines<M: Copy>(
         &self,
         alloc: Global,
         cell: Cell<T, M>,
         height: usize,
+        room: usize,
     ) -> Result<Vec<Line<T, M>>, AllocError>
         ensures { IfOk result (λ v. v.items ≡ definition.cell_lines self.now height cell) }
     {
         let width = cell.width;
         let mut lines = cell.high_lines(alloc, height)?;
+        reserve_all(lines.as_mut_slice(), room)?;
         fill_all(lines.as_mut_slice(), width, self.tag)?;
         Ok(lines)
     }
@@ -352,11 +363,12 @@ impl<T: Tag> Frame<T> {
         ensures { IfOk result (λ v. v.items ≡ definition.row_lines self.now cells.items) }
     {
         let height = height(&mut cells)?;
+        let room = room_of(cells.as_slice());
         let mut others = cells.into_iter();
         let Some(first) = others.next() else {
             return Ok(Vec::new(alloc));
         };
-        let mut lines = self.first_lines(alloc, first, height)?;
+        let mut lines = self.first_lines(alloc, first, height, room)?;
         for cell in others {
             self.put_cell_beside(&mut lines, cell)?;
         }

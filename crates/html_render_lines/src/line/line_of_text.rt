@@ -86,15 +86,26 @@ impl<T: Tag, M: Copy> Line<T, M> {
         Line::with_capacity(alloc, self.text.byte_count().saturating_add(16))
     }
 
+    /// Makes room for so many more bytes of text.
+    ///
+    /// # Errors
+    ///
+    /// `OutOfMemory`. The line is then as it was.
+    pub fn reserve(&mut self, bytes: usize) -> Result<(), AllocError>
+        ensures { self.new ≡ self.old }
+    {
+        self.text.reserve(bytes)
+    }
+
     /// Makes room for a text of so many bytes on an empty line.
     ///
     /// # Errors
     ///
     /// `OutOfMemory`. The line is then as it was.
-    pub(crate) fn reserve(&mut self, bytes: usize) -> Result<(), AllocError>
+    pub(crate) fn reserve_at_start(&mut self, bytes: usize) -> Result<(), AllocError>
         ensures { self.new ≡ self.old }
     {
-        self.text.reserve(bytes)
+        self.text.reserve_at_start(bytes)
     }
 
     /// Its columns, where a machine word holds them. They are not counted again.

@@ -101,7 +101,7 @@ impl<T: Tag, M: Copy> TaggedText<T, M> {
         self.text.len()
     }
 
-    /// Makes room for so many bytes at the start of a text.
+    /// Makes room for so many more bytes.
     ///
     /// # Errors
     ///
@@ -109,8 +109,19 @@ impl<T: Tag, M: Copy> TaggedText<T, M> {
     pub fn reserve(&mut self, bytes: usize) -> Result<(), AllocError>
         ensures { self.new ≡ self.old }
     {
+        self.text.reserve(bytes)
+    }
+
+    /// Makes room for so many bytes at the start of a text.
+    ///
+    /// # Errors
+    ///
+    /// `OutOfMemory`. Its elements are then as they were.
+    pub fn reserve_at_start(&mut self, bytes: usize) -> Result<(), AllocError>
+        ensures { self.new ≡ self.old }
+    {
         if self.text.as_str().is_empty() {
-            self.text.reserve(bytes)?;
+            self.reserve(bytes)?;
         }
         Ok(())
     }

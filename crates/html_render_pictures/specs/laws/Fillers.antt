@@ -1,5 +1,6 @@
 -- Characters that stand many times in a row: what is spelt by texts of them, and how many columns they take.
-use Rattle.std.proofs.Common.{◌≡◌, ℕ, suc, zero, ◌+◌, ◌-◌, ◌*◌, ◌<◌, ◌≤◌, true, List, [], ◌∷◌, ◌++◌, take, get_or, replicate, refl, sym, ap, ◌∙◌, arith, append_assoc}
+use Rattle.std.proofs.Common.{◌≡◌, ℕ, suc, zero, ◌+◌, ◌-◌, ◌*◌, ◌<◌, ◌≤◌, true, List}
+use Rattle.std.proofs.Common.{[], ◌∷◌, ◌++◌, take, get_or, replicate, refl, sym, ap, ◌∙◌, arith, append_assoc}
 use Rattle.std.proofs.Math.Utf8.{encode, encodes, scalars}
 use Rattle.std.proofs.lemmas.List.{take-replicate, replicate-append-replicate}
 use Rattle.std.proofs.lemmas.List.Elements.{All-replicate}
