@@ -133,8 +133,8 @@ pub fn mark_of(
 {
     match mark_attribute(element, attributes) {
         Some(attribute) => {
-            let name = String::from_str(alloc, attribute.value.as_str())?;
-            Ok(Some(Text::new(name)))
+            let name = Text::from_str(alloc, attribute.value.as_str())?;
+            Ok(Some(name))
         }
         None => Ok(None),
     }

@@ -168,7 +168,7 @@ fn open_node(
 {
     // most nodes are texts, so these take the shortest way
     if let NodeData::Text { contents } = dom.data(handle) {
-        return put_alone(text_node(contents)?, elements, builder);
+        return put_alone(text_node(alloc, contents.as_str())?, elements, builder);
     }
     match outline_of(alloc, rules, dom, handle)? {
         Outline::Nothing => {}

@@ -119,7 +119,7 @@ fn link_mapping(alloc: Global, attributes: &[Attribute]) -> Result<Mapping, Erro
 {
     match first_value(attributes, "href") {
         Some(target) => {
-            let target = Text::new(String::from_str(alloc, target)?);
+            let target = Text::from_str(alloc, target)?;
             Ok(Mapping::Parent(NodeKind::Link(target), IfEmpty::Vanishes))
         }
         None => Ok(Mapping::Parent(NodeKind::Container, IfEmpty::Stands)),
@@ -134,8 +134,8 @@ fn image_mapping(alloc: Global, source: &str, title: &str) -> Result<Mapping, Er
     if source.is_empty() {
         return Ok(Mapping::Nothing);
     }
-    let source = Text::new(String::from_str(alloc, source)?);
-    let title = Text::new(String::from_str(alloc, title)?);
+    let source = Text::from_str(alloc, source)?;
+    let title = Text::from_str(alloc, title)?;
     let image = Image::new(alloc, source, title)?;
     Ok(Mapping::Leaf(NodeKind::Image(image)))
 }
@@ -156,7 +156,7 @@ fn html_element_mapping(
             image_mapping(alloc, source, title)
         }
         "wbr" => {
-            let space = Text::new(String::from_str(alloc, "\u{200b}")?);
+            let space = Text::from_str(alloc, "\u{200b}")?;
             Ok(Mapping::Leaf(NodeKind::Text(space)))
         }
         _ => Ok(html_mapping(name, attributes)),
@@ -316,11 +316,11 @@ fn element_outline(
 /// # Errors
 ///
 /// `OutOfMemory`.
-pub fn text_node(contents: &String) -> Result<RenderNode, Error>
-    ensures ok { IfOk result (λ node. node ≡ text_node (string_bytes contents.now)) }
+pub fn text_node(alloc: Global, contents: &str) -> Result<RenderNode, Error>
+    ensures ok { IfOk result (λ node. node ≡ text_node contents.now) }
     ensures err { IfErr result (λ e. e ≡ Error.OutOfMemory) }
 {
-    let text = Text::new(contents.clone()?);
+    let text = Text::from_str(alloc, contents)?;
     Ok(RenderNode::from(NodeKind::Text(text)))
 }
 
@@ -349,7 +349,7 @@ pub fn outline_of(
             before: None,
             after: None,
         }),
-        NodeData::Text { contents } => Ok(Outline::Alone(text_node(contents)?)),
+        NodeData::Text { contents } => Ok(Outline::Alone(text_node(alloc, contents.as_str())?)),
         NodeData::Element { name, attrs, .. } => {
             let mapping = element_mapping(alloc, dom, node, name, attrs.as_slice())?;
             element_outline(alloc, rules, mapping, name, attrs.as_slice())

@@ -1,4 +1,5 @@
 -- a document: what a node holds, the nodes and their trees, and the vectors that hold them
+pub mod Texts
 pub mod Content
 pub mod Names
 pub mod Elements

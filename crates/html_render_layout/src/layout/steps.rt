@@ -106,7 +106,7 @@ fn open_description<D: TextDecorator, G: Tagging<D::Annotation>>(
     ensures ok { IfOk result (λ c. description_opened D.decoration G.annotated machine.operations estimate.now state.old ≡ Some (way state.new c)) }
     ensures err { IfErr result (λ e. Refuses e (description_opened D.decoration G.annotated machine.operations estimate.now state.old)) }
 {
-    let prefix = Text::new(String::from_str(alloc, "  ")?);
+    let prefix = Text::from_str(alloc, "  ")?;
     let outer = nest(alloc, prefix, 2, inner_least(estimate), state.around, state)?;
     Ok(Some(KindClosing::EndIndent(outer)))
 }

@@ -58,7 +58,7 @@ impl TextDecorator for RichDecorator {
         alloc: Global,
         url: &str,
     ) -> Result<(String, RichAnnotation), Error> {
-        let target = Text::new(String::from_str(alloc, url)?);
+        let target = Text::from_str(alloc, url)?;
         Ok((String::new(alloc), RichAnnotation::Link(target)))
     }
 
@@ -113,7 +113,7 @@ impl TextDecorator for RichDecorator {
         src: &str,
         title: &str,
     ) -> Result<(String, RichAnnotation), Error> {
-        let source = Text::new(String::from_str(alloc, src)?);
+        let source = Text::from_str(alloc, src)?;
         let text = String::from_str(alloc, title)?;
         Ok((text, RichAnnotation::Image(source)))
     }
