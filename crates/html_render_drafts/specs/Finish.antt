@@ -1,12 +1,7 @@
--- A forest with other nodes in their places.
+-- A forest with other nodes in their places, each as what stands above it says.
 use Rattle.std.specs.Prelude.{Option, Some, None}
 use Rattle.html_render_dom.specs.Forest.{Forest, none, node}
 use Rattle.html_render_dom.specs.Outcome.{◌>>=◌}
-
--- the same trees, with each node as f gives it
-abbrev pub mapped : {K L : Type 0} → (f : K → L) → Forest K → Forest L
-mapped f none = none
-mapped f (node k children beside) = node (f k) (mapped f children) (mapped f beside)
 
 -- what a node is written as under what stands above it, and what stands above the nodes below it; none where the node may
 -- not stand there

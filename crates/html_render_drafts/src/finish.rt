@@ -1,7 +1,7 @@
 //! How trees of a store are written as one render tree.
 
 ghost use Rattle.std.specs.Prelude.{◌≡◌, ◌++◌, reverse, map, Some, OnOk, IfOk, IfErr};
-ghost use Rattle.html_render_drafts.specs.Finish.{mapped, Placed, placed};
+ghost use Rattle.html_render_drafts.specs.Finish.{Placed, placed};
 ghost use Rattle.html_render_parts.specs.Refusal.{Fails};
 ghost use Rattle.html_render_drafts.specs.Finishing.{ahead_of};
 ghost use Rattle.html_render_drafts.specs.Store.{planted, Within};
@@ -88,75 +88,4 @@ pub fn finish_below<N: Drop, W: PlacedWriter<N>>(
         entries.push(Entry { node, size })?;
         put_reversed(&mut stack, inside, store.children(ahead.place))?;
     }
-}
-
-/// What is written for a node, wherever it stands.
-pub trait Writer<N> {
-    /// What a node is written as.
-    type Written: Drop;
-
-    // what a node is written as
-    ghost written: { Self → N → Self.Written };
-
-    /// What the node is written as.
-    ///
-    /// # Errors
-    ///
-    /// `OutOfMemory`.
-    fn write(&self, alloc: Global, node: &N) -> Result<Self::Written, Error>
-        ensures ok { IfOk result (λ w. w ≡ written self.now node.now) }
-        ensures err { IfErr result (λ e. e ≡ Error.OutOfMemory) };
-}
-
-/// Writes each node as it is.
-#[derive(Clone, Copy, Debug)]
-pub struct AsItIs;
-
-impl<N: Copy + Drop> Writer<N> for AsItIs {
-    type Written = N;
-
-    ghost written = { λ _ n. n };
-
-    fn write(&self, _alloc: Global, node: &N) -> Result<N, Error> {
-        Ok(*node)
-    }
-}
-
-/// Writes each node as the writer does, wherever it stands.
-#[derive(Drop)]
-struct Anywhere<'w, W> {
-    writer: &'w W,
-}
-
-impl<'w, N, W: Writer<N>> PlacedWriter<N> for Anywhere<'w, W> {
-    type Written = W::Written;
-
-    type Above = ();
-
-    ghost written = { λ w above n. Some (W.written w.writer.now n, above) };
-
-    fn write(&self, alloc: Global, above: (), node: &N) -> Result<(W::Written, ()), Error> {
-        let written = self.writer.write(alloc, node)?;
-        Ok((written, above))
-    }
-}
-
-/// The trees at some places as one render tree, each node as it is written. A part that stands in several trees is written
-/// in each.
-///
-/// # Errors
-///
-/// `OutOfMemory`.
-pub fn finish<N: Drop, W: Writer<N>>(
-    alloc: Global,
-    store: &Store<N>,
-    roots: &[Place],
-    writer: &W,
-) -> Result<Flat<W::Written>, Error>
-    requires { Within store.now roots.now }
-    ensures ok { IfOk result (λ t. t ≡ mapped (W.written writer.now) (planted store.now roots.now)) }
-    ensures err { IfErr result (λ e. e ≡ Error.OutOfMemory) }
-{
-    let trees = finish_below(alloc, store, roots, (), &Anywhere { writer })?;
-    Ok(trees)
 }

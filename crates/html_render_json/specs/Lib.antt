@@ -1,4 +1,2 @@
 pub mod Refusals
-pub mod Settings
-pub mod Own
 pub mod Documents

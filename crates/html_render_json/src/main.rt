@@ -7,7 +7,6 @@
 mod answers;
 mod configs;
 mod cuts;
-mod decorators;
 mod documents;
 mod grids;
 mod lines;

@@ -11,7 +11,7 @@ ghost use Rattle.html_render_json.specs.Documents.{Unrendered};
 ghost use Rattle.html_render_json.specs.Refusals.{LibraryRefuses};
 
 use crate::answers::{Refusal, answered};
-use crate::configs::{Calls, DecoratorName, Preset, Setting, with_settings};
+use crate::configs::Calls;
 use crate::documents::{Document, built};
 use crate::lines::{Annotation, lines_form};
 use crate::reading::{Readable, choice};
@@ -20,6 +20,7 @@ use html_render_tree::config::{Config, plain, plain_no_decorate, rich, with_deco
 use html_render_tree::decorate::{PlainDecorator, RichDecorator, TextDecorator};
 use html_render_tree::dom::RcDom;
 use html_render_tree::widths::Meter;
+use named_configs::calls::{DecoratorName, Preset, Setting, with_settings};
 use serde::{Deserializer, Format, Name, Serialize};
 use std::alloc::Global;
 

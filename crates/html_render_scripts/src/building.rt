@@ -210,6 +210,3 @@ pub fn built(alloc: Global, script: &str) -> Result<RcDom, ScriptError> {
     append_texts(alloc, &mut dom, current, &mut texts)?;
     Ok(dom)
 }
-
-#[cfg(test)]
-mod tests;

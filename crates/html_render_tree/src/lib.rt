@@ -6,6 +6,7 @@
 
 pub mod config;
 pub mod htree;
+mod laws;
 mod texts;
 
 pub use html_render_dom::{Error, dom, style, text};

@@ -1,12 +1,9 @@
 -- What is written keeps a forest's shape.
 use Rattle.std.proofs.Common.{◌≡◌, ◌+◌, Option, Some, None, refl, sym, ap, ◌∙◌, arith}
 use Rattle.std.proofs.lemmas.Option.{same_Some}
-use Rattle.html_render_dom.specs.declared.errors.Error.{Error}
-use Rattle.html_render_dom.specs.declared.errors.Error.TheVariants.{TooNarrow, Fail, OutOfMemory}
 use Rattle.html_render_dom.specs.Forest.{Forest, none, node, count, followed_by}
 use Rattle.html_render_dom.specs.Outcome.{◌>>=◌}
-use Rattle.html_render_drafts.specs.Finish.{mapped, Placed, placed}
-use Rattle.html_render_parts.specs.Refusal.{Fails}
+use Rattle.html_render_drafts.specs.Finish.{Placed, placed}
 
 -- the trees of one answer, then those of another
 abbrev pub both : {K : Type 0} → Option (Forest K) → Option (Forest K) → Option (Forest K)
@@ -89,25 +86,3 @@ module _ {K L A : Type 0} (writes : Placed K L A) where
           ≡ Some u → count u ≡ 1 + count children + count beside
       first None i p c b u e = cc
       first (Some w) i p c b u e = second w.0 (i w.1) p (c w.1) b u e
-
--- where each node may stand anywhere, the forest is mapped
-pub placed-mapped : {K L A : Type 0} (f : K → L) (above : A) (t : Forest K) → placed (λ a k. Some (f k, a)) above t ≡ Some (mapped f t)
-placed-mapped f above none = refl
-placed-mapped f above (node k children beside) =
-    ap (λ o. do
-      inner ← o
-      after ← placed (λ a k. Some (f k, a)) above beside
-      Some (node (f k) inner after)) (placed-mapped f above children)
-    ∙ ap (λ o. do
-      after ← o
-      Some (node (f k) (mapped f children) after)) (placed-mapped f above beside)
-
-pub mapped-same : {K : Type 0} (t : Forest K) → mapped (λ k. k) t ≡ t
-mapped-same none = refl
-mapped-same (node k children beside) = ap (λ c. node k c (mapped (λ k. k) beside)) (mapped-same children) ∙ ap (node k children) (mapped-same beside)
-
--- where something is to be written, want of memory alone hinders it
-pub Fails-Some : {X : Type 0} (e : Error) (x : X) → Fails e (Some x) → e ≡ OutOfMemory
-Fails-Some OutOfMemory x f = refl
-Fails-Some Fail x f = cc
-Fails-Some TooNarrow x f = absurd f

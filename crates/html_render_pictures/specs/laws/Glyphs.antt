@@ -1,64 +1,42 @@
--- The characters that pictures are drawn with have one column each. Their widths are read off the tables of Unicode.
-use Rattle.std.specs.Prelude.{◌≡◌, Bool, true, false, [], ◌∷◌, map, get_or, refl}
-use Rattle.std.proofs.Common.{ap, cond}
-use Rattle.unicode_width.specs.Width.{char_width, alone}
-use Rattle.unicode_width.specs.Kind.{kind, named_kind, named_rows, unnamed_kind, letter_kind, width_kind}
-use Rattle.unicode_width.specs.Kind.{is_ambiguous, is_ambiguous_symbol, is_jamo_after_lead, is_marked_ambiguous, is_prepended, is_wide, is_zero_width}
-use Rattle.ucd_table.specs.Rows.{value_in, in_ranges}
-use Rattle.ucd_props.specs.Binary.{is_regional_indicator, is_prepended_concatenation_mark}
-use Rattle.ucd_props.specs.Ranges.{regional_indicator_ranges, prepended_concatenation_mark_ranges}
-use Rattle.ucd_emoji.specs.Binary.{is_emoji_modifier, is_emoji_presentation}
-use Rattle.ucd_emoji.specs.Ranges.{emoji_modifier_ranges, emoji_presentation_ranges}
-use Rattle.ucd_bidi.specs.JoiningGroup.{joining_group}
-use Rattle.ucd_bidi.specs.JoiningGroupRows.{joining_group_rows}
-use Rattle.ucd_breaks.specs.GraphemeClusterBreak.{grapheme_cluster_break}
-use Rattle.ucd_breaks.specs.GraphemeClusterBreakRows.{grapheme_cluster_break_rows}
-use Rattle.ucd_breaks.specs.LineBreak.{line_break}
-use Rattle.ucd_breaks.specs.LineBreakRows.{line_break_rows}
-use Rattle.ucd_category.specs.GeneralCategory.{general_category}
-use Rattle.ucd_category.specs.GeneralCategoryRows.{general_category_rows}
-use Rattle.ucd_derived.specs.Binary.{is_default_ignorable_code_point, is_grapheme_extend}
-use Rattle.ucd_derived.specs.DefaultIgnorableCodePointRanges.{default_ignorable_code_point_ranges}
-use Rattle.ucd_derived.specs.GraphemeExtendRanges.{grapheme_extend_ranges}
-use Rattle.ucd_east_asian.specs.EastAsianWidth.{east_asian_width}
-use Rattle.ucd_east_asian.specs.EastAsianWidthRows.{east_asian_width_rows}
-use Rattle.ucd_east_asian.specs.HangulSyllableType.{hangul_syllable_type}
-use Rattle.ucd_east_asian.specs.HangulSyllableTypeRows.{hangul_syllable_type_rows}
-use Rattle.ucd_normal.specs.Decomposition.{decomposition}
-use Rattle.ucd_normal.specs.DecompositionRows.{decomposition_rows}
+-- The characters that pictures are drawn with take one column each.
+use Rattle.std.specs.Prelude.{◌≡◌, Bool, true, false, None, get_or, unwrap_or}
+use Rattle.std.proofs.Common.{ap, cond, List, Option, ℕ}
+use Rattle.html_render_glyphs.specs.laws.Widths.{glyph_widths}
 use Rattle.html_render_lines.specs.Character.{width_of}
 use Rattle.html_render_pictures.specs.declared.picture.Frame.{Frame}
 use Rattle.html_render_pictures.specs.Picture.{joint, separator}
 
-drawn_widths : map width_of (0x20 ∷ 0x2502 ∷ 0x2500 ∷ 0x252C ∷ 0x2534 ∷ 0x253C ∷ 0x2F ∷ []) ≡ 1 ∷ 1 ∷ 1 ∷ 1 ∷ 1 ∷ 1 ∷ 1 ∷ []
-unfolding width_of char_width alone kind named_kind named_rows unnamed_kind letter_kind width_kind is_ambiguous
-    is_ambiguous_symbol is_jamo_after_lead is_marked_ambiguous is_prepended is_wide is_zero_width value_in in_ranges
-    is_regional_indicator is_prepended_concatenation_mark regional_indicator_ranges prepended_concatenation_mark_ranges
-    is_emoji_modifier is_emoji_presentation emoji_modifier_ranges emoji_presentation_ranges joining_group joining_group_rows
-    grapheme_cluster_break grapheme_cluster_break_rows line_break line_break_rows general_category general_category_rows
-    is_default_ignorable_code_point is_grapheme_extend default_ignorable_code_point_ranges grapheme_extend_ranges east_asian_width
-    east_asian_width_rows hangul_syllable_type hangul_syllable_type_rows decomposition decomposition_rows
-drawn_widths = refl
+-- the width at a place of the list
+abbrev at : List (Option ℕ) → ℕ → ℕ
+at widths place = unwrap_or (get_or widths place None) 0
 
 pub space_width : width_of 0x20 ≡ 1
-space_width = ap (λ ws. get_or ws 0 0) drawn_widths
+unfolding width_of
+space_width = ap (λ ws. at ws 0) glyph_widths
 
 pub joint_width : (above below : Bool) → width_of (joint above below) ≡ 1
-joint_width false false = ap (λ ws. get_or ws 2 0) drawn_widths
-joint_width false true = ap (λ ws. get_or ws 3 0) drawn_widths
-joint_width true false = ap (λ ws. get_or ws 4 0) drawn_widths
-joint_width true true = ap (λ ws. get_or ws 5 0) drawn_widths
+unfolding width_of
+joint_width false false = ap (λ ws. at ws 2) glyph_widths
+joint_width false true = ap (λ ws. at ws 3) glyph_widths
+joint_width true false = ap (λ ws. at ws 4) glyph_widths
+joint_width true true = ap (λ ws. at ws 5) glyph_widths
+
+bar_width : width_of 0x2502 ≡ 1
+unfolding width_of
+bar_width = ap (λ ws. at ws 1) glyph_widths
 
 pub separator_width : {T : Type 0} (frame : Frame T) → width_of (separator frame) ≡ 1
 separator_width frame = by frame.borders
   where
     by : (b : Bool) → width_of (cond b 0x2502 0x20) ≡ 1
-    by true = ap (λ ws. get_or ws 1 0) drawn_widths
-    by false = ap (λ ws. get_or ws 0 0) drawn_widths
+    by true = bar_width
+    by false = space_width
 
 -- those of tables whose cells stand one below another
 pub border_width : width_of 0x2500 ≡ 1
-border_width = ap (λ ws. get_or ws 2 0) drawn_widths
+unfolding width_of
+border_width = ap (λ ws. at ws 2) glyph_widths
 
 pub slash_width : width_of 0x2F ≡ 1
-slash_width = ap (λ ws. get_or ws 6 0) drawn_widths
+unfolding width_of
+slash_width = ap (λ ws. at ws 6) glyph_widths

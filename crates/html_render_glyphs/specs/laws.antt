@@ -1,0 +1,2 @@
+-- the widths of the characters
+pub mod Widths

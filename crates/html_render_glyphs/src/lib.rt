@@ -1,0 +1,4 @@
+//! The characters that tables are drawn with, and how many columns they take.
+#![tactic(auto)]
+
+mod laws;

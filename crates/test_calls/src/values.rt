@@ -1,0 +1,147 @@
+//! Values of the library's types: which are equal, how they are ordered, and what they are where nothing is said.
+
+use html_render_tree::Error;
+use html_render_tree::config::ImageRenderMode;
+use html_render_tree::decorate::{PlainDecorator, RichAnnotation, RichDecorator, TextDecorator};
+use html_render_tree::dom::{Attribute, Namespace, QualName};
+use html_render_tree::style::{
+    PseudoElement, Specificity, StyleOrigin, StyleRule, WhiteSpace, WithSpec,
+};
+use html_render_tree::text::Text;
+use std::alloc::{AllocError, Global};
+use std::test::Fail;
+
+/// The text as a string.
+fn string(alloc: Global, text: &str) -> Result<String, AllocError> {
+    String::from_str(alloc, text)
+}
+
+/// An attribute of this value.
+fn id(alloc: Global, value: &str) -> Result<Attribute, AllocError> {
+    Ok(Attribute {
+        name: QualName::html(string(alloc, "id")?),
+        value: string(alloc, value)?,
+    })
+}
+
+#[test]
+fn names_and_attributes_are_equal_by_what_they_say(rt: HostRuntime) -> Result<(), Fail> {
+    let alloc = rt.alloc();
+    for (a, b) in [("a", "a"), ("a", "b")] {
+        let (x, y) = (string(alloc, a)?, string(alloc, b)?);
+        assert_eq!(rt; Namespace::Other(x) == Namespace::Other(y), a == b);
+        let (x, y) = (string(alloc, a)?, string(alloc, b)?);
+        assert_eq!(rt; QualName::html(x) == QualName::html(y), a == b);
+        assert_eq!(rt; id(alloc, a)? == id(alloc, b)?, a == b);
+    }
+    assert!(rt; Namespace::Other(String::new(alloc)) != Namespace::None);
+    assert!(rt; Namespace::Svg != Namespace::Html);
+    Ok(())
+}
+
+/// A specificity of these counts of ids, classes and types.
+fn counts(id: u16, class: u16, typ: u16) -> Specificity {
+    Specificity {
+        inline: false,
+        id,
+        class,
+        typ,
+    }
+}
+
+#[test]
+fn specificities_are_ordered_and_added(rt: HostRuntime) {
+    assert!(rt; counts(1, 0, 0) > counts(0, 3, 0));
+    assert!(rt; Specificity::inline() > counts(65535, 65535, 65535));
+    assert_eq!(rt; (counts(65535, 0, 0) + counts(1, 0, 0)).id, 65535);
+    let mut sum = Specificity::inline();
+    sum += counts(1, 2, 3);
+    assert_eq!(rt;
+        sum,
+        Specificity {
+            inline: true,
+            id: 1,
+            class: 2,
+            typ: 3
+        }
+    );
+    assert!(rt; StyleOrigin::None < StyleOrigin::Agent);
+    assert!(rt; StyleOrigin::User < StyleOrigin::Author);
+    assert_eq!(rt; StyleOrigin::default(), StyleOrigin::None);
+}
+
+#[test]
+fn a_rule_is_as_specific_as_what_it_states(rt: HostRuntime) -> Result<(), Fail> {
+    let alloc = rt.alloc();
+    let name = string(alloc, "p")?;
+    let before = Some(PseudoElement::Before);
+    let mut rule = StyleRule::for_element(alloc, StyleOrigin::Agent, name, before, Vec::new(alloc));
+    assert_eq!(rt; rule.specificity(), counts(0, 0, 2));
+    for _ in 0..2 {
+        rule.classes.push(string(alloc, "x")?)?;
+    }
+    assert_eq!(rt; rule.specificity(), counts(0, 2, 2));
+    Ok(())
+}
+
+#[test]
+fn updates_win_by_importance_origin_specificity_and_order(rt: HostRuntime) {
+    let (agent, user, author) = (StyleOrigin::Agent, StyleOrigin::User, StyleOrigin::Author);
+    let mut value = WithSpec::default();
+    assert_eq!(rt; value.val(), None);
+    value.maybe_update(false, agent, counts(0, 0, 2), 'X');
+    value.maybe_update(false, author, counts(0, 0, 1), 'Y');
+    assert_eq!(rt; value.val().copied(), Some('Y'));
+    value.maybe_update(true, agent, counts(0, 0, 2), 'Z');
+    value.maybe_update(true, author, counts(0, 0, 1), 'W');
+    value.maybe_update(false, author, Specificity::inline(), 'V');
+    assert_eq!(rt; value.into_val(), Some('Z'));
+    let mut value = WithSpec::default();
+    value.maybe_update(false, user, counts(0, 1, 0), 'a');
+    value.maybe_update(false, user, counts(0, 1, 0), 'b');
+    value.maybe_update(false, user, counts(0, 0, 9), 'c');
+    assert_eq!(rt; value.val().copied(), Some('b'));
+}
+
+#[test]
+fn white_space_is_kept_or_wrapped(rt: HostRuntime) {
+    for (white_space, preserves, wraps) in [
+        (WhiteSpace::Normal, false, true),
+        (WhiteSpace::Pre, true, false),
+        (WhiteSpace::PreWrap, true, true),
+    ] {
+        assert_eq!(rt; white_space.preserve_whitespace(), preserves);
+        assert_eq!(rt; white_space.do_wrap(), wraps);
+    }
+}
+
+#[test]
+fn annotations_are_cloned_and_compared(rt: HostRuntime) -> Result<(), Fail> {
+    let alloc = rt.alloc();
+    let link = RichAnnotation::Link(Text::new(string(alloc, "u")?));
+    assert_eq!(rt; link.clone()?, link);
+    assert!(rt; link != RichAnnotation::Image(Text::new(string(alloc, "u")?)));
+    assert_eq!(rt; RichAnnotation::default(), RichAnnotation::Default);
+    Ok(())
+}
+
+/// The decorator of a sub-block in a sub-block.
+fn innermost<D: TextDecorator>(alloc: Global, decorator: &D) -> Result<D, Error> {
+    decorator
+        .make_subblock_decorator(alloc)?
+        .make_subblock_decorator(alloc)
+}
+
+#[test]
+fn a_sub_block_has_the_same_decorator(rt: HostRuntime) -> Result<(), Fail> {
+    let alloc = rt.alloc();
+    let (plain, rich) = (PlainDecorator::new(), RichDecorator::new());
+    assert_eq!(rt; innermost(alloc, &plain)?, plain);
+    assert_eq!(rt; innermost(alloc, &rich)?, rich);
+    Ok(())
+}
+
+#[test]
+fn images_without_a_title_are_left_out_where_nothing_is_said(rt: HostRuntime) {
+    assert!(rt; matches!(ImageRenderMode::default(), ImageRenderMode::IgnoreEmpty));
+}

@@ -1,0 +1,310 @@
+//! Plays the cases of a file.
+
+use crate::calls::{call, is_call};
+use crate::configs::{is_preset, is_setting};
+use crate::faults::Fault;
+use crate::pages::Page;
+use crate::rendering::{self, Question, is_rendering};
+use crate::texts::split_word;
+use crate::{answers, programs, styles, tables};
+use html_render_tree::Error;
+use std::alloc::{AllocError, Global};
+use std::mem;
+
+/// What is wanted of a question, in the form in which answers are made: each line that is printed behind `|`.
+#[derive(Drop)]
+struct Wanted {
+    lines: String,
+    /// Whether the last line goes on.
+    is_open: bool,
+}
+
+/// A question that waits for its answer's end.
+#[derive(Drop)]
+struct Waiting<'a> {
+    question: &'a str,
+    /// What the program is given, for a question that asks for that.
+    input: String,
+    wanted: Wanted,
+}
+
+/// A case that is played.
+#[derive(Drop)]
+struct Case<'a> {
+    title: &'a str,
+    page: Page,
+    /// The calls of the configuration.
+    calls: Vec<&'a str>,
+    waiting: Option<Waiting<'a>>,
+    /// Whether it was asked what the document becomes.
+    is_rendered: bool,
+}
+
+/// Documents of more nodes aren't played at each width.
+const LARGE: usize = 5000;
+
+/// What came of cases: how many there were, and what differs.
+#[derive(Drop)]
+pub struct Played {
+    pub count: usize,
+    pub differences: String,
+}
+
+/// The number of times that an answer's line stands for a text, and whether the text is a line of its own.
+fn split_count(line: &str) -> Option<(usize, bool, &str)> {
+    if let Some((digits, text)) = line.split_once('|') {
+        if let Ok(count) = digits.parse() {
+            return Some((count, false, text));
+        }
+    }
+    let (digits, text) = line.split_once('/')?;
+    Some((digits.parse().ok()?, true, text))
+}
+
+/// Whether a line builds the document by a sign.
+fn has_sign(line: &str) -> bool {
+    matches!(
+        line.as_bytes().first(),
+        Some(b'<' | b'>' | b'"' | b'\'' | b'@' | b'!' | b'?' | b'&')
+    )
+}
+
+impl Wanted {
+    /// Nothing.
+    fn new(alloc: Global) -> Wanted {
+        Wanted {
+            lines: String::new(alloc),
+            is_open: false,
+        }
+    }
+
+    /// Adds a text that is printed.
+    fn print(&mut self, text: &str) -> Result<(), AllocError> {
+        if !self.is_open {
+            self.lines.push('|')?;
+        }
+        self.is_open = true;
+        self.lines.push_str(text)
+    }
+
+    /// Ends the line.
+    fn end_line(&mut self) -> Result<(), AllocError> {
+        self.is_open = false;
+        self.lines.push('\n')
+    }
+
+    /// Takes a line, and answers whether it is one of an answer.
+    fn take(&mut self, line: &str) -> Result<bool, AllocError> {
+        if let Some(text) = line.strip_prefix('|') {
+            self.print(text)?;
+            self.end_line()?;
+            return Ok(true);
+        }
+        if line == "TooNarrow"
+            || line == "Fail"
+            || line.starts_with('~')
+            || line.starts_with("status ")
+        {
+            self.lines.push_str(line)?;
+            self.end_line()?;
+            return Ok(true);
+        }
+        let Some((count, is_line, text)) = split_count(line) else {
+            return Ok(false);
+        };
+        for _ in 0..count {
+            self.print(text)?;
+            if is_line {
+                self.end_line()?;
+            }
+        }
+        Ok(true)
+    }
+}
+
+impl<'a> Waiting<'a> {
+    /// A question without an answer.
+    fn new(alloc: Global, question: &'a str) -> Waiting<'a> {
+        Waiting {
+            question,
+            input: String::new(alloc),
+            wanted: Wanted::new(alloc),
+        }
+    }
+
+    /// Takes a line, and answers whether it is one of the program's input or of an answer.
+    fn take(&mut self, line: &str) -> Result<bool, AllocError> {
+        let Some(line) = line.strip_prefix(':') else {
+            return self.wanted.take(line);
+        };
+        self.input.push_str(line)?;
+        self.input.push('\n')?;
+        Ok(true)
+    }
+}
+
+impl<'a> Case<'a> {
+    /// A new document under plain text.
+    fn new(alloc: Global, title: &'a str) -> Result<Case<'a>, Fault> {
+        let mut calls = Vec::new(alloc);
+        calls.push("plain")?;
+        Ok(Case {
+            title,
+            page: Page::new(alloc)?,
+            calls,
+            waiting: None,
+            is_rendered: false,
+        })
+    }
+
+    /// Takes a line.
+    fn take(&mut self, alloc: Global, line: &'a str, played: &mut Played) -> Result<(), Fault> {
+        if let Some(waiting) = &mut self.waiting {
+            if waiting.take(line)? {
+                return Ok(());
+            }
+        }
+        self.settle(alloc, played)?;
+        let (word, given) = split_word(line);
+        if line.is_empty() {
+            Ok(())
+        } else if has_sign(line) || word == "repeat" {
+            self.page.take(alloc, line)
+        } else if is_preset(word) {
+            self.calls.clear();
+            Ok(self.calls.push(line)?)
+        } else if is_setting(word) {
+            Ok(self.calls.push(line)?)
+        } else if is_call(word) {
+            call(alloc, &mut self.page, word, given)
+        } else {
+            self.is_rendered = self.is_rendered || is_rendering(word);
+            self.waiting = Some(Waiting::new(alloc, line));
+            Ok(())
+        }
+    }
+
+    /// What is answered to a question.
+    fn answer(&self, alloc: Global, question: &str, input: &str) -> Result<String, Fault> {
+        let (asked, given) = split_word(question);
+        if is_rendering(asked) {
+            let question = Question { asked, given };
+            return rendering::answer(alloc, &self.calls, &self.page.dom, question);
+        }
+        match asked {
+            "computed_style" => styles::answer(alloc, &self.calls, given),
+            "table_grid" => tables::grid(alloc, given),
+            "cut_fits" | "check_cut" | "column_widths" | "column_widths_metered" => {
+                tables::cut(alloc, asked, given)
+            }
+            "htree" => programs::answer(alloc, given, input),
+            _ => answers::answer(alloc, &self.page, asked, given),
+        }
+    }
+
+    /// Compares the answer to the question that waits with what is wanted.
+    fn settle(&mut self, alloc: Global, played: &mut Played) -> Result<(), Fault> {
+        let Some(waiting) = mem::take(&mut self.waiting) else {
+            return Ok(());
+        };
+        let came = match self.answer(alloc, waiting.question, &waiting.input) {
+            Err(Fault::Refused(Error::TooNarrow)) => String::from_str(alloc, "TooNarrow\n")?,
+            Err(Fault::Refused(Error::Fail)) => String::from_str(alloc, "Fail\n")?,
+            answer => answer?,
+        };
+        if came != waiting.wanted.lines {
+            played.differ(waiting.question, &waiting.wanted.lines, &came, self.title)?;
+        }
+        Ok(())
+    }
+
+    /// Ends the case: a document that was rendered, and isn't large, is played at each width, without overflow and with it.
+    fn end(&mut self, alloc: Global, played: &mut Played) -> Result<(), Fault> {
+        self.settle(alloc, played)?;
+        if !self.is_rendered || self.page.dom.node_count() > LARGE {
+            return Ok(());
+        }
+        self.calls.retain(|call| *call != "allow_width_overflow" && *call != "no_link_wrapping");
+        match rendering::answer(alloc, &self.calls, &self.page.dom, SWEEP) {
+            Err(Fault::Refused(Error::Fail)) => Ok(()),
+            swept => {
+                let faults = swept?;
+                if !faults.is_empty() {
+                    played.differ("at each width", "", &faults, self.title)?;
+                }
+                Ok(())
+            }
+        }
+    }
+}
+
+/// The question that each document answers.
+const SWEEP: Question<'static> = Question {
+    asked: "sweep_shown",
+    given: "",
+};
+
+/// Puts as much of a text behind another as a person reads.
+fn push_front(text: &mut String, whole: &str) -> Result<(), AllocError> {
+    for c in whole.chars().take(2000) {
+        text.push(c)?;
+    }
+    Ok(())
+}
+
+impl Played {
+    /// No cases.
+    pub fn new(alloc: Global) -> Played {
+        Played {
+            count: 0,
+            differences: String::new(alloc),
+        }
+    }
+
+    /// Notes what was asked, wanted and answered, and the title of the case last.
+    fn differ(
+        &mut self,
+        question: &str,
+        wanted: &str,
+        came: &str,
+        title: &str,
+    ) -> Result<(), AllocError> {
+        let text = &mut self.differences;
+        write!(text, "{question}\nwanted:\n")?;
+        push_front(text, wanted)?;
+        text.push_str("came:\n")?;
+        push_front(text, came)?;
+        write!(text, "{title}\n\n")
+    }
+
+    /// Notes that a line can't be played.
+    fn fail(&mut self, line: &str, fault: &Fault, title: &str) -> Result<(), AllocError> {
+        write!(
+            self.differences,
+            "{line}\ncan't be played: {fault}\n{title}\n\n"
+        )
+    }
+
+    /// Plays the cases of a text.
+    pub fn play(&mut self, alloc: Global, text: &str) -> Result<(), Fault> {
+        let mut case = Case::new(alloc, "(before the first title)")?;
+        for line in text.split('\n') {
+            let taken = match line.strip_prefix("# ") {
+                Some(title) => {
+                    let ended = case.end(alloc, self);
+                    case = Case::new(alloc, title)?;
+                    self.count = self.count.saturating_add(1);
+                    ended
+                }
+                None => case.take(alloc, line, self),
+            };
+            if let Err(fault) = taken {
+                self.fail(line, &fault, case.title)?;
+            }
+        }
+        match case.end(alloc, self) {
+            Ok(()) => Ok(()),
+            Err(fault) => Ok(self.fail("the last line", &fault, case.title)?),
+        }
+    }
+}

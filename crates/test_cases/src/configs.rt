@@ -1,0 +1,94 @@
+//! Configurations by the names of their calls.
+
+use crate::faults::Fault;
+use crate::rules::rule;
+use crate::texts::{number, split_word, truth, unescaped};
+use html_render_tree::config::ImageRenderMode;
+use html_render_tree::text::Text;
+use named_configs::calls::{DecoratorName, Preset, Setting};
+use std::alloc::Global;
+
+/// Whether a word is the name of a call that makes a configuration.
+pub fn is_preset(word: &str) -> bool {
+    matches!(
+        word,
+        "plain" | "plain_no_decorate" | "rich" | "with_decorator"
+    )
+}
+
+/// The call that makes a configuration.
+pub fn preset(line: &str) -> Result<Preset, Fault> {
+    match split_word(line) {
+        ("plain", _) => Ok(Preset::Plain),
+        ("plain_no_decorate", _) => Ok(Preset::PlainNoDecorate),
+        ("rich", _) => Ok(Preset::Rich),
+        (_, name) => match DecoratorName::of(name) {
+            Some(decorator) => Ok(Preset::WithDecorator(decorator)),
+            None => Err(Fault::Malformed("no decorator has this name")),
+        },
+    }
+}
+
+/// Whether a word is the name of a call that changes a configuration.
+pub fn is_setting(word: &str) -> bool {
+    matches!(
+        word,
+        "pad_block_width"
+            | "allow_width_overflow"
+            | "fence_tables"
+            | "no_table_borders"
+            | "no_link_wrapping"
+            | "do_decorate"
+            | "max_wrap_width"
+            | "min_wrap_width"
+            | "raw_mode"
+            | "unicode_strikeout"
+            | "link_footnotes"
+            | "empty_img_mode"
+            | "add_style_rule"
+    )
+}
+
+/// What stands in the place of an image without a title.
+fn image_mode(alloc: Global, given: &str) -> Result<ImageRenderMode, Fault> {
+    match split_word(given) {
+        ("IgnoreEmpty", _) => Ok(ImageRenderMode::IgnoreEmpty),
+        ("ShowAlways", _) => Ok(ImageRenderMode::ShowAlways),
+        ("Filename", _) => Ok(ImageRenderMode::Filename),
+        ("Replace", text) => {
+            let title = unescaped(alloc, text)?;
+            Ok(ImageRenderMode::Replace(Text::new(title)))
+        }
+        _ => Err(Fault::Malformed("no mode of images has this name")),
+    }
+}
+
+/// A call that changes a configuration.
+fn setting(alloc: Global, line: &str) -> Result<Setting, Fault> {
+    let (name, given) = split_word(line);
+    match name {
+        "pad_block_width" => Ok(Setting::PadBlockWidth),
+        "allow_width_overflow" => Ok(Setting::AllowWidthOverflow),
+        "fence_tables" => Ok(Setting::FenceTables),
+        "no_table_borders" => Ok(Setting::NoTableBorders),
+        "no_link_wrapping" => Ok(Setting::NoLinkWrapping),
+        "do_decorate" => Ok(Setting::DoDecorate),
+        "max_wrap_width" => Ok(Setting::MaxWrapWidth(number(given)?)),
+        "min_wrap_width" => Ok(Setting::MinWrapWidth(number(given)?)),
+        "raw_mode" => Ok(Setting::RawMode(truth(given)?)),
+        "unicode_strikeout" => Ok(Setting::UnicodeStrikeout(truth(given)?)),
+        "link_footnotes" => Ok(Setting::LinkFootnotes(truth(given)?)),
+        "empty_img_mode" => Ok(Setting::EmptyImgMode(image_mode(alloc, given)?)),
+        "add_style_rule" => Ok(Setting::AddStyleRule(rule(alloc, given)?)),
+        _ => Err(Fault::Malformed("no setting has this name")),
+    }
+}
+
+/// Calls that change a configuration.
+pub fn settings(alloc: Global, lines: &[&str]) -> Result<Vec<Setting>, Fault> {
+    let mut settings = Vec::new(alloc);
+    for line in lines {
+        settings.push(setting(alloc, line)?)?;
+    }
+    Ok(settings)
+}

@@ -1,0 +1,34 @@
+//! Why a line of a case can't be played.
+
+use html_render_tree::Error;
+use std::alloc::{AllocError, AllocFailed};
+use thiserror::Error;
+
+/// Why a line of a case can't be played.
+#[derive(Debug, Drop, Error)]
+pub enum Fault {
+    /// The library refuses what the line asks for.
+    #[error("{0}")]
+    Refused(Error),
+    /// The line has another form than its call, or breaks the call's condition.
+    #[error("{0}")]
+    Malformed(&'static str),
+}
+
+impl From<Error> for Fault {
+    fn from(error: Error) -> Fault {
+        Fault::Refused(error)
+    }
+}
+
+impl From<AllocError> for Fault {
+    fn from(refusal: AllocError) -> Fault {
+        Fault::Refused(Error::from(refusal))
+    }
+}
+
+impl<T: Drop> From<AllocFailed<T>> for Fault {
+    fn from(refusal: AllocFailed<T>) -> Fault {
+        Fault::Refused(Error::from(refusal))
+    }
+}

@@ -1,0 +1,138 @@
+//! Style rules: `Author p.note#id::before important Content text`.
+
+use crate::faults::Fault;
+use crate::texts::{split_word, unescaped};
+use html_render_tree::style::{
+    Colour, Declaration, Display, PseudoElement, Style, StyleOrigin, StyleRule, WhiteSpace,
+};
+use std::alloc::{AllocError, Global};
+
+/// The origin of a name.
+fn origin(name: &str) -> Result<StyleOrigin, Fault> {
+    match name {
+        "None" => Ok(StyleOrigin::None),
+        "Agent" => Ok(StyleOrigin::Agent),
+        "User" => Ok(StyleOrigin::User),
+        "Author" => Ok(StyleOrigin::Author),
+        _ => Err(Fault::Malformed("no origin has this name")),
+    }
+}
+
+/// The parts of a selector.
+#[derive(Drop)]
+struct Selector {
+    element: Option<String>,
+    id: Option<String>,
+    classes: Vec<String>,
+    pseudo: Option<PseudoElement>,
+}
+
+/// The selector without its pseudo-element, and that.
+fn split_pseudo(text: &str) -> (&str, Option<PseudoElement>) {
+    if let Some(rest) = text.strip_suffix("::before") {
+        (rest, Some(PseudoElement::Before))
+    } else if let Some(rest) = text.strip_suffix("::after") {
+        (rest, Some(PseudoElement::After))
+    } else {
+        (text, None)
+    }
+}
+
+impl Selector {
+    /// A selector: an element's name or `*`, an id behind `#`, classes behind `.` each, and a pseudo-element.
+    fn read(alloc: Global, text: &str) -> Result<Selector, AllocError> {
+        let (text, pseudo) = split_pseudo(text);
+        let mut selector = Selector {
+            element: None,
+            id: None,
+            classes: Vec::new(alloc),
+            pseudo,
+        };
+        let mut sign = ' ';
+        let mut word = String::new(alloc);
+        for c in text.chars() {
+            if c == '#' || c == '.' {
+                selector.state(sign, std::mem::replace(&mut word, String::new(alloc)))?;
+                sign = c;
+            } else {
+                word.push(c)?;
+            }
+        }
+        selector.state(sign, word)?;
+        Ok(selector)
+    }
+
+    /// States what stands behind a sign.
+    fn state(&mut self, sign: char, word: String) -> Result<(), AllocError> {
+        match sign {
+            '#' => self.id = Some(word),
+            '.' => self.classes.push(word)?,
+            _ if word.is_empty() || word.as_str() == "*" => {}
+            _ => self.element = Some(word),
+        }
+        Ok(())
+    }
+}
+
+/// The colour of `#rrggbb`.
+fn colour(text: &str) -> Result<Colour, Fault> {
+    let fault = Fault::Malformed("there is no colour");
+    let Some(digits) = text.strip_prefix('#') else {
+        return Err(fault);
+    };
+    match u32::from_str_radix(digits, 16) {
+        Ok(number) if number < 1 << 24 => Ok(Colour {
+            r: (number >> 16 & 255) as u8,
+            g: (number >> 8 & 255) as u8,
+            b: (number & 255) as u8,
+        }),
+        _ => Err(fault),
+    }
+}
+
+/// How white space is treated, by its name.
+fn white_space(name: &str) -> Result<WhiteSpace, Fault> {
+    match name {
+        "Normal" => Ok(WhiteSpace::Normal),
+        "Pre" => Ok(WhiteSpace::Pre),
+        "PreWrap" => Ok(WhiteSpace::PreWrap),
+        _ => Err(Fault::Malformed("no such white space")),
+    }
+}
+
+/// A property and its value.
+fn style(alloc: Global, text: &str) -> Result<Style, Fault> {
+    let (property, value) = split_word(text);
+    match property {
+        "Colour" => Ok(Style::Colour(colour(value)?)),
+        "BgColour" => Ok(Style::BgColour(colour(value)?)),
+        "Display" => Ok(Style::Display(Display::None)),
+        "WhiteSpace" => Ok(Style::WhiteSpace(white_space(value)?)),
+        "Content" => Ok(Style::Content(unescaped(alloc, value)?)),
+        _ => Err(Fault::Malformed("no property has this name")),
+    }
+}
+
+/// The rule of an origin, a selector and a declaration.
+pub fn rule(alloc: Global, text: &str) -> Result<StyleRule, Fault> {
+    let (name, rest) = split_word(text);
+    let (selector, declared) = split_word(rest);
+    let selector = Selector::read(alloc, selector)?;
+    let (important, declared) = match declared.strip_prefix("important ") {
+        Some(declared) => (true, declared),
+        None => (false, declared),
+    };
+    let mut declarations = Vec::new(alloc);
+    declarations.push(Declaration {
+        important,
+        style: style(alloc, declared)?,
+    })?;
+    Ok(StyleRule {
+        origin: origin(name)?,
+        element: selector.element,
+        id: selector.id,
+        classes: selector.classes,
+        pseudo: selector.pseudo,
+        declarations,
+    })
+}

@@ -1,0 +1,157 @@
+//! Questions for grids of tables and for column cuts.
+
+use crate::faults::Fault;
+use crate::texts::{number, numbers, printed};
+use html_render_tree::table::{CellKind, Span, spans_are_valid, table_grid};
+use html_render_tree::widths::{
+    ColumnCut, Meter, check_cut, column_widths, column_widths_metered, cut_fits,
+};
+use std::alloc::{AllocError, Global};
+
+/// What a cell asks for: `COLSPANxROWSPAN`.
+fn span(word: &str) -> Result<Span, Fault> {
+    let fault = Fault::Malformed("a cell has columns and rows");
+    let Some((colspan, rowspan)) = word.split_once('x') else {
+        return Err(fault);
+    };
+    match (colspan.parse(), rowspan.parse()) {
+        (Ok(colspan), Ok(rowspan)) => Ok(Span { colspan, rowspan }),
+        _ => Err(fault),
+    }
+}
+
+/// The cells of a row.
+fn row(alloc: Global, text: &str) -> Result<Vec<Span>, Fault> {
+    let mut cells = Vec::new(alloc);
+    for word in text.split_whitespace() {
+        if word != "-" {
+            cells.push(span(word)?)?;
+        }
+    }
+    Ok(cells)
+}
+
+/// The name of what stands in a place of a row.
+fn kind_name(kind: CellKind) -> &'static str {
+    match kind {
+        CellKind::Cell => "Cell",
+        CellKind::Placeholder => "Placeholder",
+        CellKind::Gap => "Gap",
+    }
+}
+
+/// Puts the line of a row behind a text.
+fn push_row(
+    shown: &mut String,
+    row: &[html_render_tree::table::PlacedCell],
+) -> Result<(), AllocError> {
+    shown.push('|')?;
+    for (place, cell) in row.iter().enumerate() {
+        if place > 0 {
+            shown.push_str(", ")?;
+        }
+        let name = kind_name(cell.kind);
+        let (start, end, columns) = (cell.start, cell.end, cell.columns);
+        write!(shown, "{name} {start}..{end} ({columns})")?;
+    }
+    shown.push('\n')
+}
+
+/// The grid of rows with `/` between them: its edges, and a line for each row.
+pub fn grid(alloc: Global, given: &str) -> Result<String, Fault> {
+    let mut rows = Vec::new(alloc);
+    if !given.is_empty() {
+        for text in given.split('/') {
+            rows.push(row(alloc, text)?)?;
+        }
+    }
+    if !spans_are_valid(rows.as_slice()) {
+        return Err(Fault::Malformed("a span is 0"));
+    }
+    let grid = table_grid(alloc, rows.as_slice())?;
+    let mut shown = String::from_str(alloc, "|edges")?;
+    for edge in &grid.edges {
+        write!(shown, " {edge}")?;
+    }
+    shown.push('\n')?;
+    for row in &grid.rows {
+        push_row(&mut shown, row)?;
+    }
+    Ok(shown)
+}
+
+/// Columns that are to be cut into a width.
+#[derive(Drop)]
+struct Columns {
+    minimums: Vec<usize>,
+    shares: Vec<usize>,
+    width: usize,
+}
+
+/// The next field, which has to be there.
+fn next<'a>(fields: &mut std::str::Split<'a, char>) -> Result<&'a str, Fault> {
+    match fields.next() {
+        Some(field) => Ok(field.trim()),
+        None => Err(Fault::Malformed("a field is missing")),
+    }
+}
+
+/// What is answered of columns: the minimums, the shares and the width, with `/` between them, and behind these a cut.
+pub fn cut(alloc: Global, asked: &str, given: &str) -> Result<String, Fault> {
+    let mut fields = given.split('/');
+    let columns = Columns {
+        minimums: numbers(alloc, next(&mut fields)?)?,
+        shares: numbers(alloc, next(&mut fields)?)?,
+        width: number(next(&mut fields)?)?,
+    };
+    match asked {
+        "cut_fits" => printed_truth(
+            alloc,
+            cut_fits(&columns.minimums, &columns.shares, columns.width),
+        ),
+        "check_cut" => {
+            let cut = ColumnCut {
+                widths: numbers(alloc, next(&mut fields)?)?,
+                level: number(next(&mut fields)?)?,
+                lowered: number(next(&mut fields)?)?,
+            };
+            printed_truth(
+                alloc,
+                check_cut(&columns.minimums, &columns.shares, columns.width, &cut),
+            )
+        }
+        _ => widths(alloc, &columns, asked == "column_widths_metered"),
+    }
+}
+
+/// `true` or `false`.
+fn printed_truth(alloc: Global, holds: bool) -> Result<String, Fault> {
+    printed(alloc, if holds { "true" } else { "false" })
+}
+
+/// The cut of columns, by both calls, and how many sums the search took, if that is asked.
+fn widths(alloc: Global, columns: &Columns, is_metered: bool) -> Result<String, Fault> {
+    let (minimums, shares, width) = (&columns.minimums, &columns.shares, columns.width);
+    if !cut_fits(minimums, shares, width) {
+        return Err(Fault::Malformed("the columns don't fit"));
+    }
+    let mut meter = Meter::default();
+    let cut = column_widths_metered(alloc, minimums, shares, width, &mut meter)?;
+    if cut != column_widths(alloc, minimums, shares, width)? {
+        return Err(Fault::Malformed("two calls answer two cuts"));
+    }
+    if !check_cut(minimums, shares, width, &cut) {
+        return Err(Fault::Malformed("a cut is refused by its check"));
+    }
+    let mut shown = String::from_str(alloc, "|widths")?;
+    for column in &cut.widths {
+        write!(shown, " {column}")?;
+    }
+    let (level, lowered, probes) = (cut.level, cut.lowered, meter.probes);
+    write!(shown, ", level {level}, lowered {lowered}")?;
+    if is_metered {
+        write!(shown, ", probes {probes}")?;
+    }
+    shown.push('\n')?;
+    Ok(shown)
+}

@@ -1,0 +1,133 @@
+//! Elements as cases write them: `p`, `svg:title`, `{mathml}mi`, each with attributes behind it, as in `a@href=u@id=f`.
+
+use crate::faults::Fault;
+use crate::texts::push_escaped;
+use html_render_tree::dom::{Attribute, Namespace, NodeData, QualName};
+use std::alloc::{AllocError, Global};
+
+/// An element's name and its attributes.
+#[derive(Drop)]
+pub struct Tag {
+    pub name: QualName,
+    pub attributes: Vec<Attribute>,
+}
+
+/// The namespace that stands in braces.
+fn namespace(alloc: Global, word: &str) -> Result<Namespace, AllocError> {
+    Ok(match word {
+        "html" => Namespace::Html,
+        "svg" => Namespace::Svg,
+        "mathml" => Namespace::MathMl,
+        "none" => Namespace::None,
+        _ => Namespace::Other(String::from_str(alloc, word)?),
+    })
+}
+
+/// The name of an element.
+fn element_name(alloc: Global, text: &str) -> Result<QualName, Fault> {
+    let (ns, local) = if let Some(local) = text.strip_prefix("svg:") {
+        (Namespace::Svg, local)
+    } else if let Some(rest) = text.strip_prefix('{') {
+        let (word, local) = rest
+            .split_once('}')
+            .ok_or(Fault::Malformed("a namespace has no end"))?;
+        (namespace(alloc, word)?, local)
+    } else {
+        (Namespace::Html, text)
+    };
+    if local.is_empty() {
+        return Err(Fault::Malformed("an element has no name"));
+    }
+    Ok(QualName {
+        ns,
+        local: String::from_str(alloc, local)?,
+    })
+}
+
+/// An attribute of `name=value`.
+pub fn attribute(alloc: Global, text: &str) -> Result<Attribute, Fault> {
+    let (name, value) = text
+        .split_once('=')
+        .ok_or(Fault::Malformed("an attribute has no value"))?;
+    Ok(Attribute {
+        name: QualName {
+            ns: Namespace::None,
+            local: String::from_str(alloc, name)?,
+        },
+        value: crate::texts::unescaped(alloc, value)?,
+    })
+}
+
+/// Attributes with `@` between them.
+pub fn attributes(alloc: Global, text: &str) -> Result<Vec<Attribute>, Fault> {
+    let mut attributes = Vec::new(alloc);
+    for field in text.split('@') {
+        attributes.push(attribute(alloc, field)?)?;
+    }
+    Ok(attributes)
+}
+
+impl Tag {
+    /// The element that a word is.
+    pub fn read(alloc: Global, text: &str) -> Result<Tag, Fault> {
+        let (name, attributes) = match text.split_once('@') {
+            Some((name, fields)) => (name, attributes(alloc, fields)?),
+            None => (text, Vec::new(alloc)),
+        };
+        Ok(Tag {
+            name: element_name(alloc, name)?,
+            attributes,
+        })
+    }
+}
+
+/// Puts an element's name behind a text.
+fn push_name(shown: &mut String, name: &QualName) -> Result<(), AllocError> {
+    match &name.ns {
+        Namespace::Html => {}
+        Namespace::Svg => shown.push_str("svg:")?,
+        Namespace::MathMl => shown.push_str("{mathml}")?,
+        Namespace::None => shown.push_str("{none}")?,
+        Namespace::Other(other) => write!(shown, "{{{other}}}")?,
+    }
+    shown.push_str(&name.local)
+}
+
+/// Puts attributes behind a text.
+fn push_attributes(shown: &mut String, attributes: &[Attribute]) -> Result<(), AllocError> {
+    for attribute in attributes {
+        write!(shown, "@{}=", attribute.name.local)?;
+        push_escaped(shown, &attribute.value)?;
+    }
+    Ok(())
+}
+
+/// Puts a sign and a text behind another.
+fn push_signed(shown: &mut String, sign: &str, text: &str) -> Result<(), AllocError> {
+    shown.push_str(sign)?;
+    push_escaped(shown, text)
+}
+
+/// Puts what a node holds behind a text, as a case writes it, and an element's attributes behind its name.
+pub fn push_data(shown: &mut String, data: &NodeData) -> Result<(), AllocError> {
+    push_label(shown, data)?;
+    if let NodeData::Element { attrs, .. } = data {
+        push_attributes(shown, attrs)?;
+    }
+    Ok(())
+}
+
+/// Puts what a node holds behind a text, as a case writes it.
+pub fn push_label(shown: &mut String, data: &NodeData) -> Result<(), AllocError> {
+    match data {
+        NodeData::Document => shown.push_str("document"),
+        NodeData::Doctype { name, .. } => push_signed(shown, "<!", name),
+        NodeData::Text { contents } => push_signed(shown, "\"", contents),
+        NodeData::Comment { contents } => push_signed(shown, "!", contents),
+        NodeData::ProcessingInstruction { target, .. } => push_signed(shown, "?", target),
+        NodeData::Element { name, .. } => {
+            shown.push('<')?;
+            push_name(shown, name)
+        }
+    }
+}

@@ -1,0 +1,89 @@
+//! Texts of cases: escapes, numbers, and words.
+
+use crate::faults::Fault;
+use std::alloc::{AllocError, Global};
+
+/// What a text stands for: `\n` is a line feed and `\\` a backslash, and no other escape is known.
+pub fn unescaped(alloc: Global, text: &str) -> Result<String, Fault> {
+    let mut plain = String::new(alloc);
+    let mut in_escape = false;
+    for c in text.chars() {
+        match (in_escape, c) {
+            (false, '\\') => {
+                in_escape = true;
+                continue;
+            }
+            (false, c) => plain.push(c)?,
+            (true, 'n') => plain.push('\n')?,
+            (true, '\\') => plain.push('\\')?,
+            (true, _) => return Err(Fault::Malformed("an escape is not known")),
+        }
+        in_escape = false;
+    }
+    if in_escape {
+        return Err(Fault::Malformed("an escape is not known"));
+    }
+    Ok(plain)
+}
+
+/// Puts a text behind another, with escapes.
+pub fn push_escaped(shown: &mut String, text: &str) -> Result<(), AllocError> {
+    for c in text.chars() {
+        match c {
+            '\n' => shown.push_str("\\n")?,
+            '\\' => shown.push_str("\\\\")?,
+            other => shown.push(other)?,
+        }
+    }
+    Ok(())
+}
+
+/// Puts each line of a text behind another, behind a sign.
+pub fn push_lines(shown: &mut String, sign: char, text: &str) -> Result<(), AllocError> {
+    if text.is_empty() {
+        return Ok(());
+    }
+    let text = text.strip_suffix('\n').unwrap_or(text);
+    for line in text.split('\n') {
+        shown.push(sign)?;
+        shown.push_str(line)?;
+        shown.push('\n')?;
+    }
+    Ok(())
+}
+
+/// The lines of a text, each behind `|`.
+pub fn printed(alloc: Global, text: &str) -> Result<String, Fault> {
+    let mut shown = String::new(alloc);
+    push_lines(&mut shown, '|', text)?;
+    Ok(shown)
+}
+
+/// A word, and what stands behind the space that follows it.
+pub fn split_word(text: &str) -> (&str, &str) {
+    text.split_once(' ').unwrap_or((text, ""))
+}
+
+/// A number of columns.
+pub fn number(text: &str) -> Result<usize, Fault> {
+    text.parse()
+        .map_err(|_| Fault::Malformed("there is no number"))
+}
+
+/// Numbers with spaces between them.
+pub fn numbers(alloc: Global, text: &str) -> Result<Vec<usize>, Fault> {
+    let mut all = Vec::new(alloc);
+    for word in text.split_whitespace() {
+        all.push(number(word)?)?;
+    }
+    Ok(all)
+}
+
+/// `true` or `false`.
+pub fn truth(text: &str) -> Result<bool, Fault> {
+    match text {
+        "true" => Ok(true),
+        "false" => Ok(false),
+        _ => Err(Fault::Malformed("there is neither true nor false")),
+    }
+}

@@ -1,8 +1,0 @@
-use Rattle.html_render_nodes.specs.laws.Splits.{SplitAt-none}
-use Rattle.worked_layout.proofs.walks.skips_what_is_not_asked_for.Goals as goal
-
-pub enclose-requires : goal.enclose-requires
-enclose-requires g c = SplitAt-none _
-
-pub enclose-requires-2 : goal.enclose-requires-2
-enclose-requires-2 g c = SplitAt-none _

@@ -1,7 +1,0 @@
-//! Tests of pictures of tables.
-//!
-//! There is nothing to call here.
-#![tactic(auto)]
-
-#[cfg(test)]
-mod pictures;
