@@ -7,6 +7,8 @@
 #[cfg(test)]
 mod cuts;
 #[cfg(test)]
+mod deep;
+#[cfg(test)]
 mod letters;
 #[cfg(test)]
 mod lines;

@@ -1,6 +1,7 @@
-//! What a tagged line answers beside its elements.
+//! What a tagged line answers beside its elements, and what a text is where its colour map refuses.
 
 use html_render_scripts::building::built;
+use html_render_tree::Error;
 use html_render_tree::block::{TaggedLine, TaggedLineElement};
 use html_render_tree::config::rich;
 use html_render_tree::decorate::RichAnnotation;
@@ -59,5 +60,17 @@ fn lines_have_columns_strings_and_elements(rt: HostRuntime) -> Result<(), Fail> 
     for (line, wanted) in lines.iter().zip(wanted) {
         assert_eq!(rt; shown(alloc, line)?.as_str(), wanted);
     }
+    Ok(())
+}
+
+#[test]
+fn what_a_map_refuses_is_refused(rt: HostRuntime) -> Result<(), Fail> {
+    let alloc = rt.alloc();
+    let config = rich(alloc);
+    let tree = config.dom_to_render_tree(alloc, &built(alloc, DOCUMENT)?)?;
+    let answer = config.render_coloured(alloc, tree, 20, |_: &[RichAnnotation], _: &str| {
+        Err(Error::OutOfMemory)
+    });
+    assert_eq!(rt; answer.err(), Some(Error::OutOfMemory));
     Ok(())
 }

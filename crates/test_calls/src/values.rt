@@ -7,6 +7,7 @@ use html_render_tree::dom::{Attribute, Namespace, QualName};
 use html_render_tree::style::{
     PseudoElement, Specificity, StyleOrigin, StyleRule, WhiteSpace, WithSpec,
 };
+use html_render_tree::table::{Span, spans_are_valid};
 use html_render_tree::text::Text;
 use std::alloc::{AllocError, Global};
 use std::test::Fail;
@@ -144,4 +145,26 @@ fn a_sub_block_has_the_same_decorator(rt: HostRuntime) -> Result<(), Fail> {
 #[test]
 fn images_without_a_title_are_left_out_where_nothing_is_said(rt: HostRuntime) {
     assert!(rt; matches!(ImageRenderMode::default(), ImageRenderMode::IgnoreEmpty));
+}
+
+#[test]
+fn spans_of_nothing_are_not_valid(rt: HostRuntime) -> Result<(), Fail> {
+    let alloc = rt.alloc();
+    assert!(rt; spans_are_valid(&[]));
+    for (colspan, rowspan) in [(1, 1), (2, u128::MAX), (0, 1), (1, 0)] {
+        let mut cells = Vec::new(alloc);
+        for span in [(1, 1), (colspan, rowspan)] {
+            cells.push(Span {
+                colspan: span.0,
+                rowspan: span.1,
+            })?;
+        }
+        let mut rows = Vec::new(alloc);
+        rows.push(cells)?;
+        assert_eq!(rt;
+            spans_are_valid(rows.as_slice()),
+            colspan > 0 && rowspan > 0
+        );
+    }
+    Ok(())
 }

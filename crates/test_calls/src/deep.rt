@@ -1,0 +1,33 @@
+//! Calls on documents that are deep: dumps and paths.
+
+use html_render_scripts::building::built;
+use std::alloc::{AllocError, Global};
+use std::test::Fail;
+
+/// The script of so many elements, one in the other.
+fn nested(alloc: Global, levels: usize) -> Result<String, AllocError> {
+    "<div\n".repeat(alloc, levels)
+}
+
+#[test]
+fn a_deep_document_is_dumped(rt: HostRuntime) -> Result<(), Fail> {
+    let alloc = rt.alloc();
+    let dom = built(alloc, nested(alloc, 2000)?.as_str())?;
+    let dump = dom.as_dom_string(alloc)?;
+    assert_eq!(rt; dump.lines().count(), 4000);
+    Ok(())
+}
+
+#[test]
+fn a_path_may_be_long(rt: HostRuntime) -> Result<(), Fail> {
+    let alloc = rt.alloc();
+    let dom = built(alloc, nested(alloc, 100_000)?.as_str())?;
+    let mut path = Vec::new(alloc);
+    for _ in 0..100_000 {
+        path.push(1)?;
+    }
+    assert!(rt; dom.get_node_by_path(path.as_slice()).is_some());
+    path.push(1)?;
+    assert!(rt; dom.get_node_by_path(path.as_slice()).is_none());
+    Ok(())
+}
