@@ -3,7 +3,7 @@
 
 use crate::reading::{Readable, begin_named, last, next, rest};
 use named_configs::calls::{DecoratorName, Preset, Setting};
-use serde::{Deserializer, Format, Name};
+use serde::{Deserializer, Format};
 use std::alloc::Global;
 
 /// The calls of a configuration.
@@ -35,13 +35,8 @@ impl Readable for Preset {
         alloc: Global,
         from: &mut Deserializer<'_, '_, F>,
     ) -> Result<Preset, F::Error> {
-        let names = [
-            Name::exact("plain"),
-            Name::exact("plain_no_decorate"),
-            Name::exact("rich"),
-            Name::exact("with_decorator"),
-        ];
-        match begin_named(from, &names)? {
+        let names = ["plain", "plain_no_decorate", "rich", "with_decorator"];
+        match begin_named(alloc, from, &names)? {
             0 => alone(from, Preset::Plain),
             1 => alone(from, Preset::PlainNoDecorate),
             2 => alone(from, Preset::Rich),
@@ -58,21 +53,21 @@ impl Readable for Setting {
         from: &mut Deserializer<'_, '_, F>,
     ) -> Result<Setting, F::Error> {
         let names = [
-            Name::exact("allow_width_overflow"),
-            Name::exact("do_decorate"),
-            Name::exact("add_style_rule"),
-            Name::exact("link_footnotes"),
-            Name::exact("no_link_wrapping"),
-            Name::exact("unicode_strikeout"),
-            Name::exact("empty_img_mode"),
-            Name::exact("pad_block_width"),
-            Name::exact("max_wrap_width"),
-            Name::exact("min_wrap_width"),
-            Name::exact("raw_mode"),
-            Name::exact("no_table_borders"),
-            Name::exact("fence_tables"),
+            "allow_width_overflow",
+            "do_decorate",
+            "add_style_rule",
+            "link_footnotes",
+            "no_link_wrapping",
+            "unicode_strikeout",
+            "empty_img_mode",
+            "pad_block_width",
+            "max_wrap_width",
+            "min_wrap_width",
+            "raw_mode",
+            "no_table_borders",
+            "fence_tables",
         ];
-        match begin_named(from, &names)? {
+        match begin_named(alloc, from, &names)? {
             0 => alone(from, Setting::AllowWidthOverflow),
             1 => alone(from, Setting::DoDecorate),
             2 => last(alloc, from).map(Setting::AddStyleRule),

@@ -9,7 +9,7 @@ ghost use Rattle.html_render_json.specs.Refusals.{CantBeAsked};
 use crate::answers::{Refusal, answered};
 use crate::reading::{Members, Readable, once, read_members};
 use html_render_tree::widths::{ColumnCut, check_cut, column_widths, cut_fits};
-use serde::{Deserializer, Format, Name, Serialize};
+use serde::{Deserializer, Format, Serialize};
 use std::alloc::Global;
 
 /// Columns that are to be cut into a width.
@@ -61,11 +61,7 @@ impl Readable for CutForm {
         alloc: Global,
         from: &mut Deserializer<'_, '_, F>,
     ) -> Result<CutForm, F::Error> {
-        let names = [
-            Name::exact("widths"),
-            Name::exact("level"),
-            Name::exact("lowered"),
-        ];
+        let names = ["widths", "level", "lowered"];
         let mut members = CutMembers::default();
         read_members(alloc, from, &names, &mut members)?;
         match members.widths.zip(members.level.zip(members.lowered)) {

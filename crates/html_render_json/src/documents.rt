@@ -4,11 +4,11 @@ ghost use Rattle.std.specs.Prelude.{◌≡◌, ◌≤◌, OnOk};
 ghost use Rattle.html_render_dom.specs.Dom.{IsNode, node_count};
 
 use crate::answers::{Refusal, answered};
-use crate::reading::{Members, Readable, list, once, read_members};
+use crate::reading::{Members, Readable, list, once, read_members, tag};
 use html_render_tree::dom::{
     Attribute, ElementFlags, Handle, Namespace, NodeData, NodeOrText, QualName, RcDom,
 };
-use serde::{Deserialize, Deserializer, Format, Name};
+use serde::{Deserialize, Deserializer, Format};
 use std::alloc::Global;
 
 /// A node below the document.
@@ -91,16 +91,11 @@ impl Readable for Document {
         alloc: Global,
         from: &mut Deserializer<'_, '_, F>,
     ) -> Result<Document, F::Error> {
-        if from.tag("t", &[Name::exact("doc")])? != 0 {
+        if tag(alloc, from, "t", &["doc"])? != 0 {
             return Err(from.unknown_variant());
         }
         let mut document = Document::default();
-        read_members(
-            alloc,
-            from,
-            &[Name::exact("t"), Name::exact("c")],
-            &mut document,
-        )?;
+        read_members(alloc, from, &["t", "c"], &mut document)?;
         Ok(document)
     }
 }

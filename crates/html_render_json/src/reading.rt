@@ -29,16 +29,32 @@ pub trait Members: Drop {
     ) -> Result<(), F::Error>;
 }
 
+/// Names that these words alone match.
+fn exact_names<'n, F: Format>(
+    alloc: Global,
+    from: &mut Deserializer<'_, '_, F>,
+    words: &[&'n str],
+) -> Result<Vec<Name<'n>>, F::Error> {
+    let mut names = Vec::new(alloc);
+    for word in words {
+        if names.push(Name::exact(word)).is_err() {
+            return Err(from.no_memory());
+        }
+    }
+    Ok(names)
+}
+
 /// Reads the members of an object, which have these names.
 pub fn read_members<M: Members, F: Format>(
     alloc: Global,
     from: &mut Deserializer<'_, '_, F>,
-    names: &[Name<'_>],
+    words: &[&str],
     members: &mut M,
 ) -> Result<(), F::Error> {
+    let names = exact_names(alloc, from, words)?;
     from.begin_map()?;
     for _ in 0..u64::MAX {
-        match from.next_key(names)? {
+        match from.next_key(&names)? {
             Some(member) => members.read_member(alloc, from, member)?,
             None => break,
         }
@@ -89,12 +105,34 @@ pub fn list<T: Readable, F: Format>(
 /// Begins an array whose first item is a name, and answers the name's place among those that may stand there. Another
 /// name has a place behind them.
 pub fn begin_named<F: Format>(
+    alloc: Global,
     from: &mut Deserializer<'_, '_, F>,
-    names: &[Name<'_>],
+    words: &[&str],
 ) -> Result<usize, F::Error> {
     from.begin_seq()?;
     from.expect_item()?;
-    from.variant(names)
+    variant(alloc, from, words)
+}
+
+/// A name's place among those that may stand there. Another name has a place behind them.
+fn variant<F: Format>(
+    alloc: Global,
+    from: &mut Deserializer<'_, '_, F>,
+    words: &[&str],
+) -> Result<usize, F::Error> {
+    let names = exact_names(alloc, from, words)?;
+    from.variant(&names)
+}
+
+/// The place of a member's value among names, which is not read by this. Another name has a place behind them.
+pub fn tag<F: Format>(
+    alloc: Global,
+    from: &mut Deserializer<'_, '_, F>,
+    key: &str,
+    words: &[&str],
+) -> Result<usize, F::Error> {
+    let names = exact_names(alloc, from, words)?;
+    from.tag(key, &names)
 }
 
 /// The next item of an array.
@@ -118,11 +156,12 @@ pub fn last<T: Readable, F: Format>(
 
 /// The value of a name, which stands at the same place.
 pub fn choice<T: Copy, F: Format>(
+    alloc: Global,
     from: &mut Deserializer<'_, '_, F>,
-    names: &[Name<'_>],
+    words: &[&str],
     values: &[T],
 ) -> Result<T, F::Error> {
-    match values.get(from.variant(names)?) {
+    match values.get(variant(alloc, from, words)?) {
         Some(value) => Ok(*value),
         None => Err(from.unknown_variant()),
     }
@@ -275,25 +314,22 @@ impl Readable for Colour {
 impl Readable for Display {
     /// `None`.
     fn read<F: Format>(
-        _alloc: Global,
+        alloc: Global,
         from: &mut Deserializer<'_, '_, F>,
     ) -> Result<Display, F::Error> {
-        choice(from, &[Name::exact("None")], &[Display::None])
+        choice(alloc, from, &["None"], &[Display::None])
     }
 }
 
 impl Readable for WhiteSpace {
     /// `Normal`, `Pre` or `PreWrap`.
     fn read<F: Format>(
-        _alloc: Global,
+        alloc: Global,
         from: &mut Deserializer<'_, '_, F>,
     ) -> Result<WhiteSpace, F::Error> {
-        let names = [
-            Name::exact("Normal"),
-            Name::exact("Pre"),
-            Name::exact("PreWrap"),
-        ];
+        let names = ["Normal", "Pre", "PreWrap"];
         choice(
+            alloc,
             from,
             &names,
             &[WhiteSpace::Normal, WhiteSpace::Pre, WhiteSpace::PreWrap],
@@ -309,7 +345,7 @@ impl Readable for ImageRenderMode {
     ) -> Result<ImageRenderMode, F::Error> {
         match from.peek()? {
             Kind::Seq => replacement(alloc, from),
-            _ => mode_of_a_name(from),
+            _ => mode_of_a_name(alloc, from),
         }
     }
 }
@@ -319,7 +355,7 @@ fn replacement<F: Format>(
     alloc: Global,
     from: &mut Deserializer<'_, '_, F>,
 ) -> Result<ImageRenderMode, F::Error> {
-    if begin_named(from, &[Name::exact("Replace")])? != 0 {
+    if begin_named(alloc, from, &["Replace"])? != 0 {
         return Err(from.unknown_variant());
     }
     Ok(ImageRenderMode::Replace(Text::new(last(alloc, from)?)))
@@ -327,14 +363,11 @@ fn replacement<F: Format>(
 
 /// A mode without a text.
 fn mode_of_a_name<F: Format>(
+    alloc: Global,
     from: &mut Deserializer<'_, '_, F>,
 ) -> Result<ImageRenderMode, F::Error> {
-    let names = [
-        Name::exact("IgnoreEmpty"),
-        Name::exact("ShowAlways"),
-        Name::exact("Filename"),
-    ];
-    match from.variant(&names)? {
+    let names = ["IgnoreEmpty", "ShowAlways", "Filename"];
+    match variant(alloc, from, &names)? {
         0 => Ok(ImageRenderMode::IgnoreEmpty),
         1 => Ok(ImageRenderMode::ShowAlways),
         2 => Ok(ImageRenderMode::Filename),
@@ -348,14 +381,8 @@ impl Readable for Style {
         alloc: Global,
         from: &mut Deserializer<'_, '_, F>,
     ) -> Result<Style, F::Error> {
-        let names = [
-            Name::exact("Colour"),
-            Name::exact("BgColour"),
-            Name::exact("Display"),
-            Name::exact("WhiteSpace"),
-            Name::exact("Content"),
-        ];
-        match begin_named(from, &names)? {
+        let names = ["Colour", "BgColour", "Display", "WhiteSpace", "Content"];
+        match begin_named(alloc, from, &names)? {
             0 => Colour::read(alloc, from).map(Style::Colour),
             1 => Colour::read(alloc, from).map(Style::BgColour),
             2 => last(alloc, from).map(Style::Display),
@@ -394,7 +421,7 @@ impl Readable for Declaration {
         alloc: Global,
         from: &mut Deserializer<'_, '_, F>,
     ) -> Result<Declaration, F::Error> {
-        let names = [Name::exact("important"), Name::exact("style")];
+        let names = ["important", "style"];
         let mut members = DeclarationMembers::default();
         read_members(alloc, from, &names, &mut members)?;
         match members.important.zip(members.style) {
@@ -407,33 +434,33 @@ impl Readable for Declaration {
 impl Readable for StyleOrigin {
     /// `None`, `Agent`, `User` or `Author`.
     fn read<F: Format>(
-        _alloc: Global,
+        alloc: Global,
         from: &mut Deserializer<'_, '_, F>,
     ) -> Result<StyleOrigin, F::Error> {
-        let names = [
-            Name::exact("None"),
-            Name::exact("Agent"),
-            Name::exact("User"),
-            Name::exact("Author"),
-        ];
+        let names = ["None", "Agent", "User", "Author"];
         let origins = [
             StyleOrigin::None,
             StyleOrigin::Agent,
             StyleOrigin::User,
             StyleOrigin::Author,
         ];
-        choice(from, &names, &origins)
+        choice(alloc, from, &names, &origins)
     }
 }
 
 impl Readable for PseudoElement {
     /// `Before` or `After`.
     fn read<F: Format>(
-        _alloc: Global,
+        alloc: Global,
         from: &mut Deserializer<'_, '_, F>,
     ) -> Result<PseudoElement, F::Error> {
-        let names = [Name::exact("Before"), Name::exact("After")];
-        choice(from, &names, &[PseudoElement::Before, PseudoElement::After])
+        let names = ["Before", "After"];
+        choice(
+            alloc,
+            from,
+            &names,
+            &[PseudoElement::Before, PseudoElement::After],
+        )
     }
 }
 
@@ -491,12 +518,12 @@ impl Readable for StyleRule {
         from: &mut Deserializer<'_, '_, F>,
     ) -> Result<StyleRule, F::Error> {
         let names = [
-            Name::exact("origin"),
-            Name::exact("element"),
-            Name::exact("id"),
-            Name::exact("classes"),
-            Name::exact("pseudo"),
-            Name::exact("declarations"),
+            "origin",
+            "element",
+            "id",
+            "classes",
+            "pseudo",
+            "declarations",
         ];
         let mut members = RuleMembers::default();
         read_members(alloc, from, &names, &mut members)?;

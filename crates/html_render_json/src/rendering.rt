@@ -21,7 +21,7 @@ use html_render_tree::decorate::{PlainDecorator, RichDecorator, TextDecorator};
 use html_render_tree::dom::RcDom;
 use html_render_tree::widths::Meter;
 use named_configs::calls::{DecoratorName, Preset, Setting, with_settings};
-use serde::{Deserializer, Format, Name, Serialize};
+use serde::{Deserializer, Format, Serialize};
 use std::alloc::Global;
 
 /// What is wanted of a document.
@@ -40,17 +40,12 @@ pub enum Want {
 impl Readable for Want {
     /// `string`, `tree`, `lines` or `counts`.
     fn read<F: Format>(
-        _alloc: Global,
+        alloc: Global,
         from: &mut Deserializer<'_, '_, F>,
     ) -> Result<Want, F::Error> {
-        let names = [
-            Name::exact("string"),
-            Name::exact("tree"),
-            Name::exact("lines"),
-            Name::exact("counts"),
-        ];
+        let names = ["string", "tree", "lines", "counts"];
         let wants = [Want::String, Want::Tree, Want::Lines, Want::Counts];
-        choice(from, &names, &wants)
+        choice(alloc, from, &names, &wants)
     }
 }
 

@@ -4,13 +4,13 @@ use crate::answers::{Refusal, refused};
 use crate::configs::Calls;
 use crate::cuts::{self, Columns, CutForm};
 use crate::documents::{self, Document};
-use crate::reading::{Members, Readable, once, read_members};
+use crate::reading::{Members, Readable, once, read_members, tag};
 use crate::rendering::{self, Want};
 use crate::{grids, styles};
 use html_render_tree::dom::Attribute;
 use html_render_tree::style::StyleRule;
 use html_render_tree::table::Span;
-use serde::{Deserialize, Deserializer, Format, Name};
+use serde::{Deserialize, Deserializer, Format};
 use std::alloc::Global;
 
 /// What a line asks for.
@@ -65,15 +65,15 @@ impl Op {
 
 impl Readable for Op {
     /// The `op` of the object that comes, which is not read by this.
-    fn read<F: Format>(_alloc: Global, from: &mut Deserializer<'_, '_, F>) -> Result<Op, F::Error> {
+    fn read<F: Format>(alloc: Global, from: &mut Deserializer<'_, '_, F>) -> Result<Op, F::Error> {
         let names = [
-            Name::exact("render"),
-            Name::exact("table_grid"),
-            Name::exact("cut_fits"),
-            Name::exact("column_widths"),
-            Name::exact("check_cut"),
-            Name::exact("computed_style"),
-            Name::exact("dump"),
+            "render",
+            "table_grid",
+            "cut_fits",
+            "column_widths",
+            "check_cut",
+            "computed_style",
+            "dump",
         ];
         let ops = [
             Op::Render,
@@ -84,7 +84,7 @@ impl Readable for Op {
             Op::ComputedStyle,
             Op::Dump,
         ];
-        match ops.get(from.tag("op", &names)?) {
+        match ops.get(tag(alloc, from, "op", &names)?) {
             Some(op) => Ok(*op),
             None => Err(from.unknown_variant()),
         }
@@ -126,18 +126,8 @@ impl<'de> Deserialize<'de> for Request {
         from: &mut Deserializer<'de, '_, F>,
     ) -> Result<Request, F::Error> {
         let names = [
-            Name::exact("op"),
-            Name::exact("config"),
-            Name::exact("want"),
-            Name::exact("dom"),
-            Name::exact("width"),
-            Name::exact("minimums"),
-            Name::exact("shares"),
-            Name::exact("cut"),
-            Name::exact("rows"),
-            Name::exact("rules"),
-            Name::exact("element"),
-            Name::exact("attrs"),
+            "op", "config", "want", "dom", "width", "minimums", "shares", "cut", "rows", "rules",
+            "element", "attrs",
         ];
         let mut request = Request::new(Op::read(alloc, from)?);
         read_members(alloc, from, &names, &mut request)?;
