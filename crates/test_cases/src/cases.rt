@@ -203,37 +203,35 @@ impl<'a> Case<'a> {
     }
 
     /// Compares the answer to the question that waits with what is wanted.
-    fn settle(&mut self, alloc: Global, played: &mut Played) -> Result<(), Fault> {
+    fn settle(&mut self, alloc: Global, played: &mut Played) -> Result<(), AllocError> {
         let Some(waiting) = mem::take(&mut self.waiting) else {
             return Ok(());
         };
-        let came = match self.answer(alloc, waiting.question, &waiting.input) {
+        let question = waiting.question;
+        let came = match self.answer(alloc, question, &waiting.input) {
+            Ok(answer) => answer,
             Err(Fault::Refused(Error::TooNarrow)) => String::from_str(alloc, "TooNarrow\n")?,
             Err(Fault::Refused(Error::Fail)) => String::from_str(alloc, "Fail\n")?,
-            answer => answer?,
+            Err(fault) => return played.fail(question, &fault, self.title),
         };
         if came != waiting.wanted.lines {
-            played.differ(waiting.question, &waiting.wanted.lines, &came, self.title)?;
+            played.differ(question, &waiting.wanted.lines, &came, self.title)?;
         }
         Ok(())
     }
 
     /// Ends the case: a document that was rendered, and isn't large, is played at each width, without overflow and with it.
-    fn end(&mut self, alloc: Global, played: &mut Played) -> Result<(), Fault> {
+    fn end(&mut self, alloc: Global, played: &mut Played) -> Result<(), AllocError> {
         self.settle(alloc, played)?;
         if !self.is_rendered || self.page.dom.node_count() > LARGE {
             return Ok(());
         }
         self.calls.retain(|call| *call != "allow_width_overflow" && *call != "no_link_wrapping");
         match rendering::answer(alloc, &self.calls, &self.page.dom, SWEEP) {
+            Ok(faults) if faults.is_empty() => Ok(()),
+            Ok(faults) => played.differ("at each width", "", &faults, self.title),
             Err(Fault::Refused(Error::Fail)) => Ok(()),
-            swept => {
-                let faults = swept?;
-                if !faults.is_empty() {
-                    played.differ("at each width", "", &faults, self.title)?;
-                }
-                Ok(())
-            }
+            Err(fault) => played.fail("at each width", &fault, self.title),
         }
     }
 }
@@ -289,22 +287,14 @@ impl Played {
     pub fn play(&mut self, alloc: Global, text: &str) -> Result<(), Fault> {
         let mut case = Case::new(alloc, "(before the first title)")?;
         for line in text.split('\n') {
-            let taken = match line.strip_prefix("# ") {
-                Some(title) => {
-                    let ended = case.end(alloc, self);
-                    case = Case::new(alloc, title)?;
-                    self.count = self.count.saturating_add(1);
-                    ended
-                }
-                None => case.take(alloc, line, self),
-            };
-            if let Err(fault) = taken {
+            if let Some(title) = line.strip_prefix("# ") {
+                case.end(alloc, self)?;
+                case = Case::new(alloc, title)?;
+                self.count = self.count.saturating_add(1);
+            } else if let Err(fault) = case.take(alloc, line, self) {
                 self.fail(line, &fault, case.title)?;
             }
         }
-        match case.end(alloc, self) {
-            Ok(()) => Ok(()),
-            Err(fault) => Ok(self.fail("the last line", &fault, case.title)?),
-        }
+        Ok(case.end(alloc, self)?)
     }
 }

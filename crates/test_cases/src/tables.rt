@@ -2,7 +2,7 @@
 
 use crate::faults::Fault;
 use crate::texts::{number, numbers, printed};
-use html_render_tree::table::{CellKind, Span, spans_are_valid, table_grid};
+use html_render_tree::table::{CellKind, PlacedCell, Span, spans_are_valid, table_grid};
 use html_render_tree::widths::{
     ColumnCut, Meter, check_cut, column_widths, column_widths_metered, cut_fits,
 };
@@ -41,10 +41,7 @@ fn kind_name(kind: CellKind) -> &'static str {
 }
 
 /// Puts the line of a row behind a text.
-fn push_row(
-    shown: &mut String,
-    row: &[html_render_tree::table::PlacedCell],
-) -> Result<(), AllocError> {
+fn push_row(shown: &mut String, row: &[PlacedCell]) -> Result<(), AllocError> {
     shown.push('|')?;
     for (place, cell) in row.iter().enumerate() {
         if place > 0 {

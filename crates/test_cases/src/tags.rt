@@ -1,7 +1,7 @@
 //! Elements as cases write them: `p`, `svg:title`, `{mathml}mi`, each with attributes behind it, as in `a@href=u@id=f`.
 
 use crate::faults::Fault;
-use crate::texts::push_escaped;
+use crate::texts::{push_escaped, unescaped};
 use html_render_tree::dom::{Attribute, Namespace, NodeData, QualName};
 use std::alloc::{AllocError, Global};
 
@@ -54,7 +54,7 @@ pub fn attribute(alloc: Global, text: &str) -> Result<Attribute, Fault> {
             ns: Namespace::None,
             local: String::from_str(alloc, name)?,
         },
-        value: crate::texts::unescaped(alloc, value)?,
+        value: unescaped(alloc, value)?,
     })
 }
 
