@@ -1,6 +1,6 @@
 -- A table below its captions.
 use Rattle.std.proofs.Common.{◌≡◌, ℕ, ◌<◌, List, [], ◌∷◌, ◌++◌, length, refl, sym, ap, subst, ◌∙◌, arith}
-use Rattle.html_render_dom.specs.Forest.{node, none, followed_by}
+use Rattle.html_render_values.specs.Forest.{node, none, followed_by}
 use Rattle.html_render_nodes.specs.Grids.{GridRows}
 use Rattle.html_render_nodes.specs.laws.Splits.{followed_by-followed_by}
 use Rattle.html_render_nodes.specs.declared.tree.Estimate.{Estimate}

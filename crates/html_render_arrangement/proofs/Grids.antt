@@ -2,7 +2,7 @@
 use Rattle.std.proofs.Common.{◌≡◌, ℕ, ◌+◌, ◌<◌, List, [], ◌∷◌, ◌++◌, length, take, drop, refl, sym, ap, ◌∙◌, arith}
 use lib.ListN.{get_or}
 use Rattle.std.proofs.lemmas.List.{get_or-drop, drop-drop, length-take-le}
-use Rattle.html_render_dom.specs.Forest.{none, node, followed_by}
+use Rattle.html_render_values.specs.Forest.{none, node, followed_by}
 use Rattle.html_render_nodes.specs.RenderNodes.{no_style, unmeasured}
 use Rattle.html_render_nodes.specs.Grids.{GridRows}
 use Rattle.html_render_nodes.specs.declared.tree.NodeKind.TheVariants.{TableRow}

@@ -1,6 +1,6 @@
 -- What is made of rows and cells goes from one to the next, and what is inserted goes into the first.
 use Rattle.std.proofs.Common.{◌≡◌, ℕ, List, [], ◌∷◌, ◌++◌, length, refl, sym, ap, subst, ◌∙◌, arith}
-use Rattle.html_render_dom.specs.Forest.{none, node, followed_by}
+use Rattle.html_render_values.specs.Forest.{none, node, followed_by}
 use Rattle.html_render_nodes.specs.declared.tree.NodeKind.{NodeKind}
 use Rattle.html_render_nodes.specs.declared.tree.RenderNode.{RenderNode}
 use Rattle.html_render_nodes.specs.laws.Splits.{followed_by-none, followed_by-followed_by}

@@ -2,7 +2,7 @@
 use Rattle.std.proofs.Common.{◌≡◌, ℕ, ◌+◌, ◌<◌, true, false, List, [], ◌∷◌, ◌++◌, length, take, drop, refl, sym, ap, ◌∙◌, if◌then◌else◌, Bool}
 use lib.ListN.{get_or}
 use Rattle.std.proofs.lemmas.List.{drop_more}
-use Rattle.html_render_dom.specs.Forest.{none, node, followed_by}
+use Rattle.html_render_values.specs.Forest.{none, node, followed_by}
 use Rattle.html_render_nodes.specs.laws.Splits.{followed_by-none, followed_by-followed_by}
 use Rattle.html_render_nodes.specs.declared.tree.RenderNode.{RenderNode}
 use Rattle.html_render_drafts.specs.Store.{Trees, at, planted, below_first, Within, Plants}

@@ -2,7 +2,7 @@
 use Rattle.std.proofs.lemmas.List.{take-append-drop}
 use Rattle.std.proofs.Common.{◌≡◌, ℕ, ◌+◌, ◌-◌, ◌<◌, List, [], ◌∷◌, ◌++◌, length, take, drop, set, refl, sym, ap, subst, ◌∙◌, arith, length-drop}
 use lib.ListN.{get_or}
-use Rattle.html_render_dom.specs.Forest.{Forest, none, node, followed_by}
+use Rattle.html_render_values.specs.Forest.{Forest, none, node, followed_by}
 use Rattle.html_render_nodes.specs.laws.Splits.{followed_by-followed_by}
 use Rattle.html_render_drafts.specs.Store.{Trees, at, planted, below_first, Holds, Within, Grown, Plants, Becomes}
 use Rattle.html_render_drafts.specs.laws.Store.{Grown-same, Grown-then, at-grown, Within-grown, Becomes-then}

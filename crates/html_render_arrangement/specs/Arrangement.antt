@@ -1,8 +1,8 @@
 -- THE PARTS OF TABLES in their places: what the rows and cells of a table are, and where what is inserted into its parts goes.
 use Rattle.std.specs.Prelude.{Bool, true, false, List, [], Option, Some, None, drop, if◌then◌else◌}
 use lib.ListN.{get_or}
-use Rattle.html_render_dom.specs.Forest.{Forest, none, node, followed_by}
-use Rattle.html_render_dom.specs.Outcome.{◌>>=◌}
+use Rattle.html_render_values.specs.Forest.{Forest, none, node, followed_by}
+use Rattle.html_render_values.specs.Outcome.{◌>>=◌}
 use Rattle.html_render_nodes.specs.Grids.{GridRows}
 use Rattle.html_render_nodes.specs.RenderNodes.{no_style, unmeasured}
 use Rattle.html_render_nodes.specs.declared.tree.Estimate.{Estimate}

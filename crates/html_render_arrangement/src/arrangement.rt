@@ -11,10 +11,10 @@ ghost use Rattle.html_render_arrangement.specs.Arrangement.{stays, settled_kind,
 ghost use Rattle.html_render_arrangement.specs.Stacks.{TopTrees, places};
 
 use crate::tables::push_arranged;
-use html_render_dom::Error;
 use html_render_drafts::finish::{PlacedWriter, finish_below};
 use html_render_drafts::store::{Place, Store};
 use html_render_nodes::tree::{Entry, NodeKind, Part, RenderNode, RenderTree};
+use html_render_values::Error;
 use std::alloc::Global;
 
 /// Whether a node of this kind is neither a table nor a part of one.

@@ -4,9 +4,9 @@ ghost use Rattle.std.specs.Prelude.{◌≡◌, ◌≤◌, [], take, drop, length
 ghost use Rattle.html_render_drafts.specs.Store.{planted, Within, Plants};
 ghost use Rattle.html_render_arrangement.specs.Arrangement.{is_of, picked, front, behind, back};
 
-use html_render_dom::Error;
 use html_render_drafts::store::{Place, Store};
 use html_render_nodes::tree::{NodeKind, Part, RenderNode};
+use html_render_values::Error;
 use std::alloc::Global;
 
 /// A sort of nodes in a part of a table.

@@ -1,15 +1,15 @@
 //! Rows over their cells, and what is inserted into the first of them.
 
 ghost use Rattle.std.specs.Prelude.{◌≡◌, [], ◌∷◌, IfOk, OnOk, IfErr};
-ghost use Rattle.html_render_dom.specs.Forest.{followed_by};
+ghost use Rattle.html_render_values.specs.Forest.{followed_by};
 ghost use Rattle.html_render_drafts.specs.Store.{at, planted, below_first, Holds, Within, Becomes};
 ghost use Rattle.html_render_arrangement.specs.Arrangement.{as_kind, into_first, into_first_row, cells_in, with_cells, rows_in};
 ghost use Rattle.html_render_arrangement.specs.Arrangement.{rows_of, table_rows};
 
 use crate::parts::{Ends, Sort, ends_of, pick};
-use html_render_dom::Error;
 use html_render_drafts::store::{Place, Store};
 use html_render_nodes::tree::{NodeKind, RenderNode};
+use html_render_values::Error;
 use std::alloc::Global;
 
 /// The tree with a node of this kind on its top.

@@ -1,15 +1,15 @@
 //! Tables over their rows, on the columns of their grids.
 
 ghost use Rattle.std.specs.Prelude.{◌≡◌, [], ◌∷◌, drop, slice_index_or, IfOk, OnOk, IfErr};
-ghost use Rattle.html_render_dom.specs.Forest.{followed_by};
+ghost use Rattle.html_render_values.specs.Forest.{followed_by};
 ghost use Rattle.html_render_drafts.specs.Store.{planted, Within, Becomes};
 ghost use Rattle.html_render_arrangement.specs.Arrangement.{as_kind, picked, placed_rows, table_over, table_below, table_of, tree_of};
 
 use crate::parts::{Ends, Sort, ends_of, pick};
 use crate::rows::{change_kind, change_kinds, insert_into_first_row, rows_of_table};
-use html_render_dom::Error;
 use html_render_drafts::store::{Place, Store};
 use html_render_nodes::tree::{Estimate, Grid, NodeKind, NodeStyle, RenderNode, Slots};
+use html_render_values::Error;
 use std::alloc::Global;
 
 /// What stands in the row of a grid with this index: nothing where there is no such row.

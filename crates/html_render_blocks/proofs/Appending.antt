@@ -1,8 +1,8 @@
 -- Why a block can't be put into another.
 use Rattle.std.proofs.Common.{ℕ, List}
-use Rattle.html_render_dom.specs.declared.errors.Error.{Error}
-use Rattle.html_render_dom.specs.Outcome.{Refuses}
-use Rattle.html_render_dom.specs.laws.Outcome.{Refuses-then}
+use Rattle.html_render_values.specs.declared.errors.Error.{Error}
+use Rattle.html_render_values.specs.Outcome.{Refuses}
+use Rattle.html_render_values.specs.laws.Outcome.{Refuses-then}
 use Rattle.html_render_blocks.specs.BlockMachine as machine
 use Rattle.html_render_blocks.specs.BlockMachine.{MachineBlock}
 

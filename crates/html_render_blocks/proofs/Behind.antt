@@ -3,8 +3,8 @@ use Rattle.std.proofs.Common.{◌≡◌, ℕ, ◌+◌, Bool, List, ◌++◌, Opt
 use Rattle.std.proofs.Common.{append_assoc, length-append}
 use Rattle.html_render_lines.specs.Line.{Line, marks_line}
 use Rattle.html_render_blocks.specs.Joined.{prefixed, fitting, moved}
-use Rattle.html_render_lines.specs.Paragraph.{Page, all_lines}
-use Rattle.html_render_lines.specs.Stream.{State, start, finished}
+use Rattle.html_render_paragraphs.specs.Paragraph.{Page, all_lines}
+use Rattle.html_render_paragraphs.specs.Stream.{State, start, finished}
 use Rattle.html_render_pictures.specs.Padding.{filled}
 use Rattle.html_render_blocks.specs.BlockMachine as machine
 use Rattle.html_render_blocks.specs.BlockMachine.{MachineBlock}

@@ -5,9 +5,9 @@ use Rattle.std.proofs.lemmas.List.{map-append}
 use Rattle.std.proofs.lemmas.Str.{chars-encodes, encodes-append}
 use Rattle.std.specs.Str.{chars, IsUtf8}
 use lib.Utf8.{encode, encodes, scalar, scalars}
-use Rattle.html_render_lines.specs.CutText.{text_lines}
+use Rattle.html_render_paragraphs.specs.CutText.{text_lines}
 use Rattle.html_render_lines.specs.Line.{Line}
-use Rattle.html_render_lines.specs.Paragraph.{Setting}
+use Rattle.html_render_paragraphs.specs.Paragraph.{Setting}
 use Rattle.html_render_lines.specs.laws.Cases.{if_cases}
 use Rattle.html_render_blocks.specs.Closing.{unbroken, on_one_line, closing_lines}
 

@@ -3,16 +3,16 @@
 use Rattle.std.specs.Prelude.{ℕ, ◌-◌, max, min, nat_le, Bool, true, false, not, ◌||◌, ◌&&◌, List, [], ◌∷◌, ◌++◌, map, length, ◌==◌}
 use Rattle.std.specs.Prelude.{Option, Some, None, option_map, if◌then◌else◌}
 use Rattle.std.specs.List.{list_all}
-use Rattle.html_render_dom.specs.Outcome.{◌>>=◌}
-use Rattle.html_render_dom.specs.declared.style.WhiteSpace.{WhiteSpace}
-use Rattle.html_render_dom.specs.declared.style.WhiteSpace.TheVariants.{Normal, Pre, PreWrap}
+use Rattle.html_render_values.specs.Outcome.{◌>>=◌}
+use Rattle.html_render_values.specs.declared.white_space.WhiteSpace.{WhiteSpace}
+use Rattle.html_render_values.specs.declared.white_space.WhiteSpace.TheVariants.{Normal, Pre, PreWrap}
 use Rattle.html_render_lines.specs.declared.character.Item.{Item}
 use Rattle.html_render_lines.specs.declared.character.Item.TheVariants.{Mark}
 use Rattle.html_render_lines.specs.declared.character.TextStyle.{TextStyle}
 use Rattle.html_render_lines.specs.Character.{is_collapsible}
 use Rattle.html_render_lines.specs.Line.{Line, marks_line}
-use Rattle.html_render_lines.specs.Paragraph.{Setting, Page, paragraph, all_lines}
-use Rattle.html_render_lines.specs.Stream.{styled}
+use Rattle.html_render_paragraphs.specs.Paragraph.{Setting, Page, paragraph, all_lines}
+use Rattle.html_render_paragraphs.specs.Stream.{styled}
 use Rattle.html_render_lines.specs.TaggedText.{under}
 use Rattle.html_render_blocks.specs.declared.block.BlockSetting.{BlockSetting}
 use Rattle.html_render_blocks.specs.Closing.{line_setting, closing_lines}

@@ -2,12 +2,12 @@
 -- operations have the names of those of the definition on whole lists, in Block.
 use Rattle.std.specs.Prelude.{ℕ, Bool, true, false, not, ◌||◌, ◌&&◌, List, [], ◌∷◌, ◌++◌, length, ◌==◌}
 use Rattle.std.specs.Prelude.{Option, Some, None, option_map, option_and_then, if◌then◌else◌}
-use Rattle.html_render_dom.specs.Outcome.{◌>>=◌}
+use Rattle.html_render_values.specs.Outcome.{◌>>=◌}
 use Rattle.html_render_lines.specs.declared.character.Item.TheVariants.{Mark}
 use Rattle.html_render_lines.specs.declared.character.TextStyle.{TextStyle}
 use Rattle.html_render_lines.specs.Line.{Line, marks_line}
-use Rattle.html_render_lines.specs.Paragraph.{Setting, Page, all_lines}
-use Rattle.html_render_lines.specs.Stream.{State, start, step, after, finished, styled}
+use Rattle.html_render_paragraphs.specs.Paragraph.{Setting, Page, all_lines}
+use Rattle.html_render_paragraphs.specs.Stream.{State, start, step, after, finished, styled}
 use Rattle.html_render_lines.specs.TaggedText.{under}
 use Rattle.html_render_blocks.specs.declared.block.BlockSetting.{BlockSetting}
 use Rattle.html_render_blocks.specs.Operations.{Operations, Ending}

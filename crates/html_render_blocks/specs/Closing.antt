@@ -1,9 +1,9 @@
 -- Lines that close a document: each text begins a line of its own.
 use Rattle.std.specs.Prelude.{ℕ, Bool, List, [], ◌∷◌, ◌++◌, Option, Some, map, ◌==◌, if◌then◌else◌}
-use Rattle.html_render_dom.specs.Outcome.{◌>>=◌}
-use Rattle.html_render_lines.specs.CutText.{text_lines}
+use Rattle.html_render_values.specs.Outcome.{◌>>=◌}
+use Rattle.html_render_paragraphs.specs.CutText.{text_lines}
 use Rattle.html_render_lines.specs.Line.{Line}
-use Rattle.html_render_lines.specs.Paragraph.{Setting}
+use Rattle.html_render_paragraphs.specs.Paragraph.{Setting}
 use Rattle.html_render_blocks.specs.declared.block.BlockSetting.{BlockSetting}
 
 -- the setting of lines that aren't a paragraph's: the block's own width

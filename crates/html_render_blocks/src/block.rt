@@ -7,24 +7,24 @@ ghost use Rattle.std.specs.Prelude.{◌≡◌, ◌==◌, ◌||◌, cond, length,
 ghost use Rattle.std.specs.Prelude.{OnOk, IfOk, IfErr, IsTrue};
 ghost use Rattle.std.specs.List.{list_all};
 ghost use Rattle.std.specs.Str.{chars};
-ghost use Rattle.html_render_dom.specs.Outcome.{Refuses};
+ghost use Rattle.html_render_values.specs.Outcome.{Refuses};
 ghost use Rattle.html_render_lines.specs.Character.{is_collapsible};
 ghost use Rattle.html_render_lines.specs.Line.{columns, marks_line};
-ghost use Rattle.html_render_lines.specs.Stream.{after};
+ghost use Rattle.html_render_paragraphs.specs.Stream.{after};
 ghost use Rattle.html_render_lines.specs.TaggedText.{counted, text_columns, under};
 ghost use Rattle.html_render_blocks.specs.Joined.{moved};
 ghost use Rattle.html_render_blocks.specs.Block.{is_blank, mark_items, wrap_width, inner_width};
 ghost use Rattle.html_render_blocks.specs.BlockMachine as machine;
 
-use html_render_dom::Error;
-use html_render_dom::style::WhiteSpace;
 use html_render_lines::character::{TextStyle, is_collapsible};
 use html_render_lines::line::{Line, text_columns};
-use html_render_lines::paragraph::Paragraph;
 use html_render_lines::tag::Tag;
+use html_render_paragraphs::paragraph::Paragraph;
 use html_render_pictures::finished::{mark_behind, put_marks_front};
 use html_render_pictures::lines::Lines;
 use html_render_pictures::picture::Picture;
+use html_render_values::Error;
+use html_render_values::white_space::WhiteSpace;
 use padding::flush_padded;
 use std::alloc::{AllocError, Global};
 use std::marker::Model;
@@ -248,7 +248,7 @@ impl<T: Tag, M: Copy> Block<T, M> {
     }
 
     /// Flushes the open paragraph, and says whether it had no line.
-    #[tactic(auto, using(html_render_dom::specs::laws::Outcome::refusals, crate::proofs::Behind::flushed))]
+    #[tactic(auto, using(html_render_values::specs::laws::Outcome::refusals, crate::proofs::Behind::flushed))]
     fn flush_paragraph(&mut self) -> Result<bool, Error>
         ensures ok { OnOk result (machine.flush self.old ≡ Some self.new) }
         ensures none { IfOk result (λ none. none ≡ (length self.new.lines == length self.old.lines)) }
@@ -337,7 +337,7 @@ impl<T: Tag, M: Copy> Block<T, M> {
     /// # Errors
     ///
     /// `TooNarrow`, as in [`flush`](Block::flush). `OutOfMemory`.
-    #[tactic(auto, using(html_render_dom::specs::laws::Outcome::refusals))]
+    #[tactic(auto, using(html_render_values::specs::laws::Outcome::refusals))]
     pub fn start_block(&mut self) -> Result<(), Error>
         ensures ok { OnOk result (machine.start_block self.old ≡ Some self.new) }
         ensures err { IfErr result (λ e. Refuses e (machine.start_block self.old)) }
@@ -372,7 +372,7 @@ impl<T: Tag, M: Copy> Block<T, M> {
     /// # Errors
     ///
     /// `TooNarrow`, as in [`flush`](Block::flush). `OutOfMemory`.
-    #[tactic(auto, using(html_render_dom::specs::laws::Outcome::refusals))]
+    #[tactic(auto, using(html_render_values::specs::laws::Outcome::refusals))]
     pub fn new_line_hard(&mut self) -> Result<(), Error>
         ensures ok { OnOk result (machine.new_line_hard self.old ≡ Some self.new) }
         ensures err { IfErr result (λ e. Refuses e (machine.new_line_hard self.old)) }
@@ -390,7 +390,7 @@ impl<T: Tag, M: Copy> Block<T, M> {
     /// # Errors
     ///
     /// `TooNarrow`, as in [`flush`](Block::flush), where the text starts a block. `OutOfMemory`.
-    #[tactic(auto, using(html_render_dom::specs::laws::Outcome::refusals))]
+    #[tactic(auto, using(html_render_values::specs::laws::Outcome::refusals))]
     pub fn add_inline_text(&mut self, text: &str, style: TextStyle<T>) -> Result<(), Error>
         ensures ok { OnOk result (machine.add_inline_text self.old style (chars text.now) ≡ Some self.new) }
         ensures err { IfErr result (λ e. Refuses e (machine.add_inline_text self.old style (chars text.now))) }
@@ -436,7 +436,7 @@ impl<T: Tag, M: Copy> Block<T, M> {
     }
 
     /// Moves lines behind its own, each behind its prefix. With overflow off none may pass the width.
-    #[tactic(auto, using(html_render_dom::specs::laws::Outcome::refusals, crate::proofs::Behind::moved_behind))]
+    #[tactic(auto, using(html_render_values::specs::laws::Outcome::refusals, crate::proofs::Behind::moved_behind))]
     fn move_lines(
         &mut self,
         lines: Vec<Line<T, M>>,
@@ -461,7 +461,7 @@ impl<T: Tag, M: Copy> Block<T, M> {
     }
 
     /// Adds the lines of a block that is flushed, as this one is, and the marks that wait behind them.
-    #[tactic(auto, using(html_render_dom::specs::laws::Outcome::refusals))]
+    #[tactic(auto, using(html_render_values::specs::laws::Outcome::refusals))]
     fn append_lines(
         &mut self,
         lines: Vec<Line<T, M>>,
@@ -498,7 +498,7 @@ impl<T: Tag, M: Copy> Block<T, M> {
     ///
     /// `TooNarrow`, as in [`flush`](Block::flush) of either block, and where a line behind its prefix passes the width,
     /// with overflow off. `OutOfMemory`.
-    #[tactic(auto, using(html_render_dom::specs::laws::Outcome::refusals, crate::proofs::Appending::append_unflushed))]
+    #[tactic(auto, using(html_render_values::specs::laws::Outcome::refusals, crate::proofs::Appending::append_unflushed))]
     pub fn append(
         &mut self,
         mut sub: Block<T, M>,
@@ -573,7 +573,7 @@ fn fits<T: Tag, M: Copy>(line: &Line<T, M>, setting: BlockSetting) -> bool
 
 /// Moves lines behind others, each behind its prefix, and the first one behind marks too. With overflow off none may
 /// pass the width.
-#[tactic(auto, using(html_render_dom::specs::laws::Outcome::refusals))]
+#[tactic(auto, using(html_render_values::specs::laws::Outcome::refusals))]
 fn move_lines<T: Tag, M: Copy>(
     to: &mut Vec<Line<T, M>>,
     from: Vec<Line<T, M>>,

@@ -1,7 +1,7 @@
 //! Laws of the definition of blocks, each the contract of a function that does nothing.
 
 ghost use Rattle.std.specs.Prelude.{◌≡◌, List, ◌++◌};
-ghost use Rattle.html_render_lines.specs.Paragraph.{Setting, paragraph};
+ghost use Rattle.html_render_paragraphs.specs.Paragraph.{Setting, paragraph};
 ghost use Rattle.html_render_lines.specs.declared.character.Item.{Item};
 ghost use Rattle.html_render_blocks.specs.Block.{mark_items};
 

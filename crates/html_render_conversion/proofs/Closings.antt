@@ -5,7 +5,7 @@ use Rattle.std.proofs.Common.{option_map}
 use Rattle.std.proofs.Common.{refl, sym, ap, ◌∙◌, arith}
 use Rattle.std.proofs.lemmas.Bool.{cases_Bool}
 use borrow.Author.Tests.{eq-eqb, ne_eqb}
-use Rattle.html_render_dom.specs.Forest.{Forest, none, node, count, followed_by}
+use Rattle.html_render_values.specs.Forest.{Forest, none, node, count, followed_by}
 use Rattle.html_render_nodes.specs.declared.tree.NodeKind.{NodeKind}
 use Rattle.html_render_nodes.specs.declared.tree.NodeKind.TheVariants.{Container, Table, TableRow, Part}
 use Rattle.html_render_nodes.specs.declared.tree.Part.{Part as TablePart}

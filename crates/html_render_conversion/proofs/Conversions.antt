@@ -9,7 +9,7 @@ use Rattle.html_render_dom.specs.Cascade.{value_of}
 use Rattle.html_render_dom.specs.Content.{Content, document, doctype, text, comment, element, instruction}
 use Rattle.html_render_dom.specs.Dom.{Dom, IsForest, IsNode, node_count, content_at, children_at, below, trees_of, tree_of}
 use Rattle.html_render_dom.specs.ElementStyle.{ElementStyle}
-use Rattle.html_render_dom.specs.Forest.{Forest, none, node, count, followed_by}
+use Rattle.html_render_values.specs.Forest.{Forest, none, node, count, followed_by}
 use Rattle.html_render_dom.specs.Rules.{Rule as StyleRule}
 use Rattle.html_render_dom.specs.laws.Trees.{below-children}
 use Rattle.html_render_nodes.specs.declared.tree.NodeKind.{NodeKind}
@@ -33,8 +33,7 @@ use Rattle.html_render_conversion.specs.Conversion.{counts_any, standing, over, 
 use Rattle.html_render_conversion.specs.Conversion.{render_tree_of, has_grid, styled_has_grids, has_grids, have_grids, tree_of_parts}
 use Rattle.html_render_conversion.specs.Tables.{grid_over, is_unplaced, placed_kind, placed}
 use Rattle.html_render_conversion.specs.Converting.{Progress, mark_alone, styled_outline, outline_of, outline_at, put_content}
-use Rattle.html_render_conversion.specs.Converting.{received, is_kept, with_result, open_node}
-use Rattle.html_render_conversion.specs.Converting.{close_element, ClosingAt}
+use Rattle.html_render_conversion.specs.Converting.{received, is_kept, with_result, open_node, close_element, ClosingAt}
 
 -- ---- tests
 

@@ -6,7 +6,7 @@ use Rattle.html_render_dom.specs.Cascade.{value_of, winner}
 use Rattle.html_render_dom.specs.ElementStyle.{ElementStyle, style_by}
 use Rattle.html_render_dom.specs.Rules.{rule_of}
 use Rattle.html_render_dom.specs.Specificities.{no_specificity}
-use Rattle.html_render_dom.specs.declared.style.WhiteSpace.{WhiteSpace}
+use Rattle.html_render_values.specs.declared.white_space.WhiteSpace.{WhiteSpace}
 use Rattle.html_render_dom.specs.declared.style.rules.StyleRule.{StyleRule}
 use Rattle.html_render_dom.specs.declared.style.specificities.Specificity.{Specificity}
 use Rattle.html_render_dom.specs.declared.style.updates.Update.{Update}

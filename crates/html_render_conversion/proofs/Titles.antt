@@ -1,7 +1,7 @@
 -- The title of a drawing, where one of its titles is found.
 use Rattle.std.proofs.Common.{◌≡◌, ℕ, Option, Some, option_map, unwrap_or, sym, ap, ◌∙◌}
 use Rattle.html_render_dom.specs.Dom.{Dom, IsForest, IsNode, below, children_at, node_count, trees_of}
-use Rattle.html_render_dom.specs.Forest.{none}
+use Rattle.html_render_values.specs.Forest.{none}
 use Rattle.html_render_dom.specs.laws.Trees.{below-children}
 use Rattle.html_render_conversion.specs.Images.{direct_texts, in_last_title, drawing_title}
 

@@ -4,8 +4,8 @@ use Rattle.std.specs.Prelude.{◌++◌, option_and_then, option_map, option_to_l
 use Rattle.std.specs.Str.{bytes_eq, all_ascii_digits, trim}
 use Rattle.std.specs.Str.Parse.{without_leading_sign, signed_digits_value}
 use Rattle.std.specs.List.{list_any}
-use Rattle.html_render_dom.specs.declared.style.WhiteSpace.{WhiteSpace}
-use Rattle.html_render_dom.specs.declared.style.WhiteSpace.TheVariants.{Normal, Pre}
+use Rattle.html_render_values.specs.declared.white_space.WhiteSpace.{WhiteSpace}
+use Rattle.html_render_values.specs.declared.white_space.WhiteSpace.TheVariants.{Normal, Pre}
 use Rattle.html_render_dom.specs.declared.style.origins.StyleOrigin.TheVariants.{Agent}
 use Rattle.html_render_dom.specs.declared.style.updates.Update.{Update}
 use Rattle.html_render_dom.specs.Cascade.{value_of, winner}
@@ -13,7 +13,7 @@ use Rattle.html_render_dom.specs.Content.{Name, Property, Space, no_space, html,
 use Rattle.html_render_dom.specs.Content.{Content, document, doctype, text, comment, element, instruction}
 use Rattle.html_render_dom.specs.Dom.{Dom, tree_of}
 use Rattle.html_render_dom.specs.ElementStyle.{ElementStyle, element_style}
-use Rattle.html_render_dom.specs.Forest.{Forest, none, node}
+use Rattle.html_render_values.specs.Forest.{Forest, none, node}
 use Rattle.html_render_dom.specs.Rules.{Rule as StyleRule}
 use Rattle.html_render_dom.specs.Selectors.{first_value, is_filled}
 use Rattle.html_render_dom.specs.Specificities.{no_specificity}

@@ -6,7 +6,7 @@ use Rattle.html_render_dom.specs.Cascade.{value_of}
 use Rattle.html_render_dom.specs.Content.{Content, document, doctype, text, comment, element, instruction}
 use Rattle.html_render_dom.specs.Dom.{Dom, content_at, children_at, trees_of}
 use Rattle.html_render_dom.specs.ElementStyle.{ElementStyle}
-use Rattle.html_render_dom.specs.Forest.{Forest, none, node, count, followed_by}
+use Rattle.html_render_values.specs.Forest.{Forest, none, node, count, followed_by}
 use Rattle.html_render_dom.specs.Rules.{Rule as StyleRule}
 use Rattle.html_render_nodes.specs.declared.tree.NodeKind.{NodeKind}
 use Rattle.html_render_nodes.specs.declared.tree.NodeKind.TheVariants.{Container}

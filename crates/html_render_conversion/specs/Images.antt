@@ -3,7 +3,7 @@ use Rattle.std.specs.Prelude.{ℕ, not, ◌&&◌, Bool, true, false, List, [], �
 use Rattle.std.specs.Str.{bytes_eq}
 use Rattle.html_render_dom.specs.Content.{Property, Space, svg, Content, text, element}
 use Rattle.html_render_dom.specs.Dom.{is_element}
-use Rattle.html_render_dom.specs.Forest.{Forest, none, node}
+use Rattle.html_render_values.specs.Forest.{Forest, none, node}
 use Rattle.html_render_dom.specs.Selectors.{is_filled}
 use Rattle.html_render_nodes.specs.declared.tree.ImageParts.{ImageParts}
 

@@ -1,6 +1,6 @@
 -- THE DEFINITION of insertion: where a node goes that is put at the front or at the end of what an element became.
 use Rattle.std.specs.Prelude.{ℕ, Bool, true, false, List, Option, Some, None, option_map, if◌then◌else◌}
-use Rattle.html_render_dom.specs.Forest.{Forest, none, node, followed_by}
+use Rattle.html_render_values.specs.Forest.{Forest, none, node, followed_by}
 use Rattle.html_render_nodes.specs.declared.tree.NodeKind.{NodeKind}
 use Rattle.html_render_nodes.specs.declared.tree.NodeKind.TheVariants.{Text, Container, Break, Block, Div, Emphasis, Header}
 use Rattle.html_render_nodes.specs.declared.tree.NodeKind.TheVariants.{BlockQuote, Ul, Ol, ListItem, Dl, Dt, Dd}

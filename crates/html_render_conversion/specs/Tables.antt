@@ -4,7 +4,7 @@ use Rattle.std.specs.Prelude.{Option, Some, None, option_and_then, option_map, o
 use Rattle.std.specs.Str.{all_ascii_digits}
 use Rattle.std.specs.Str.Parse.{without_leading_plus, digits_value}
 use Rattle.html_render_dom.specs.Content.{Property}
-use Rattle.html_render_dom.specs.Forest.{Forest, none, node}
+use Rattle.html_render_values.specs.Forest.{Forest, none, node}
 use Rattle.html_render_dom.specs.Selectors.{first_value}
 use Rattle.html_render_nodes.specs.Grids.{GridRows}
 use Rattle.html_render_nodes.specs.declared.tree.CellSpan.{CellSpan}

@@ -6,8 +6,8 @@ use Rattle.std.proofs.lemmas.List.Elements.{filter_map-append}
 use Rattle.std.proofs.lemmas.Bool.{cases_Bool}
 use Rattle.std.proofs.lemmas.Grind.{flat_map-append}
 use Rattle.std.specs.List.{flat_map}
-use Rattle.html_render_dom.specs.declared.style.colours.Colour.{Colour}
-use Rattle.html_render_dom.specs.declared.style.WhiteSpace.{WhiteSpace}
+use Rattle.html_render_values.specs.declared.colours.Colour.{Colour}
+use Rattle.html_render_values.specs.declared.white_space.WhiteSpace.{WhiteSpace}
 use Rattle.html_render_dom.specs.declared.style.rules.Display.{Display}
 use Rattle.html_render_dom.specs.declared.style.updates.Update.{Update}
 use Rattle.html_render_dom.specs.Cascade.{key_of, winner}

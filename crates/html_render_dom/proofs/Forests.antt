@@ -9,7 +9,7 @@ use Rattle.std.proofs.lemmas.Map.Keys.{IsDistinct-push}
 use Rattle.html_render_dom.specs.Content.{Content, Name, Property, document, doctype, text, comment, element, instruction}
 use Rattle.html_render_dom.specs.Elements.{completed, contents_in}
 use Rattle.html_render_dom.specs.declared.dom.settings.ElementFlags.{ElementFlags}
-use Rattle.html_render_dom.specs.Forest.{Forest, none, node, followed_by}
+use Rattle.html_render_values.specs.Forest.{Forest, none, node, followed_by}
 use Rattle.html_render_dom.specs.Dom.{Node, Dom, lone, node_in, node_count, IsNode, content_at, children_at, parent_at, IsInclusiveAncestor, itself}
 use Rattle.html_render_dom.specs.Dom.{above, HaveTrees, IsForest}
 use Rattle.html_render_dom.specs.laws.Forests.{below_or_not, children_at-past, parent_at-past, IfSome-parent}

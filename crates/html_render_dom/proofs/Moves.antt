@@ -8,7 +8,7 @@ use Rattle.std.proofs.lemmas.List.{length-set}
 use Rattle.std.proofs.lemmas.List.Elements.{Contains-append_left, Contains-append_right, Contains-append_cases}
 use Rattle.html_render_dom.specs.Content.{Content, text}
 use Rattle.html_render_dom.specs.Elements.{contents_in}
-use Rattle.html_render_dom.specs.Forest.{Forest, none, node}
+use Rattle.html_render_values.specs.Forest.{Forest, none, node}
 use Rattle.html_render_dom.specs.Dom.{Node, Dom, lone, node_in, node_count, IsNode, content_at, children_at, parent_at, IsInclusiveAncestor, itself}
 use Rattle.html_render_dom.specs.Dom.{above, HaveTrees, IsForest}
 use Rattle.html_render_dom.specs.laws.Forests.{IsDistinct-nil, IsNode-above}

@@ -6,7 +6,7 @@ use Rattle.html_render_dom.specs.declared.dom.settings.QuirksMode.{QuirksMode}
 use Rattle.html_render_dom.specs.declared.dom.settings.QuirksMode.TheVariants.{NoQuirks}
 use Rattle.html_render_dom.specs.Content.{Content, document, doctype, text, comment, element, instruction}
 use Rattle.html_render_dom.specs.Elements.{contents_in}
-use Rattle.html_render_dom.specs.Forest.{Forest, none, node}
+use Rattle.html_render_values.specs.Forest.{Forest, none, node}
 
 pub record Node : Type 0 where
   pub content : Content

@@ -1,9 +1,7 @@
 -- a document: what a node holds, the nodes and their trees, and the vectors that hold them
-pub mod Texts
 pub mod Content
 pub mod Names
 pub mod Elements
-pub mod Forest
 pub mod Dom
 pub mod Nodes
 -- what the calls on a document answer, and what they make of it
@@ -12,16 +10,12 @@ pub mod Dump
 pub mod Edits
 pub mod Moves
 -- how text is styled
-pub mod Colours
-pub mod WhiteSpace
 pub mod Specificities
 pub mod Cascade
 pub mod Rules
 pub mod Selectors
 pub mod TextUpdates
 pub mod ElementStyle
--- what errors say
-pub mod Outcome
 -- what the functions inside the crate promise each other
 pub mod Room
 pub mod Frames

@@ -2,6 +2,5 @@ pub mod Forests
 pub mod Members
 pub mod Names
 pub mod Orders
-pub mod Outcome
 pub mod Trees
 pub mod Winners

@@ -3,8 +3,6 @@
 #![tactic(auto)]
 
 pub mod dom;
-mod errors;
 pub mod style;
-pub mod text;
 
-pub use errors::Error;
+pub use html_render_values::{Error, text};

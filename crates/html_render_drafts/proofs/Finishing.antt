@@ -3,10 +3,10 @@ use Rattle.std.proofs.Common.{◌≡◌, ℕ, ◌+◌, ◌<◌, List, [], ◌∷
 use Rattle.std.proofs.Common.{refl, sym, ap, subst, ◌∙◌, arith, append_assoc, append-nil}
 use Rattle.std.proofs.lemmas.List.{reverse-append, reverse-reverse, map-append}
 use Rattle.std.proofs.lemmas.Option.{same_Some}
-use Rattle.html_render_dom.specs.declared.errors.Error.{Error}
-use Rattle.html_render_dom.specs.declared.errors.Error.TheVariants.{TooNarrow, Fail, OutOfMemory}
-use Rattle.html_render_dom.specs.Forest.{Forest, none, node, count, followed_by}
-use Rattle.html_render_dom.specs.Outcome.{◌>>=◌}
+use Rattle.html_render_values.specs.declared.errors.Error.{Error}
+use Rattle.html_render_values.specs.declared.errors.Error.TheVariants.{TooNarrow, Fail, OutOfMemory}
+use Rattle.html_render_values.specs.Forest.{Forest, none, node, count, followed_by}
+use Rattle.html_render_values.specs.Outcome.{◌>>=◌}
 use Rattle.html_render_nodes.specs.declared.tree.Entry.{Entry}
 use Rattle.html_render_nodes.specs.Preorder.{flatten, forest_of}
 use Rattle.html_render_nodes.specs.laws.Preorder.{flatten-followed_by, length-flatten, IsForest-flatten}

@@ -4,7 +4,7 @@ use Rattle.std.proofs.Common.{refl, sym, ap, subst, ◌∙◌, arith, length-app
 use lib.ListN.{get_or}
 use Rattle.std.proofs.lemmas.List.{get_or_append_left, take-append-le, drop-append-le}
 use Rattle.std.proofs.Math.Seq.{get_or-append_seam, drop-append_seam}
-use Rattle.html_render_dom.specs.Forest.{none, node, count}
+use Rattle.html_render_values.specs.Forest.{none, node, count}
 use Rattle.html_render_nodes.specs.laws.Splits.{count-followed_by}
 use Rattle.html_render_drafts.specs.declared.store.Made.{Made}
 use Rattle.html_render_drafts.specs.Store.{Trees, at, planted, below_first, Within, Grown, children_of, tree_of, grown_by, IsBuilt, AreBuilt}

@@ -1,7 +1,7 @@
 -- A forest with other nodes in their places, each as what stands above it says.
 use Rattle.std.specs.Prelude.{Option, Some, None}
-use Rattle.html_render_dom.specs.Forest.{Forest, none, node}
-use Rattle.html_render_dom.specs.Outcome.{◌>>=◌}
+use Rattle.html_render_values.specs.Forest.{Forest, none, node}
+use Rattle.html_render_values.specs.Outcome.{◌>>=◌}
 
 -- what a node is written as under what stands above it, and what stands above the nodes below it; none where the node may
 -- not stand there

@@ -1,7 +1,7 @@
 -- Trees that are named by places: what a place stands for, and what more trees leave as it is.
 use Rattle.std.specs.Prelude.{◌≡◌, ℕ, ◌+◌, ◌-◌, ◌<◌, ◌≤◌, List, [], ◌∷◌, ◌++◌, length, take, drop}
 use lib.ListN.{get_or}
-use Rattle.html_render_dom.specs.Forest.{Forest, none, node, count, followed_by}
+use Rattle.html_render_values.specs.Forest.{Forest, none, node, count, followed_by}
 use Rattle.html_render_drafts.specs.declared.store.Made.{Made}
 
 -- the trees of a store, in the order of their places

@@ -7,8 +7,8 @@ ghost use Rattle.html_render_drafts.specs.Finishing.{ahead_of};
 ghost use Rattle.html_render_drafts.specs.Store.{planted, Within};
 
 use crate::store::{Place, Store};
-use html_render_dom::Error;
 use html_render_nodes::tree::{Entry, Flat};
+use html_render_values::Error;
 use std::alloc::Global;
 
 /// What is written for a node, where it stands.

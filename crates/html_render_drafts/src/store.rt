@@ -5,11 +5,11 @@
 //! trees, each the node `x` alone.
 
 ghost use Rattle.std.specs.Prelude.{◌≡◌, ◌<◌, ◌+◌, [], ◌∷◌, ◌++◌, length, IfOk, OnOk, OnErr, IfErr};
-ghost use Rattle.html_render_dom.specs.Forest as forest;
-ghost use Rattle.html_render_dom.specs.Forest.{none, count};
+ghost use Rattle.html_render_values.specs.Forest as forest;
+ghost use Rattle.html_render_values.specs.Forest.{none, count};
 ghost use Rattle.html_render_drafts.specs.Store.{at, planted, Within, Becomes, below_first};
 
-use html_render_dom::Error;
+use html_render_values::Error;
 use std::alloc::Global;
 use std::marker::Model;
 
@@ -53,7 +53,7 @@ pub struct Store<N> {
 impl<N> Model for Store<N> {
     ghost use Rattle.std.specs.Prelude.{List, []};
     ghost use Rattle.std.specs.Coded.{codes, code_by, coded_list};
-    ghost use Rattle.html_render_dom.specs.Forest.{Forest};
+    ghost use Rattle.html_render_values.specs.Forest.{Forest};
     ghost use Rattle.html_render_nodes.specs.declared.tree.Entry.{Entry};
     ghost use Rattle.html_render_nodes.specs.Preorder.{forest_of, flatten};
     ghost use Rattle.html_render_nodes.specs.laws.Preorder.{forest_of-flatten};

@@ -3,7 +3,7 @@ use Rattle.std.proofs.Common.{◌≡◌, Bool, true, false, ◌||◌, ℕ, ◌+�
 use Rattle.std.proofs.Common.{refl, sym, ap, ◌∙◌, arith}
 use Rattle.std.proofs.lemmas.List.{map-append, length-map, take-append-drop, take-map, drop-map, drop-set, get_or_default}
 use Rattle.std.proofs.Math.Seq.{take-append_seam, drop-append_seam, drop-length}
-use Rattle.html_render_dom.specs.Forest.{Forest, none, node}
+use Rattle.html_render_values.specs.Forest.{Forest, none, node}
 use Rattle.html_render_parts.specs.Decoration.{Decoration}
 use Rattle.html_render_nodes.specs.RenderNodes.{unmeasured}
 use Rattle.html_render_nodes.specs.declared.tree.Entry.{Entry}

@@ -1,6 +1,6 @@
 -- Sums that stop at the greatest number.
 use Rattle.std.proofs.Common.{◌≡◌, ℕ, ◌+◌, ◌^◌, ◌<◌, ap, arith}
-use Rattle.html_render_dom.specs.Forest.{Forest, none}
+use Rattle.html_render_values.specs.Forest.{Forest, none}
 use Rattle.html_render_nodes.specs.declared.tree.RenderNode.{RenderNode}
 use Rattle.html_render_estimates.specs.TextSize.{saturated}
 use Rattle.html_render_estimates.specs.Estimates.{total_size}

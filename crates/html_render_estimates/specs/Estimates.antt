@@ -2,10 +2,10 @@
 use Rattle.std.specs.Prelude.{ℕ, pos, ◌+◌, ◌-◌, ◌*◌, ◌/◌, ◌+ℤ◌, ◌-ℤ◌, max, min, ℤ, List, sum_by, Bool, true, false, ◌||◌, if◌then◌else◌}
 use Rattle.std.specs.Int.{saturate_signed, w64}
 use Rattle.std.specs.Str.{chars}
-use Rattle.html_render_dom.specs.Forest.{Forest, none, node}
+use Rattle.html_render_values.specs.Forest.{Forest, none, node}
 use Rattle.html_render_parts.specs.Decoration.{Decoration}
 use Rattle.html_render_parts.specs.declared.widths.needs.CellNeed.{CellNeed}
-use Rattle.html_render_parts.specs.Needs.{column_needs}
+use Rattle.html_render_parts.specs.Needs.{column_needs, cells_stand}
 use Rattle.html_render_lines.specs.TaggedText.{text_columns}
 use Rattle.html_render_nodes.specs.declared.tree.Estimate.{Estimate}
 use Rattle.html_render_nodes.specs.declared.tree.NodeKind.{NodeKind}
@@ -14,7 +14,6 @@ use Rattle.html_render_nodes.specs.declared.tree.NodeKind.TheVariants.{Link, Ima
 use Rattle.html_render_nodes.specs.declared.tree.RenderNode.{RenderNode}
 use Rattle.html_render_estimates.specs.TextSize.{size_of, saturated}
 use Rattle.html_render_estimates.specs.Cells.{cell_needs}
-use Rattle.html_render_parts.specs.Needs.{cells_stand}
 
 -- how many trees stand beside each other
 abbrev pub trees : {K : Type 0} → Forest K → ℕ

@@ -1,6 +1,6 @@
 -- Nodes that are measured again.
 use Rattle.std.specs.Prelude.{◌≡◌, ℕ, List, true}
-use Rattle.html_render_dom.specs.Forest.{Forest}
+use Rattle.html_render_values.specs.Forest.{Forest}
 use Rattle.html_render_parts.specs.Decoration.{Decoration}
 use Rattle.html_render_nodes.specs.declared.tree.Entry.{Entry}
 use Rattle.html_render_nodes.specs.declared.tree.RenderNode.{RenderNode}

@@ -5,10 +5,10 @@ ghost use Rattle.html_render_nodes.specs.Preorder.{flatten, forest_of};
 ghost use Rattle.html_render_estimates.specs.Cells.{has_cell, cell_estimates, needs_in_slots, cell_needs};
 
 use crate::trees::first_tree;
-use html_render_dom::Error;
 use html_render_nodes::tree::{Entry, Estimate, NodeKind, RenderNode, Slot};
 use html_render_parts::table::CellKind;
 use html_render_parts::widths::CellNeed;
+use html_render_values::Error;
 use std::alloc::{AllocError, Global};
 
 /// A cell among trees, and the trees beside it.

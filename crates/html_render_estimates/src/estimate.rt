@@ -11,9 +11,9 @@ ghost use Rattle.html_render_estimates.specs.Passes.{MeasuresAs};
 
 use crate::sized::{node_size, table_estimate};
 use crate::text::{columns, size_within};
-use html_render_dom::Error;
 use html_render_nodes::tree::{Entry, Estimate, Flat, NodeKind, RenderNode, RenderTree};
 use html_render_parts::decorate::TextDecorator;
+use html_render_values::Error;
 use std::alloc::Global;
 
 /// Trees beside each other: how many there are, and the greatest of their least widths.

@@ -1,7 +1,7 @@
 //! Laws of the definition of estimates, each the contract of a function that does nothing.
 
 ghost use Rattle.std.specs.Prelude.{◌≡◌, ◌≤◌, ℕ, All, true, false};
-ghost use Rattle.html_render_dom.specs.Forest.{Forest};
+ghost use Rattle.html_render_values.specs.Forest.{Forest};
 ghost use Rattle.html_render_nodes.specs.declared.tree.RenderNode.{RenderNode};
 ghost use Rattle.html_render_nodes.specs.Preorder.{flatten};
 ghost use Rattle.html_render_estimates.specs.Estimates.{greatest_least, total_size, has_table, measured_as, measured};

@@ -11,9 +11,9 @@ use crate::cells::cell_needs;
 use crate::estimate::{children_of, image_size_within};
 use crate::text::size_within;
 use crate::trees::first_tree;
-use html_render_dom::Error;
 use html_render_nodes::tree::{Entry, Estimate, NodeKind, RenderNode};
 use html_render_parts::widths::{CellNeed, ColumnNeed, are_cells, column_needs};
+use html_render_values::Error;
 use std::alloc::Global;
 
 /// The sizes of trees together.

@@ -1,7 +1,7 @@
 //! Trees beside each other, one after the other, in a slice of nodes in pre-order.
 
 ghost use Rattle.std.specs.Prelude.{◌≡◌, ◌<◌, length, IfSome, MatchOption};
-ghost use Rattle.html_render_dom.specs.Forest.{none, node};
+ghost use Rattle.html_render_values.specs.Forest.{none, node};
 ghost use Rattle.html_render_nodes.specs.Preorder.{flatten, forest_of};
 
 use html_render_nodes::tree::{Entry, RenderNode};

@@ -1,8 +1,8 @@
 -- An error says why a document isn't rendered.
 use Rattle.std.proofs.Common.{◌≡◌, Option, Some, option_and_then, ap, ◌∙◌}
-use Rattle.html_render_dom.specs.declared.errors.Error.{Error}
-use Rattle.html_render_dom.specs.declared.errors.Error.TheVariants.{TooNarrow, Fail, OutOfMemory}
-use Rattle.html_render_dom.specs.Outcome.{Refuses}
+use Rattle.html_render_values.specs.declared.errors.Error.{Error}
+use Rattle.html_render_values.specs.declared.errors.Error.TheVariants.{TooNarrow, Fail, OutOfMemory}
+use Rattle.html_render_values.specs.Outcome.{Refuses}
 use Rattle.html_render_tree.specs.Refusal.{Fails}
 use Rattle.html_render_json.specs.Documents.{Unrendered}
 

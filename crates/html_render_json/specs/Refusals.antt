@@ -1,5 +1,5 @@
 -- What a refusal says of what was asked.
-use Rattle.html_render_dom.specs.declared.errors.Error.{Error}
+use Rattle.html_render_values.specs.declared.errors.Error.{Error}
 use Rattle.html_render_json.specs.declared.answers.Refusal.{Refusal}
 use Rattle.html_render_json.specs.declared.answers.Refusal.TheVariants.{Library, Form, Request}
 

@@ -3,7 +3,7 @@
 //! `answered(alloc, &true)?` is `{"ok":true}`.
 
 ghost use Rattle.std.specs.Prelude.{◌≡◌};
-ghost use Rattle.html_render_dom.specs.declared.errors.Error.TheVariants.{OutOfMemory};
+ghost use Rattle.html_render_values.specs.declared.errors.Error.TheVariants.{OutOfMemory};
 ghost use Rattle.html_render_json.specs.declared.answers.Refusal.TheVariants.{Library};
 
 use html_render_tree::Error;

@@ -1,7 +1,7 @@
 //! Requests for column cuts.
 
 ghost use Rattle.std.specs.Prelude.{◌≡◌, IfOk, IfErr};
-ghost use Rattle.html_render_dom.specs.declared.errors.Error.TheVariants.{OutOfMemory};
+ghost use Rattle.html_render_values.specs.declared.errors.Error.TheVariants.{OutOfMemory};
 ghost use Rattle.html_render_parts.specs.Cuts.{CutFits};
 ghost use Rattle.html_render_parts.specs.ColumnCuts.{IsColumnCut};
 ghost use Rattle.html_render_json.specs.Refusals.{CantBeAsked};

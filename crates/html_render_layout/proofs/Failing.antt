@@ -1,7 +1,7 @@
 -- What a walk counted is what a call counted that failed with it.
 use Rattle.std.proofs.Common.{Result, Ok, Err}
 use Rattle.std.specs.Result.{IsErrAnd}
-use Rattle.html_render_dom.specs.Forest.{Forest}
+use Rattle.html_render_values.specs.Forest.{Forest}
 use Rattle.html_render_parts.specs.declared.widths.Meter.{Meter}
 use Rattle.html_render_nodes.specs.Counts.{CountsNodes}
 use Rattle.html_render_nodes.specs.Pass.{Steps, Inside}

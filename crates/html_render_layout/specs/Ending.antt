@@ -2,7 +2,7 @@
 use Rattle.std.specs.Prelude.{ℕ, ◌+◌, Bool, List, [], ◌∷◌, ◌++◌, map, codes, Option, Some, if◌then◌else◌}
 use Rattle.std.specs.Fmt.{decimal}
 use Rattle.std.specs.Str.{chars}
-use Rattle.html_render_dom.specs.Outcome.{◌>>=◌}
+use Rattle.html_render_values.specs.Outcome.{◌>>=◌}
 use Rattle.html_render_parts.specs.Decoration.{Decoration}
 use Rattle.html_render_blocks.specs.Operations.{Ending}
 use Rattle.html_render_layout.specs.declared.layout.state.LayoutState.{LayoutState}

@@ -6,11 +6,11 @@ use Rattle.std.specs.Fmt.{decimal}
 use Rattle.std.specs.Int.{saturate_signed, w64}
 use Rattle.std.specs.List.{list_all}
 use Rattle.std.specs.Str.{chars}
-use Rattle.html_render_dom.specs.Forest.{Forest, none, node}
-use Rattle.html_render_dom.specs.Outcome.{◌>>=◌}
-use Rattle.html_render_dom.specs.declared.style.WhiteSpace.{WhiteSpace}
-use Rattle.html_render_dom.specs.declared.style.WhiteSpace.TheVariants.{Normal, Pre, PreWrap}
-use Rattle.html_render_dom.specs.declared.style.colours.Colour.{Colour}
+use Rattle.html_render_values.specs.Forest.{Forest, none, node}
+use Rattle.html_render_values.specs.Outcome.{◌>>=◌}
+use Rattle.html_render_values.specs.declared.white_space.WhiteSpace.{WhiteSpace}
+use Rattle.html_render_values.specs.declared.white_space.WhiteSpace.TheVariants.{Normal, Pre, PreWrap}
+use Rattle.html_render_values.specs.declared.colours.Colour.{Colour}
 use Rattle.html_render_parts.specs.Decoration.{Decoration, Round, link}
 use Rattle.html_render_parts.specs.declared.widths.needs.CellNeed.{CellNeed}
 use Rattle.html_render_lines.specs.Character.{is_collapsible}

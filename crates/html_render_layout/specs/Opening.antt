@@ -1,8 +1,8 @@
 -- What the walk does as it opens a node and closes it.
 use Rattle.std.specs.Prelude.{ℕ, ℤ, ◌+◌, List, [], length, map, Option, Some, None}
 use Rattle.std.specs.Str.{chars}
-use Rattle.html_render_dom.specs.Forest.{Forest}
-use Rattle.html_render_dom.specs.Outcome.{◌>>=◌}
+use Rattle.html_render_values.specs.Forest.{Forest}
+use Rattle.html_render_values.specs.Outcome.{◌>>=◌}
 use Rattle.html_render_parts.specs.Decoration.{Decoration, link}
 use Rattle.html_render_parts.specs.declared.widths.needs.CellNeed.{CellNeed}
 use Rattle.html_render_estimates.specs.Cells.{cell_needs}

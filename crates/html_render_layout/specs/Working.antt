@@ -1,7 +1,7 @@
 -- What the code's layout computes, on blocks that are fed character by character: with tags that are numbers, and
 -- without any.
 use Rattle.std.specs.Prelude.{ℕ, List, [], ◌∷◌, ◌++◌, length, Option}
-use Rattle.html_render_dom.specs.Forest.{Forest}
+use Rattle.html_render_values.specs.Forest.{Forest}
 use Rattle.html_render_parts.specs.Decoration.{Decoration}
 use Rattle.html_render_lines.specs.Line.{Line}
 use Rattle.html_render_lines.specs.Tags.{lines_with}

@@ -3,7 +3,7 @@
 //! `lay_out(alloc, &decorator, tree, 10, false, &mut meter)?` answers the lines of the tree, wrapped to 10 columns.
 
 ghost use Rattle.std.specs.Prelude.{◌≡◌, ◌≢◌, ◌≤◌, ◌<◌, Some, ℕ, true, false, Err, OnOk, OnErr, IfOk, IfErr, IfSome};
-ghost use Rattle.html_render_dom.specs.Outcome.{Refuses};
+ghost use Rattle.html_render_values.specs.Outcome.{Refuses};
 ghost use Rattle.html_render_lines.specs.Line.{AllWithinWidth};
 ghost use Rattle.html_render_blocks.specs.BlockMachine as machine;
 ghost use Rattle.html_render_nodes.specs.Counts.{CountsNodes};
@@ -21,8 +21,6 @@ use crate::settings::LayoutSettings;
 use crate::stacks::Stacks;
 use crate::tagging::{Tagging, Untagged};
 use html_render_blocks::block::{Block, BlockSetting};
-use html_render_dom::Error;
-use html_render_dom::style::WhiteSpace;
 use html_render_estimates::estimate::measure;
 use html_render_lines::line::Line;
 use html_render_lines::tag::Tag;
@@ -30,6 +28,8 @@ use html_render_nodes::tree::{Entry, RenderNode, RenderTree};
 use html_render_nodes::walk::{Pass, walk};
 use html_render_parts::decorate::TextDecorator;
 use html_render_parts::widths::Meter;
+use html_render_values::Error;
+use html_render_values::white_space::WhiteSpace;
 use std::alloc::Global;
 use std::marker::PhantomData;
 
@@ -130,7 +130,7 @@ fn begin_with<D: TextDecorator, G: Tagging<D::Annotation>>(
 }
 
 /// Lays out a tree, and closes the document under the tag that its texts begin with.
-#[tactic(auto, using(html_render_dom::specs::laws::Outcome::refusals))]
+#[tactic(auto, using(html_render_values::specs::laws::Outcome::refusals))]
 fn lay_out_into<D: TextDecorator, G: Tagging<D::Annotation>>(
     alloc: Global,
     tree: &RenderTree,

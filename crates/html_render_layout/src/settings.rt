@@ -2,8 +2,8 @@
 
 ghost use Rattle.std.specs.Prelude.{◌≡◌, IfOk, IfErr};
 
-use html_render_dom::Error;
-use html_render_dom::text::Text;
+use html_render_values::Error;
+use html_render_values::text::Text;
 
 /// What stands in the place of an image whose title is empty.
 #[derive(Clone, Debug, Default, PartialEq, Eq, Drop)]

@@ -7,7 +7,7 @@ ghost use Rattle.std.specs.Prelude.{◌≡◌, ◌<◌, ◌≤◌, [], ◌∷◌
 ghost use Rattle.std.specs.Cmp.Lexicographic.{pointwise};
 ghost use Rattle.html_render_layout.specs.Stacks.{stack_at, IsStack};
 
-use html_render_dom::Error;
+use html_render_values::Error;
 use std::alloc::Global;
 use std::marker::Model;
 

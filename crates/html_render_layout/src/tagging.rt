@@ -7,8 +7,8 @@ ghost use Rattle.std.specs.Prelude.{◌≡◌, IfOk, IfErr};
 ghost use Rattle.html_render_layout.specs.Working.{tabled, untagged};
 
 use crate::stacks::Stacks;
-use html_render_dom::Error;
 use html_render_lines::tag::Tag;
+use html_render_values::Error;
 
 /// What keeps the annotations of the characters of a layout.
 pub trait Tagging<A>: Drop {

@@ -1,11 +1,2 @@
 pub mod TaggedTexts
 pub mod LineColumns
-pub mod WordColumns
-pub mod PageColumns
-pub mod Words
-pub mod Copies
-pub mod Letters
-pub mod WholeWords
-pub mod Fronts
-pub mod SpacedWords
-pub mod Flushing

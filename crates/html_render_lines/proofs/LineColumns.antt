@@ -10,27 +10,11 @@ use Rattle.html_render_lines.specs.declared.character.TextStyle.{TextStyle}
 use Rattle.html_render_lines.specs.declared.line.Element.{Element}
 use Rattle.html_render_lines.specs.declared.line.Element.TheVariants as element
 use Rattle.html_render_lines.specs.Character.{width_of}
-use Rattle.html_render_lines.specs.Line.{Line, columns, element_width}
+use Rattle.html_render_lines.specs.Line.{Line, columns, element_width, element_of}
+use Rattle.html_render_lines.specs.laws.Columns.{columns-append, columns-single, columns-cons, columns-under}
 use Rattle.html_render_lines.specs.declared.line.tagged_text.Run.{Run}
 use Rattle.html_render_lines.specs.declared.line.tagged_text.Run.TheVariants as run
 use Rattle.html_render_lines.specs.TaggedText.{elements_of, open_elements, Cuts, HasTag, under, text_columns, items_of}
-use Rattle.html_render_lines.specs.Word.{element_of}
-
-pub columns-append : {T M : Type 0} (a b : Line T M) → columns (a ++ b) ≡ columns a + columns b
-columns-append {T} {M} a b = sum_by-append (λ (e : Element T M). element_width e) a b
-
-pub columns-single : {T M : Type 0} (e : Element T M) → columns (e ∷ []) ≡ element_width e
-columns-single e = omega arith
-
-pub columns-cons : {T M : Type 0} (e : Element T M) (b : Line T M) → columns (e ∷ b) ≡ element_width e + columns b
-columns-cons e b = omega (arith, columns-append (e ∷ []) b, columns-single e)
-
-pub columns-under : {T : Type 0} (M : Type 0) (tag : T) (cs : List ℕ) → columns (under {M = M} tag cs) ≡ text_columns cs
-columns-under M tag [] = refl
-columns-under M tag (c ∷ cs) =
-    let front = columns-cons {M = M} (element.Character c tag) (under tag cs) in
-    let text = sum_by-append width_of (c ∷ []) cs in
-    omega (arith, front, text, columns-under M tag cs)
 
 -- a word has the same columns with either tag
 pub columns-placed : {T M : Type 0} (continues : Bool) (word : Line (TextStyle T) M) →

@@ -1,21 +1,20 @@
 -- A text under runs of tags: how its line grows, and its bytes.
-use Rattle.std.proofs.Common.{◌≡◌, ℕ, suc, ◌+◌, ◌-◌, ◌<◌, ◌≤◌, ◌==◌, Bool, true, false, get_or, drop-cons, List, [], ◌∷◌, ◌++◌, Option, Some, None}
+use Rattle.std.proofs.Common.{◌≡◌, ℕ, suc, ◌+◌, ◌-◌, ◌<◌, ◌≤◌, ◌==◌, Bool, true, false, List, [], ◌∷◌, ◌++◌, Option, Some, None}
 use Rattle.std.proofs.Common.{map, take, drop, length, refl, sym, ap, ◌∙◌, subst, arith, append_assoc, append-nil, length-append, length-drop}
-use Rattle.std.proofs.lemmas.List.{take-append-le, drop-append-le, drop-drop, take-append-drop, map-append, drop_all, take_all, length-take}
+use Rattle.std.proofs.lemmas.List.{take-append-le, drop-append-le, take-append-drop, map-append, drop_all, take_all, length-take}
 use Rattle.std.proofs.lemmas.List.Concat.{flat_map-append}
 use Rattle.std.proofs.lemmas.Bool.{eqb-true}
-use Rattle.std.proofs.lemmas.Str.{chars-append, chars-nil, IsUtf8-append, IsUtf8-nil, chars_past_char, encodes-chars, IsCharBoundary-from_drop}
-use Rattle.std.specs.Str.{chars, IsUtf8, IsCharBoundary, encode_utf8_all}
+use Rattle.std.proofs.lemmas.Str.{chars-append, chars-nil, IsUtf8-append, IsUtf8-nil, encodes-chars}
+use Rattle.std.specs.Str.{chars, IsUtf8, encode_utf8_all}
 use Rattle.std.specs.Prelude.{encode_utf8}
 use Rattle.html_render_lines.specs.declared.character.TextStyle.{TextStyle}
 use Rattle.html_render_lines.specs.declared.line.Element.{Element}
 use Rattle.html_render_lines.specs.declared.line.Element.TheVariants as element
 use Rattle.html_render_lines.specs.declared.line.tagged_text.Run.{Run}
 use Rattle.html_render_lines.specs.declared.line.tagged_text.Run.TheVariants as run
-use Rattle.html_render_lines.specs.Line.{Line, bytes_of, text_bytes}
+use Rattle.html_render_lines.specs.Line.{Line, bytes_of, text_bytes, element_of}
 use Rattle.html_render_lines.specs.TaggedText.{under, elements_of, Cuts, open_elements, all_elements, HasTag, IsCut, closed_run}
 use Rattle.html_render_lines.specs.TaggedText.{items_of, style_tag, styled_elements}
-use Rattle.html_render_lines.specs.Word.{element_of}
 
 -- ---- runs over a text, and more runs over more text
 
@@ -40,23 +39,6 @@ Cuts-append (run.Text n tag ∷ rs) qs xs bs cuts more =
       subst (Cuts (rs ++ qs)) rest (Cuts-append rs qs (drop n xs) bs cuts.2 more),
       cuts.3,
     )
-
--- a text that runs cut up is made of whole characters
-pub IsUtf8-Cuts : {T M : Type 0} (rs : List (Run T M)) (bs : List ℕ) → Cuts rs bs → IsUtf8 bs
-IsUtf8-Cuts [] bs cuts = subst IsUtf8 (sym cuts) IsUtf8-nil
-IsUtf8-Cuts (run.Mark m ∷ rs) bs cuts = IsUtf8-Cuts rs bs cuts
-IsUtf8-Cuts (run.Text n tag ∷ rs) bs cuts =
-    subst IsUtf8 (take-append-drop n bs) (IsUtf8-append (take n bs) (drop n bs) cuts.1 (IsUtf8-Cuts rs (drop n bs) cuts.2))
-
--- a run that is met in a loop ends between two characters
-pub run-end : {T M : Type 0} (rs : List (Run T M)) (i at n : ℕ) (tag : T) (bs : List ℕ) (r : Run T M) → i < length rs → r ≡ get_or rs i r →
-    r ≡ run.Text n tag → at ≤ length bs → Cuts (drop i rs) (drop at bs) → IsCharBoundary bs (at + n)
-run-end {T} {M} rs i at n tag bs r h e f within cuts =
-    let first : drop i rs ≡ run.Text n tag ∷ drop (suc i) rs = drop-cons rs i r h ∙ ap (λ x. x ∷ drop (suc i) rs) (sym e ∙ f) in
-    let here : Cuts (run.Text n tag ∷ drop (suc i) rs) (drop at bs) = subst (λ x. Cuts x (drop at bs)) first cuts in
-    let rest : drop n (drop at bs) ≡ drop (at + n) bs = drop-drop n at bs in
-    IsCharBoundary-from_drop bs (at + n) (omega (arith, here.0, length-drop at bs))
-    (subst IsUtf8 rest (IsUtf8-Cuts (drop (suc i) rs) (drop n (drop at bs)) here.2))
 
 -- ---- closing the open run
 
@@ -154,9 +136,6 @@ is-longer rs (Some own) tag start bs cs cut e utf8 = record {
   ending = subst IsUtf8 (sym (drop-append-le start bs cs cut.within)) (IsUtf8-append (drop start bs) cs cut.ending utf8);
   has_tag = tt;
 }
-
-pub chars-one : (c : ℕ) → IsUtf8 (encode_utf8 c) → chars (encode_utf8 c) ≡ c ∷ []
-chars-one c utf8 = chars_past_char (encode_utf8 c) [] c utf8 (sym (append-nil (encode_utf8 c))) ∙ ap (λ cs. c ∷ cs) chars-nil
 
 -- ---- text in front of the open run, before which nothing is closed
 

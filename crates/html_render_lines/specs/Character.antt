@@ -1,9 +1,11 @@
 -- What a character is to the wrapping of a paragraph, in each of the three white space modes.
-use Rattle.std.specs.Prelude.{ℕ, Bool, false, not, ◌&&◌, ◌==◌, is_none, nat_le, unwrap_or, if◌then◌else◌}
+use Rattle.std.specs.Prelude.{ℕ, Bool, true, false, not, ◌&&◌, ◌==◌, is_none, nat_le, unwrap_or, if◌then◌else◌}
 use Rattle.std.specs.Char.{is_whitespace}
 use Rattle.unicode_width.specs.Width.{char_width}
-use Rattle.html_render_dom.specs.declared.style.WhiteSpace.{WhiteSpace}
-use Rattle.html_render_dom.specs.declared.style.WhiteSpace.TheVariants.{Normal, Pre, PreWrap}
+use Rattle.html_render_values.specs.declared.white_space.WhiteSpace.{WhiteSpace}
+use Rattle.html_render_values.specs.declared.white_space.WhiteSpace.TheVariants.{Normal, Pre, PreWrap}
+use Rattle.html_render_lines.specs.declared.character.Character.{Character}
+use Rattle.html_render_lines.specs.declared.character.TextStyle.{TextStyle}
 use Rattle.html_render_lines.specs.declared.character.Kind.{Kind}
 use Rattle.html_render_lines.specs.declared.character.Kind.TheVariants.{Letter, Space, Divider, Dropped, Preserved, Newline, Tab, SoftSpace, SoftTab}
 
@@ -40,3 +42,12 @@ kind PreWrap c =
 -- a printable ASCII character other than the space
 abbrev pub is_plain : ℕ → Bool
 is_plain c = nat_le 0x21 c && nat_le c 0x7E
+
+-- the tag of a character: that for a continuation line, or the ordinary one
+abbrev pub tag_on : {T : Type 0} → Bool → Character T → T
+tag_on true c = c.continuation_tag
+tag_on false c = c.tag
+
+-- a character of a text with the style's mode and tags
+abbrev pub character_of : {T : Type 0} → TextStyle T → ℕ → Character T
+character_of style c = record { code = c; mode = style.mode; tag = style.tag; continuation_tag = style.continuation_tag }

@@ -1,11 +1,11 @@
 -- A line, how wide it is, and its text.
-use Rattle.std.specs.Prelude.{ℕ, ◌≤◌, List, [], All, map, sum_by, encode_utf8}
+use Rattle.std.specs.Prelude.{ℕ, Bool, ◌≤◌, List, [], All, map, sum_by, encode_utf8}
 use Rattle.std.specs.List.{flat_map}
 use Rattle.html_render_lines.specs.declared.character.Item.{Item}
 use Rattle.html_render_lines.specs.declared.character.Item.TheVariants as item
 use Rattle.html_render_lines.specs.declared.line.Element.{Element}
 use Rattle.html_render_lines.specs.declared.line.Element.TheVariants as element
-use Rattle.html_render_lines.specs.Character.{width_of}
+use Rattle.html_render_lines.specs.Character.{width_of, tag_on}
 
 -- a line is a list of tagged characters and marks
 abbrev pub Line : Type 0 → Type 0 → Type 0
@@ -42,3 +42,8 @@ bytes_of (element.Mark m) = []
 -- the bytes of a line's characters
 abbrev pub text_bytes : {T M : Type 0} → Line T M → List ℕ
 text_bytes {T} {M} line = flat_map (λ (e : Element T M). bytes_of e) line
+
+-- what stands on a line for a part of a word
+abbrev pub element_of : {T M : Type 0} → Bool → Item T M → Element T M
+element_of continues (item.Character c) = element.Character c.code (tag_on continues c)
+element_of continues (item.Mark m) = element.Mark m

@@ -9,9 +9,8 @@ use Rattle.html_render_lines.specs.declared.line.Element.{Element}
 use Rattle.html_render_lines.specs.declared.line.Element.TheVariants as element
 use Rattle.html_render_lines.specs.declared.line.tagged_text.Run.{Run}
 use Rattle.html_render_lines.specs.declared.line.tagged_text.Run.TheVariants as run
-use Rattle.html_render_lines.specs.Character.{width_of}
+use Rattle.html_render_lines.specs.Character.{width_of, character_of}
 use Rattle.html_render_lines.specs.Line.{Line}
-use Rattle.html_render_lines.specs.Stream.{character_of}
 
 -- characters with one tag
 abbrev pub under : {T M : Type 0} → T → List ℕ → Line T M

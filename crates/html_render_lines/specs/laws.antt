@@ -2,17 +2,11 @@
 pub mod Cases
 -- how wide printable characters are
 pub mod Characters
--- feeding keeps the setting
-pub mod Kept
--- what is fed piece by piece is the paragraph of all of it
-pub mod Whole
--- without overflow no line passes the width
-pub mod Within
--- with overflow no paragraph is too narrow, and its lines are those without
-pub mod Overflow
--- no visible character is lost
+-- how wide lines are
+pub mod Columns
+-- the visible characters of lines
 pub mod Visible
--- the wrapping doesn't depend on the tags
+-- lines with other tags
 pub mod Tags
--- a text that is cut into lines
-pub mod CutText
+-- runs that cut a text up
+pub mod Runs

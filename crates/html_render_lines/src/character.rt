@@ -5,7 +5,7 @@
 ghost use Rattle.std.specs.Prelude.{◌≡◌};
 ghost use Rattle.html_render_lines.specs.Character.{kind, width_of, is_collapsible, has_no_width as has_no_width_of};
 
-use html_render_dom::style::WhiteSpace;
+use html_render_values::white_space::WhiteSpace;
 use unicode_width::UnicodeWidthChar;
 
 /// A character that a paragraph is fed.

@@ -1,10 +1,6 @@
-//! Lines of tagged characters and marks, and the paragraphs that are wrapped into them.
-//!
-//! A [`Paragraph`](paragraph::Paragraph) is fed texts and marks; its `flush` adds its lines to a list of lines.
+//! Lines of tagged characters and marks, held as text under runs of tags, and what a character is to the wrapping of text.
 #![tactic(auto)]
 
 pub mod character;
-mod laws;
 pub mod line;
-pub mod paragraph;
 pub mod tag;

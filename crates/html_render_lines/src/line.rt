@@ -4,18 +4,14 @@
 
 ghost use Rattle.std.specs.Prelude.{◌≡◌};
 ghost use Rattle.html_render_lines.specs.Line.{element_width};
-ghost use Rattle.html_render_lines.specs.Paragraph.{tag_on};
 
-use crate::character::{Character, width_of};
+use crate::character::width_of;
 
 mod line_of_text;
 mod tagged_text;
-mod word;
 
-pub use line_of_text::{Line, Parts, text_columns};
-pub use tagged_text::{Run, TextParts};
-pub(crate) use tagged_text::{TaggedText, style_tag};
-pub(crate) use word::{Word, push_word};
+pub use line_of_text::{Line, Parts, counted_on, text_columns};
+pub use tagged_text::{Run, TaggedText, TextParts, style_tag};
 
 /// What a line holds.
 #[derive(Clone, Copy, Debug, PartialEq, Eq)]
@@ -33,17 +29,5 @@ pub fn element_width<T, M>(element: &Element<T, M>) -> usize
     match element {
         Element::Character(c, _) => width_of(*c),
         Element::Mark(_) => 0,
-    }
-}
-
-/// A character's tag on a line that continues another, or on an ordinary line.
-#[inline]
-pub(crate) fn tag_on<T: Copy>(continues: bool, character: &Character<T>) -> T
-    ensures { result ≡ tag_on continues character.now }
-{
-    if continues {
-        character.continuation_tag
-    } else {
-        character.tag
     }
 }

@@ -10,8 +10,9 @@ use Rattle.html_render_lines.specs.declared.character.Item.{Item}
 use Rattle.html_render_lines.specs.declared.character.Item.TheVariants as item
 use Rattle.html_render_lines.specs.declared.line.Element.TheVariants as element
 use Rattle.html_render_lines.specs.Line.{Line, columns}
-use Rattle.html_render_lines.specs.Paragraph.{Piece, Word, Gap, Cut, Single, Loose, pieces, Setting, tag_on, first_of}
-use Rattle.html_render_lines.specs.Word.{line_with_word, marks_behind_word}
+use Rattle.html_render_paragraphs.specs.Paragraph.{Piece, Word, Gap, Cut, Single, Loose, pieces, Setting, first_of}
+use Rattle.html_render_lines.specs.Character.{tag_on}
+use Rattle.html_render_paragraphs.specs.Word.{line_with_word, marks_behind_word}
 
 -- ---- 1. The text, whatever the width
 

@@ -2,7 +2,7 @@
 
 ghost use Rattle.std.specs.Prelude.{◌≡◌, List, All, Some};
 ghost use Rattle.html_render_lines.specs.Line.{Line};
-ghost use Rattle.html_render_lines.specs.Paragraph.{Page, Setting, paragraph, all_lines};
+ghost use Rattle.html_render_paragraphs.specs.Paragraph.{Page, Setting, paragraph, all_lines};
 ghost use Rattle.html_render_lines.specs.declared.character.Item.{Item};
 ghost use Rattle.html_render_meaning.specs.Meaning.{IsParagraph, IsWithinOrSingle};
 

@@ -1,6 +1,6 @@
 -- The nodes of trees are the trees.
 use Rattle.std.proofs.Common.{◌≡◌, List, ap, ◌∙◌, sym}
-use Rattle.html_render_dom.specs.Forest.{Forest}
+use Rattle.html_render_values.specs.Forest.{Forest}
 use Rattle.html_render_nodes.specs.declared.tree.Entry.{Entry}
 use Rattle.html_render_nodes.specs.Preorder.{flatten, forest_of}
 use Rattle.html_render_nodes.specs.laws.Preorder.{forest_of-flatten}

@@ -5,10 +5,10 @@ use Rattle.std.proofs.lemmas.List.{same_from_push, drop-drop}
 use Rattle.std.proofs.Math.Seq.{take-append_seam, drop-append_seam}
 use Rattle.std.specs.Option.{option_and_then}
 use Rattle.std.specs.Result.{IsErrAnd}
-use Rattle.html_render_dom.specs.declared.errors.Error.{Error}
-use Rattle.html_render_dom.specs.Forest.{Forest, none, node, depth}
-use Rattle.html_render_dom.specs.Outcome.{Refuses}
-use Rattle.html_render_dom.specs.laws.Outcome.{Refuses-then, Refuses-same}
+use Rattle.html_render_values.specs.declared.errors.Error.{Error}
+use Rattle.html_render_values.specs.Forest.{Forest, none, node, depth}
+use Rattle.html_render_values.specs.Outcome.{Refuses}
+use Rattle.html_render_values.specs.laws.Outcome.{Refuses-then, Refuses-same}
 use Rattle.html_render_parts.specs.declared.widths.Meter.{Meter}
 use Rattle.html_render_nodes.specs.Counts.{CountsNodes}
 use Rattle.html_render_nodes.specs.declared.tree.Entry.{Entry}

@@ -1,6 +1,6 @@
 -- What a walk over a forest counts.
 use Rattle.std.specs.Prelude.{◌≡◌, ◌≤◌, length, Result, OnOk}
-use Rattle.html_render_dom.specs.Forest.{Forest, count, depth}
+use Rattle.html_render_values.specs.Forest.{Forest, count, depth}
 use Rattle.html_render_parts.specs.declared.widths.Meter.{Meter}
 use Rattle.html_render_nodes.specs.Pass.{Steps, Inside, AsksIn, visited}
 

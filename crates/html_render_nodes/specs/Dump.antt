@@ -1,6 +1,6 @@
 -- The dump of a render tree: a line for each node, a node before those below it.
 use Rattle.std.specs.Prelude.{ℕ, ◌+◌, List, [], ◌∷◌, ◌++◌, codes, replicate}
-use Rattle.html_render_dom.specs.Forest.{Forest, none, node}
+use Rattle.html_render_values.specs.Forest.{Forest, none, node}
 use Rattle.html_render_nodes.specs.declared.tree.Emphasis.TheVariants.{Em, Strong, Code}
 use Rattle.html_render_nodes.specs.declared.tree.NodeKind.{NodeKind}
 use Rattle.html_render_nodes.specs.declared.tree.NodeKind.TheVariants.{Text, Container, Break, Block, Div, Emphasis, Header, BlockQuote, Ul}

@@ -1,7 +1,7 @@
 -- What a pass over a forest computes, step by step, and which nodes it visits.
 use Rattle.std.specs.Prelude.{◌≡◌, List, [], ◌∷◌, ◌++◌, Option, Some, None}
-use Rattle.html_render_dom.specs.Forest.{Forest, none, node}
-use Rattle.html_render_dom.specs.Outcome.{◌>>=◌}
+use Rattle.html_render_values.specs.Forest.{Forest, none, node}
+use Rattle.html_render_values.specs.Outcome.{◌>>=◌}
 
 -- the steps of each node: what it does to a state, from the trees below it and what these do to one; a node that doesn't
 -- ask for its children skips them

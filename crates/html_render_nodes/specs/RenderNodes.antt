@@ -1,6 +1,6 @@
 -- Nodes of a render tree.
 use Rattle.std.specs.Prelude.{None, false}
-use Rattle.html_render_dom.specs.declared.style.WhiteSpace.TheVariants.{Normal}
+use Rattle.html_render_values.specs.declared.white_space.WhiteSpace.TheVariants.{Normal}
 use Rattle.html_render_nodes.specs.declared.tree.Estimate.{Estimate}
 use Rattle.html_render_nodes.specs.declared.tree.NodeKind.{NodeKind}
 use Rattle.html_render_nodes.specs.declared.tree.NodeStyle.{NodeStyle}

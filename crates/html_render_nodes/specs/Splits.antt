@@ -1,6 +1,6 @@
 -- A forest that grew at the front: the trees that came since, and those that stood before.
 use Rattle.std.specs.Prelude.{ℕ, ◌≡◌, List, reverse}
-use Rattle.html_render_dom.specs.Forest.{Forest, node, count, followed_by}
+use Rattle.html_render_values.specs.Forest.{Forest, node, count, followed_by}
 use Rattle.html_render_nodes.specs.declared.tree.Entry.{Entry}
 use Rattle.html_render_nodes.specs.Preorder.{flatten}
 

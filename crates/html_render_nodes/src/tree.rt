@@ -4,15 +4,16 @@
 //! one tree, the node `c` over `a` and `b`, and `finish` gives the [`Flat`] of it, whose nodes are `c`, `a`, `b`.
 
 ghost use Rattle.std.specs.Prelude.{◌≡◌, ◌↔◌, IsTrue, OnOk, OnErr, IfOk, IfErr, IfSome, IfNone, ℕ, reverse};
-ghost use Rattle.html_render_dom.specs.Forest as forest;
-ghost use Rattle.html_render_dom.specs.Forest.{none, count};
+ghost use Rattle.html_render_values.specs.Forest as forest;
+ghost use Rattle.html_render_values.specs.Forest.{none, count};
 ghost use Rattle.html_render_nodes.specs.Preorder.{flatten, forest_of};
 ghost use Rattle.html_render_nodes.specs.Splits.{SplitAt, Reversed, FirstTree};
 
-use html_render_dom::Error;
-use html_render_dom::style::{Colour, WhiteSpace};
-use html_render_dom::text::Text;
 use html_render_parts::table::CellKind;
+use html_render_values::Error;
+use html_render_values::colours::Colour;
+use html_render_values::text::Text;
+use html_render_values::white_space::WhiteSpace;
 use std::alloc::Global;
 use std::marker::Model;
 
@@ -35,7 +36,7 @@ pub struct Flat<N> {
 impl<N> Model for Flat<N> {
     ghost use Rattle.std.specs.Prelude.{◌≡◌, List};
     ghost use Rattle.std.specs.Coded.{codes, code_by, coded_list};
-    ghost use Rattle.html_render_dom.specs.Forest.{Forest};
+    ghost use Rattle.html_render_values.specs.Forest.{Forest};
     ghost use Rattle.html_render_nodes.specs.declared.tree.Entry.{Entry};
     ghost use Rattle.html_render_nodes.specs.Preorder.{forest_of, flatten};
     ghost use Rattle.html_render_nodes.specs.laws.Preorder.{forest_of-flatten};
@@ -83,10 +84,6 @@ pub struct Builder<N> {
 impl<N> Model for Builder<N> {
     ghost use Rattle.std.specs.Prelude.{◌≡◌, List, reverse};
     ghost use Rattle.std.specs.Coded.{codes, code_by, coded_list};
-    ghost use Rattle.html_render_dom.specs.Forest.{Forest};
-    ghost use Rattle.html_render_nodes.specs.declared.tree.Entry.{Entry};
-    ghost use Rattle.html_render_nodes.specs.Preorder.{forest_of, flatten};
-    ghost use Rattle.html_render_nodes.specs.laws.Preorder.{forest_of-flatten};
 
     ghost Value = { Forest N };
 
@@ -500,11 +497,7 @@ pub struct RenderTree {
 impl Model for RenderTree {
     ghost use Rattle.std.specs.Prelude.{List};
     ghost use Rattle.std.specs.Coded.{codes, code_by, coded_list};
-    ghost use Rattle.html_render_dom.specs.Forest.{Forest};
-    ghost use Rattle.html_render_nodes.specs.declared.tree.Entry.{Entry};
     ghost use Rattle.html_render_nodes.specs.declared.tree.RenderNode.{RenderNode};
-    ghost use Rattle.html_render_nodes.specs.Preorder.{forest_of, flatten};
-    ghost use Rattle.html_render_nodes.specs.laws.Preorder.{forest_of-flatten};
 
     ghost Value = { Forest RenderNode };
 

@@ -4,16 +4,16 @@
 //! goes past them, and counts what it did; `Ok(())`: the state is what the pass's steps make of the forest.
 
 ghost use Rattle.std.specs.Prelude.{◌≡◌, ◌≢◌, List, [], ◌∷◌, ◌++◌, Option, Some, option_and_then, OnOk, IfOk, IfErr, IfSome, IfNone};
-ghost use Rattle.html_render_dom.specs.Forest.{Forest};
-ghost use Rattle.html_render_dom.specs.Outcome.{Refuses};
+ghost use Rattle.html_render_values.specs.Forest.{Forest};
+ghost use Rattle.html_render_values.specs.Outcome.{Refuses};
 ghost use Rattle.html_render_nodes.specs.Counts.{CountsNodes};
 ghost use Rattle.html_render_nodes.specs.Pass.{Steps, Way, way, run, through, inside_of};
 ghost use Rattle.html_render_nodes.specs.Preorder.{flatten, forest_of};
 ghost use Rattle.html_render_nodes.specs.declared.walk.Frame.{Frame};
 
 use crate::tree::{Entry, Flat};
-use html_render_dom::Error;
 use html_render_parts::widths::Meter;
+use html_render_values::Error;
 use std::alloc::Global;
 
 /// What a walk does at each node.

@@ -5,8 +5,8 @@ use Rattle.std.specs.Global.{Vec}
 use Rattle.std.specs.List.{list_all}
 use Rattle.std.proofs.lemmas.Bool.{cases_Bool}
 use Rattle.std.proofs.lemmas.List.Elements.{All-nil, All-cons, All-head, All-tail}
-use Rattle.html_render_dom.specs.declared.errors.Error.{Error}
-use Rattle.html_render_dom.specs.declared.errors.Error.TheVariants.{TooNarrow, Fail, OutOfMemory}
+use Rattle.html_render_values.specs.declared.errors.Error.{Error}
+use Rattle.html_render_values.specs.declared.errors.Error.TheVariants.{TooNarrow, Fail, OutOfMemory}
 use Rattle.html_render_parts.specs.declared.table.Span.{Span}
 use Rattle.html_render_parts.specs.declared.table.placement.Place.{Place}
 use Rattle.html_render_parts.specs.Placement.{lists, placed_rows}

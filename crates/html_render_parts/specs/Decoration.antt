@@ -1,6 +1,6 @@
 -- What a decorator answers, as functions of its value S; A are its annotations. Texts are in UTF-8.
 use Rattle.std.specs.Prelude.{ℕ, ℤ, List, Option}
-use Rattle.html_render_dom.specs.declared.style.colours.Colour.{Colour}
+use Rattle.html_render_values.specs.declared.colours.Colour.{Colour}
 
 -- a text, and what the characters in the part are annotated with
 pub record Start (A : Type 0) : Type 0 where

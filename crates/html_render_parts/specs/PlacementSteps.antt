@@ -1,7 +1,7 @@
 -- Rows of a table as they are put together from the left: each step has no result where a place would end past the
 -- last position.
 use Rattle.std.specs.Prelude.{ℕ, ◌+◌, ◌^◌, List, [], ◌∷◌, ◌++◌, Option, Some, None, map, filter, nat_lt, nat_le, if◌then◌else◌}
-use Rattle.html_render_dom.specs.Outcome.{◌>>=◌}
+use Rattle.html_render_values.specs.Outcome.{◌>>=◌}
 use Rattle.html_render_parts.specs.declared.table.Span.{Span}
 use Rattle.html_render_parts.specs.declared.table.CellKind.{CellKind}
 use Rattle.html_render_parts.specs.declared.table.CellKind.TheVariants.{Cell, Placeholder, Gap}

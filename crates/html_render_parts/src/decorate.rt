@@ -11,9 +11,9 @@ ghost use Rattle.html_render_parts.specs.Decoration.{Decoration};
 mod plain;
 mod rich;
 
-use html_render_dom::Error;
-use html_render_dom::style::Colour;
-use html_render_dom::text::Text;
+use html_render_values::Error;
+use html_render_values::colours::Colour;
+use html_render_values::text::Text;
 pub use plain::PlainDecorator;
 pub use rich::{RichAnnotation, RichDecorator};
 use std::alloc::Global;

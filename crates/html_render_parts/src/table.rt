@@ -13,7 +13,7 @@ ghost use Rattle.html_render_parts.specs.Refusal.{Fails};
 mod numbering;
 mod placement;
 
-use html_render_dom::Error;
+use html_render_values::Error;
 use std::alloc::Global;
 
 /// How many columns and rows a cell asks for, each at least 1.

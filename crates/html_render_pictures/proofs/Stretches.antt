@@ -6,7 +6,7 @@ use Rattle.std.proofs.lemmas.List.{reverse-append, reverse-reverse, length-map, 
 use Rattle.std.proofs.lemmas.Bool.Decides.{nat_tests}
 use Rattle.std.proofs.lemmas.List.Elements.{All-nil, All-cons, All-head, All-tail, All-append, All-weaker}
 use Rattle.html_render_lines.specs.Line.{Line, columns, marks_line}
-use Rattle.html_render_lines.specs.laws.Within.{columns-append}
+use Rattle.html_render_lines.specs.laws.Columns.{columns-append}
 use Rattle.html_render_pictures.specs.Marked.{marked_before, marked_behind}
 use Rattle.html_render_pictures.specs.Padding.{spaces, filled_line, filled}
 use Rattle.html_render_pictures.specs.Stretch.{AllAtLeast, IsStretch, lines_of}

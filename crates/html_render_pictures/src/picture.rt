@@ -12,9 +12,9 @@ use crate::fillers::{Filler, push_fillers};
 use crate::finished::{append_filled, fill_all, mark_behind, put_marks_front, reserve_all};
 use crate::line::lengthen;
 use crate::lines::Lines;
-use html_render_dom::Error;
 use html_render_lines::line::Line;
 use html_render_lines::tag::Tag;
+use html_render_values::Error;
 use std::alloc::{AllocError, Global};
 use std::marker::Model;
 use std::mem;
@@ -42,7 +42,7 @@ pub struct Cell<T, M> {
 }
 
 impl<T, M> Model for Cell<T, M> {
-    ghost use Rattle.html_render_pictures.specs.Picture.{KeptCell};
+    ghost use Rattle.html_render_pictures.specs.Picture.{KeptCell, TableRow};
 
     ghost Value = { KeptCell T M };
 
@@ -82,8 +82,6 @@ pub struct Row<T, M> {
 }
 
 impl<T, M> Model for Row<T, M> {
-    ghost use Rattle.html_render_pictures.specs.Picture.{TableRow};
-
     ghost Value = { TableRow T M };
 
     ghost view = { λ r. record { cells = r.cells.items; has_placeholder = r.has_placeholder } };
@@ -436,7 +434,7 @@ struct Border<M> {
 }
 
 impl<M> Model for Border<M> {
-    ghost use Rattle.html_render_pictures.specs.Drawing.{DueBorder};
+    ghost use Rattle.html_render_pictures.specs.Drawing.{DueBorder, Drawing};
 
     ghost Value = { DueBorder M };
 
@@ -491,8 +489,6 @@ pub struct Picture<T, M> {
 }
 
 impl<T, M> Model for Picture<T, M> {
-    ghost use Rattle.html_render_pictures.specs.Drawing.{Drawing};
-
     ghost Value = { Drawing T M };
 
     ghost view = { λ p. record { frame = p.frame; lines = p.lines; waiting = p.waiting.items; due = p.due } };

@@ -1,7 +1,7 @@
 -- A line, and lines, under a colour map, from the front on.
 use Rattle.std.proofs.Common.{◌≡◌, ℕ, List, [], ◌∷◌, ◌++◌, length, Result, String, Vec, refl, sym, ap, ◌∙◌, subst, append_assoc, append-nil, arith, Bor}
 use Rattle.std.specs.declared.alloc.Global.{Global}
-use Rattle.html_render_dom.specs.declared.errors.Error.{Error}
+use Rattle.html_render_values.specs.declared.errors.Error.{Error}
 use Rattle.html_render_tagged.specs.declared.line.TaggedLineElement.{TaggedLineElement}
 use Rattle.html_render_tagged.specs.declared.line.TaggedLineElement.TheVariants as made
 use Rattle.html_render_tagged.specs.declared.line.TaggedString.{TaggedString}

@@ -3,7 +3,7 @@ use Rattle.std.specs.Prelude.{◌≡◌, ℕ, List, [], ◌∷◌, ◌++◌, Res
 use Rattle.std.specs.Str.{encode_utf8_all}
 use Rattle.std.specs.Borrow.{Bor}
 use Rattle.std.specs.declared.alloc.Global.{Global}
-use Rattle.html_render_dom.specs.declared.errors.Error.{Error}
+use Rattle.html_render_values.specs.declared.errors.Error.{Error}
 use Rattle.html_render_tagged.specs.Grouping.{Piece, Str, FragmentStart}
 
 module _ {A : Type 0} (post : Bor (List A) → Bor (List ℕ) → Result (String Global) Error → Type 0) where

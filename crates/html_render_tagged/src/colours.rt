@@ -8,7 +8,7 @@ ghost use Rattle.html_render_tagged.specs.Grouping.{pieces_of, lines_of};
 ghost use Rattle.html_render_tagged.specs.Colouring.{IsColouredLine, IsColoured};
 
 use crate::line::{TaggedLine, TaggedLineElement};
-use html_render_dom::Error;
+use html_render_values::Error;
 use std::alloc::Global;
 
 /// Adds a line's text: the map's answers and a newline.

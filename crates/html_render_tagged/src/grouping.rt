@@ -17,11 +17,11 @@ ghost use Rattle.html_render_tagged.specs.TaggedLine.{line_columns};
 ghost use Rattle.html_render_tagged.specs.Progress.{closed, last_in_front, pieces_with, Takes};
 
 use crate::line::{TaggedLine, TaggedLineElement, TaggedString};
-use html_render_dom::Error;
-use html_render_dom::text::Text;
 use html_render_layout::layout::LaidOut;
 use html_render_layout::stacks::Stacks;
 use html_render_lines::line::{Element, Line, Run};
+use html_render_values::Error;
+use html_render_values::text::Text;
 use std::alloc::{AllocError, Global};
 
 /// A string that more text may join.

@@ -1,8 +1,8 @@
 -- The render tree of a document.
 use Rattle.std.specs.Prelude.{List, Option}
 use Rattle.html_render_dom.specs.Dom.{Dom}
-use Rattle.html_render_dom.specs.Forest.{Forest}
-use Rattle.html_render_dom.specs.Outcome.{◌>>=◌}
+use Rattle.html_render_values.specs.Forest.{Forest}
+use Rattle.html_render_values.specs.Outcome.{◌>>=◌}
 use Rattle.html_render_dom.specs.Rules.{Rule}
 use Rattle.html_render_nodes.specs.declared.tree.RenderNode.{RenderNode}
 use Rattle.html_render_arrangement.specs.Arrangement.{in_place}

@@ -1,8 +1,8 @@
 -- What a configuration makes of a render tree.
 use Rattle.std.specs.Prelude.{ℕ, Bool, false, List, [], Option, Some}
 use Rattle.std.specs.Cmp.Lexicographic.{pointwise}
-use Rattle.html_render_dom.specs.Forest.{Forest}
-use Rattle.html_render_dom.specs.Outcome.{◌>>=◌}
+use Rattle.html_render_values.specs.Forest.{Forest}
+use Rattle.html_render_values.specs.Outcome.{◌>>=◌}
 use Rattle.html_render_dom.specs.Rules.{Rule}
 use Rattle.html_render_lines.specs.Line.{Line}
 use Rattle.html_render_parts.specs.Decoration.{Decoration}

@@ -1,7 +1,7 @@
 //! The calls that make and change a configuration, as values.
 
 ghost use Rattle.std.specs.Prelude.{◌≡◌, IfOk, IfErr};
-ghost use Rattle.html_render_dom.specs.declared.errors.Error.TheVariants.{OutOfMemory};
+ghost use Rattle.html_render_values.specs.declared.errors.Error.TheVariants.{OutOfMemory};
 ghost use Rattle.named_configs.specs.Settings.{changed, changed_by};
 
 use crate::decorators::Own;

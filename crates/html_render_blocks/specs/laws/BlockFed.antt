@@ -3,11 +3,11 @@ use Rattle.std.proofs.Common.{◌≡◌, ℕ, Bool, true, false, not, cond, eqb,
 use Rattle.std.proofs.Common.{option_map, option_and_then, IfSome}
 use Rattle.html_render_lines.specs.declared.character.TextStyle.{TextStyle}
 use Rattle.html_render_lines.specs.Line.{Line}
-use Rattle.html_render_lines.specs.Paragraph.{Page, Setting, paragraph, all_lines}
-use Rattle.html_render_lines.specs.Stream.{State, start, after, finished, styled}
+use Rattle.html_render_paragraphs.specs.Paragraph.{Page, Setting, paragraph, all_lines}
+use Rattle.html_render_paragraphs.specs.Stream.{State, start, after, finished, styled}
 use Rattle.html_render_lines.specs.TaggedText.{under}
-use Rattle.html_render_lines.specs.laws.Whole.{finished-after, after-append}
-use Rattle.html_render_lines.specs.laws.Kept.{setting-after}
+use Rattle.html_render_paragraphs.specs.laws.Whole.{finished-after, after-append}
+use Rattle.html_render_paragraphs.specs.laws.Kept.{setting-after}
 use Rattle.html_render_blocks.specs.laws.Operations.{Commutes, map_map}
 use Rattle.html_render_blocks.specs.Block as definition
 use Rattle.html_render_blocks.specs.Block.{DefinedBlock, is_blank, paragraph_setting, inner_width, mark_items}
@@ -17,8 +17,7 @@ use Rattle.html_render_pictures.specs.Padding.{filled}
 use Rattle.html_render_blocks.specs.declared.block.tables.OpenTable.{OpenTable}
 use Rattle.html_render_blocks.specs.declared.block.tables.OpenTable.TheVariants.{Across, Stacked}
 use Rattle.html_render_blocks.specs.OpenRows.{with_cell}
-use Rattle.html_render_blocks.specs.Tables.{Rows, defined_pictures, rule, stacked_border, with_row_open, next_cell_width, skipped}
-use Rattle.html_render_blocks.specs.Tables.{picture_of}
+use Rattle.html_render_blocks.specs.Tables.{Rows, defined_pictures, rule, stacked_border, with_row_open, next_cell_width, skipped, picture_of}
 use Rattle.html_render_blocks.specs.laws.TableFed.{drawing_of, table_of, with_row_open-of, next_cell_width-of, skipped-of, with_open-of, picture_of-of}
 use Rattle.html_render_parts.specs.declared.widths.needs.CellNeed.{CellNeed}
 use Rattle.html_render_parts.specs.Needs.{standing_widths}

@@ -9,10 +9,11 @@ use Rattle.std.proofs.lemmas.List.Elements.{All-push, All-append, All-nil, All-c
 use Rattle.std.proofs.lemmas.List.Sums.{sum_by-cons}
 use Rattle.html_render_lines.specs.declared.character.TextStyle.{TextStyle}
 use Rattle.html_render_lines.specs.Line.{Line, columns, element_width, marks_line, AllWithinWidth}
-use Rattle.html_render_lines.specs.Paragraph.{Page, without_overflow, paragraph, all_lines}
+use Rattle.html_render_paragraphs.specs.Paragraph.{Page, without_overflow, paragraph, all_lines}
 use Rattle.html_render_lines.specs.TaggedText.{under}
-use Rattle.html_render_lines.specs.laws.Within.{paragraph_within, columns-append, columns-marks}
-use Rattle.html_render_lines.specs.laws.Overflow.{paragraph_some}
+use Rattle.html_render_paragraphs.specs.laws.Within.{paragraph_within}
+use Rattle.html_render_lines.specs.laws.Columns.{columns-append, columns-marks}
+use Rattle.html_render_paragraphs.specs.laws.Overflow.{paragraph_some}
 use Rattle.html_render_lines.specs.laws.Cases.{if_cases}
 use Rattle.html_render_blocks.specs.declared.block.BlockSetting.{BlockSetting}
 use Rattle.html_render_blocks.specs.laws.Operations.{Keeps, Succeeds}
@@ -23,15 +24,13 @@ use Rattle.html_render_blocks.specs.Joined.{are_within, fitting, joined}
 use Rattle.html_render_blocks.specs.Block.{DefinedBlock, wrap_width, paragraph_setting, empty_block, flush, add_page, add_empty_line}
 use Rattle.html_render_blocks.specs.Block.{separate_behind, start_block, new_line_hard, add_inline_text, feed, is_blank, inner_width}
 use Rattle.html_render_blocks.specs.Block.{sub_block, append_lines, append, operations}
-use Rattle.html_render_blocks.specs.Block.{end_open, end_table, add_lines, add_border, table_begun, begin_table, begin_row, skip_cell}
-use Rattle.html_render_blocks.specs.Block.{put_lines}
+use Rattle.html_render_blocks.specs.Block.{end_open, end_table, add_lines, add_border, table_begun, begin_table, begin_row, skip_cell, put_lines}
 use Rattle.html_render_blocks.specs.Block.{kept_cell, put_below, put_stacked, cell_added, cell_block, add_cell, row_ended}
 use Rattle.html_render_blocks.specs.declared.block.tables.OpenTable.{OpenTable}
 use Rattle.html_render_blocks.specs.declared.block.tables.OpenTable.TheVariants.{Across, Stacked}
 use Rattle.html_render_blocks.specs.Tables.{Rows, defined_pictures, rule, stacked_border, with_row_open, next_cell_width, skipped, with_open, with_below}
 use Rattle.html_render_blocks.specs.laws.TableWithin.{TableWithin, place_room, cell-within, picture_rows, picture_frame, with_row_open-within}
-use Rattle.html_render_blocks.specs.laws.TableWithin.{below_rows, below_frame}
-use Rattle.html_render_blocks.specs.laws.TableWithin.{skipped-within, table_width_within, columns_room-within}
+use Rattle.html_render_blocks.specs.laws.TableWithin.{below_rows, below_frame, skipped-within, table_width_within, columns_room-within}
 use Rattle.html_render_lines.specs.Character.{width_of}
 use Rattle.html_render_lines.specs.declared.line.Element.{Element}
 use Rattle.html_render_lines.specs.declared.line.Element.TheVariants.{Character}

@@ -1,9 +1,9 @@
 -- Marks that are fed to an empty paragraph wait before all that comes.
 use Rattle.std.proofs.Common.{◌≡◌, List, [], ◌∷◌, ◌++◌, Some, sym, ap, ◌∙◌, append_assoc, append-nil, option_and_then}
 use Rattle.html_render_lines.specs.declared.character.Item.{Item}
-use Rattle.html_render_lines.specs.Paragraph.{Setting, paragraph}
-use Rattle.html_render_lines.specs.Stream.{State, start, after, finished}
-use Rattle.html_render_lines.specs.laws.Whole.{finished-after, after-append}
+use Rattle.html_render_paragraphs.specs.Paragraph.{Setting, paragraph}
+use Rattle.html_render_paragraphs.specs.Stream.{State, start, after, finished}
+use Rattle.html_render_paragraphs.specs.laws.Whole.{finished-after, after-append}
 use Rattle.html_render_blocks.specs.Block.{mark_items}
 
 fed-marks : {T M : Type 0} (s : Setting) (marks ms : List M) → after (start {T = T} s marks) (mark_items ms) ≡ Some (start s (marks ++ ms))

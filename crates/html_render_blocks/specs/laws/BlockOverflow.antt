@@ -4,9 +4,9 @@ use Rattle.std.proofs.Common.{Option, Some, None, option_map}
 use Rattle.html_render_lines.specs.declared.character.Item.{Item}
 use Rattle.html_render_lines.specs.declared.character.TextStyle.{TextStyle}
 use Rattle.html_render_lines.specs.Line.{Line, marks_line}
-use Rattle.html_render_lines.specs.Paragraph.{Page, with_overflow, without_overflow, paragraph}
+use Rattle.html_render_paragraphs.specs.Paragraph.{Page, with_overflow, without_overflow, paragraph}
 use Rattle.html_render_lines.specs.TaggedText.{under}
-use Rattle.html_render_lines.specs.laws.Overflow.{paragraph_same}
+use Rattle.html_render_paragraphs.specs.laws.Overflow.{paragraph_same}
 use Rattle.html_render_blocks.specs.laws.Operations.{Refines}
 use Rattle.html_render_blocks.specs.laws.Cases.{Stays, if_is, then_stays, map_stays, if_stays, or_stays}
 use Rattle.html_render_blocks.specs.Joined.{prefixed, are_within, joined}

@@ -6,18 +6,19 @@ use Rattle.html_render_lines.specs.declared.character.TextStyle.{TextStyle}
 use Rattle.html_render_lines.specs.declared.character.Item.TheVariants.{Mark}
 use Rattle.html_render_lines.specs.declared.line.Element.TheVariants.{Character}
 use Rattle.html_render_lines.specs.Line.{Line, columns, marks_line}
-use Rattle.html_render_lines.specs.Paragraph.{Page, all_lines}
-use Rattle.html_render_lines.specs.Stream.{State, start, after, finished, styled}
+use Rattle.html_render_paragraphs.specs.Paragraph.{Page, all_lines}
+use Rattle.html_render_paragraphs.specs.Stream.{State, start, after, finished, styled}
 use Rattle.html_render_lines.specs.TaggedText.{under}
-use Rattle.html_render_lines.specs.laws.Tags.{if_with, then_with, map_with, page_with, state_with, style_with, item_with, marks-with}
+use Rattle.html_render_lines.specs.laws.Tags.{if_with, then_with, map_with, marks-with, columns-with}
+use Rattle.html_render_paragraphs.specs.laws.Tags.{page_with, state_with, style_with, item_with}
 use Rattle.html_render_lines.specs.Tags.{element_with, line_with, lines_with}
-use Rattle.html_render_lines.specs.laws.Tags.{after-with, finished-with, styled-with, all_lines-with, columns-with}
+use Rattle.html_render_paragraphs.specs.laws.Tags.{after-with, finished-with, styled-with, all_lines-with}
 use Rattle.html_render_blocks.specs.laws.Operations.{Commutes}
 use Rattle.html_render_pictures.specs.laws.Padding.{filled-with}
 use Rattle.html_render_pictures.specs.laws.Lines.{marked_behind-with}
 use Rattle.html_render_pictures.specs.Padding.{filled}
 use Rattle.html_render_blocks.specs.Joined.{behind, prefixed, are_within, fitting, joined}
-use Rattle.html_render_pictures.specs.Marked.{marked_behind}
+use Rattle.html_render_pictures.specs.Marked.{marked_behind, marked_before}
 use Rattle.html_render_blocks.specs.Block.{is_blank, inner_width, mark_items}
 use Rattle.html_render_blocks.specs.BlockMachine.{MachineBlock, flush, flush_paragraph, add_page, add_empty_line, separate_behind}
 use Rattle.html_render_blocks.specs.BlockMachine.{start_block, new_line_hard, add_inline_text, feed, waiting, take_waiting, operations}
@@ -30,15 +31,13 @@ use Rattle.html_render_blocks.specs.declared.block.tables.OpenTable.TheVariants.
 use Rattle.html_render_blocks.specs.OpenRows.{with_cell}
 use Rattle.html_render_blocks.specs.Tables.{drawn_pictures, frame_of, rule, stacked_border, with_row_open, next_cell_width, skipped, picture_of}
 use Rattle.html_render_blocks.specs.laws.TableTags.{open_row_with, table_with, with_row_open-with, next_cell_width-with, with_cell-with, with_open-with}
-use Rattle.html_render_blocks.specs.laws.TableTags.{picture_of-with}
-use Rattle.html_render_blocks.specs.laws.TableTags.{skipped-with, rule-with, stacked_border-with}
+use Rattle.html_render_blocks.specs.laws.TableTags.{picture_of-with, skipped-with, rule-with, stacked_border-with}
 use Rattle.html_render_nodes.specs.declared.tree.Slot.{Slot}
 use Rattle.html_render_nodes.specs.Grids.{GridRows}
 use Rattle.html_render_parts.specs.declared.widths.needs.CellNeed.{CellNeed}
 use Rattle.html_render_parts.specs.Needs.{standing_widths}
 use Rattle.html_render_pictures.specs.declared.picture.Frame.{Frame}
 use Rattle.html_render_pictures.specs.Drawing.{Drawing}
-use Rattle.html_render_pictures.specs.Marked.{marked_before}
 use Rattle.html_render_pictures.specs.Picture.{is_empty}
 use Rattle.html_render_pictures.specs.Tags.{drawing_with, drawn_with}
 use Rattle.html_render_pictures.specs.laws.Tags.{begun-with}

@@ -5,26 +5,27 @@ use Rattle.std.specs.Char.{is_whitespace}
 use Rattle.std.specs.List.{list_all}
 use Rattle.std.proofs.lemmas.Bool.{eqb-true}
 use Rattle.std.proofs.lemmas.Option.{IfSome_then}
-use Rattle.html_render_dom.specs.declared.style.WhiteSpace.{WhiteSpace}
-use Rattle.html_render_dom.specs.declared.style.WhiteSpace.TheVariants.{Normal, Pre, PreWrap}
+use Rattle.html_render_values.specs.declared.white_space.WhiteSpace.{WhiteSpace}
+use Rattle.html_render_values.specs.declared.white_space.WhiteSpace.TheVariants.{Normal, Pre, PreWrap}
 use Rattle.html_render_lines.specs.declared.character.Item.{Item}
 use Rattle.html_render_lines.specs.declared.character.Item.TheVariants.{Character, Mark}
 use Rattle.html_render_lines.specs.declared.character.TextStyle.{TextStyle}
 use Rattle.html_render_lines.specs.Character.{is_collapsible, has_no_width}
 use Rattle.html_render_lines.specs.Line.{Line, marks_line}
-use Rattle.html_render_lines.specs.Paragraph.{Page, paragraph, all_lines}
-use Rattle.html_render_lines.specs.Stream.{styled}
+use Rattle.html_render_paragraphs.specs.Paragraph.{Page, paragraph, all_lines}
+use Rattle.html_render_paragraphs.specs.Stream.{styled}
 use Rattle.html_render_lines.specs.TaggedText.{under}
 use Rattle.html_render_lines.specs.Visible.{is_visible, if_visible, visible_in_items, visible_in_line, visible_in_lines}
 use Rattle.html_render_lines.specs.laws.Cases.{if_cases}
-use Rattle.html_render_lines.specs.laws.Visible.{paragraph_keeps, visible_in_line-append, visible_in_line-marks, visible_in_lines-push}
+use Rattle.html_render_paragraphs.specs.laws.Visible.{paragraph_keeps}
+use Rattle.html_render_lines.specs.laws.Visible.{visible_in_line-append, visible_in_line-marks, visible_in_lines-push}
 use Rattle.html_render_blocks.specs.laws.Operations.{Counts}
 use Rattle.html_render_pictures.specs.laws.Padding.{filled-visible}
 use Rattle.html_render_pictures.specs.laws.Lines.{lines-append, marked_behind_same, count-append}
 use Rattle.html_render_pictures.specs.Padding.{filled}
 use Rattle.html_render_blocks.specs.laws.Cases.{map_if, then_if, any}
 use Rattle.html_render_blocks.specs.Joined.{behind, prefixed, are_within, fitting, joined}
-use Rattle.html_render_pictures.specs.Marked.{marked_behind}
+use Rattle.html_render_pictures.specs.Marked.{marked_behind, marked_before}
 use Rattle.html_render_blocks.specs.Block.{DefinedBlock, paragraph_setting, empty_block, flush, add_page, add_empty_line}
 use Rattle.html_render_blocks.specs.Block.{separate_behind, start_block, new_line_hard, add_inline_text, feed, is_blank, add_mark, inner_width, mark_items}
 use Rattle.html_render_blocks.specs.Block.{sub_block, append_lines, append, operations}
@@ -39,7 +40,6 @@ use Rattle.html_render_nodes.specs.declared.tree.Slot.{Slot}
 use Rattle.html_render_nodes.specs.Grids.{GridRows}
 use Rattle.html_render_parts.specs.declared.widths.needs.CellNeed.{CellNeed}
 use Rattle.html_render_parts.specs.Needs.{standing_widths}
-use Rattle.html_render_pictures.specs.Marked.{marked_before}
 use Rattle.html_render_pictures.specs.Picture.{KeptCell, TableRow, is_empty, picture_lines}
 use Rattle.html_render_pictures.specs.laws.Visible.{picture_times}
 use Rattle.html_render_blocks.specs.Visible.{visible_in_text, visible_in_block, text_count, row_count, table_count, visible_count}

@@ -5,13 +5,14 @@ use Rattle.std.proofs.Common.{IfSome, IsSome, option_map, option_and_then}
 use Rattle.std.specs.Option.{IsSomeAnd}
 use Rattle.std.proofs.lemmas.List.{map-append}
 use Rattle.std.proofs.lemmas.List.Elements.{All-append, All-nil}
-use Rattle.html_render_lines.specs.CutText.{text_lines, cut_lines}
+use Rattle.html_render_paragraphs.specs.CutText.{text_lines, cut_lines}
 use Rattle.html_render_lines.specs.Line.{Line, columns, AllWithinWidth}
-use Rattle.html_render_lines.specs.Paragraph.{Setting, without_overflow, with_overflow}
+use Rattle.html_render_paragraphs.specs.Paragraph.{Setting, without_overflow, with_overflow}
 use Rattle.html_render_lines.specs.Tags.{line_with, lines_with}
 use Rattle.html_render_lines.specs.Visible.{visible_in_items, visible_in_lines}
-use Rattle.html_render_lines.specs.laws.CutText.{cut_within, cut_some, cut_same, cut-with}
-use Rattle.html_render_lines.specs.laws.Tags.{then_with, map_with, state_with}
+use Rattle.html_render_paragraphs.specs.laws.CutText.{cut_within, cut_some, cut_same, cut-with}
+use Rattle.html_render_lines.specs.laws.Tags.{then_with, map_with}
+use Rattle.html_render_paragraphs.specs.laws.Tags.{state_with}
 use Rattle.html_render_blocks.specs.Block as definition
 use Rattle.html_render_blocks.specs.Block.{DefinedBlock, paragraph_setting, add_page, end_behind, finish, add_lines, add_closing_lines, start_block}
 use Rattle.html_render_blocks.specs.Block.{flush, end_table}
@@ -28,9 +29,8 @@ use Rattle.html_render_blocks.specs.laws.BlockLaws.{end_table_succeeds}
 use Rattle.html_render_blocks.specs.laws.BlockOverflow.{overflowing, start_block_stays, flush_ended_stays}
 use Rattle.html_render_blocks.specs.laws.BlockTags.{block_with, start_block-with, waiting-with, take_waiting-with, under-with}
 use Rattle.html_render_blocks.specs.laws.BlockTags.{flush_ended-with, add_lines-with}
-use Rattle.html_render_pictures.specs.laws.Lines.{marked_behind-with}
+use Rattle.html_render_pictures.specs.laws.Lines.{marked_behind-with, marked_behind_same}
 use Rattle.html_render_blocks.specs.laws.BlockVisible.{Same, then_same, flush_same, start_block_same, add_lines_count, lines_count, end_table_count, ended_none}
-use Rattle.html_render_pictures.specs.laws.Lines.{marked_behind_same}
 use Rattle.html_render_blocks.specs.laws.Cases.{map_if, then_if, map_and, then_and, any, if_is, Stays, then_stays, map_stays}
 
 -- ---- what was fed

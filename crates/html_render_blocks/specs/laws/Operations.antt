@@ -3,7 +3,7 @@ use Rattle.std.specs.Prelude.{◌≡◌, ℕ, ◌+◌, ◌≤◌, Bool, List, Op
 use Rattle.std.proofs.Common.{refl, ap, ◌∙◌}
 use Rattle.html_render_parts.specs.declared.widths.needs.CellNeed.{CellNeed}
 use Rattle.html_render_lines.specs.declared.character.TextStyle.{TextStyle}
-use Rattle.html_render_lines.specs.laws.Tags.{style_with}
+use Rattle.html_render_paragraphs.specs.laws.Tags.{style_with}
 use Rattle.html_render_nodes.specs.declared.tree.Slot.{Slot}
 use Rattle.html_render_nodes.specs.Grids.{GridRows}
 use Rattle.html_render_blocks.specs.Operations.{Operations}

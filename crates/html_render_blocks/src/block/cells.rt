@@ -1,7 +1,7 @@
 //! The rows and the cells of the table that is open in a block.
 
 ghost use Rattle.std.specs.Prelude.{◌≡◌, ◌==◌, Some, OnOk, IfErr, not, option_map};
-ghost use Rattle.html_render_dom.specs.Outcome.{Refuses};
+ghost use Rattle.html_render_values.specs.Outcome.{Refuses};
 ghost use Rattle.html_render_pictures.specs.Picture.{is_empty};
 ghost use Rattle.html_render_blocks.specs.Tables.{drawn_pictures, with_row_open, next_cell_width, skipped, with_next, with_row_over, cell_place};
 ghost use Rattle.html_render_blocks.specs.BlockMachine as machine;
@@ -9,12 +9,12 @@ ghost use Rattle.html_render_blocks.specs.BlockMachine as machine;
 use super::rows::OpenRow;
 use super::tables::OpenTable;
 use super::{Block, BlockSetting};
-use html_render_dom::Error;
 use html_render_lines::tag::Tag;
 use html_render_nodes::tree::Slot;
 use html_render_pictures::fillers::Filler;
 use html_render_pictures::lines::Lines;
 use html_render_pictures::picture::{Cell, Picture};
+use html_render_values::Error;
 use std::alloc::{AllocError, Global};
 
 /// Where the next cell goes.
@@ -257,7 +257,7 @@ impl<T: Tag, M: Copy> Block<T, M> {
     }
 
     /// Adds a cell that is flushed below the lines of this block.
-    #[tactic(auto, using(html_render_dom::specs::laws::Outcome::refusals))]
+    #[tactic(auto, using(html_render_values::specs::laws::Outcome::refusals))]
     fn flush_and_put_below(&mut self, cell: Block<T, M>) -> Result<(), Error>
         ensures ok { OnOk result (option_map (λ e. machine.put_below e cell) (machine.flush self.old) ≡ Some self.new) }
         ensures err { IfErr result (λ e. Refuses e (option_map (λ e. machine.put_below e cell) (machine.flush self.old))) }
@@ -267,7 +267,7 @@ impl<T: Tag, M: Copy> Block<T, M> {
     }
 
     /// Adds a cell that is flushed below others of its row.
-    #[tactic(auto, using(html_render_dom::specs::laws::Outcome::refusals))]
+    #[tactic(auto, using(html_render_values::specs::laws::Outcome::refusals))]
     fn flush_and_put_stacked(
         &mut self,
         border: Option<T>,
@@ -284,7 +284,7 @@ impl<T: Tag, M: Copy> Block<T, M> {
     }
 
     /// Adds a cell that is flushed.
-    #[tactic(auto, using(html_render_dom::specs::laws::Outcome::refusals, crate::proofs::Cells::cells_added))]
+    #[tactic(auto, using(html_render_values::specs::laws::Outcome::refusals, crate::proofs::Cells::cells_added))]
     fn add_flushed(&mut self, cell: Block<T, M>) -> Result<(), Error>
         ensures ok { OnOk result (machine.cell_added self.old self.old.table cell ≡ Some self.new) }
         ensures err { IfErr result (λ e. Refuses e (machine.cell_added self.old self.old.table cell)) }
@@ -309,7 +309,7 @@ impl<T: Tag, M: Copy> Block<T, M> {
     /// # Errors
     ///
     /// `TooNarrow`, as in [`flush`](Block::flush) of either block. `OutOfMemory`.
-    #[tactic(auto, using(html_render_dom::specs::laws::Outcome::refusals))]
+    #[tactic(auto, using(html_render_values::specs::laws::Outcome::refusals))]
     pub fn add_cell(&mut self, mut cell: Block<T, M>) -> Result<(), Error>
         ensures ok { OnOk result (machine.add_cell self.old cell ≡ Some self.new) }
         ensures err { IfErr result (λ e. Refuses e (machine.add_cell self.old cell)) }
@@ -319,7 +319,7 @@ impl<T: Tag, M: Copy> Block<T, M> {
     }
 
     /// Draws a border below a row of cells one below another.
-    #[tactic(auto, using(html_render_dom::specs::laws::Outcome::refusals))]
+    #[tactic(auto, using(html_render_values::specs::laws::Outcome::refusals))]
     fn end_stacked_row(&mut self, border: Option<T>) -> Result<(), Error>
         ensures ok { OnOk result (option_map (λ e. machine.stacked_begun e border) (machine.flush self.old) ≡ Some self.new) }
         ensures err { IfErr result (λ e. Refuses e (option_map (λ e. machine.stacked_begun e border) (machine.flush self.old))) }
@@ -335,7 +335,7 @@ impl<T: Tag, M: Copy> Block<T, M> {
     /// # Errors
     ///
     /// `TooNarrow`, as in [`flush`](Block::flush). `OutOfMemory`.
-    #[tactic(auto, using(html_render_dom::specs::laws::Outcome::refusals, crate::proofs::Cells::rows_ended))]
+    #[tactic(auto, using(html_render_values::specs::laws::Outcome::refusals, crate::proofs::Cells::rows_ended))]
     pub fn end_row(&mut self) -> Result<(), Error>
         ensures ok { OnOk result (machine.end_row self.old ≡ Some self.new) }
         ensures err { IfErr result (λ e. Refuses e (machine.end_row self.old)) }

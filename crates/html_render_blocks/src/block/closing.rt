@@ -4,19 +4,19 @@ ghost use Rattle.std.specs.Prelude.{◌≡◌, ◌++◌, Some, map, option_map, 
 ghost use Rattle.std.specs.Prelude.{OnOk, IfOk, IfErr};
 ghost use Rattle.std.specs.Bool.{OnTrue};
 ghost use Rattle.std.specs.Str.{chars};
-ghost use Rattle.html_render_dom.specs.Outcome.{Refuses};
-ghost use Rattle.html_render_lines.specs.CutText.{text_lines};
+ghost use Rattle.html_render_values.specs.Outcome.{Refuses};
+ghost use Rattle.html_render_paragraphs.specs.CutText.{text_lines};
 ghost use Rattle.html_render_lines.specs.TaggedText.{under};
 ghost use Rattle.html_render_pictures.specs.Marked.{marked_behind};
 ghost use Rattle.html_render_blocks.specs.Closing.{line_setting, unbroken, on_one_line, closing_lines};
 ghost use Rattle.html_render_blocks.specs.BlockMachine as machine;
 
 use super::{Block, BlockSetting};
-use html_render_dom::Error;
 use html_render_lines::line::{Line, text_columns};
-use html_render_lines::paragraph::push_cut_text;
 use html_render_lines::tag::Tag;
+use html_render_paragraphs::paragraph::push_cut_text;
 use html_render_pictures::lines::Lines;
+use html_render_values::Error;
 use std::alloc::{AllocError, Global};
 
 impl<T: Tag, M: Copy> Block<T, M> {
@@ -44,7 +44,7 @@ impl<T: Tag, M: Copy> Block<T, M> {
     /// # Errors
     ///
     /// `TooNarrow`, as in [`flush`](Block::flush). `OutOfMemory`.
-    #[tactic(auto, using(html_render_dom::specs::laws::Outcome::refusals))]
+    #[tactic(auto, using(html_render_values::specs::laws::Outcome::refusals))]
     pub fn finish(&mut self) -> Result<(), Error>
         ensures ok { OnOk result (machine.finish self.old ≡ Some self.new) }
         ensures err { IfErr result (λ e. Refuses e (machine.finish self.old)) }
@@ -80,7 +80,7 @@ impl<T: Tag, M: Copy> Block<T, M> {
     ///
     /// `TooNarrow`, as in [`flush`](Block::flush), and where a text that is cut has a character wider than the block, with
     /// overflow off. `OutOfMemory`.
-    #[tactic(auto, using(html_render_dom::specs::laws::Outcome::refusals))]
+    #[tactic(auto, using(html_render_values::specs::laws::Outcome::refusals))]
     pub fn add_closing_lines(&mut self, texts: &[String], tag: T, cut: bool) -> Result<(), Error>
         ensures ok { OnOk result (machine.add_closing_lines self.old cut tag (map (λ t. chars (string_bytes t)) texts.now) ≡ Some self.new) }
         ensures err { IfErr result (λ e. Refuses e (machine.add_closing_lines self.old cut tag (map (λ t. chars (string_bytes t)) texts.now))) }
@@ -178,7 +178,7 @@ fn push_closing_text<T: Tag, M: Copy>(
 }
 
 /// The lines of texts, cut where they are full or left whole.
-#[tactic(auto, using(html_render_dom::specs::laws::Outcome::refusals))]
+#[tactic(auto, using(html_render_values::specs::laws::Outcome::refusals))]
 fn closing_lines<T: Tag, M: Copy>(
     alloc: Global,
     setting: BlockSetting,

@@ -2,7 +2,7 @@
 //! another.
 
 ghost use Rattle.std.specs.Prelude.{◌≡◌, cond, Some, None, OnOk, IfOk, IfErr};
-ghost use Rattle.html_render_dom.specs.Outcome.{Refuses};
+ghost use Rattle.html_render_values.specs.Outcome.{Refuses};
 ghost use Rattle.html_render_parts.specs.Needs.{standing_widths};
 ghost use Rattle.html_render_blocks.specs.declared.block.tables.OpenTable.TheVariants.{Stacked};
 ghost use Rattle.html_render_blocks.specs.Tables.{frame_of, rule, stacked_border};
@@ -12,7 +12,6 @@ ghost use Rattle.html_render_pictures.specs.Padding.{character_of};
 use super::Block;
 use super::rows::Widths;
 use super::tables::{OpenTable, RowsBelow};
-use html_render_dom::Error;
 use html_render_lines::line::Line;
 use html_render_lines::tag::Tag;
 use html_render_nodes::tree::{Grid, Slots};
@@ -20,6 +19,7 @@ use html_render_parts::widths::{CellNeed, standing_widths};
 use html_render_pictures::fillers::{Filler, push_fillers};
 use html_render_pictures::finished::put_marks_front;
 use html_render_pictures::picture::{Frame, Picture};
+use html_render_values::Error;
 use std::alloc::{AllocError, Global};
 
 /// The widths of a table's columns side by side in so many columns; none where they can't stand so, or aren't to.
@@ -170,7 +170,7 @@ impl<T: Tag, M: Copy> Block<T, M> {
     /// # Errors
     ///
     /// `TooNarrow`, as in [`flush`](Block::flush). `OutOfMemory`.
-    #[tactic(auto, using(html_render_dom::specs::laws::Outcome::refusals))]
+    #[tactic(auto, using(html_render_values::specs::laws::Outcome::refusals))]
     pub fn begin_table(
         &mut self,
         tag: T,

@@ -1,24 +1,24 @@
 //! Paragraphs whose lines are filled with spaces.
 
 ghost use Rattle.std.specs.Prelude.{◌≡◌, List, ◌++◌, Some, option_map, OnOk, IfErr};
-ghost use Rattle.html_render_dom.specs.Outcome.{Refuses};
+ghost use Rattle.html_render_values.specs.Outcome.{Refuses};
 ghost use Rattle.html_render_lines.specs.Line.{Line};
-ghost use Rattle.html_render_lines.specs.Paragraph.{Page, all_lines};
-ghost use Rattle.html_render_lines.specs.Stream.{State, start, finished};
+ghost use Rattle.html_render_paragraphs.specs.Paragraph.{Page, all_lines};
+ghost use Rattle.html_render_paragraphs.specs.Stream.{State, start, finished};
 ghost use Rattle.html_render_pictures.specs.Padding.{filled};
 ghost use Rattle.html_render_blocks.specs.BlockMachine.{flushed_filled};
 
-use html_render_dom::Error;
 use html_render_lines::line::Line;
-use html_render_lines::paragraph::Paragraph;
 use html_render_lines::tag::Tag;
+use html_render_paragraphs::paragraph::Paragraph;
 use html_render_pictures::finished::fill_all;
+use html_render_values::Error;
 use std::alloc::Global;
 
 /// Adds the lines of a paragraph, each filled with spaces up to so many columns, under a tag. The paragraph begins anew with the
 /// marks that wait.
 #[inline(never)]
-#[tactic(auto, using(html_render_dom::specs::laws::Outcome::refusals))]
+#[tactic(auto, using(html_render_values::specs::laws::Outcome::refusals))]
 fn flush_filled<T: Tag, M: Copy>(
     alloc: Global,
     paragraph: &mut Paragraph<T, M>,

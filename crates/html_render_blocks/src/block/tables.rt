@@ -1,17 +1,17 @@
 //! The table that is open in a block.
 
 ghost use Rattle.std.specs.Prelude.{◌≡◌, ◌++◌, Some, OnOk, IfOk, IfErr, option_map};
-ghost use Rattle.html_render_dom.specs.Outcome.{Refuses};
+ghost use Rattle.html_render_values.specs.Outcome.{Refuses};
 ghost use Rattle.html_render_pictures.specs.Picture.{TableRow};
 ghost use Rattle.html_render_blocks.specs.Tables.{drawn_pictures, with_open, with_below, picture_of};
 ghost use Rattle.html_render_blocks.specs.BlockMachine as machine;
 
 use super::Block;
 use super::rows::{OpenRow, Widths};
-use html_render_dom::Error;
 use html_render_lines::tag::Tag;
 use html_render_nodes::tree::Slots;
 use html_render_pictures::picture::{Drawn, Picture};
+use html_render_values::Error;
 use std::alloc::{AllocError, Global};
 use std::marker::Model;
 
@@ -163,7 +163,7 @@ impl<T: Tag, M: Copy> Block<T, M> {
     /// # Errors
     ///
     /// `TooNarrow`, as in [`flush`](Block::flush). `OutOfMemory`.
-    #[tactic(auto, using(html_render_dom::specs::laws::Outcome::refusals))]
+    #[tactic(auto, using(html_render_values::specs::laws::Outcome::refusals))]
     pub fn flush_whole(&mut self) -> Result<(), Error>
         ensures ok { OnOk result (machine.flush (machine.end_table self.old) ≡ Some self.new) }
         ensures err { IfErr result (λ e. Refuses e (machine.flush (machine.end_table self.old))) }

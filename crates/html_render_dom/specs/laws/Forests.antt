@@ -7,7 +7,7 @@ use Rattle.std.proofs.lemmas.List.{get_or_past}
 use Rattle.std.proofs.lemmas.List.Elements.{Contains-get_or}
 use Rattle.html_render_dom.specs.Content.{document}
 use Rattle.html_render_dom.specs.Elements.{contents_in}
-use Rattle.html_render_dom.specs.Forest.{none, node}
+use Rattle.html_render_values.specs.Forest.{none, node}
 use Rattle.html_render_dom.specs.Dom.{Dom, lone, empty_dom, node_in, node_count, IsNode, IsElement, content_at, children_at, parent_at, IsForest}
 
 pub below_or_not : (a b : ℕ) → (a < b) ⊎ (b ≤ a)

@@ -10,7 +10,7 @@ use super::contents::NodeData;
 use super::handles::Handle;
 use super::nodes::Node;
 use super::settings::QuirksMode;
-use crate::Error;
+use html_render_values::Error;
 use std::alloc::Global;
 use std::marker::Model;
 

@@ -12,7 +12,7 @@ use super::handles::Handle;
 use super::names::{Attribute, QualName};
 use super::nodes::{self, Node};
 use super::settings::{ElementFlags, QuirksMode};
-use crate::Error;
+use html_render_values::Error;
 use std::alloc::{AllocError, Global};
 
 impl RcDom {

@@ -9,7 +9,7 @@ use super::contents::{NodeData, NodeOrText};
 use super::documents::RcDom;
 use super::handles::Handle;
 use super::lists;
-use crate::Error;
+use html_render_values::Error;
 use std::alloc::{AllocError, Global};
 
 impl RcDom {

@@ -10,7 +10,7 @@ use super::contents::NodeData;
 use super::documents::RcDom;
 use super::handles::Handle;
 use super::names::QualName;
-use crate::Error;
+use html_render_values::Error;
 use std::alloc::Global;
 
 impl RcDom {

@@ -1,22 +1,22 @@
 //! The style of an element, computed from rules.
 
 ghost use Rattle.std.specs.Prelude.{◌≡◌, [], ◌∷◌, ◌++◌, IfErr, IfOk, None, OnOk, Some, map, option_map, option_to_list, string_bytes};
-ghost use Rattle.html_render_dom.specs.declared.errors.Error.TheVariants.{OutOfMemory};
+ghost use Rattle.html_render_values.specs.declared.errors.Error.TheVariants.{OutOfMemory};
 ghost use Rattle.html_render_dom.specs.Content.{property_of};
 ghost use Rattle.html_render_dom.specs.Cascade.{winner};
 ghost use Rattle.html_render_dom.specs.ElementStyle.{applied, element_style, style_by, style_of, with_declarations};
 ghost use Rattle.html_render_dom.specs.Rules.{declared_of, rule_of};
 ghost use Rattle.html_render_dom.specs.TextUpdates.{text_update};
 
-use super::WhiteSpace;
-use super::colours::Colour;
 use super::origins::StyleOrigin;
 use super::rules::{Declaration, Display, PseudoElement, Style, StyleRule};
 use super::selectors::first_value;
 use super::specificities::Specificity;
 use super::winners::WithSpec;
-use crate::Error;
 use crate::dom::Attribute;
+use html_render_values::Error;
+use html_render_values::colours::Colour;
+use html_render_values::white_space::WhiteSpace;
 use std::alloc::{AllocError, Global};
 
 /// The style of an element: for each property the value that wins.

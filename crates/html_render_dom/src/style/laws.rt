@@ -9,7 +9,6 @@ ghost use Rattle.html_render_dom.specs.declared.style.specificities.Specificity.
 ghost use Rattle.html_render_dom.specs.Cascade.{Key, key_cmp, rank_of};
 ghost use Rattle.html_render_dom.specs.Specificities.{no_specificity, specificity_cmp, specificity_sum};
 
-use super::WhiteSpace;
 use super::origins::StyleOrigin;
 use super::specificities::Specificity;
 
@@ -42,8 +41,7 @@ fn origins_rise(a: StyleOrigin, b: StyleOrigin)
     ensures { ⟦<StyleOrigin as PartialOrd>⟧.partial_cmp a b ≡ Some (nat_cmp (rank_of false a) (rank_of false b)) }
 {}
 
-/// By default there is no origin, and white space is collapsed and lines are wrapped.
-fn defaults_are_plain(origin: StyleOrigin, white_space: WhiteSpace)
-    ensures origin { ⟦<StyleOrigin as Default>⟧.is_default origin ↔ (origin ≡ StyleOrigin.None) }
-    ensures white_space { ⟦<WhiteSpace as Default>⟧.is_default white_space ↔ (white_space ≡ WhiteSpace.Normal) }
+/// By default there is no origin.
+fn there_is_no_origin_by_default(origin: StyleOrigin)
+    ensures { ⟦<StyleOrigin as Default>⟧.is_default origin ↔ (origin ≡ StyleOrigin.None) }
 {}

@@ -1,8 +1,8 @@
 -- What is written keeps a forest's shape.
 use Rattle.std.proofs.Common.{◌≡◌, ◌+◌, Option, Some, None, refl, sym, ap, ◌∙◌, arith}
 use Rattle.std.proofs.lemmas.Option.{same_Some}
-use Rattle.html_render_dom.specs.Forest.{Forest, none, node, count, followed_by}
-use Rattle.html_render_dom.specs.Outcome.{◌>>=◌}
+use Rattle.html_render_values.specs.Forest.{Forest, none, node, count, followed_by}
+use Rattle.html_render_values.specs.Outcome.{◌>>=◌}
 use Rattle.html_render_drafts.specs.Finish.{Placed, placed}
 
 -- the trees of one answer, then those of another

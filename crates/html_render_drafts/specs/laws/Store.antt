@@ -4,7 +4,7 @@ use Rattle.std.proofs.Common.{refl, sym, ap, subst, ◌∙◌, arith, length-app
 use lib.ListN.{get_or}
 use Rattle.std.proofs.lemmas.List.{get_or_append_left, take_more}
 use Rattle.std.proofs.Math.Seq.{get_or-append_seam}
-use Rattle.html_render_dom.specs.Forest.{Forest, none, node, followed_by}
+use Rattle.html_render_values.specs.Forest.{Forest, none, node, followed_by}
 use Rattle.html_render_nodes.specs.laws.Splits.{followed_by-none, followed_by-followed_by}
 use Rattle.html_render_drafts.specs.Store.{Trees, at, planted, below_first, IsTree, Holds, Within, Grown, Plants, Becomes}
 

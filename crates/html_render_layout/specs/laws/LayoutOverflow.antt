@@ -5,9 +5,9 @@ use Rattle.std.specs.Str.{chars}
 use Rattle.std.proofs.Common.{◌≡◌, ℕ, ◌+◌, ◌==◌, Bool, true, false, cond, List, [], ◌++◌, length, map, Option, Some, None}
 use Rattle.std.proofs.Common.{IfSome, IfOk, Result, Ok, Err, option_map, option_and_then, refl, ap, sym, ◌∙◌, subst}
 use Rattle.std.proofs.lemmas.Option.{same_Some}
-use Rattle.html_render_dom.specs.declared.errors.Error.{Error}
-use Rattle.html_render_dom.specs.Forest.{Forest}
-use Rattle.html_render_dom.specs.declared.style.colours.Colour.{Colour}
+use Rattle.html_render_values.specs.declared.errors.Error.{Error}
+use Rattle.html_render_values.specs.Forest.{Forest}
+use Rattle.html_render_values.specs.declared.colours.Colour.{Colour}
 use Rattle.html_render_parts.specs.Decoration.{Decoration, Round, link}
 use Rattle.html_render_parts.specs.declared.widths.needs.CellNeed.{CellNeed}
 use Rattle.html_render_lines.specs.Line.{Line}
@@ -43,8 +43,8 @@ use Rattle.html_render_layout.specs.Layout.{on_block, written, add_characters, a
 use Rattle.html_render_layout.specs.Layout.{inner_least, spaces, padded, next_number, nested, resumed, indented, quoted, among, placed}
 use Rattle.html_render_layout.specs.Layout.{image_round, raised, digits_of, with_target, marked, link_number, annotated, coloured}
 use Rattle.html_render_layout.specs.Layout.{in_white_space, preformatting, in_style}
-use Rattle.html_render_dom.specs.declared.style.WhiteSpace.{WhiteSpace}
-use Rattle.html_render_dom.specs.declared.style.WhiteSpace.TheVariants.{Normal, Pre, PreWrap}
+use Rattle.html_render_values.specs.declared.white_space.WhiteSpace.{WhiteSpace}
+use Rattle.html_render_values.specs.declared.white_space.WhiteSpace.TheVariants.{Normal, Pre, PreWrap}
 use Rattle.html_render_layout.specs.Layout.{emphasis_decoration, begun, decorated, titled, image, struck_out, superscript, linked}
 use Rattle.html_render_layout.specs.Layout.{fence_style, fenced, table_begun, table_ended, row_begun, in_cell, as_cell}
 use Rattle.html_render_layout.specs.Layout.{numbers, kind_steps, node_steps, steps}

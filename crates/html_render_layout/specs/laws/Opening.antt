@@ -1,7 +1,7 @@
 -- What the walk does at a node is what is defined.
 use Rattle.std.specs.Prelude.{◌≡◌, ℕ, List, [], map, Option, Some, None, option_and_then, refl}
 use Rattle.std.proofs.Common.{ap, ◌∙◌, sym}
-use Rattle.html_render_dom.specs.Forest.{Forest}
+use Rattle.html_render_values.specs.Forest.{Forest}
 use Rattle.html_render_parts.specs.Decoration.{Decoration, link}
 use Rattle.html_render_estimates.specs.Cells.{cell_needs}
 use Rattle.html_render_estimates.specs.Estimates.{prefix_columns}
@@ -27,8 +27,7 @@ use Rattle.html_render_layout.specs.declared.layout.state.TextContext.{TextConte
 use Rattle.html_render_layout.specs.Layout.{on_block, add_characters, add_text, begun, emphasis_decoration, nested, indented}
 use Rattle.html_render_layout.specs.Layout.{inner_least, among, numbers, placed, digits_of, raised, superscript, image}
 use Rattle.html_render_layout.specs.Layout.{with_target, marked, in_style, in_cell, as_cell, table_begun, row_begun}
-use Rattle.html_render_layout.specs.Layout.{kind_steps, node_steps, steps}
-use Rattle.html_render_layout.specs.Layout.{superscript_inside, kind_inside, node_inside, placed_inside, inside}
+use Rattle.html_render_layout.specs.Layout.{kind_steps, node_steps, steps, superscript_inside, kind_inside, node_inside, placed_inside, inside}
 use Rattle.html_render_layout.specs.Opening.{interrupted, item_closed, bullet_place, number_place, cell_kept, keeping}
 use Rattle.html_render_layout.specs.Opening.{superscript_opened, kind_opened, kind_closed, node_opened, cell_opened, placed_opened}
 use Rattle.html_render_layout.specs.Opening.{opened_around, opened, closed}

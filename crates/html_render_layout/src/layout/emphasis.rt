@@ -1,7 +1,7 @@
 //! Parts of a line between what the decorator writes round them.
 
 ghost use Rattle.std.specs.Prelude.{◌≡◌, Some, OnOk, IfOk, IfErr, string_bytes};
-ghost use Rattle.html_render_dom.specs.Outcome.{Refuses};
+ghost use Rattle.html_render_values.specs.Outcome.{Refuses};
 ghost use Rattle.html_render_blocks.specs.BlockMachine as machine;
 ghost use Rattle.html_render_layout.specs.Layout.{emphasis_decoration, under, add_text, begun};
 
@@ -9,9 +9,9 @@ use super::state::LayoutState;
 use super::texts::add_text;
 use crate::tagging::Tagging;
 use html_render_blocks::block::Block;
-use html_render_dom::Error;
 use html_render_nodes::tree::Emphasis;
 use html_render_parts::decorate::TextDecorator;
+use html_render_values::Error;
 use std::alloc::Global;
 
 /// What is written before an emphasis, and its annotation.
@@ -56,7 +56,7 @@ pub fn end_of<D: TextDecorator>(
 /// # Errors
 ///
 /// As where a text is added.
-#[tactic(auto, using(html_render_dom::specs::laws::Outcome::refusals))]
+#[tactic(auto, using(html_render_values::specs::laws::Outcome::refusals))]
 pub fn begin<D: TextDecorator, G: Tagging<D::Annotation>>(
     alloc: Global,
     start: (String, D::Annotation),
@@ -77,7 +77,7 @@ pub fn begin<D: TextDecorator, G: Tagging<D::Annotation>>(
 /// # Errors
 ///
 /// As where a text is added.
-#[tactic(auto, using(html_render_dom::specs::laws::Outcome::refusals))]
+#[tactic(auto, using(html_render_values::specs::laws::Outcome::refusals))]
 pub fn begin_emphasis<D: TextDecorator, G: Tagging<D::Annotation>>(
     alloc: Global,
     emphasis: Emphasis,
@@ -95,7 +95,7 @@ pub fn begin_emphasis<D: TextDecorator, G: Tagging<D::Annotation>>(
 /// # Errors
 ///
 /// As where a text is added.
-#[tactic(auto, using(html_render_dom::specs::laws::Outcome::refusals))]
+#[tactic(auto, using(html_render_values::specs::laws::Outcome::refusals))]
 pub fn begin_strikeout<D: TextDecorator, G: Tagging<D::Annotation>>(
     alloc: Global,
     state: &mut LayoutState<D, G, G::Tag, Block<G::Tag, usize>>,
@@ -112,7 +112,7 @@ pub fn begin_strikeout<D: TextDecorator, G: Tagging<D::Annotation>>(
 /// # Errors
 ///
 /// As where a text is added.
-#[tactic(auto, using(html_render_dom::specs::laws::Outcome::refusals))]
+#[tactic(auto, using(html_render_values::specs::laws::Outcome::refusals))]
 pub fn begin_superscript<D: TextDecorator, G: Tagging<D::Annotation>>(
     alloc: Global,
     state: &mut LayoutState<D, G, G::Tag, Block<G::Tag, usize>>,

@@ -2,16 +2,16 @@
 
 ghost use Rattle.std.specs.Prelude.{◌≡◌, [], Some, map, string_bytes, if◌then◌else◌};
 ghost use Rattle.std.specs.Prelude.{OnOk, IfOk, IfErr};
-ghost use Rattle.html_render_dom.specs.Outcome.{Refuses};
+ghost use Rattle.html_render_values.specs.Outcome.{Refuses};
 ghost use Rattle.html_render_blocks.specs.BlockMachine as machine;
 ghost use Rattle.html_render_layout.specs.Ending.{footnote, footnotes, closing_texts, ended};
 
 use super::state::LayoutState;
 use crate::tagging::Tagging;
 use html_render_blocks::block::Block;
-use html_render_dom::Error;
-use html_render_dom::text::Text;
 use html_render_parts::decorate::TextDecorator;
+use html_render_values::Error;
+use html_render_values::text::Text;
 use std::alloc::{AllocError, Global};
 
 /// As many bytes as the number of a link takes in a footnote, with what is round it.
@@ -78,7 +78,7 @@ fn closing_texts<D: TextDecorator>(
 ///
 /// `TooNarrow`, as where a paragraph is finished, and where a character of a line that is cut is wider than the block,
 /// with overflow off. `OutOfMemory`.
-#[tactic(auto, using(html_render_dom::specs::laws::Outcome::refusals))]
+#[tactic(auto, using(html_render_values::specs::laws::Outcome::refusals))]
 pub fn end<D: TextDecorator, G: Tagging<D::Annotation>>(
     alloc: Global,
     link_footnotes: bool,

@@ -1,7 +1,7 @@
 //! What stands in the place of an image.
 
 ghost use Rattle.std.specs.Prelude.{◌≡◌, Some, OnOk, IfErr, option_map};
-ghost use Rattle.html_render_dom.specs.Outcome.{Refuses};
+ghost use Rattle.html_render_values.specs.Outcome.{Refuses};
 ghost use Rattle.html_render_blocks.specs.BlockMachine as machine;
 ghost use Rattle.html_render_layout.specs.Images.{file_name, shown_title};
 ghost use Rattle.html_render_layout.specs.Layout.{image};
@@ -11,8 +11,8 @@ use super::state::LayoutState;
 use crate::settings::ImageRenderMode;
 use crate::tagging::Tagging;
 use html_render_blocks::block::Block;
-use html_render_dom::Error;
 use html_render_parts::decorate::TextDecorator;
+use html_render_values::Error;
 use std::alloc::Global;
 
 /// The part of an address behind its last slash, and the whole where it has none.
@@ -53,7 +53,7 @@ fn shown_title<'a>(mode: &'a ImageRenderMode, source: &'a str, title: &'a str) -
 /// # Errors
 ///
 /// As where a text is added.
-#[tactic(auto, using(html_render_dom::specs::laws::Outcome::refusals))]
+#[tactic(auto, using(html_render_values::specs::laws::Outcome::refusals))]
 pub fn add_image<D: TextDecorator, G: Tagging<D::Annotation>>(
     alloc: Global,
     source: &str,

@@ -6,10 +6,10 @@ ghost use Rattle.html_render_layout.specs.Opening.{bullet_place, number_place, p
 
 use super::spaces::padded;
 use super::state::Around;
-use html_render_dom::Error;
-use html_render_dom::text::Text;
 use html_render_estimates::text::columns;
 use html_render_parts::decorate::TextDecorator;
+use html_render_values::Error;
+use html_render_values::text::Text;
 use std::alloc::Global;
 
 /// Where an item of a list stands.

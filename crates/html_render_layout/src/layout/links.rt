@@ -1,7 +1,7 @@
 //! Links with their numbers, and marks, which links lead to.
 
 ghost use Rattle.std.specs.Prelude.{◌≡◌, ◌+◌, length, Some, OnOk, IfOk, IfErr};
-ghost use Rattle.html_render_dom.specs.Outcome.{Refuses};
+ghost use Rattle.html_render_values.specs.Outcome.{Refuses};
 ghost use Rattle.html_render_parts.specs.Decoration.{link};
 ghost use Rattle.html_render_blocks.specs.BlockMachine as machine;
 ghost use Rattle.html_render_nodes.specs.Pass.{way};
@@ -14,9 +14,9 @@ use super::state::{KindClosing, LayoutState, TextContext};
 use super::texts::add_text;
 use crate::tagging::Tagging;
 use html_render_blocks::block::Block;
-use html_render_dom::Error;
-use html_render_dom::text::Text;
 use html_render_parts::decorate::TextDecorator;
+use html_render_values::Error;
+use html_render_values::text::Text;
 use std::alloc::Global;
 
 /// Adds the mark of this name.
@@ -40,7 +40,7 @@ pub fn add_mark<D: TextDecorator, G: Tagging<D::Annotation>>(
 /// # Errors
 ///
 /// As where a text is added.
-#[tactic(auto, using(html_render_dom::specs::laws::Outcome::refusals))]
+#[tactic(auto, using(html_render_values::specs::laws::Outcome::refusals))]
 pub fn begin_link<D: TextDecorator, G: Tagging<D::Annotation>>(
     alloc: Global,
     target: &Text,
@@ -57,7 +57,7 @@ pub fn begin_link<D: TextDecorator, G: Tagging<D::Annotation>>(
 }
 
 /// The number of a link, if there are footnotes, among texts that are treated so.
-#[tactic(auto, using(html_render_dom::specs::laws::Outcome::refusals))]
+#[tactic(auto, using(html_render_values::specs::laws::Outcome::refusals))]
 fn add_number<D: TextDecorator, G: Tagging<D::Annotation>>(
     alloc: Global,
     text: TextContext<G::Tag>,
@@ -80,7 +80,7 @@ fn add_number<D: TextDecorator, G: Tagging<D::Annotation>>(
 /// # Errors
 ///
 /// As where a text is added.
-#[tactic(auto, using(html_render_dom::specs::laws::Outcome::refusals))]
+#[tactic(auto, using(html_render_values::specs::laws::Outcome::refusals))]
 pub fn close_link<D: TextDecorator, G: Tagging<D::Annotation>>(
     alloc: Global,
     text: TextContext<G::Tag>,

@@ -2,7 +2,7 @@
 
 ghost use Rattle.std.specs.Prelude.{◌≡◌, Some, OnOk, IfOk, IfErr};
 ghost use Rattle.std.specs.Str.{chars};
-ghost use Rattle.html_render_dom.specs.Outcome.{Refuses};
+ghost use Rattle.html_render_values.specs.Outcome.{Refuses};
 ghost use Rattle.html_render_blocks.specs.BlockMachine as machine;
 ghost use Rattle.html_render_layout.specs.Layout.{nested, spaces};
 ghost use Rattle.html_render_layout.specs.Opening.{interrupted, indent_closed, quote_closed};
@@ -11,11 +11,11 @@ use super::spaces::many_spaces;
 use super::state::{Around, Interrupted, LayoutState, Outer};
 use crate::tagging::Tagging;
 use html_render_blocks::block::Block;
-use html_render_dom::Error;
-use html_render_dom::text::Text;
 use html_render_lines::tag::Tag;
 use html_render_parts::decorate::TextDecorator;
 use html_render_pictures::fillers::{FEW, few_spaces};
+use html_render_values::Error;
+use html_render_values::text::Text;
 use std::alloc::Global;
 use std::mem;
 
@@ -25,7 +25,7 @@ use std::mem;
 /// # Errors
 ///
 /// `TooNarrow`, where these columns aren't there, with overflow off. `OutOfMemory`.
-#[tactic(auto, using(html_render_dom::specs::laws::Outcome::refusals))]
+#[tactic(auto, using(html_render_values::specs::laws::Outcome::refusals))]
 pub fn nest<D: TextDecorator, G: Tagging<D::Annotation>>(
     alloc: Global,
     prefix: Text,
@@ -77,7 +77,7 @@ fn append_behind<T: Tag>(
 ///
 /// `TooNarrow`, where a block is flushed for which a character is too wide, or a line is too wide behind its prefix.
 /// `OutOfMemory`.
-#[tactic(auto, using(html_render_dom::specs::laws::Outcome::refusals))]
+#[tactic(auto, using(html_render_values::specs::laws::Outcome::refusals))]
 pub fn close_indent<D: TextDecorator, G: Tagging<D::Annotation>>(
     alloc: Global,
     outer: Interrupted<D, G::Tag, Block<G::Tag, usize>>,
@@ -106,7 +106,7 @@ pub fn close_indent<D: TextDecorator, G: Tagging<D::Annotation>>(
 /// # Errors
 ///
 /// As for what was indented.
-#[tactic(auto, using(html_render_dom::specs::laws::Outcome::refusals))]
+#[tactic(auto, using(html_render_values::specs::laws::Outcome::refusals))]
 pub fn close_quote<D: TextDecorator, G: Tagging<D::Annotation>>(
     outer: Interrupted<D, G::Tag, Block<G::Tag, usize>>,
     state: &mut LayoutState<D, G, G::Tag, Block<G::Tag, usize>>,

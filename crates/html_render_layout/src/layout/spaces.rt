@@ -4,8 +4,8 @@ ghost use Rattle.std.specs.Prelude.{◌≡◌, ◌-◌, ◌++◌, IfOk, OnOk, If
 ghost use Rattle.std.specs.Str.{chars};
 ghost use Rattle.html_render_layout.specs.Layout.{spaces, padded};
 
-use html_render_dom::Error;
 use html_render_estimates::text::columns;
+use html_render_values::Error;
 use std::alloc::{AllocError, Global};
 
 /// Writes so many spaces behind a text.

@@ -3,10 +3,10 @@
 ghost use Rattle.std.specs.Prelude.{◌≡◌, ◌↔◌, [], ◌∷◌, ◌++◌, length, IsTrue, IfOk, IfErr, OnOk};
 
 use crate::settings::LayoutSettings;
-use html_render_dom::Error;
-use html_render_dom::style::WhiteSpace;
-use html_render_dom::text::Text;
 use html_render_nodes::tree::Emphasis;
+use html_render_values::Error;
+use html_render_values::text::Text;
+use html_render_values::white_space::WhiteSpace;
 use std::alloc::Global;
 use std::marker::Model;
 

@@ -1,7 +1,7 @@
 //! What a layout does as it opens and closes a node.
 
 ghost use Rattle.std.specs.Prelude.{◌≡◌, Some, OnOk, IfOk, IfErr, string_bytes};
-ghost use Rattle.html_render_dom.specs.Outcome.{Refuses};
+ghost use Rattle.html_render_values.specs.Outcome.{Refuses};
 ghost use Rattle.html_render_blocks.specs.BlockMachine as machine;
 ghost use Rattle.html_render_nodes.specs.Pass.{way};
 ghost use Rattle.html_render_nodes.specs.Preorder.{flatten, forest_of};
@@ -24,12 +24,12 @@ use super::tables::{begin_cell, begin_table, end_cell, end_table};
 use super::texts::add_text;
 use crate::tagging::Tagging;
 use html_render_blocks::block::Block;
-use html_render_dom::Error;
-use html_render_dom::text::Text;
 use html_render_estimates::estimate::number_columns;
 use html_render_estimates::text::columns;
 use html_render_nodes::tree::{Emphasis, Entry, Estimate, Grid, NodeKind, RenderNode, Slot};
 use html_render_parts::decorate::TextDecorator;
+use html_render_values::Error;
+use html_render_values::text::Text;
 use std::alloc::Global;
 
 /// The columns that a node needs behind its prefix.
@@ -40,7 +40,7 @@ fn inner_least(estimate: &Estimate) -> usize
 }
 
 /// A heading or a quote begins in a block of its own, each of whose lines stands behind this prefix.
-#[tactic(auto, using(html_render_dom::specs::laws::Outcome::refusals))]
+#[tactic(auto, using(html_render_values::specs::laws::Outcome::refusals))]
 fn open_quote<D: TextDecorator, G: Tagging<D::Annotation>>(
     alloc: Global,
     prefix: String,
@@ -83,7 +83,7 @@ fn numbers<D: TextDecorator>(
 }
 
 /// A term of a description list begins on a line of its own, stressed.
-#[tactic(auto, using(html_render_dom::specs::laws::Outcome::refusals))]
+#[tactic(auto, using(html_render_values::specs::laws::Outcome::refusals))]
 fn open_term<D: TextDecorator, G: Tagging<D::Annotation>>(
     alloc: Global,
     state: &mut LayoutState<D, G, G::Tag, Block<G::Tag, usize>>,
@@ -97,7 +97,7 @@ fn open_term<D: TextDecorator, G: Tagging<D::Annotation>>(
 }
 
 /// A description begins in a block of its own, behind two spaces.
-#[tactic(auto, using(html_render_dom::specs::laws::Outcome::refusals))]
+#[tactic(auto, using(html_render_values::specs::laws::Outcome::refusals))]
 fn open_description<D: TextDecorator, G: Tagging<D::Annotation>>(
     alloc: Global,
     estimate: &Estimate,
@@ -112,7 +112,7 @@ fn open_description<D: TextDecorator, G: Tagging<D::Annotation>>(
 }
 
 /// A part that is struck out begins.
-#[tactic(auto, using(html_render_dom::specs::laws::Outcome::refusals))]
+#[tactic(auto, using(html_render_values::specs::laws::Outcome::refusals))]
 fn open_strikeout<D: TextDecorator, G: Tagging<D::Annotation>>(
     alloc: Global,
     state: &mut LayoutState<D, G, G::Tag, Block<G::Tag, usize>>,
@@ -127,7 +127,7 @@ fn open_strikeout<D: TextDecorator, G: Tagging<D::Annotation>>(
 }
 
 /// A superscript begins; one of digits is done.
-#[tactic(auto, using(html_render_dom::specs::laws::Outcome::refusals))]
+#[tactic(auto, using(html_render_values::specs::laws::Outcome::refusals))]
 fn open_superscript<D: TextDecorator, G: Tagging<D::Annotation>>(
     alloc: Global,
     children: &[Entry<RenderNode>],
@@ -152,7 +152,7 @@ fn open_superscript<D: TextDecorator, G: Tagging<D::Annotation>>(
 }
 
 /// A link begins.
-#[tactic(auto, using(html_render_dom::specs::laws::Outcome::refusals))]
+#[tactic(auto, using(html_render_values::specs::laws::Outcome::refusals))]
 fn open_link<D: TextDecorator, G: Tagging<D::Annotation>>(
     alloc: Global,
     target: &Text,
@@ -168,7 +168,7 @@ fn open_link<D: TextDecorator, G: Tagging<D::Annotation>>(
 
 /// A table begins.
 #[inline(never)]
-#[tactic(auto, using(html_render_dom::specs::laws::Outcome::refusals))]
+#[tactic(auto, using(html_render_values::specs::laws::Outcome::refusals))]
 fn open_table<D: TextDecorator, G: Tagging<D::Annotation>>(
     alloc: Global,
     grid: &Grid,
@@ -200,7 +200,7 @@ fn open_row<D: TextDecorator, G: Tagging<D::Annotation>>(
 }
 
 /// Opens a node of a kind over these trees. With nothing kept the state becomes the one behind it.
-#[tactic(auto, using(html_render_dom::specs::laws::Outcome::refusals))]
+#[tactic(auto, using(html_render_values::specs::laws::Outcome::refusals))]
 fn open_kind<D: TextDecorator, G: Tagging<D::Annotation>>(
     alloc: Global,
     kind: &NodeKind,
@@ -288,7 +288,7 @@ fn open_kind<D: TextDecorator, G: Tagging<D::Annotation>>(
 }
 
 /// Does what is left of a node of a kind.
-#[tactic(auto, using(html_render_dom::specs::laws::Outcome::refusals))]
+#[tactic(auto, using(html_render_values::specs::laws::Outcome::refusals))]
 fn close_kind<D: TextDecorator, G: Tagging<D::Annotation>>(
     alloc: Global,
     closing: KindClosing<D, G::Tag, Block<G::Tag, usize>>,
@@ -341,7 +341,7 @@ fn close_kind<D: TextDecorator, G: Tagging<D::Annotation>>(
 ///
 /// Almost every node is none, so this is a function of its own, which only the nodes of a list come to.
 #[inline(never)]
-#[tactic(auto, using(html_render_dom::specs::laws::Outcome::refusals))]
+#[tactic(auto, using(html_render_values::specs::laws::Outcome::refusals))]
 fn begin_placed<D: TextDecorator, G: Tagging<D::Annotation>>(
     alloc: Global,
     state: &mut LayoutState<D, G, G::Tag, Block<G::Tag, usize>>,
@@ -368,7 +368,7 @@ fn begin_placed<D: TextDecorator, G: Tagging<D::Annotation>>(
 
 /// An item of a list begins, if the node is one.
 #[inline]
-#[tactic(auto, using(html_render_dom::specs::laws::Outcome::refusals))]
+#[tactic(auto, using(html_render_values::specs::laws::Outcome::refusals))]
 fn begin_item<D: TextDecorator, G: Tagging<D::Annotation>>(
     alloc: Global,
     state: &mut LayoutState<D, G, G::Tag, Block<G::Tag, usize>>,
@@ -387,7 +387,7 @@ fn begin_item<D: TextDecorator, G: Tagging<D::Annotation>>(
 
 /// What the node interrupts goes on.
 #[inline]
-#[tactic(auto, using(html_render_dom::specs::laws::Outcome::refusals))]
+#[tactic(auto, using(html_render_values::specs::laws::Outcome::refusals))]
 fn end_item<D: TextDecorator, G: Tagging<D::Annotation>>(
     alloc: Global,
     item: Interruption<D, G::Tag, Block<G::Tag, usize>>,
@@ -405,7 +405,7 @@ fn end_item<D: TextDecorator, G: Tagging<D::Annotation>>(
 
 /// Opens a node, in its style.
 #[inline]
-#[tactic(auto, using(html_render_dom::specs::laws::Outcome::refusals))]
+#[tactic(auto, using(html_render_values::specs::laws::Outcome::refusals))]
 fn open_in_style<D: TextDecorator, G: Tagging<D::Annotation>>(
     alloc: Global,
     node: &RenderNode,
@@ -424,7 +424,7 @@ fn open_in_style<D: TextDecorator, G: Tagging<D::Annotation>>(
 
 /// Opens a node in the state's block, and keeps what it interrupts, and how texts were treated before it.
 #[inline]
-#[tactic(auto, using(html_render_dom::specs::laws::Outcome::refusals))]
+#[tactic(auto, using(html_render_values::specs::laws::Outcome::refusals))]
 fn open_in<D: TextDecorator, G: Tagging<D::Annotation>>(
     alloc: Global,
     item: Interruption<D, G::Tag, Block<G::Tag, usize>>,
@@ -451,7 +451,7 @@ fn open_in<D: TextDecorator, G: Tagging<D::Annotation>>(
 
 /// Opens a node as the next cell of a row. Where that is skipped, so is all that stands in it.
 #[inline(never)]
-#[tactic(auto, using(html_render_dom::specs::laws::Outcome::refusals))]
+#[tactic(auto, using(html_render_values::specs::laws::Outcome::refusals))]
 fn open_cell<D: TextDecorator, G: Tagging<D::Annotation>>(
     alloc: Global,
     node: &RenderNode,
@@ -479,7 +479,7 @@ fn open_cell<D: TextDecorator, G: Tagging<D::Annotation>>(
 ///
 /// `TooNarrow`, where a block is flushed for which a character is too wide, or there is no room behind a prefix.
 /// `OutOfMemory`.
-#[tactic(auto, using(html_render_dom::specs::laws::Outcome::refusals))]
+#[tactic(auto, using(html_render_values::specs::laws::Outcome::refusals))]
 pub fn open<D: TextDecorator, G: Tagging<D::Annotation>>(
     alloc: Global,
     node: &RenderNode,
@@ -504,7 +504,7 @@ pub fn open<D: TextDecorator, G: Tagging<D::Annotation>>(
 ///
 /// `TooNarrow`, where a block is flushed for which a character is too wide, or a line is too wide behind its prefix.
 /// `OutOfMemory`.
-#[tactic(auto, using(html_render_dom::specs::laws::Outcome::refusals))]
+#[tactic(auto, using(html_render_values::specs::laws::Outcome::refusals))]
 pub fn close<D: TextDecorator, G: Tagging<D::Annotation>>(
     alloc: Global,
     closing: Closing<D, G::Tag, Block<G::Tag, usize>>,

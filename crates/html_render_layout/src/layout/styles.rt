@@ -7,10 +7,10 @@ ghost use Rattle.html_render_layout.specs.Layout.{annotated, in_style};
 use super::state::LayoutState;
 use crate::tagging::Tagging;
 use html_render_blocks::block::Block;
-use html_render_dom::Error;
-use html_render_dom::style::WhiteSpace;
 use html_render_nodes::tree::NodeStyle;
 use html_render_parts::decorate::TextDecorator;
+use html_render_values::Error;
+use html_render_values::white_space::WhiteSpace;
 use std::alloc::Global;
 
 /// The texts that come have one annotation more, if there is one.

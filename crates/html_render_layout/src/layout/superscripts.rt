@@ -4,7 +4,7 @@ ghost use Rattle.std.specs.Prelude.{◌≡◌, Some, OnOk, IfOk, IfErr, map, opt
 ghost use Rattle.std.specs.Char.{is_ascii_digit};
 ghost use Rattle.std.specs.List.{list_all};
 ghost use Rattle.std.specs.Str.{chars};
-ghost use Rattle.html_render_dom.specs.Outcome.{Refuses};
+ghost use Rattle.html_render_values.specs.Outcome.{Refuses};
 ghost use Rattle.html_render_nodes.specs.Preorder.{flatten, forest_of};
 ghost use Rattle.html_render_blocks.specs.BlockMachine as machine;
 ghost use Rattle.html_render_layout.specs.Layout.{add_characters, only_node, digits_of_kind, digits_of, raised};
@@ -13,9 +13,9 @@ use super::state::LayoutState;
 use super::texts::add_text;
 use crate::tagging::Tagging;
 use html_render_blocks::block::Block;
-use html_render_dom::Error;
 use html_render_nodes::tree::{Entry, NodeKind, RenderNode};
 use html_render_parts::decorate::TextDecorator;
+use html_render_values::Error;
 use std::alloc::{AllocError, Global};
 
 /// The superscripts of the digits from 0 to 9.
@@ -86,7 +86,7 @@ fn raised_text(alloc: Global, digits: &str) -> Result<String, AllocError>
 /// # Errors
 ///
 /// As where a text is added.
-#[tactic(auto, using(html_render_dom::specs::laws::Outcome::refusals))]
+#[tactic(auto, using(html_render_values::specs::laws::Outcome::refusals))]
 pub fn write_raised<D: TextDecorator, G: Tagging<D::Annotation>>(
     alloc: Global,
     digits: &str,

@@ -2,7 +2,7 @@
 
 ghost use Rattle.std.specs.Prelude.{◌≡◌, Some, OnOk, IfOk, IfErr, codes};
 ghost use Rattle.std.specs.Str.{chars};
-ghost use Rattle.html_render_dom.specs.Outcome.{Refuses};
+ghost use Rattle.html_render_values.specs.Outcome.{Refuses};
 ghost use Rattle.html_render_blocks.specs.BlockMachine as machine;
 ghost use Rattle.html_render_estimates.specs.Cells.{cell_needs};
 ghost use Rattle.html_render_nodes.specs.Preorder.{flatten, forest_of};
@@ -12,12 +12,12 @@ ghost use Rattle.html_render_layout.specs.Opening.{cell_closed};
 use super::state::{Around, InterruptedTable, LayoutState, OuterTable};
 use crate::tagging::Tagging;
 use html_render_blocks::block::Block;
-use html_render_dom::Error;
-use html_render_dom::style::WhiteSpace;
 use html_render_estimates::cells::cell_needs;
 use html_render_lines::character::TextStyle;
 use html_render_nodes::tree::{Entry, Grid, RenderNode};
 use html_render_parts::decorate::TextDecorator;
+use html_render_values::Error;
+use html_render_values::white_space::WhiteSpace;
 use std::alloc::Global;
 use std::mem;
 
@@ -41,7 +41,7 @@ fn fence_style<T: Copy>(tag: T) -> TextStyle<T>
 }
 
 /// Adds a fence.
-#[tactic(auto, using(html_render_dom::specs::laws::Outcome::refusals))]
+#[tactic(auto, using(html_render_values::specs::laws::Outcome::refusals))]
 fn write_fence<D: TextDecorator, G: Tagging<D::Annotation>>(
     state: &mut LayoutState<D, G, G::Tag, Block<G::Tag, usize>>,
 ) -> Result<(), Error>
@@ -55,7 +55,7 @@ fn write_fence<D: TextDecorator, G: Tagging<D::Annotation>>(
 }
 
 /// Adds a fence, where tables are fenced and the state stands in none.
-#[tactic(auto, using(html_render_dom::specs::laws::Outcome::refusals))]
+#[tactic(auto, using(html_render_values::specs::laws::Outcome::refusals))]
 fn add_fence<D: TextDecorator, G: Tagging<D::Annotation>>(
     state: &mut LayoutState<D, G, G::Tag, Block<G::Tag, usize>>,
 ) -> Result<(), Error>
@@ -76,7 +76,7 @@ fn add_fence<D: TextDecorator, G: Tagging<D::Annotation>>(
 /// # Errors
 ///
 /// `TooNarrow`, where a block is flushed for which a character is too wide. `OutOfMemory`.
-#[tactic(auto, using(html_render_dom::specs::laws::Outcome::refusals))]
+#[tactic(auto, using(html_render_values::specs::laws::Outcome::refusals))]
 pub fn begin_table<D: TextDecorator, G: Tagging<D::Annotation>>(
     alloc: Global,
     grid: &Grid,
@@ -105,7 +105,7 @@ pub fn begin_table<D: TextDecorator, G: Tagging<D::Annotation>>(
 /// # Errors
 ///
 /// As where one begins.
-#[tactic(auto, using(html_render_dom::specs::laws::Outcome::refusals))]
+#[tactic(auto, using(html_render_values::specs::laws::Outcome::refusals))]
 pub fn end_table<D: TextDecorator, G: Tagging<D::Annotation>>(
     in_table: bool,
     state: &mut LayoutState<D, G, G::Tag, Block<G::Tag, usize>>,
@@ -146,7 +146,7 @@ pub fn begin_cell<D: TextDecorator, G: Tagging<D::Annotation>>(
 /// # Errors
 ///
 /// As where a table begins.
-#[tactic(auto, using(html_render_dom::specs::laws::Outcome::refusals))]
+#[tactic(auto, using(html_render_values::specs::laws::Outcome::refusals))]
 pub fn end_cell<D: TextDecorator, G: Tagging<D::Annotation>>(
     outer: InterruptedTable<D, Block<G::Tag, usize>>,
     state: &mut LayoutState<D, G, G::Tag, Block<G::Tag, usize>>,

@@ -2,16 +2,16 @@
 
 ghost use Rattle.std.specs.Prelude.{◌≡◌, [], ◌∷◌, ◌++◌, true, Some, OnOk, IfOk, IfErr, string_bytes};
 ghost use Rattle.std.specs.Str.{chars, encode_utf8_all};
-ghost use Rattle.html_render_dom.specs.Outcome.{Refuses};
+ghost use Rattle.html_render_values.specs.Outcome.{Refuses};
 ghost use Rattle.html_render_blocks.specs.BlockMachine as machine;
 ghost use Rattle.html_render_layout.specs.Layout.{struck, written, on_block, text_style, add_styled, add_text};
 
 use super::state::LayoutState;
 use crate::tagging::Tagging;
 use html_render_blocks::block::Block;
-use html_render_dom::Error;
 use html_render_lines::character::{TextStyle, is_collapsible};
 use html_render_parts::decorate::TextDecorator;
+use html_render_values::Error;
 use std::alloc::{AllocError, Global};
 
 /// What stands behind a character that is struck out: the combining long stroke overlay.
@@ -43,7 +43,7 @@ fn struck(alloc: Global, text: &str) -> Result<String, AllocError>
 ///
 /// Few texts are, so this is a function of its own.
 #[inline(never)]
-#[tactic(auto, using(html_render_dom::specs::laws::Outcome::refusals))]
+#[tactic(auto, using(html_render_values::specs::laws::Outcome::refusals))]
 fn add_struck<D: TextDecorator, G: Tagging<D::Annotation>>(
     alloc: Global,
     text: &str,
@@ -104,7 +104,7 @@ fn preformatted_style<D: TextDecorator, G: Tagging<D::Annotation>>(
 ///
 /// Few texts are, so this is a function of its own.
 #[inline(never)]
-#[tactic(auto, using(html_render_dom::specs::laws::Outcome::refusals))]
+#[tactic(auto, using(html_render_values::specs::laws::Outcome::refusals))]
 fn add_preformatted<D: TextDecorator, G: Tagging<D::Annotation>>(
     alloc: Global,
     text: &str,
@@ -127,7 +127,7 @@ fn add_preformatted<D: TextDecorator, G: Tagging<D::Annotation>>(
 ///
 /// `TooNarrow`, where the text starts a block, and a character before it is too wide. `OutOfMemory`.
 #[inline]
-#[tactic(auto, using(html_render_dom::specs::laws::Outcome::refusals))]
+#[tactic(auto, using(html_render_values::specs::laws::Outcome::refusals))]
 pub fn add_text<D: TextDecorator, G: Tagging<D::Annotation>>(
     alloc: Global,
     text: &str,

@@ -1,9 +1,5 @@
 -- Facts on values that may be missing, and on choices.
 use Rattle.std.proofs.Common.{◌≡◌, Bool, true, false, cond, Option, Some, None, refl, IfSome, option_and_then}
-use Rattle.html_render_lines.specs.declared.character.Kind.{Kind}
-use Rattle.html_render_lines.specs.declared.character.Kind.TheVariants.{Letter, Space, Divider, Dropped, Preserved, Newline, Tab, SoftSpace, SoftTab}
-use Rattle.html_render_lines.specs.declared.character.Character.{Character}
-use Rattle.html_render_lines.specs.Paragraph.{Page, Setting, with_fitting_space, page_for_single}
 
 pub bind_some : {A B : Type 0} (P : A → Type 0) (Q : B → Type 0) (f : A → Option B) (o : Option A) → IfSome o P →
     ((x : A) → P x → IfSome (f x) Q) → IfSome (option_and_then f o) Q
@@ -21,16 +17,3 @@ if_true false x y e = cc
 pub if_false : {X : Type 0} (b : Bool) (x y : X) → b ≡ false → cond b x y ≡ y
 if_false true x y e = cc
 if_false false x y e = refl
-
--- the page before a character that is placed by itself
-pub page_for_single_cases : {T M : Type 0} (P : Page T M → Type 0) (s : Setting) (page : Page T M) (pending : Option (Character T))
-    (k : Kind) → P page → P (with_fitting_space s page pending) → P (page_for_single s page pending k)
-page_for_single_cases P s page pending Newline h g = h
-page_for_single_cases P s page pending Letter h g = g
-page_for_single_cases P s page pending Space h g = g
-page_for_single_cases P s page pending Divider h g = g
-page_for_single_cases P s page pending Dropped h g = g
-page_for_single_cases P s page pending Preserved h g = g
-page_for_single_cases P s page pending Tab h g = g
-page_for_single_cases P s page pending SoftSpace h g = g
-page_for_single_cases P s page pending SoftTab h g = g

@@ -5,9 +5,8 @@ ghost use Rattle.std.specs.Bool.{OnTrue};
 ghost use Rattle.std.specs.Str.{chars};
 ghost use Rattle.std.specs.String.{string_bytes};
 ghost use Rattle.html_render_lines.specs.Character.{width_of};
-ghost use Rattle.html_render_lines.specs.Line.{columns, text_bytes};
+ghost use Rattle.html_render_lines.specs.Line.{columns, text_bytes, element_of};
 ghost use Rattle.html_render_lines.specs.TaggedText.{counted, text_columns, under, items_of, Cuts, HasTag, elements_of, open_elements};
-ghost use Rattle.html_render_lines.specs.Word.{element_of};
 
 use crate::character::{TextStyle, width_of};
 use crate::line::{Element, TaggedText, TextParts, element_width};
@@ -102,7 +101,7 @@ impl<T: Tag, M: Copy> Line<T, M> {
     /// # Errors
     ///
     /// `OutOfMemory`. The line is then as it was.
-    pub(crate) fn reserve_at_start(&mut self, bytes: usize) -> Result<(), AllocError>
+    pub fn reserve_at_start(&mut self, bytes: usize) -> Result<(), AllocError>
         ensures { self.new ≡ self.old }
     {
         self.text.reserve_at_start(bytes)
@@ -117,7 +116,7 @@ impl<T: Tag, M: Copy> Line<T, M> {
     }
 
     /// How many columns it is past a multiple of 8.
-    pub(crate) fn past_tab_stop(&self) -> usize
+    pub fn past_tab_stop(&self) -> usize
         ensures { result ≡ columns self.now % 8 }
     {
         match self.count {
@@ -204,7 +203,7 @@ impl<T: Tag, M: Copy> Line<T, M> {
     ///
     /// `OutOfMemory`. The line is then empty.
     #[tactic(auto, using(crate::proofs::LineColumns::pushes))]
-    pub(crate) fn append_as(
+    pub fn append_as(
         &mut self,
         word: &TaggedText<TextStyle<T>, M>,
         width: usize,
@@ -339,7 +338,7 @@ impl<T: Tag, M: Copy> Line<T, M> {
 
 /// A count and so many more; none past a machine word.
 #[inline]
-pub(super) fn counted_on(count: Option<usize>, more: usize) -> Option<usize>
+pub fn counted_on(count: Option<usize>, more: usize) -> Option<usize>
     ensures { (n : ℕ) → count ≡ counted n → result ≡ counted (n + more) }
 {
     count?.checked_add(more)

@@ -8,9 +8,8 @@ ghost use Rattle.std.specs.Bool.{OnTrue};
 ghost use Rattle.std.specs.Str.{chars, IsUtf8};
 ghost use Rattle.std.specs.String.{string_bytes};
 ghost use Rattle.html_render_lines.specs.TaggedText.{under, closed_run, Cuts, HasTag, elements_of, open_elements, items_of, style_tag};
-ghost use Rattle.html_render_lines.specs.Line.{text_bytes};
+ghost use Rattle.html_render_lines.specs.Line.{text_bytes, element_of};
 ghost use Rattle.html_render_lines.specs.TaggedText.{styled_elements};
-ghost use Rattle.html_render_lines.specs.Word.{element_of};
 
 use crate::character::TextStyle;
 use crate::line::Element;
@@ -460,7 +459,7 @@ impl<T: Tag, M: Copy> TaggedText<T, M> {
 
 /// The tag of a style's characters on a line that continues another, or on an ordinary line.
 #[inline]
-pub(crate) fn style_tag<T: Copy>(style: TextStyle<T>, continues: bool) -> T
+pub fn style_tag<T: Copy>(style: TextStyle<T>, continues: bool) -> T
     ensures { result ≡ style_tag continues style }
 {
     if continues {

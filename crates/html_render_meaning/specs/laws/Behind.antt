@@ -1,7 +1,7 @@
 -- Parts whose lines are those that are laid.
 use Rattle.std.proofs.Common.{◌≡◌, Bool, List, [], ◌∷◌, ◌++◌, Option, Some, ◌⊎◌, inl, inr, refl, ◌∙◌, subst, append_assoc, option_and_then}
 use Rattle.html_render_lines.specs.Line.{Line}
-use Rattle.html_render_lines.specs.Paragraph.{Page, Setting, all_lines}
+use Rattle.html_render_paragraphs.specs.Paragraph.{Page, Setting, all_lines}
 use Rattle.html_render_meaning.specs.Meaning.{Part, IsNotEmpty, StandOn, AreLines}
 use Rattle.html_render_meaning.specs.laws.Words.{page_of}
 use Rattle.html_render_meaning.specs.laws.Laying.{lay}

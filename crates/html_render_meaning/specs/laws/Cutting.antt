@@ -7,8 +7,8 @@ use Rattle.html_render_lines.specs.declared.character.Item.{Item}
 use Rattle.html_render_lines.specs.declared.character.Item.TheVariants as item
 use Rattle.html_render_lines.specs.Character.{width_of}
 use Rattle.html_render_lines.specs.Line.{Line, columns, word_columns}
-use Rattle.html_render_lines.specs.Paragraph.{Page, Setting, put_character, put_items}
-use Rattle.html_render_lines.specs.Word.{line_with_word, marks_behind_word}
+use Rattle.html_render_paragraphs.specs.Paragraph.{Page, Setting, put_character, put_items}
+use Rattle.html_render_paragraphs.specs.Word.{line_with_word, marks_behind_word}
 use Rattle.html_render_lines.specs.laws.Cases.{if_true, if_false}
 use Rattle.html_render_meaning.specs.Meaning.{Part, Whole, with_whole, with_letter, character_count, IsNotEmpty, StandOn, nothing, whole, alone, cut}
 use Rattle.html_render_meaning.specs.laws.Words.{page_of, page_with_word, word_columns-one, word_columns-cons, word_columns-append, count-append}

@@ -8,9 +8,9 @@ use Rattle.html_render_lines.specs.declared.character.Character.{Character}
 use Rattle.html_render_lines.specs.declared.character.Item.TheVariants as item
 use Rattle.html_render_lines.specs.Character.{width_of}
 use Rattle.html_render_lines.specs.Line.{Line, columns, word_columns}
-use Rattle.html_render_lines.specs.Paragraph.{Piece, Word, Gap, Cut, Single, Loose, Page, Setting, with_waiting_mark, with_line_break, tab_spaces}
-use Rattle.html_render_lines.specs.Paragraph.{put_character, put_characters, put_items, put_word, put_single, put_fitting, put_all_fitting}
-use Rattle.html_render_lines.specs.Paragraph.{with_due_space_by, with_fitting_space, page_for_single, place, first_of, continued, gap_width_of, page_for_word}
+use Rattle.html_render_paragraphs.specs.Paragraph.{Piece, Word, Gap, Cut, Single, Loose, Page, Setting, with_waiting_mark, with_line_break, tab_spaces}
+use Rattle.html_render_paragraphs.specs.Paragraph.{put_character, put_characters, put_items, put_word, put_single, put_fitting, put_all_fitting}
+use Rattle.html_render_paragraphs.specs.Paragraph.{with_due_space_by, with_fitting_space, page_for_single, place, first_of, continued, gap_width_of, page_for_word}
 use Rattle.html_render_lines.specs.laws.Cases.{if_cases}
 use Rattle.html_render_meaning.specs.laws.Words.{page_of, word_columns-one}
 use Rattle.html_render_meaning.specs.Meaning.{Part, Whole, Between, Soft, Break, Stop, SoftStop, Marked, with_single, with_between, parts}

@@ -7,7 +7,7 @@ use Rattle.html_render_lines.specs.declared.character.Character.{Character}
 use Rattle.html_render_lines.specs.declared.character.Item.{Item}
 use Rattle.html_render_lines.specs.declared.character.Item.TheVariants as item
 use Rattle.html_render_lines.specs.Line.{Line, columns, word_columns}
-use Rattle.html_render_lines.specs.Paragraph.{Page, Setting, all_lines, pieces, paragraph, blank_page, put_items, put_word}
+use Rattle.html_render_paragraphs.specs.Paragraph.{Page, Setting, all_lines, pieces, paragraph, blank_page, put_items, put_word}
 use Rattle.html_render_meaning.specs.Meaning.{Part, Whole, Between, Soft, Break, Stop, SoftStop, Marked, letter, spaced, with_whole, with_letter, IsNotEmpty}
 use Rattle.html_render_meaning.specs.Meaning.{StandOn, nothing, whole, between, no_between, soft, no_soft, marked}
 use Rattle.html_render_meaning.specs.Meaning.{none, last, broken, full, stop, soft_stop, spaces_behind, parts, IsParagraph}

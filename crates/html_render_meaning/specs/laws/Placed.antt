@@ -6,8 +6,8 @@ use Rattle.html_render_lines.specs.declared.character.Character.{Character}
 use Rattle.html_render_lines.specs.declared.character.Item.{Item}
 use Rattle.html_render_lines.specs.declared.character.Item.TheVariants as item
 use Rattle.html_render_lines.specs.Line.{Line, columns}
-use Rattle.html_render_lines.specs.Paragraph.{Page, Setting, all_lines, with_line, continued, pieces, paragraph, blank_page}
-use Rattle.html_render_lines.specs.Paragraph.{put_character, put_characters, put_items, put_word, put_fitting, put_all_fitting, with_waiting_mark}
+use Rattle.html_render_paragraphs.specs.Paragraph.{Page, Setting, all_lines, with_line, continued, pieces, paragraph, blank_page}
+use Rattle.html_render_paragraphs.specs.Paragraph.{put_character, put_characters, put_items, put_word, put_fitting, put_all_fitting, with_waiting_mark}
 use Rattle.html_render_meaning.specs.Meaning.{Part, Whole, Soft, Break, Stop, SoftStop, letter, with_whole, with_letter, IsNotEmpty}
 use Rattle.html_render_meaning.specs.Meaning.{AreLines, none, last, broken, full, cut, stop, soft_stop, spaces_behind, IsParagraph}
 use Rattle.html_render_meaning.specs.laws.Words.{page_of, columns-with_letter}

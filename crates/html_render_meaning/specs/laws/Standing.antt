@@ -5,11 +5,11 @@ use Rattle.std.proofs.lemmas.Bool.{le-leb, lt-leb}
 use Rattle.html_render_lines.specs.declared.character.Character.{Character}
 use Rattle.html_render_lines.specs.declared.character.Item.{Item}
 use Rattle.html_render_lines.specs.declared.line.Element.TheVariants as element
-use Rattle.html_render_lines.specs.Character.{width_of}
+use Rattle.html_render_lines.specs.Character.{width_of, tag_on}
 use Rattle.html_render_lines.specs.Line.{Line, columns, word_columns}
-use Rattle.html_render_lines.specs.Paragraph.{Page, Setting, tag_on, with_due_space, continued, page_for_word, gap_width_of, put_word, put_items}
-use Rattle.html_render_lines.specs.Paragraph.{with_fitting_space, put_fitting}
-use Rattle.html_render_lines.specs.laws.Within.{columns-append, width-space}
+use Rattle.html_render_paragraphs.specs.Paragraph.{Page, Setting, with_due_space, continued, page_for_word, gap_width_of, put_word, put_items}
+use Rattle.html_render_paragraphs.specs.Paragraph.{with_fitting_space, put_fitting}
+use Rattle.html_render_lines.specs.laws.Columns.{columns-append, width-space}
 use Rattle.html_render_lines.specs.laws.Cases.{if_true, if_false}
 use Rattle.html_render_meaning.specs.Meaning.{Part, Whole, Between, Soft, Marked, spaced, with_whole, with_letter, character_count, StandOn}
 use Rattle.html_render_meaning.specs.Meaning.{nothing, whole, alone, between, no_between, soft, no_soft, marked}

@@ -5,8 +5,9 @@ use Rattle.html_render_lines.specs.declared.character.Item.{Item}
 use Rattle.html_render_lines.specs.declared.character.Item.TheVariants as item
 use Rattle.html_render_lines.specs.declared.line.Element.TheVariants as element
 use Rattle.html_render_lines.specs.Line.{Line, marks_line}
-use Rattle.html_render_lines.specs.Paragraph.{Setting, tag_on}
-use Rattle.html_render_lines.specs.Word.{line_with_word}
+use Rattle.html_render_paragraphs.specs.Paragraph.{Setting}
+use Rattle.html_render_lines.specs.Character.{tag_on}
+use Rattle.html_render_paragraphs.specs.Word.{line_with_word}
 use Rattle.html_render_meaning.specs.Meaning.{Part, StandOn, nothing, whole, alone, between, no_between, soft, no_soft, marked}
 use Rattle.html_render_meaning.specs.Meaning.{AreLines, none, last, broken, full, cut, stop, soft_stop, IsParagraph}
 use Rattle.html_render_meaning.specs.Meaning.{spaced, with_letter, character_count, characters_on, IsWithinOrSingle}

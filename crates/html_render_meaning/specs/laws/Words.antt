@@ -7,11 +7,11 @@ use Rattle.html_render_lines.specs.declared.character.Character.{Character}
 use Rattle.html_render_lines.specs.declared.character.Item.{Item}
 use Rattle.html_render_lines.specs.declared.character.Item.TheVariants as item
 use Rattle.html_render_lines.specs.declared.line.Element.TheVariants as element
-use Rattle.html_render_lines.specs.Character.{width_of}
+use Rattle.html_render_lines.specs.Character.{width_of, tag_on}
 use Rattle.html_render_lines.specs.Line.{Line, columns, word_columns, item_width, marks_line}
-use Rattle.html_render_lines.specs.Paragraph.{Page, Setting, tag_on, put_character, put_items, with_waiting_mark}
-use Rattle.html_render_lines.specs.Word.{line_with_word, marks_behind_word}
-use Rattle.html_render_lines.specs.laws.Within.{columns-append, columns-marks}
+use Rattle.html_render_paragraphs.specs.Paragraph.{Page, Setting, put_character, put_items, with_waiting_mark}
+use Rattle.html_render_paragraphs.specs.Word.{line_with_word, marks_behind_word}
+use Rattle.html_render_lines.specs.laws.Columns.{columns-append, columns-marks}
 use Rattle.html_render_lines.specs.laws.Cases.{if_true}
 use Rattle.html_render_meaning.specs.Meaning.{character_count, with_letter, IsNotEmpty}
 

@@ -1,7 +1,7 @@
 -- Two partial answers that agree, and two runs that do.
 use Rattle.std.proofs.Common.{◌≡◌, Option, Some, None, List, ◌∷◌, ◌++◌, refl, ap, ◌∙◌, option_and_then, option_map}
 use Rattle.std.proofs.lemmas.Option.{same_Some}
-use Rattle.html_render_dom.specs.Forest.{Forest, none, node}
+use Rattle.html_render_values.specs.Forest.{Forest, none, node}
 use Rattle.html_render_nodes.specs.Pass.{Steps, Inside, run, from, visited}
 
 -- both have an answer, and R relates these, or neither has one

@@ -2,7 +2,7 @@
 use Rattle.std.specs.Prelude.{◌≡◌, ◌≤◌, List, length, Result, Ok, Err, OnOk}
 use Rattle.std.specs.Result.{IsErrAnd}
 use Rattle.std.proofs.Common.{arith, subst, ◌∙◌}
-use Rattle.html_render_dom.specs.Forest.{Forest, count}
+use Rattle.html_render_values.specs.Forest.{Forest, count}
 use Rattle.html_render_parts.specs.declared.widths.Meter.{Meter}
 use Rattle.html_render_nodes.specs.Counts.{CountsNodes}
 use Rattle.html_render_nodes.specs.Pass.{Steps, Inside, AsksIn, visited}

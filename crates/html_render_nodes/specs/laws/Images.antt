@@ -1,6 +1,6 @@
 -- Where a run has an answer, another has the same after a map of states, where each node's steps do.
 use Rattle.std.proofs.Common.{◌≡◌, Option, Some, None, refl, ap, ◌∙◌, IfSome, option_and_then}
-use Rattle.html_render_dom.specs.Forest.{Forest, none, node}
+use Rattle.html_render_values.specs.Forest.{Forest, none, node}
 use Rattle.html_render_nodes.specs.Pass.{Steps, run}
 
 -- where there is an answer, there is the same after the map h

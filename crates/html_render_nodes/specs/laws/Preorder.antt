@@ -2,7 +2,7 @@
 use Rattle.std.specs.Prelude.{ℕ, ◌+◌, ◌-◌, ◌≤◌, ◌≡◌, List, ◌∷◌, ◌++◌, length, take, drop, refl}
 use Rattle.std.proofs.Common.{suc, zero, arith, ap, ◌∙◌, sym, length-append, append_assoc}
 use Rattle.std.proofs.Math.Seq.{take-append_seam, drop-append_seam}
-use Rattle.html_render_dom.specs.Forest.{Forest, none, node, count, followed_by}
+use Rattle.html_render_values.specs.Forest.{Forest, none, node, count, followed_by}
 use Rattle.html_render_nodes.specs.declared.tree.Entry.{Entry}
 use Rattle.html_render_nodes.specs.Preorder.{flatten, forest_within, forest_of}
 

@@ -1,6 +1,6 @@
 -- What every run of a pass keeps, where each node's steps keep it.
 use Rattle.std.specs.Prelude.{Option, Some, None, MatchOption, IfSome, option_and_then}
-use Rattle.html_render_dom.specs.Forest.{Forest, none, node}
+use Rattle.html_render_values.specs.Forest.{Forest, none, node}
 use Rattle.html_render_nodes.specs.Pass.{Steps, run}
 
 pub MatchOption-then : {X Y : Type 0} (N : Type 0) (P : X → Type 0) (Q : Y → Type 0) (o : Option X) (f : X → Option Y) →

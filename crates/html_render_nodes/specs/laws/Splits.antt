@@ -1,7 +1,7 @@
 -- Where a forest can be parted, and forests that follow each other.
 use Rattle.std.specs.Prelude.{◌+◌, ◌≡◌, refl}
 use Rattle.std.proofs.Common.{arith, ap, sym}
-use Rattle.html_render_dom.specs.Forest.{Forest, none, node, count, followed_by}
+use Rattle.html_render_values.specs.Forest.{Forest, none, node, count, followed_by}
 use Rattle.html_render_nodes.specs.Splits.{SplitAt}
 
 module _ {K : Type 0} where

@@ -2,7 +2,7 @@
 use Rattle.std.specs.Prelude.{ℕ, ◌≤◌, ◌≡◌, List, ◌∷◌, ◌++◌, length, Option, Some, None, option_and_then, refl}
 use Rattle.std.proofs.Common.{arith, ap, ◌∙◌, sym, length-append}
 use Rattle.std.proofs.lemmas.Option.{same_Some}
-use Rattle.html_render_dom.specs.Forest.{Forest, none, node, count}
+use Rattle.html_render_values.specs.Forest.{Forest, none, node, count}
 use Rattle.html_render_nodes.specs.Pass.{Steps, Inside, AsksIn, Way, Into, Past, run, from, visited, through, into, inside_of}
 
 length-from : {K S : Type 0} (visits : S → List K) (n : ℕ) (o : Option S) → ((s : S) → length (visits s) ≤ n) → length (from visits o) ≤ n

@@ -3,7 +3,7 @@
 ghost use Rattle.std.specs.Prelude.{◌≡◌, IfOk, IfErr};
 
 use super::{Entry, Flat, Grid, Image, NodeKind, RenderNode, RenderTree, Slots};
-use html_render_dom::Error;
+use html_render_values::Error;
 use std::alloc::Global;
 
 impl Image {

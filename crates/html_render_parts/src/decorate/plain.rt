@@ -4,9 +4,9 @@ ghost use Rattle.std.specs.Prelude.{refl};
 ghost use Rattle.html_render_parts.specs.Decorators.{plain};
 
 use super::TextDecorator;
-use html_render_dom::Error;
-use html_render_dom::style::Colour;
-use html_render_dom::text::Text;
+use html_render_values::Error;
+use html_render_values::colours::Colour;
+use html_render_values::text::Text;
 use std::alloc::Global;
 
 /// The decorator of plain text.

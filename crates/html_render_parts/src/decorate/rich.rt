@@ -4,9 +4,9 @@ ghost use Rattle.std.proofs.Common.{rules};
 ghost use Rattle.html_render_parts.specs.Decorators.{rich};
 
 use super::{PlainDecorator, TextDecorator};
-use html_render_dom::Error;
-use html_render_dom::style::Colour;
-use html_render_dom::text::Text;
+use html_render_values::Error;
+use html_render_values::colours::Colour;
+use html_render_values::text::Text;
 use std::alloc::Global;
 
 /// What a character stands in.

@@ -6,7 +6,7 @@ ghost use Rattle.html_render_parts.specs.Needs.{cell_stands, cells_stand, standi
 
 use super::shares::{ColumnNeed, widths_across};
 use super::spans::{Span, greatest_values};
-use html_render_dom::Error;
+use html_render_values::Error;
 use std::alloc::{AllocError, Global};
 
 /// What a cell needs over its columns, in columns of text.

@@ -8,7 +8,7 @@ use Rattle.html_render_lines.specs.Tags.{element_with, line_with, lines_with}
 use Rattle.html_render_lines.specs.Visible.{is_visible, visible_in_line, visible_in_lines}
 use Rattle.html_render_lines.specs.laws.Tags.{columns-with}
 use Rattle.html_render_lines.specs.laws.Visible.{visible_in_line-append}
-use Rattle.html_render_lines.specs.laws.Within.{columns-append, width-space}
+use Rattle.html_render_lines.specs.laws.Columns.{columns-append, width-space}
 use Rattle.html_render_pictures.specs.Padding.{spaces, filled_line, filled}
 
 -- ---- under whatever tags

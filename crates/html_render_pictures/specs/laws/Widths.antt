@@ -10,7 +10,7 @@ use Rattle.html_render_lines.specs.declared.line.Element.{Element}
 use Rattle.html_render_lines.specs.declared.line.Element.TheVariants.{Character}
 use Rattle.html_render_lines.specs.Character.{width_of}
 use Rattle.html_render_lines.specs.Line.{Line, columns, element_width, marks_line, AllWithinWidth}
-use Rattle.html_render_lines.specs.laws.Within.{columns-append, columns-marks, width-space}
+use Rattle.html_render_lines.specs.laws.Columns.{columns-append, columns-marks, width-space}
 use Rattle.html_render_pictures.specs.Marked.{marked_before, marked_behind}
 use Rattle.html_render_pictures.specs.Padding.{spaces, filled_line}
 use Rattle.html_render_pictures.specs.declared.picture.Frame.{Frame}

@@ -1,5 +1,5 @@
 use Rattle.std.proofs.Common.{take}
-use Rattle.html_render_dom.specs.Forest.{followed_by}
+use Rattle.html_render_values.specs.Forest.{followed_by}
 use Rattle.html_render_drafts.specs.Store.{planted, Becomes}
 use Rattle.html_render_arrangement.specs.Arrangement.{rows_of}
 use Rattle.html_render_arrangement.proofs.rows.push_rows_of.Given as goal

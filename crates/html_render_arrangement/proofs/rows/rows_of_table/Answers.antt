@@ -1,5 +1,5 @@
 use Rattle.std.proofs.Common.{◌∙◌, ap, sym, subst}
-use Rattle.html_render_dom.specs.Forest.{followed_by}
+use Rattle.html_render_values.specs.Forest.{followed_by}
 use Rattle.html_render_drafts.specs.laws.Store.{Within-grown}
 use Rattle.html_render_drafts.specs.Store.{planted, Within}
 use Rattle.html_render_arrangement.specs.Arrangement.{rows_of}

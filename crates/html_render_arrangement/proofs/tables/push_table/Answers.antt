@@ -1,7 +1,7 @@
 use Rattle.std.proofs.Common.{◌≡◌, ◌<◌, length, ap, sym, subst, ◌∙◌, rules}
 use Rattle.html_render_drafts.specs.laws.Store.{Within-grown}
 use Rattle.html_render_drafts.specs.Store.{planted, Within}
-use Rattle.html_render_dom.specs.Forest.{followed_by}
+use Rattle.html_render_values.specs.Forest.{followed_by}
 use Rattle.html_render_nodes.specs.declared.tree.NodeKind.TheVariants.{Block}
 use Rattle.html_render_arrangement.specs.Arrangement.{as_kind, into_first_row, table_over, table_below, table_of}
 use Rattle.html_render_arrangement.proofs.Captions.{captioned-in, table_of-captions, no_captions}

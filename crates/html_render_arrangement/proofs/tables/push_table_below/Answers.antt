@@ -1,5 +1,5 @@
 use Rattle.std.proofs.Common.{◌≡◌, ◌<◌, length, ap, sym, ◌∙◌, rules}
-use Rattle.html_render_dom.specs.Forest.{followed_by}
+use Rattle.html_render_values.specs.Forest.{followed_by}
 use Rattle.html_render_nodes.specs.RenderNodes.{no_style, unmeasured}
 use Rattle.html_render_nodes.specs.laws.Splits.{followed_by-none}
 use Rattle.html_render_drafts.specs.Store.{planted}

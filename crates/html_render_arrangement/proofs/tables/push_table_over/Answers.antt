@@ -1,5 +1,5 @@
 use Rattle.std.proofs.Common.{ap, sym, ◌∙◌}
-use Rattle.html_render_dom.specs.Forest.{node, none}
+use Rattle.html_render_values.specs.Forest.{node, none}
 use Rattle.html_render_nodes.specs.Grids.{GridRows}
 use Rattle.html_render_nodes.specs.declared.tree.NodeKind.TheVariants.{Table}
 use Rattle.html_render_drafts.specs.Store.{planted}

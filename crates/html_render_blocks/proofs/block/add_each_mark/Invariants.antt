@@ -1,5 +1,5 @@
 use Rattle.std.proofs.Common.{◌≡◌, drop}
-use Rattle.html_render_lines.specs.Stream.{after}
+use Rattle.html_render_paragraphs.specs.Stream.{after}
 use Rattle.html_render_blocks.specs.Block.{mark_items}
 use Rattle.html_render_blocks.proofs.block.add_each_mark.Given as goal
 

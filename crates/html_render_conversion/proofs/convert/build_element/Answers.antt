@@ -1,6 +1,6 @@
 use Rattle.std.proofs.Common.{◌≡◌, ◌≢◌, true, false, None, is_some, sym, ◌∙◌, ap, subst, rules}
 use Rattle.html_render_nodes.specs.Splits.{SplitAt}
-use Rattle.html_render_dom.specs.Forest.{node}
+use Rattle.html_render_values.specs.Forest.{node}
 use Rattle.std.specs.Result.{OnOk}
 use Rattle.std.proofs.lemmas.Result.{on_ok_weaker}
 use Rattle.html_render_conversion.specs.Converting.{put_mark}

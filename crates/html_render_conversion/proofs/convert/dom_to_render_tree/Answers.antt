@@ -2,8 +2,8 @@ use Rattle.std.proofs.Common.{◌≡◌, ◌<◌, suc, [], ◌∷◌, ◌++◌, 
 use Rattle.std.specs.Result.{IsErrAnd}
 use Rattle.html_render_dom.specs.Dom.{children_at}
 use Rattle.html_render_dom.specs.Rules.{rule_of}
-use Rattle.html_render_dom.specs.declared.errors.Error.{Error}
-use Rattle.html_render_dom.specs.declared.errors.Error.TheVariants.{TooNarrow, Fail, OutOfMemory}
+use Rattle.html_render_values.specs.declared.errors.Error.{Error}
+use Rattle.html_render_values.specs.declared.errors.Error.TheVariants.{TooNarrow, Fail, OutOfMemory}
 use Rattle.html_render_parts.specs.Refusal.{Fails}
 use Rattle.html_render_conversion.specs.Conversion.{tree_of_parts}
 use Rattle.html_render_conversion.specs.declared.convert.Open.{Open}

@@ -1,6 +1,6 @@
 use Rattle.std.proofs.Common.{◌≡◌, IfSome, drop, option_map, unwrap_or}
 use Rattle.html_render_dom.specs.Dom.{IsNode, below, children_at, node_count, trees_of}
-use Rattle.html_render_dom.specs.Forest.{none}
+use Rattle.html_render_values.specs.Forest.{none}
 use Rattle.html_render_conversion.specs.Images.{in_last_title}
 use Rattle.html_render_conversion.proofs.images.last_title.Given as goal
 

@@ -1,5 +1,5 @@
 use Rattle.std.proofs.Common.{sym, ap, ◌∙◌}
-use Rattle.html_render_dom.specs.Forest.{node}
+use Rattle.html_render_values.specs.Forest.{node}
 use Rattle.html_render_nodes.specs.Preorder.{forest_of}
 use Rattle.html_render_estimates.proofs.Parting.{parted}
 use Rattle.html_render_estimates.proofs.trees.first_tree.Goals as goal

@@ -1,5 +1,5 @@
 use Rattle.std.proofs.Common.{◌≡◌, Some, IfOk, IfErr, refl, subst}
-use Rattle.html_render_dom.specs.Outcome.{Refuses}
+use Rattle.html_render_values.specs.Outcome.{Refuses}
 use Rattle.html_render_nodes.specs.laws.Counts.{none-counted}
 use Rattle.html_render_blocks.specs.Block as definition
 use Rattle.html_render_layout.specs.Layout.{onto, defined, defined_inside, empty_state, estimated, layout_lines}

@@ -1,6 +1,6 @@
 use Rattle.std.proofs.Common.{◌≡◌, Some, IfOk, IfErr, Result, Ok, Err, subst}
-use Rattle.html_render_dom.specs.declared.errors.Error.{Error}
-use Rattle.html_render_dom.specs.Outcome.{Refuses}
+use Rattle.html_render_values.specs.declared.errors.Error.{Error}
+use Rattle.html_render_values.specs.Outcome.{Refuses}
 use Rattle.html_render_layout.specs.declared.tagging.Untagged.{Untagged as Nothing}
 use Rattle.html_render_layout.specs.Layout.{estimated, layout_lines, untagged_lines}
 use Rattle.html_render_layout.specs.laws.LayoutWorks.{empty_untagged, untagged_lines-works}

@@ -1,5 +1,5 @@
 use Rattle.std.proofs.Common.{◌≡◌, Option, Some, None, IfNone, arith}
-use Rattle.html_render_dom.specs.Forest.{none}
+use Rattle.html_render_values.specs.Forest.{none}
 use Rattle.html_render_nodes.specs.Splits.{Reversed}
 use Rattle.html_render_nodes.proofs.Building.{last_entry, none_left}
 use Rattle.html_render_nodes.proofs.tree.first_tree.Goals as goal

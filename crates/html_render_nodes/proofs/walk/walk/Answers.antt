@@ -1,6 +1,6 @@
 use Rattle.std.proofs.Common.{◌≡◌, ℕ, List, ◌+◌, ◌-◌, ◌++◌, ◌∷◌, [], Some, length, max, refl, sym, ap, ◌∙◌, subst, arith}
 use Rattle.std.proofs.Common.{length-append, rules}
-use Rattle.html_render_dom.specs.Forest.{depth}
+use Rattle.html_render_values.specs.Forest.{depth}
 use Rattle.html_render_nodes.specs.declared.walk.Frame.{Frame}
 use Rattle.html_render_nodes.specs.Pass.{run, way, inside_of}
 use Rattle.html_render_nodes.specs.Preorder.{flatten}

@@ -1,5 +1,5 @@
 use Rattle.std.proofs.Common.{◌≡◌, ◌+◌, ◌-◌, ◌*◌, ◌≤◌, length}
-use Rattle.html_render_dom.specs.Forest.{depth}
+use Rattle.html_render_values.specs.Forest.{depth}
 use Rattle.html_render_nodes.specs.Pass.{run}
 use Rattle.html_render_nodes.specs.Preorder.{flatten}
 use Rattle.html_render_nodes.proofs.Walking.{Walking, How, nodes_visited}

@@ -1,5 +1,5 @@
 use Rattle.std.proofs.Common.{◌≡◌, ◌+◌, arith, rules}
-use Rattle.html_render_dom.specs.Forest.{count}
+use Rattle.html_render_values.specs.Forest.{count}
 use Rattle.html_render_drafts.specs.laws.Store.{Within-get}
 use Rattle.html_render_drafts.specs.Store.{at}
 use Rattle.html_render_drafts.proofs.Stores.{count-next}

@@ -1,5 +1,5 @@
 use Rattle.std.proofs.Common.{◌≡◌, take}
-use Rattle.html_render_dom.specs.Forest.{count}
+use Rattle.html_render_values.specs.Forest.{count}
 use Rattle.html_render_drafts.specs.Store.{planted}
 use Rattle.html_render_drafts.proofs.store.Store.count_all.Given as goal
 

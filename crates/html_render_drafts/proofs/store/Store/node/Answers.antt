@@ -1,5 +1,5 @@
 use Rattle.std.proofs.Common.{arith, ap, sym, ◌∙◌}
-use Rattle.html_render_dom.specs.Forest.{node, none}
+use Rattle.html_render_values.specs.Forest.{node, none}
 use Rattle.html_render_drafts.specs.Store.{below_first}
 use Rattle.html_render_drafts.proofs.Stores.{below-made, IsAt-made}
 use Rattle.html_render_drafts.proofs.store.Store.node.Goals as goal

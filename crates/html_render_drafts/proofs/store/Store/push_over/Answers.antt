@@ -1,5 +1,5 @@
 use Rattle.std.proofs.Common.{◌≡◌, ◌++◌, [], ◌∷◌, length, ap, arith}
-use Rattle.html_render_dom.specs.Forest.{node, none}
+use Rattle.html_render_values.specs.Forest.{node, none}
 use Rattle.html_render_drafts.specs.Store.{at, below_first, grown_by, AreBuilt}
 use Rattle.html_render_drafts.specs.laws.Store.{Becomes-push}
 use Rattle.html_render_drafts.proofs.Stores.{length-grown_by, below-made, PushedOver}

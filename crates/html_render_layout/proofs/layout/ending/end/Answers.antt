@@ -1,6 +1,6 @@
 use Rattle.std.proofs.Common.{◌≡◌, Some, map, sym, subst, OnOk, IfErr}
 use Rattle.std.specs.Prelude.{string_bytes}
-use Rattle.html_render_dom.specs.Outcome.{Refuses}
+use Rattle.html_render_values.specs.Outcome.{Refuses}
 use Rattle.html_render_blocks.specs.BlockMachine as machine
 use Rattle.html_render_layout.specs.Ending.{closing_texts}
 use Rattle.html_render_layout.proofs.Ending.{ended-by, new-ok, new-err}

@@ -2,7 +2,7 @@ use Rattle.std.proofs.Common.{◌≡◌, reverse, length, ap, sym, ◌∙◌, ar
 use Rattle.html_render_nodes.specs.Preorder.{flatten}
 use Rattle.html_render_nodes.specs.laws.Preorder.{IsForest}
 use Rattle.html_render_nodes.specs.Splits.{SplitAt}
-use Rattle.html_render_dom.specs.Forest.{node}
+use Rattle.html_render_values.specs.Forest.{node}
 use Rattle.html_render_nodes.proofs.Building.{SplitAt-le, enclosed}
 use Rattle.html_render_nodes.proofs.tree.Builder.enclose.Goals as goal
 use Rattle.html_render_nodes.proofs.tree.Builder.enclose.Given.{Over}

@@ -3,7 +3,8 @@ use Rattle.std.specs.String.{string_bytes}
 use Rattle.std.specs.Prelude.{encode_utf8}
 use Rattle.std.proofs.lemmas.Str.{IsUtf8-encode}
 use Rattle.html_render_lines.specs.TaggedText.{Content, under}
-use Rattle.html_render_lines.proofs.TaggedTexts.{all-longer, is-longer, chars-one}
+use Rattle.html_render_lines.proofs.TaggedTexts.{all-longer, is-longer}
+use Rattle.html_render_lines.specs.laws.Characters.{chars-one}
 use Rattle.html_render_lines.proofs.line.tagged_text.TaggedText.push_char_here.Goals as goal
 
 pub invariant_of-self-2 : goal.invariant_of-self-2

@@ -1,6 +1,6 @@
 use Rattle.std.proofs.Common.{drop}
 use Rattle.std.proofs.lemmas.Str.{IsCharBoundary-from_drop}
-use Rattle.html_render_lines.proofs.TaggedTexts.{IsUtf8-Cuts, run-end}
+use Rattle.html_render_lines.specs.laws.Runs.{IsUtf8-Cuts, run-end}
 use Rattle.html_render_lines.proofs.line.tagged_text.TaggedText.push_runs_as.Goals as goal
 
 pub range-requires-clause-start_boundary : goal.range-requires-clause-start_boundary

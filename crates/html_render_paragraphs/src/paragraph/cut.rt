@@ -1,0 +1,65 @@
+//! Texts that are cut into lines where a line is full, and nowhere else.
+
+ghost use Rattle.std.specs.Prelude.{◌≡◌, ◌++◌, Some, OnOk, IfErr, option_map};
+ghost use Rattle.std.specs.Str.{chars};
+ghost use Rattle.html_render_values.specs.Outcome.{Refuses};
+ghost use Rattle.html_render_paragraphs.specs.CutText.{kept_style, ended_lines, cut_lines};
+ghost use Rattle.html_render_paragraphs.specs.Paragraph.{put_items};
+ghost use Rattle.html_render_paragraphs.specs.Stream.{styled};
+
+use crate::paragraph::Paragraph;
+use html_render_lines::character::TextStyle;
+use html_render_lines::line::Line;
+use html_render_lines::tag::Tag;
+use html_render_values::Error;
+use html_render_values::white_space::WhiteSpace;
+use std::alloc::{AllocError, Global};
+
+/// The style of a text whose white space is kept, with one tag on all lines.
+fn kept_style<T: Copy>(tag: T) -> TextStyle<T>
+    ensures { result ≡ kept_style tag }
+{
+    TextStyle {
+        mode: WhiteSpace::Pre,
+        tag,
+        continuation_tag: tag,
+    }
+}
+
+impl<T: Tag, M: Copy> Paragraph<T, M> {
+    /// Moves all lines of the page behind the given ones, the open one too.
+    fn move_ended_lines(&mut self, lines: &mut Vec<Line<T, M>>) -> Result<(), AllocError>
+        ensures { OnOk result (lines.new.items ≡ lines.old.items ++ ended_lines self.old.page) }
+    {
+        self.break_line()?;
+        self.move_lines(lines)
+    }
+}
+
+/// Adds a text behind lines, as lines of `width` columns. It is cut where a line is full, and nowhere else: each of its
+/// characters is kept, white space and control characters too. An empty text is an empty line. A character that is wider
+/// than a line stands on one of its own with `overflow`.
+///
+/// # Errors
+///
+/// `OutOfMemory`, and with overflow off `TooNarrow` where a character is wider than a line. What the lines then hold isn't
+/// told.
+#[tactic(auto, using(html_render_values::specs::laws::Outcome::refusals))]
+pub fn push_cut_text<T: Tag, M: Copy>(
+    alloc: Global,
+    lines: &mut Vec<Line<T, M>>,
+    text: &str,
+    tag: T,
+    width: usize,
+    overflow: bool,
+) -> Result<(), Error>
+    ensures ok { OnOk result (option_map (λ cut. lines.old.items ++ cut)
+        (cut_lines (record { width = width; overflow = overflow }) tag (chars text.now)) ≡ Some lines.new.items) }
+    ensures err { IfErr result (λ e. Refuses e (cut_lines {M = M} (record { width = width; overflow = overflow }) tag (chars text.now))) }
+{
+    let mut paragraph: Paragraph<T, M> = Paragraph::new(alloc, width, overflow);
+    paragraph.make_room(text.len())?;
+    paragraph.put_characters(text, kept_style(tag))?;
+    paragraph.move_ended_lines(lines)?;
+    Ok(())
+}

@@ -1,0 +1,11 @@
+-- finite trees beside each other
+pub mod Forest
+-- the bytes of a text
+pub mod Texts
+-- how text is coloured, and how white space is treated
+pub mod Colours
+pub mod WhiteSpace
+-- what errors say
+pub mod Outcome
+-- what follows from the definitions
+pub mod laws
