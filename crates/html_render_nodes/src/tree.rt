@@ -84,6 +84,10 @@ pub struct Builder<N> {
 impl<N> Model for Builder<N> {
     ghost use Rattle.std.specs.Prelude.{◌≡◌, List, reverse};
     ghost use Rattle.std.specs.Coded.{codes, code_by, coded_list};
+    ghost use Rattle.html_render_values.specs.Forest.{Forest};
+    ghost use Rattle.html_render_nodes.specs.declared.tree.Entry.{Entry};
+    ghost use Rattle.html_render_nodes.specs.Preorder.{forest_of, flatten};
+    ghost use Rattle.html_render_nodes.specs.laws.Preorder.{forest_of-flatten};
 
     ghost Value = { Forest N };
 
@@ -497,7 +501,11 @@ pub struct RenderTree {
 impl Model for RenderTree {
     ghost use Rattle.std.specs.Prelude.{List};
     ghost use Rattle.std.specs.Coded.{codes, code_by, coded_list};
+    ghost use Rattle.html_render_values.specs.Forest.{Forest};
+    ghost use Rattle.html_render_nodes.specs.declared.tree.Entry.{Entry};
     ghost use Rattle.html_render_nodes.specs.declared.tree.RenderNode.{RenderNode};
+    ghost use Rattle.html_render_nodes.specs.Preorder.{forest_of, flatten};
+    ghost use Rattle.html_render_nodes.specs.laws.Preorder.{forest_of-flatten};
 
     ghost Value = { Forest RenderNode };
 

@@ -42,7 +42,7 @@ pub struct Cell<T, M> {
 }
 
 impl<T, M> Model for Cell<T, M> {
-    ghost use Rattle.html_render_pictures.specs.Picture.{KeptCell, TableRow};
+    ghost use Rattle.html_render_pictures.specs.Picture.{KeptCell};
 
     ghost Value = { KeptCell T M };
 
@@ -82,6 +82,8 @@ pub struct Row<T, M> {
 }
 
 impl<T, M> Model for Row<T, M> {
+    ghost use Rattle.html_render_pictures.specs.Picture.{TableRow};
+
     ghost Value = { TableRow T M };
 
     ghost view = { λ r. record { cells = r.cells.items; has_placeholder = r.has_placeholder } };
@@ -434,7 +436,7 @@ struct Border<M> {
 }
 
 impl<M> Model for Border<M> {
-    ghost use Rattle.html_render_pictures.specs.Drawing.{DueBorder, Drawing};
+    ghost use Rattle.html_render_pictures.specs.Drawing.{DueBorder};
 
     ghost Value = { DueBorder M };
 
@@ -489,6 +491,8 @@ pub struct Picture<T, M> {
 }
 
 impl<T, M> Model for Picture<T, M> {
+    ghost use Rattle.html_render_pictures.specs.Drawing.{Drawing};
+
     ghost Value = { Drawing T M };
 
     ghost view = { λ p. record { frame = p.frame; lines = p.lines; waiting = p.waiting.items; due = p.due } };
