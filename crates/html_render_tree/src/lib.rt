@@ -10,7 +10,21 @@ mod laws;
 mod texts;
 
 pub use html_render_dom::{Error, dom, style, text};
-pub use html_render_parts::{decorate, table, widths};
+pub use html_render_parts::decorate;
+
+/// The grid of a table.
+pub mod table {
+    pub use html_render_parts::table::{
+        CellKind, PlacedCell, Span, TableGrid, spans_are_valid, table_grid,
+    };
+}
+
+/// Column widths, cut fairly, and what a metered call counts.
+pub mod widths {
+    pub use html_render_parts::widths::{
+        ColumnCut, Meter, check_cut, column_widths, column_widths_metered, cut_fits,
+    };
+}
 
 /// Lines of tagged strings.
 pub mod block {
