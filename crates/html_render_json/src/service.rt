@@ -1,6 +1,7 @@
 //! The program as a function: a request a line becomes an answer a line.
 
-ghost use Rattle.std.specs.Prelude.{◌≤◌};
+ghost use Rattle.std.specs.Prelude.{◌≡◌, ◌≤◌};
+ghost use Rattle.html_render_json.specs.Service.{status_of};
 
 use crate::requests::answer;
 use html_render_tree::Error;
@@ -28,8 +29,7 @@ enum Fault {
 impl Fault {
     /// The program's exit status.
     fn status(&self) -> u8
-        ensures refused { 1 ≤ result }
-        ensures at_most { result ≤ 2 }
+        ensures { result ≡ status_of self.now }
     {
         match self {
             Fault::Refused(_) => 1,
@@ -121,8 +121,7 @@ pub fn run_without<F: Write>(error: &io::Error, faults: &mut F) -> u8
 
 /// Writes a line on what is wrong, and answers the exit status.
 fn report<F: Write>(fault: &Fault, faults: &mut F) -> u8
-    ensures refused { 1 ≤ result }
-    ensures at_most { result ≤ 2 }
+    ensures { result ≡ status_of fault.now }
 {
     let _ = writeln!(faults, "{fault}");
     fault.status()

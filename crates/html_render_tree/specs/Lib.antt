@@ -4,6 +4,8 @@ pub mod Decorations
 pub mod Rendering
 -- the render tree of a document
 pub mod RenderTree
+-- the exit status of the program
+pub mod Program
 -- laws of the definitions
 pub mod laws
 -- what the calls of the program's scripts make of a document

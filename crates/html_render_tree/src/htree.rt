@@ -3,7 +3,8 @@
 //! `run(alloc, words, &mut input, &mut output, &mut faults)` with the words `11`, `plain`, `overflow` and the
 //! input `<p` and `"Hello wide world` writes `Hello wide` and `world` to `output` and answers 0.
 
-ghost use Rattle.std.specs.Prelude.{◌≤◌};
+ghost use Rattle.std.specs.Prelude.{◌≡◌, ◌≤◌};
+ghost use Rattle.html_render_tree.specs.Program.{status_of};
 
 use crate::config::{Config, plain, plain_no_decorate, rich};
 use html_render_dom::Error;
@@ -34,8 +35,7 @@ enum Fault {
 impl Fault {
     /// The program's exit status.
     fn status(&self) -> u8
-        ensures refused { 1 ≤ result }
-        ensures at_most { result ≤ 2 }
+        ensures { result ≡ status_of self.now }
     {
         match self {
             Fault::Refused(_) => 1,
@@ -218,8 +218,7 @@ pub fn run_without_words<F: Write>(error: &io::Error, faults: &mut F) -> u8
 
 /// Writes a line on what is wrong, and answers the exit status.
 fn report<F: Write>(fault: &Fault, faults: &mut F) -> u8
-    ensures refused { 1 ≤ result }
-    ensures at_most { result ≤ 2 }
+    ensures { result ≡ status_of fault.now }
 {
     let _ = writeln!(faults, "{fault}");
     fault.status()
