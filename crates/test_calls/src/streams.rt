@@ -88,6 +88,22 @@ fn input_may_be_no_text(rt: HostRuntime) -> Result<(), Fail> {
 }
 
 #[test]
+fn good_lines_may_stand_before_what_is_no_text(rt: HostRuntime) -> Result<(), Fail> {
+    let alloc = rt.alloc();
+    let (mut output, mut faults) = (Vec::new(alloc), Vec::new(alloc));
+    let status = status_of(
+        alloc,
+        &mut b"<p\n\"a\n>\n\"b\xff".as_slice(),
+        &mut output,
+        &mut faults,
+    )?;
+    assert_eq!(rt; text(&output), "");
+    assert_eq!(rt; text(&faults), "htree: input\n");
+    assert_eq!(rt; status, 2);
+    Ok(())
+}
+
+#[test]
 fn input_may_fail(rt: HostRuntime) -> Result<(), Fail> {
     let alloc = rt.alloc();
     for bytes in [0, 3] {

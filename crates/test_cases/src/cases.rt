@@ -1,12 +1,15 @@
 //! Plays the cases of a file.
 
-use crate::calls::{call, is_call};
 use crate::configs::{is_preset, is_setting};
-use crate::faults::Fault;
-use crate::pages::Page;
 use crate::rendering::{self, Question, is_rendering};
-use crate::texts::split_word;
-use crate::{answers, programs, styles, tables};
+use crate::{decorators, programs};
+use case_calls::calls::is_call;
+use case_calls::faults::Fault;
+use case_calls::pages::Page;
+use case_calls::seen::seen;
+use case_calls::texts::split_word;
+use case_calls::watch::Watch;
+use case_calls::{answers, styles, tables};
 use html_render_tree::Error;
 use std::alloc::{AllocError, Global};
 use std::mem;
@@ -43,11 +46,16 @@ struct Case<'a> {
 /// Documents of more nodes aren't played at each width.
 const LARGE: usize = 5000;
 
+/// How often a watched call is made that is refused memory each time.
+const TRIES: usize = 1_000_000;
+
 /// What came of cases: how many there were, and what differs.
 #[derive(Drop)]
 pub struct Played {
     pub count: usize,
     pub differences: String,
+    /// Who is told of the calls.
+    watch: Watch,
 }
 
 /// The number of times that an answer's line stands for a text, and whether the text is a line of its own.
@@ -68,6 +76,9 @@ fn has_sign(line: &str) -> bool {
         Some(b'<' | b'>' | b'"' | b'\'' | b'@' | b'!' | b'?' | b'&')
     )
 }
+
+/// The answer that is wanted where a decorator or a colour map refuses.
+const REFUSED: &str = "OutOfMemory";
 
 impl Wanted {
     /// Nothing.
@@ -102,6 +113,7 @@ impl Wanted {
         }
         if line == "TooNarrow"
             || line == "Fail"
+            || line == REFUSED
             || line.starts_with('~')
             || line.starts_with("status ")
         {
@@ -145,12 +157,12 @@ impl<'a> Waiting<'a> {
 
 impl<'a> Case<'a> {
     /// A new document under plain text.
-    fn new(alloc: Global, title: &'a str) -> Result<Case<'a>, Fault> {
+    fn new(alloc: Global, title: &'a str, watch: Watch) -> Result<Case<'a>, Fault> {
         let mut calls = Vec::new(alloc);
         calls.push("plain")?;
         Ok(Case {
             title,
-            page: Page::new(alloc)?,
+            page: Page::new(alloc, watch)?,
             calls,
             waiting: None,
             is_rendered: false,
@@ -169,14 +181,14 @@ impl<'a> Case<'a> {
         if line.is_empty() {
             Ok(())
         } else if has_sign(line) || word == "repeat" {
-            self.page.take(alloc, line)
+            self.page.take(alloc, line, played.watch)
         } else if is_preset(word) {
             self.calls.clear();
             Ok(self.calls.push(line)?)
         } else if is_setting(word) {
             Ok(self.calls.push(line)?)
         } else if is_call(word) {
-            call(alloc, &mut self.page, word, given)
+            self.page.call(alloc, word, given, played.watch)
         } else {
             self.is_rendered = self.is_rendered || is_rendering(word);
             self.waiting = Some(Waiting::new(alloc, line));
@@ -184,22 +196,79 @@ impl<'a> Case<'a> {
         }
     }
 
-    /// What is answered to a question.
-    fn answer(&self, alloc: Global, question: &str, input: &str) -> Result<String, Fault> {
+    /// What is answered to a question, asked once.
+    fn answer_once(
+        &self,
+        alloc: Global,
+        question: &str,
+        input: &str,
+        watch: Watch,
+    ) -> Result<String, Fault> {
         let (asked, given) = split_word(question);
         if is_rendering(asked) {
-            let question = Question { asked, given };
+            let question = Question {
+                asked,
+                given,
+                watch,
+            };
             return rendering::answer(alloc, &self.calls, &self.page.dom, question);
         }
         match asked {
-            "computed_style" => styles::answer(alloc, &self.calls, given),
-            "table_grid" => tables::grid(alloc, given),
+            "computed_style" => styles::answer(alloc, &self.calls, given, watch),
+            "specificity" => styles::specificity(alloc, given, watch),
+            "for_element" => styles::for_element(alloc, given, watch),
+            "table_grid" => tables::grid(alloc, given, watch),
             "cut_fits" | "check_cut" | "column_widths" | "column_widths_metered" => {
-                tables::cut(alloc, asked, given)
+                tables::cut(alloc, asked, given, watch)
             }
+            "decorator" => decorators::answer(alloc, given, watch),
             "htree" => programs::answer(alloc, given, input),
-            _ => answers::answer(alloc, &self.page, asked, given),
+            _ => answers::answer(alloc, &self.page, asked, given, watch),
         }
+    }
+
+    /// What is answered to a question. A watched call that is refused memory is made again, and has to leave the document as
+    /// it was.
+    fn answer(
+        &self,
+        alloc: Global,
+        question: &str,
+        input: &str,
+        watch: Watch,
+    ) -> Result<String, Fault> {
+        if !watch.is_told() {
+            return self.answer_once(alloc, question, input, watch);
+        }
+        let before = seen(alloc, &self.page)?;
+        for _ in 0..TRIES {
+            match self.answer_once(alloc, question, input, watch) {
+                Err(Fault::Refused(Error::OutOfMemory)) => {}
+                answer => return answer,
+            }
+            if seen(alloc, &self.page)? != before {
+                return Err(Fault::Malformed("a refused call changed the document"));
+            }
+        }
+        Err(Fault::Refused(Error::OutOfMemory))
+    }
+
+    /// What is answered to a question, after the calls that come before it, if these are watched too.
+    fn answer_all(
+        &self,
+        alloc: Global,
+        question: &str,
+        input: &str,
+        watch: Watch,
+    ) -> Result<String, Fault> {
+        let (asked, _) = split_word(question);
+        if watch.is_told() && is_rendering(asked) {
+            let _config = self.answer(alloc, "preset", "", watch)?;
+            let _changed = self.answer(alloc, "settings", "", watch)?;
+            if asked != "dom_to_render_tree" {
+                let _tree = self.answer(alloc, "dom_to_render_tree", "", watch)?;
+            }
+        }
+        self.answer(alloc, question, input, watch)
     }
 
     /// Compares the answer to the question that waits with what is wanted.
@@ -208,10 +277,19 @@ impl<'a> Case<'a> {
             return Ok(());
         };
         let question = waiting.question;
-        let came = match self.answer(alloc, question, &waiting.input) {
+        let refuses = waiting.wanted.lines.as_str().trim_end() == REFUSED;
+        let watch = if refuses {
+            Watch::nobody()
+        } else {
+            played.watch
+        };
+        let came = match self.answer_all(alloc, question, &waiting.input, watch) {
             Ok(answer) => answer,
             Err(Fault::Refused(Error::TooNarrow)) => String::from_str(alloc, "TooNarrow\n")?,
             Err(Fault::Refused(Error::Fail)) => String::from_str(alloc, "Fail\n")?,
+            Err(Fault::Refused(Error::OutOfMemory)) if refuses => {
+                String::from_str(alloc, "OutOfMemory\n")?
+            }
             Err(fault) => return played.fail(question, &fault, self.title),
         };
         if came != waiting.wanted.lines {
@@ -220,14 +298,20 @@ impl<'a> Case<'a> {
         Ok(())
     }
 
-    /// Ends the case: a document that was rendered, and isn't large, is played at each width, without overflow and with it.
+    /// Ends the case: a document that was rendered, and isn't large, is played at each width, without overflow and with it,
+    /// if nobody is told of the calls.
     fn end(&mut self, alloc: Global, played: &mut Played) -> Result<(), AllocError> {
         self.settle(alloc, played)?;
-        if !self.is_rendered || self.page.dom.node_count() > LARGE {
+        if !self.is_rendered || played.watch.is_told() || self.page.dom.node_count() > LARGE {
             return Ok(());
         }
         self.calls.retain(|call| *call != "allow_width_overflow" && *call != "no_link_wrapping");
-        match rendering::answer(alloc, &self.calls, &self.page.dom, SWEEP) {
+        let question = Question {
+            asked: "sweep_shown",
+            given: "",
+            watch: Watch::nobody(),
+        };
+        match rendering::answer(alloc, &self.calls, &self.page.dom, question) {
             Ok(faults) if faults.is_empty() => Ok(()),
             Ok(faults) => played.differ("at each width", "", &faults, self.title),
             Err(Fault::Refused(Error::Fail)) => Ok(()),
@@ -235,12 +319,6 @@ impl<'a> Case<'a> {
         }
     }
 }
-
-/// The question that each document answers.
-const SWEEP: Question<'static> = Question {
-    asked: "sweep_shown",
-    given: "",
-};
 
 /// Puts as much of a text behind another as a person reads.
 fn push_front(text: &mut String, whole: &str) -> Result<(), AllocError> {
@@ -251,11 +329,12 @@ fn push_front(text: &mut String, whole: &str) -> Result<(), AllocError> {
 }
 
 impl Played {
-    /// No cases.
-    pub fn new(alloc: Global) -> Played {
+    /// No cases; somebody may be told of their calls.
+    pub fn new(alloc: Global, watch: Watch) -> Played {
         Played {
             count: 0,
             differences: String::new(alloc),
+            watch,
         }
     }
 
@@ -285,11 +364,11 @@ impl Played {
 
     /// Plays the cases of a text.
     pub fn play(&mut self, alloc: Global, text: &str) -> Result<(), Fault> {
-        let mut case = Case::new(alloc, "(before the first title)")?;
+        let mut case = Case::new(alloc, "(before the first title)", self.watch)?;
         for line in text.split('\n') {
             if let Some(title) = line.strip_prefix("# ") {
                 case.end(alloc, self)?;
-                case = Case::new(alloc, title)?;
+                case = Case::new(alloc, title, self.watch)?;
                 self.count = self.count.saturating_add(1);
             } else if let Err(fault) = case.take(alloc, line, self) {
                 self.fail(line, &fault, case.title)?;

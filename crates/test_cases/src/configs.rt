@@ -1,8 +1,8 @@
 //! Configurations by the names of their calls.
 
-use crate::faults::Fault;
-use crate::rules::rule;
-use crate::texts::{number, split_word, truth, unescaped};
+use case_calls::faults::Fault;
+use case_calls::rules::rule;
+use case_calls::texts::{number, split_word, truth, unescaped};
 use html_render_tree::config::ImageRenderMode;
 use html_render_tree::text::Text;
 use named_configs::calls::{DecoratorName, Preset, Setting};

@@ -1,5 +1,6 @@
 //! Plays the cases of the files that its words name, or else of all that lie where it runs: documents that calls build, and
-//! what calls answer of them.
+//! what calls answer of them. Behind the word `watched` it tells of each call before and behind it, and makes a call that is
+//! refused memory again, which has to leave all as it was.
 //!
 //! A file of `data/` holds the cases of one subject. A line `# TITLE` begins a case, with a new document and the
 //! configuration `plain`; then a call or a question stands on each line, and behind a question its answer. Empty lines do
@@ -26,32 +27,31 @@
 //!
 //! A question is a call by its name with what it is given: a width for `render_to_string`, `render_to_lines` (each string
 //! behind its annotations in braces, each name in angles), `render_coloured angles` (each string in angles, behind the number
-//! of its annotations) and `render_to_lines_metered`; `dom_to_render_tree`; the calls of `RcDom` that answer something;
-//! `computed_style TAG`; `table_grid` with the spans of rows (`3x1 2x2 / 1x1`, and `-` for a row without cells);
-//! `column_widths` with minimums, shares and the width (`3 3 / 9 4 / 10`), `column_widths_metered`, `cut_fits` and, with a cut
-//! behind these, `check_cut`; `htree` with words, and an input whose lines stand behind it, each behind `:`. `sweep` plays a
-//! document all of whose texts are laid out at the widths from 1 to 40; every other document is swept where its case ends.
+//! of its annotations) and `render_to_lines_metered`; `dom_to_render_tree`, and `try_clone` of what that answers; the calls of
+//! `RcDom` that answer something; `computed_style TAG`; `specificity` with a rule and `for_element` with a name; `decorator`
+//! with `plain` or `rich` and a call of it; `table_grid` with the spans of rows (`3x1 2x2 / 1x1`, and `-` for a row without
+//! cells); `column_widths` with minimums, shares and the width (`3 3 / 9 4 / 10`), `column_widths_metered`, `cut_fits` and,
+//! with a cut behind these, `check_cut`; `htree` with words, and an input whose lines stand behind it, each behind `:`. `sweep`
+//! plays a document all of whose texts are laid out at the widths from 1 to 40; every other document is swept where its case
+//! ends.
+//!
+//! `with_decorator refusing:CALL` is plain text but for one call of the decorator, which refuses memory, and
+//! `render_coloured refusing WIDTH TEXT` under a map that refuses this text.
 //!
 //! An answer's lines stand as they are printed, each behind `|`, and what the program says of faults behind `~`; a refusal is
-//! `TooNarrow` or `Fail`, and another status than 0 `status N`. `N|text` stands for a text so many times, and `N/text` for so
-//! many lines of it.
+//! `TooNarrow`, `Fail` or `OutOfMemory`, and another status than 0 `status N`. `N|text` stands for a text so many times, and
+//! `N/text` for so many lines of it.
 #![tactic(auto)]
 
-mod answers;
-mod calls;
 mod cases;
 mod configs;
-mod faults;
-mod pages;
+mod decorators;
 mod programs;
+mod refusing;
 mod rendering;
-mod rules;
-mod styles;
 mod sweeps;
-mod tables;
-mod tags;
-mod texts;
 
+use case_calls::watch::Watch;
 use cases::Played;
 use std::process::ExitCode;
 use std::rt::{Env, Files};
@@ -67,21 +67,16 @@ fn names_here<R: Files + AllocGlobal + Clone + Drop>(rt: &R) -> io::Result<Vec<S
     Ok(names)
 }
 
-/// The files that are to be played: those that the program's words name, or else all that lie where it runs.
-fn names<R: Files + Env + AllocGlobal + Clone + Drop>(rt: &R) -> io::Result<Vec<String>> {
+/// The program's words.
+fn words<R: Env + AllocGlobal + Clone + Drop>(rt: &R) -> io::Result<Vec<String>> {
     let mut words = env::args(rt)?;
     let _program = words.next();
-    let words: Vec<String> = words.collect(rt.alloc())?;
-    if words.is_empty() {
-        names_here(rt)
-    } else {
-        Ok(words)
-    }
+    Ok(words.collect(rt.alloc())?)
 }
 
 /// Plays the cases of files.
-fn played<R: Files + AllocGlobal>(rt: &R, names: &[String]) -> io::Result<Played> {
-    let mut played = Played::new(rt.alloc());
+fn played<R: Files + AllocGlobal>(rt: &R, names: &[String], watch: Watch) -> io::Result<Played> {
+    let mut played = Played::new(rt.alloc(), watch);
     for name in names {
         let text = fs::read_to_string(rt, name.as_str())?;
         if played.play(rt.alloc(), &text).is_err() {
@@ -91,9 +86,20 @@ fn played<R: Files + AllocGlobal>(rt: &R, names: &[String]) -> io::Result<Played
     Ok(played)
 }
 
+/// Plays the cases that the words ask for: files, behind `watched` where the calls are to be told.
+fn asked(rt: &HostRuntime, words: &[String]) -> io::Result<Played> {
+    match words {
+        [] => played(rt, &names_here(rt)?, Watch::nobody()),
+        [first, names @ ..] if first.as_str() == "watched" => {
+            played(rt, names, Watch::lines(rt.stdout()))
+        }
+        names => played(rt, names, Watch::nobody()),
+    }
+}
+
 /// Status 0 if there are cases and none differs, and else 1, with what differs on standard error.
 fn main(rt: HostRuntime) -> io::Result<ExitCode> {
-    let played = played(&rt, &names(&rt)?)?;
+    let played = asked(&rt, &words(&rt)?)?;
     if played.count == 0 {
         eprintln!(rt; "there are no cases")?;
         return Ok(ExitCode::FAILURE);

@@ -1,7 +1,7 @@
 //! Questions for what the program `htree` does with an input.
 
-use crate::faults::Fault;
-use crate::texts::push_lines;
+use case_calls::faults::Fault;
+use case_calls::texts::push_lines;
 use html_render_tree::htree::run;
 use std::alloc::Global;
 

@@ -3,58 +3,37 @@
 ghost use Rattle.std.specs.Prelude.{◌≡◌, IfErr};
 
 use crate::configs::{preset, settings};
-use crate::faults::Fault;
+use crate::decorators::Shown;
+use crate::refusing::Refusing;
 use crate::sweeps::{Kept, sweep};
-use crate::texts::{number, printed};
+use case_calls::faults::Fault;
+use case_calls::texts::{number, printed, split_word};
+use case_calls::watch::Watch;
 use html_render_tree::Error;
 use html_render_tree::block::{TaggedLine, TaggedLineElement};
 use html_render_tree::config::{Config, plain, plain_no_decorate, rich, with_decorator};
-use html_render_tree::decorate::{PlainDecorator, RichAnnotation, RichDecorator, TextDecorator};
+use html_render_tree::decorate::{PlainDecorator, RichDecorator, TextDecorator};
 use html_render_tree::dom::RcDom;
+use html_render_tree::tree::RenderTree;
 use html_render_tree::widths::Meter;
 use named_configs::calls::{DecoratorName, Preset, Setting, with_settings};
 use std::alloc::{AllocError, Global};
 
-/// Whether a word is the name of a question that a configuration answers.
+/// Whether a word is the name of a question that a configuration answers. `preset` and `settings` ask nothing: by these the
+/// calls are watched that make the configuration and that change it.
 pub fn is_rendering(word: &str) -> bool {
     matches!(
         word,
-        "dom_to_render_tree"
+        "preset"
+            | "settings"
+            | "dom_to_render_tree"
             | "render_to_string"
             | "render_to_lines"
             | "render_to_lines_metered"
             | "render_coloured"
+            | "try_clone"
             | "sweep"
     )
-}
-
-/// An annotation that a case can show.
-pub trait Shown: Drop {
-    /// Puts its name and what it holds behind a text.
-    fn push_to(&self, shown: &mut String) -> Result<(), AllocError>;
-}
-
-impl Shown for () {
-    fn push_to(&self, shown: &mut String) -> Result<(), AllocError> {
-        shown.push_str("()")
-    }
-}
-
-impl Shown for RichAnnotation {
-    fn push_to(&self, shown: &mut String) -> Result<(), AllocError> {
-        match self {
-            RichAnnotation::Default => shown.push_str("Default"),
-            RichAnnotation::Link(target) => write!(shown, "Link({})", target.as_str()),
-            RichAnnotation::Image(source) => write!(shown, "Image({})", source.as_str()),
-            RichAnnotation::Emphasis => shown.push_str("Emphasis"),
-            RichAnnotation::Strong => shown.push_str("Strong"),
-            RichAnnotation::Strikeout => shown.push_str("Strikeout"),
-            RichAnnotation::Code => shown.push_str("Code"),
-            RichAnnotation::Preformat(continues) => write!(shown, "Preformat({continues})"),
-            RichAnnotation::Colour(colour) => write!(shown, "Colour({colour})"),
-            RichAnnotation::BgColour(colour) => write!(shown, "BgColour({colour})"),
-        }
-    }
 }
 
 /// What is asked of a document: the call and what is given to it.
@@ -64,6 +43,8 @@ pub struct Question<'a> {
     pub asked: &'a str,
     /// What is given to it.
     pub given: &'a str,
+    /// Who is told of the call.
+    pub watch: Watch,
 }
 
 /// What a document answers under the calls of a configuration, of which the first one makes it.
@@ -77,8 +58,21 @@ pub fn answer(
         return Err(Fault::Malformed("no call makes a configuration"));
     };
     let settings = settings(alloc, others)?;
+    if let Some(name) = first.strip_prefix("with_decorator refusing:") {
+        let Some(refusing) = Refusing::of(name) else {
+            return Err(Fault::Malformed("no function of a decorator has this name"));
+        };
+        let config = with_decorator(alloc, refusing);
+        return answer_under(alloc, config, settings, dom, question);
+    }
     match preset(first)? {
-        Preset::Plain => answer_under(alloc, plain(alloc)?, settings, dom, question),
+        Preset::Plain => {
+            let watch = question.watch.only_if(question.asked == "preset");
+            watch.begin("plain")?;
+            let came = plain(alloc);
+            watch.end(&came)?;
+            answer_under(alloc, came?, settings, dom, question)
+        }
         Preset::PlainNoDecorate => {
             answer_under(alloc, plain_no_decorate(alloc), settings, dom, question)
         }
@@ -121,49 +115,77 @@ fn answer_under<D: TextDecorator>(
 where
     D::Annotation: Shown,
 {
-    let config = with_settings(alloc, config, settings)?;
+    let watch = question.watch.only_if(question.asked == "settings");
+    watch.begin("with_settings")?;
+    let came = with_settings(alloc, config, settings);
+    watch.end(&came)?;
+    let config = came?;
     match question.asked {
+        "preset" | "settings" => Ok(String::new(alloc)),
         "sweep" => sweep(alloc, config, dom, Kept::Texts),
         "sweep_shown" => sweep(alloc, config, dom, Kept::Shown),
-        _ => answer_of(alloc, &config, dom, question),
+        "dom_to_render_tree" => {
+            question.watch.begin("dom_to_render_tree")?;
+            let came = config.dom_to_render_tree(alloc, dom);
+            question.watch.end(&came)?;
+            printed(alloc, &came?.to_string(alloc)?)
+        }
+        _ => {
+            let tree = config.dom_to_render_tree(alloc, dom)?;
+            answer_of(alloc, &config, tree, question)
+        }
     }
 }
 
-/// What a document answers under a configuration.
+/// What a render tree answers under a configuration.
 fn answer_of<D: TextDecorator>(
     alloc: Global,
     config: &Config<D>,
-    dom: &RcDom,
+    tree: RenderTree,
     question: Question<'_>,
 ) -> Result<String, Fault>
 where
     D::Annotation: Shown,
 {
-    let given = question.given;
+    let (given, watch) = (question.given, question.watch);
     match question.asked {
-        "dom_to_render_tree" => tree(alloc, config, dom),
-        "render_to_string" => text(alloc, config, dom, number(given)?),
-        "render_to_lines" => lines(alloc, config, dom, number(given)?),
-        "render_to_lines_metered" => metered(alloc, config, dom, number(given)?),
-        _ => coloured(alloc, config, dom, given),
+        "try_clone" => copy(alloc, tree, watch),
+        "render_to_string" => text(alloc, config, tree, number(given)?, watch),
+        "render_to_lines" => lines(alloc, config, tree, number(given)?, watch),
+        "render_to_lines_metered" => metered(alloc, config, tree, number(given)?, watch),
+        _ => coloured(alloc, config, tree, given, watch),
     }
 }
 
-/// What the render tree of a document is displayed as.
-fn tree<D: TextDecorator>(alloc: Global, config: &Config<D>, dom: &RcDom) -> Result<String, Fault> {
-    let tree = config.dom_to_render_tree(alloc, dom)?;
-    printed(alloc, &tree.to_string(alloc)?)
+/// What a copy of a render tree is displayed as, once the tree itself is dropped.
+fn copy(alloc: Global, tree: RenderTree, watch: Watch) -> Result<String, Fault> {
+    watch.begin("try_clone")?;
+    let came = tree.try_clone(alloc);
+    watch.end(&came)?;
+    let copy = came?;
+    watch.begin("drop")?;
+    drop(tree);
+    watch.end(&Ok(()))?;
+    printed(alloc, &copy.to_string(alloc)?)
 }
 
-/// The text of a document.
+/// The call's name, which tells width 0 apart, where it takes no memory.
+fn at_width(call: &'static str, at_none: &'static str, width: usize) -> &'static str {
+    if width == 0 { at_none } else { call }
+}
+
+/// The text of a render tree.
 fn text<D: TextDecorator>(
     alloc: Global,
     config: &Config<D>,
-    dom: &RcDom,
+    tree: RenderTree,
     width: usize,
+    watch: Watch,
 ) -> Result<String, Fault> {
-    let tree = config.dom_to_render_tree(alloc, dom)?;
-    printed(alloc, &config.render_to_string(alloc, tree, width)?)
+    watch.begin(at_width("render_to_string", "render_to_string 0", width))?;
+    let came = config.render_to_string(alloc, tree, width);
+    watch.end(&came)?;
+    printed(alloc, &came?)
 }
 
 /// Puts a line behind a text: each string behind its annotations, and each name in angles.
@@ -193,19 +215,22 @@ fn push_annotations<A: Shown>(shown: &mut String, annotations: &[A]) -> Result<(
     shown.push('}')
 }
 
-/// The tagged lines of a document.
+/// The tagged lines of a render tree.
 fn lines<D: TextDecorator>(
     alloc: Global,
     config: &Config<D>,
-    dom: &RcDom,
+    tree: RenderTree,
     width: usize,
+    watch: Watch,
 ) -> Result<String, Fault>
 where
     D::Annotation: Shown,
 {
-    let tree = config.dom_to_render_tree(alloc, dom)?;
+    watch.begin(at_width("render_to_lines", "render_to_lines 0", width))?;
+    let came = config.render_to_lines(alloc, tree, width);
+    watch.end(&came)?;
     let mut shown = String::new(alloc);
-    for line in &config.render_to_lines(alloc, tree, width)? {
+    for line in &came? {
         push_line(&mut shown, line)?;
     }
     Ok(shown)
@@ -215,41 +240,60 @@ where
 fn metered<D: TextDecorator>(
     alloc: Global,
     config: &Config<D>,
-    dom: &RcDom,
+    tree: RenderTree,
     width: usize,
+    watch: Watch,
 ) -> Result<String, Fault> {
-    let tree = config.dom_to_render_tree(alloc, dom)?;
     let mut meter = Meter::default();
-    let _lines = config.render_to_lines_metered(alloc, tree, width, &mut meter)?;
+    watch.begin(at_width(
+        "render_to_lines_metered",
+        "render_to_lines_metered 0",
+        width,
+    ))?;
+    let came = config.render_to_lines_metered(alloc, tree, width, &mut meter);
+    watch.end(&came)?;
+    let _lines = came?;
     let (entered, left, frames) = (meter.entered, meter.left, meter.frames);
     Ok(format!(in alloc; "|entered {entered}, left {left}, frames {frames}\n")?)
 }
 
-/// `<n:text>` for a text under n annotations.
-fn in_angles<A>(alloc: Global, annotations: &[A], text: &str) -> Result<String, Error>
+/// `<n:text>` for a text under n annotations, or a refusal for one text.
+fn in_angles<A>(
+    alloc: Global,
+    annotations: &[A],
+    text: &str,
+    refused: &str,
+) -> Result<String, Error>
     ensures err { IfErr result (λ e. e ≡ Error.OutOfMemory) }
 {
+    if text == refused {
+        return Err(Error::OutOfMemory);
+    }
     let count = annotations.len();
     Ok(format!(in alloc; "<{count}:{text}>")?)
 }
 
-/// The text of a document under the map of a name.
+/// The text of a render tree under the map of a name: `angles WIDTH`, or `refusing WIDTH TEXT`, which refuses that text.
 fn coloured<D: TextDecorator>(
     alloc: Global,
     config: &Config<D>,
-    dom: &RcDom,
+    tree: RenderTree,
     given: &str,
+    watch: Watch,
 ) -> Result<String, Fault> {
-    let Some(width) = given.strip_prefix("angles ") else {
+    let (map, given) = split_word(given);
+    let (width, refused) = split_word(given);
+    if map != "angles" && map != "refusing" {
         return Err(Fault::Malformed("no map has this name"));
-    };
+    }
     let width = number(width)?;
-    let tree = config.dom_to_render_tree(alloc, dom)?;
-    let text = config.render_coloured(
+    watch.begin(at_width("render_coloured", "render_coloured 0", width))?;
+    let came = config.render_coloured(
         alloc,
         tree,
         width,
-        |annotations: &[D::Annotation], text: &str| in_angles(alloc, annotations, text),
-    )?;
-    printed(alloc, &text)
+        |annotations: &[D::Annotation], text: &str| in_angles(alloc, annotations, text, refused),
+    );
+    watch.end(&came)?;
+    printed(alloc, &came?)
 }

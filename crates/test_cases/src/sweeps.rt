@@ -1,6 +1,8 @@
 //! A document at each width from 1 to 40, with overflow and without.
 
-use crate::faults::Fault;
+ghost use Rattle.std.specs.Prelude.{◌≡◌, IfErr};
+
+use case_calls::faults::Fault;
 use html_render_tree::Error;
 use html_render_tree::config::Config;
 use html_render_tree::decorate::TextDecorator;
@@ -110,8 +112,31 @@ fn text_of_lines<D: TextDecorator>(
     Ok(text)
 }
 
+/// A copy of a text.
+fn same(alloc: Global, text: &str) -> Result<String, Error>
+    ensures err { IfErr result (λ e. e ≡ Error.OutOfMemory) }
+{
+    Ok(String::from_str(alloc, text)?)
+}
+
+/// The text of a tree under a map that changes nothing.
+fn coloured_text<D: TextDecorator>(
+    alloc: Global,
+    config: &Config<D>,
+    tree: &RenderTree,
+    width: usize,
+) -> Result<String, Error> {
+    let tree = tree.try_clone(alloc)?;
+    config.render_coloured(
+        alloc,
+        tree,
+        width,
+        |_annotations: &[D::Annotation], text: &str| same(alloc, text),
+    )
+}
+
 /// What is wrong with a document's text at a width, if something is: without overflow it keeps to the width, and is that
-/// with overflow, where there is one, which shows all that can be seen; tagged lines say the same.
+/// with overflow, where there is one, which shows all that can be seen; tagged lines and coloured text say the same.
 fn fault_at<D: TextDecorator>(
     alloc: Global,
     wide: &Config<D>,
@@ -137,6 +162,9 @@ fn fault_at<D: TextDecorator>(
     let mut meter = Meter::default();
     if text_of_lines(alloc, wide, tree, width, &mut meter)? != text {
         return Ok(Some("tagged lines say something else"));
+    }
+    if coloured_text(alloc, wide, tree, width)? != text {
+        return Ok(Some("coloured text says something else"));
     }
     if meter.entered != meter.left || meter.entered < meter.frames {
         return Ok(Some("the nodes are miscounted"));

@@ -2,7 +2,7 @@
 
 use crate::faults::Fault;
 use crate::texts::{split_word, unescaped};
-use html_render_tree::style::{
+use html_render_dom::style::{
     Colour, Declaration, Display, PseudoElement, Style, StyleOrigin, StyleRule, WhiteSpace,
 };
 use std::alloc::{AllocError, Global};
@@ -75,7 +75,7 @@ impl Selector {
 }
 
 /// The colour of `#rrggbb`.
-fn colour(text: &str) -> Result<Colour, Fault> {
+pub fn colour(text: &str) -> Result<Colour, Fault> {
     let fault = Fault::Malformed("there is no colour");
     let Some(digits) = text.strip_prefix('#') else {
         return Err(fault);

@@ -6,28 +6,45 @@ use crate::faults::Fault;
 use crate::pages::{Page, UNKNOWN};
 use crate::tags::{push_data, push_label};
 use crate::texts::{number, numbers, printed, split_word};
-use html_render_tree::dom::{Handle, QuirksMode, RcDom};
+use crate::watch::Watch;
+use html_render_dom::dom::{Handle, QuirksMode, RcDom};
 use std::alloc::Global;
 
 /// What a document answers to a question: the name of a call, and what is given to it.
-pub fn answer(alloc: Global, page: &Page, asked: &str, given: &str) -> Result<String, Fault> {
+pub fn answer(
+    alloc: Global,
+    page: &Page,
+    asked: &str,
+    given: &str,
+    watch: Watch,
+) -> Result<String, Fault> {
     match asked {
-        "as_dom_string" => printed(alloc, &page.dom.as_dom_string(alloc)?),
-        "errors" => errors(alloc, &page.dom),
-        "quirks_mode" => printed(alloc, quirks_mode_name(page.dom.quirks_mode())),
+        "as_dom_string" => {
+            watch.begin(asked)?;
+            let came = page.dom.as_dom_string(alloc);
+            watch.end(&came)?;
+            printed(alloc, &came?)
+        }
+        "errors" => errors(alloc, &page.dom, watch),
+        "quirks_mode" => {
+            watch.begin(asked)?;
+            let mode = page.dom.quirks_mode();
+            watch.end(&Ok(()))?;
+            printed(alloc, quirks_mode_name(mode))
+        }
         "get_node_by_path" => {
             let path = numbers(alloc, given)?;
-            printed(
-                alloc,
-                name_in(page, page.dom.get_node_by_path(path.as_slice())),
-            )
+            watch.begin(asked)?;
+            let found = page.dom.get_node_by_path(path.as_slice());
+            watch.end(&Ok(()))?;
+            printed(alloc, name_in(page, found))
         }
         _ => {
             let (name, more) = split_word(given);
             let Some(node) = page.find(name) else {
                 return Err(UNKNOWN);
             };
-            node_answer(alloc, page, asked, node, more)
+            node_answer(alloc, page, asked, node, more, watch)
         }
     }
 }
@@ -39,25 +56,44 @@ fn node_answer(
     asked: &str,
     node: Handle,
     more: &str,
+    watch: Watch,
 ) -> Result<String, Fault>
     requires { IsNode page.now.dom node }
 {
     let dom = &page.dom;
     match asked {
-        "node_as_dom_string" => printed(alloc, &dom.node_as_dom_string(alloc, node)?),
-        "children" => children(alloc, dom, node),
-        "data" => data(alloc, dom, node),
-        "element_name" => element_name(alloc, dom, node),
-        "get_parent" => printed(alloc, name_in(page, dom.get_parent(node))),
-        "nth_child" => printed(alloc, name_in(page, dom.nth_child(node, number(more)?))),
+        "node_as_dom_string" => {
+            watch.begin(asked)?;
+            let came = dom.node_as_dom_string(alloc, node);
+            watch.end(&came)?;
+            printed(alloc, &came?)
+        }
+        "children" => children(alloc, dom, node, watch),
+        "data" => data(alloc, dom, node, watch),
+        "element_name" => element_name(alloc, dom, node, watch),
+        "get_parent" => {
+            watch.begin(asked)?;
+            let found = dom.get_parent(node);
+            watch.end(&Ok(()))?;
+            printed(alloc, name_in(page, found))
+        }
+        "nth_child" => {
+            let index = number(more)?;
+            watch.begin(asked)?;
+            let found = dom.nth_child(node, index);
+            watch.end(&Ok(()))?;
+            printed(alloc, name_in(page, found))
+        }
         _ => {
+            watch.begin(asked)?;
             let holds = holds(page, asked, node, more)?;
+            watch.end(&Ok(()))?;
             printed(alloc, if holds { "true" } else { "false" })
         }
     }
 }
 
-/// Whether something holds of a node, or of it and another.
+/// Whether something holds of a node, or of it and another. It takes no memory.
 fn holds(page: &Page, asked: &str, node: Handle, more: &str) -> Result<bool, Fault> {
     let dom = &page.dom;
     match asked {
@@ -86,11 +122,14 @@ fn name_in(page: &Page, node: Option<Handle>) -> &str {
 }
 
 /// A line for each child: what it holds.
-fn children(alloc: Global, dom: &RcDom, node: Handle) -> Result<String, Fault>
+fn children(alloc: Global, dom: &RcDom, node: Handle, watch: Watch) -> Result<String, Fault>
     requires { IsNode dom.now node }
 {
+    watch.begin("children")?;
+    let came = dom.children(alloc, node);
+    watch.end(&came)?;
     let mut shown = String::new(alloc);
-    for child in &dom.children(alloc, node)? {
+    for child in &came? {
         if dom.is_node(*child) {
             shown.push('|')?;
             push_label(&mut shown, dom.data(*child))?;
@@ -101,19 +140,25 @@ fn children(alloc: Global, dom: &RcDom, node: Handle) -> Result<String, Fault>
 }
 
 /// What a node holds.
-fn data(alloc: Global, dom: &RcDom, node: Handle) -> Result<String, Fault>
+fn data(alloc: Global, dom: &RcDom, node: Handle, watch: Watch) -> Result<String, Fault>
     requires { IsNode dom.now node }
 {
     let mut shown = String::new(alloc);
-    push_data(&mut shown, dom.data(node))?;
+    watch.begin("data")?;
+    let data = dom.data(node);
+    watch.end(&Ok(()))?;
+    push_data(&mut shown, data)?;
     printed(alloc, &shown)
 }
 
 /// The element's name, by both calls that answer it.
-fn element_name(alloc: Global, dom: &RcDom, node: Handle) -> Result<String, Fault>
+fn element_name(alloc: Global, dom: &RcDom, node: Handle, watch: Watch) -> Result<String, Fault>
     requires { IsNode dom.now node }
 {
-    match dom.element_name(alloc, node)? {
+    watch.begin("element_name")?;
+    let came = dom.element_name(alloc, node);
+    watch.end(&came)?;
+    match came? {
         Some(name) if dom.is_element(node) && dom.elem_name(node).local == name => printed(
             alloc, &name,
         ),
@@ -123,9 +168,12 @@ fn element_name(alloc: Global, dom: &RcDom, node: Handle) -> Result<String, Faul
 }
 
 /// The parser's messages.
-fn errors(alloc: Global, dom: &RcDom) -> Result<String, Fault> {
+fn errors(alloc: Global, dom: &RcDom, watch: Watch) -> Result<String, Fault> {
     let mut shown = String::new(alloc);
-    for message in dom.errors() {
+    watch.begin("errors")?;
+    let messages = dom.errors();
+    watch.end(&Ok(()))?;
+    for message in messages {
         write!(shown, "|{message}\n")?;
     }
     Ok(shown)

@@ -2,8 +2,9 @@
 
 use crate::faults::Fault;
 use crate::texts::{number, numbers, printed};
-use html_render_tree::table::{CellKind, PlacedCell, Span, spans_are_valid, table_grid};
-use html_render_tree::widths::{
+use crate::watch::Watch;
+use html_render_parts::table::{CellKind, PlacedCell, Span, spans_are_valid, table_grid};
+use html_render_parts::widths::{
     ColumnCut, Meter, check_cut, column_widths, column_widths_metered, cut_fits,
 };
 use std::alloc::{AllocError, Global};
@@ -55,7 +56,7 @@ fn push_row(shown: &mut String, row: &[PlacedCell]) -> Result<(), AllocError> {
 }
 
 /// The grid of rows with `/` between them: its edges, and a line for each row.
-pub fn grid(alloc: Global, given: &str) -> Result<String, Fault> {
+pub fn grid(alloc: Global, given: &str, watch: Watch) -> Result<String, Fault> {
     let mut rows = Vec::new(alloc);
     if !given.is_empty() {
         for text in given.split('/') {
@@ -65,7 +66,10 @@ pub fn grid(alloc: Global, given: &str) -> Result<String, Fault> {
     if !spans_are_valid(rows.as_slice()) {
         return Err(Fault::Malformed("a span is 0"));
     }
-    let grid = table_grid(alloc, rows.as_slice())?;
+    watch.begin("table_grid")?;
+    let came = table_grid(alloc, rows.as_slice());
+    watch.end(&came)?;
+    let grid = came?;
     let mut shown = String::from_str(alloc, "|edges")?;
     for edge in &grid.edges {
         write!(shown, " {edge}")?;
@@ -94,7 +98,7 @@ fn next<'a>(fields: &mut std::str::Split<'a, char>) -> Result<&'a str, Fault> {
 }
 
 /// What is answered of columns: the minimums, the shares and the width, with `/` between them, and behind these a cut.
-pub fn cut(alloc: Global, asked: &str, given: &str) -> Result<String, Fault> {
+pub fn cut(alloc: Global, asked: &str, given: &str, watch: Watch) -> Result<String, Fault> {
     let mut fields = given.split('/');
     let columns = Columns {
         minimums: numbers(alloc, next(&mut fields)?)?,
@@ -102,22 +106,24 @@ pub fn cut(alloc: Global, asked: &str, given: &str) -> Result<String, Fault> {
         width: number(next(&mut fields)?)?,
     };
     match asked {
-        "cut_fits" => printed_truth(
-            alloc,
-            cut_fits(&columns.minimums, &columns.shares, columns.width),
-        ),
+        "cut_fits" => {
+            watch.begin(asked)?;
+            let fits = cut_fits(&columns.minimums, &columns.shares, columns.width);
+            watch.end(&Ok(()))?;
+            printed_truth(alloc, fits)
+        }
         "check_cut" => {
             let cut = ColumnCut {
                 widths: numbers(alloc, next(&mut fields)?)?,
                 level: number(next(&mut fields)?)?,
                 lowered: number(next(&mut fields)?)?,
             };
-            printed_truth(
-                alloc,
-                check_cut(&columns.minimums, &columns.shares, columns.width, &cut),
-            )
+            watch.begin(asked)?;
+            let is_it = check_cut(&columns.minimums, &columns.shares, columns.width, &cut);
+            watch.end(&Ok(()))?;
+            printed_truth(alloc, is_it)
         }
-        _ => widths(alloc, &columns, asked == "column_widths_metered"),
+        _ => widths(alloc, &columns, asked == "column_widths_metered", watch),
     }
 }
 
@@ -127,14 +133,30 @@ fn printed_truth(alloc: Global, holds: bool) -> Result<String, Fault> {
 }
 
 /// The cut of columns, by both calls, and how many sums the search took, if that is asked.
-fn widths(alloc: Global, columns: &Columns, is_metered: bool) -> Result<String, Fault> {
+fn widths(
+    alloc: Global,
+    columns: &Columns,
+    is_metered: bool,
+    watch: Watch,
+) -> Result<String, Fault> {
     let (minimums, shares, width) = (&columns.minimums, &columns.shares, columns.width);
     if !cut_fits(minimums, shares, width) {
         return Err(Fault::Malformed("the columns don't fit"));
     }
+    let (metered_watch, plain_watch) = if is_metered {
+        (watch, Watch::nobody())
+    } else {
+        (Watch::nobody(), watch)
+    };
     let mut meter = Meter::default();
-    let cut = column_widths_metered(alloc, minimums, shares, width, &mut meter)?;
-    if cut != column_widths(alloc, minimums, shares, width)? {
+    metered_watch.begin("column_widths_metered")?;
+    let came = column_widths_metered(alloc, minimums, shares, width, &mut meter);
+    metered_watch.end(&came)?;
+    let cut = came?;
+    plain_watch.begin("column_widths")?;
+    let came = column_widths(alloc, minimums, shares, width);
+    plain_watch.end(&came)?;
+    if cut != came? {
         return Err(Fault::Malformed("two calls answer two cuts"));
     }
     if !check_cut(minimums, shares, width, &cut) {

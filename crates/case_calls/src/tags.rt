@@ -2,7 +2,7 @@
 
 use crate::faults::Fault;
 use crate::texts::{push_escaped, unescaped};
-use html_render_tree::dom::{Attribute, Namespace, NodeData, QualName};
+use html_render_dom::dom::{Attribute, Namespace, NodeData, QualName};
 use std::alloc::{AllocError, Global};
 
 /// An element's name and its attributes.

@@ -1,6 +1,6 @@
 //! Why a line of a case can't be played.
 
-use html_render_tree::Error;
+use html_render_dom::Error;
 use std::alloc::{AllocError, AllocFailed};
 use thiserror::Error;
 

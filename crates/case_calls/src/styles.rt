@@ -1,14 +1,17 @@
-//! Questions for the computed style of an element.
+//! Questions for the computed style of an element, and for what a rule counts.
 
 use crate::faults::Fault;
 use crate::rules::rule;
 use crate::tags::Tag;
 use crate::texts::push_escaped;
-use html_render_tree::style::{ComputedStyle, Display, WhiteSpace, WithSpec, computed_style};
+use crate::watch::Watch;
+use html_render_dom::style::{
+    ComputedStyle, Display, StyleOrigin, StyleRule, WhiteSpace, WithSpec, computed_style,
+};
 use std::alloc::{AllocError, Global};
 
 /// The style of an element under the rules of a configuration: a line for each property that has a value.
-pub fn answer(alloc: Global, calls: &[&str], given: &str) -> Result<String, Fault> {
+pub fn answer(alloc: Global, calls: &[&str], given: &str, watch: Watch) -> Result<String, Fault> {
     let mut rules = Vec::new(alloc);
     for call in calls {
         if let Some(text) = call.strip_prefix("add_style_rule ") {
@@ -16,10 +19,36 @@ pub fn answer(alloc: Global, calls: &[&str], given: &str) -> Result<String, Faul
         }
     }
     let tag = Tag::read(alloc, given)?;
-    let style = computed_style(alloc, rules.as_slice(), &tag.name.local, &tag.attributes)?;
+    watch.begin("computed_style")?;
+    let came = computed_style(alloc, rules.as_slice(), &tag.name.local, &tag.attributes);
+    watch.end(&came)?;
     let mut shown = String::new(alloc);
-    push_style(&mut shown, &style)?;
+    push_style(&mut shown, &came?)?;
     Ok(shown)
+}
+
+/// How specific a rule is: its id, its classes, and its element's name with its pseudo-element.
+pub fn specificity(alloc: Global, given: &str, watch: Watch) -> Result<String, Fault> {
+    let rule = rule(alloc, given)?;
+    shown_specificity(alloc, &rule, watch)
+}
+
+/// How specific a rule for an element's name is.
+pub fn for_element(alloc: Global, name: &str, watch: Watch) -> Result<String, Fault> {
+    let name = String::from_str(alloc, name)?;
+    watch.begin("for_element")?;
+    let rule = StyleRule::for_element(alloc, StyleOrigin::Author, name, None, Vec::new(alloc));
+    watch.end(&Ok(()))?;
+    shown_specificity(alloc, &rule, watch)
+}
+
+/// How specific a rule is.
+fn shown_specificity(alloc: Global, rule: &StyleRule, watch: Watch) -> Result<String, Fault> {
+    watch.begin("specificity")?;
+    let specificity = rule.specificity();
+    watch.end(&Ok(()))?;
+    let (id, class, typ) = (specificity.id, specificity.class, specificity.typ);
+    Ok(format!(in alloc; "|id {id}, class {class}, typ {typ}\n")?)
 }
 
 /// Puts a line for each property that has a value behind a text.

@@ -1,0 +1,379 @@
+//! Calls on a document by their names.
+
+ghost use Rattle.std.specs.Prelude.{IsTrue};
+ghost use Rattle.html_render_dom.specs.Dom.{IsNode};
+ghost use Rattle.html_render_dom.specs.Edits.{CanAppend};
+
+use crate::faults::Fault;
+use crate::pages::{Page, UNKNOWN};
+use crate::tags::{Tag, attributes};
+use crate::texts::{split_word, unescaped};
+use crate::watch::Watch;
+use html_render_dom::dom::{ElementFlags, Handle, NodeOrText, QuirksMode, RcDom};
+use std::alloc::Global;
+
+/// Whether a word is the name of a call.
+pub fn is_call(word: &str) -> bool {
+    matches!(
+        word,
+        "create_element"
+            | "create_comment"
+            | "create_pi"
+            | "get_template_contents"
+            | "append"
+            | "append_before_sibling"
+            | "append_based_on_parent_node"
+            | "remove_from_parent"
+            | "reparent_children"
+            | "add_attrs_if_missing"
+            | "append_doctype_to_document"
+            | "parse_error"
+            | "set_quirks_mode"
+    )
+}
+
+/// Makes a call once: `<` makes an element of a tag alone, and the others have their names. A node that is made gets the
+/// name that stands first, unless that is `made`.
+pub fn make(
+    alloc: Global,
+    page: &mut Page,
+    name: &str,
+    given: &str,
+    watch: Watch,
+) -> Result<(), Fault> {
+    match name {
+        "<" => create_element(alloc, page, given, ElementFlags::default(), watch),
+        "create_element" => create_flagged(alloc, page, given, watch),
+        "create_comment" => create_comment(alloc, page, given, watch),
+        "create_pi" => create_pi(alloc, page, given, watch),
+        "get_template_contents" => name_contents(alloc, page, given, watch),
+        "parse_error" => parse_error(alloc, &mut page.dom, given, watch),
+        "set_quirks_mode" => set_quirks_mode(&mut page.dom, given, watch),
+        "append_doctype_to_document" => append_doctype(alloc, &mut page.dom, given, watch),
+        _ => edit(alloc, page, name, given, watch),
+    }
+}
+
+/// Makes a call that edits what is there.
+fn edit(
+    alloc: Global,
+    page: &mut Page,
+    name: &str,
+    given: &str,
+    watch: Watch,
+) -> Result<(), Fault> {
+    let (node, more) = split_word(given);
+    match name {
+        "append" => append(alloc, page, node, more, watch),
+        "append_before_sibling" => append_before(alloc, page, node, more, watch),
+        "append_based_on_parent_node" => append_by_parent(alloc, page, node, more, watch),
+        "remove_from_parent" => remove(page, node, watch),
+        "reparent_children" => reparent(alloc, page, node, more, watch),
+        _ => add_attributes(alloc, page, node, more, watch),
+    }
+}
+
+/// Makes an element that hangs nowhere.
+fn create_element(
+    alloc: Global,
+    page: &mut Page,
+    tag: &str,
+    flags: ElementFlags,
+    watch: Watch,
+) -> Result<(), Fault> {
+    let tag = Tag::read(alloc, tag)?;
+    watch.begin("create_element")?;
+    let came = page
+        .dom
+        .create_element(alloc, tag.name, tag.attributes, flags);
+    watch.end(&came)?;
+    page.put_made(came)
+}
+
+/// Makes an element that hangs nowhere, and names it: `NAME TAG`, and the flags that it has.
+fn create_flagged(alloc: Global, page: &mut Page, given: &str, watch: Watch) -> Result<(), Fault> {
+    let (name, more) = split_word(given);
+    let (tag, flags) = split_word(more);
+    let flags = ElementFlags {
+        template: flags == "template",
+        mathml_annotation_xml_integration_point: flags == "mathml_annotation_xml_integration_point",
+    };
+    create_element(alloc, page, tag, flags, watch)?;
+    page.name_made(alloc, name)
+}
+
+/// Makes a comment that hangs nowhere.
+fn create_comment(alloc: Global, page: &mut Page, given: &str, watch: Watch) -> Result<(), Fault> {
+    let (name, text) = split_word(given);
+    let text = unescaped(alloc, text)?;
+    watch.begin("create_comment")?;
+    let came = page.dom.create_comment(alloc, text);
+    watch.end(&came)?;
+    page.put_made(came)?;
+    page.name_made(alloc, name)
+}
+
+/// Makes a processing instruction that hangs nowhere.
+fn create_pi(alloc: Global, page: &mut Page, given: &str, watch: Watch) -> Result<(), Fault> {
+    let (name, target) = split_word(given);
+    let target = unescaped(alloc, target)?;
+    watch.begin("create_pi")?;
+    let came = page.dom.create_pi(alloc, target, String::new(alloc));
+    watch.end(&came)?;
+    page.put_made(came)?;
+    page.name_made(alloc, name)
+}
+
+/// Names the contents of a template.
+fn name_contents(alloc: Global, page: &mut Page, given: &str, watch: Watch) -> Result<(), Fault> {
+    let (node, name) = split_word(given);
+    let Some(node) = page.find(node) else {
+        return Err(UNKNOWN);
+    };
+    if !page.dom.is_template(node) {
+        return Err(Fault::Malformed("the node is no template"));
+    }
+    watch.begin("get_template_contents")?;
+    let contents = page.dom.get_template_contents(node);
+    watch.end(&Ok(()))?;
+    page.put_made(Ok(contents))?;
+    page.name_made(alloc, name)
+}
+
+/// Notes a message of the parser.
+fn parse_error(alloc: Global, dom: &mut RcDom, message: &str, watch: Watch) -> Result<(), Fault> {
+    let message = String::from_str(alloc, message)?;
+    watch.begin("parse_error")?;
+    let came = dom.parse_error(alloc, message);
+    watch.end(&came)?;
+    Ok(came?)
+}
+
+/// The quirks mode of a name.
+fn quirks_mode(name: &str) -> Result<QuirksMode, Fault> {
+    match name {
+        "Quirks" => Ok(QuirksMode::Quirks),
+        "LimitedQuirks" => Ok(QuirksMode::LimitedQuirks),
+        "NoQuirks" => Ok(QuirksMode::NoQuirks),
+        _ => Err(Fault::Malformed("no quirks mode has this name")),
+    }
+}
+
+/// Sets the quirks mode of a name.
+fn set_quirks_mode(dom: &mut RcDom, name: &str, watch: Watch) -> Result<(), Fault> {
+    let mode = quirks_mode(name)?;
+    watch.begin("set_quirks_mode")?;
+    dom.set_quirks_mode(mode);
+    watch.end(&Ok(()))
+}
+
+/// Puts a doctype last.
+fn append_doctype(alloc: Global, dom: &mut RcDom, name: &str, watch: Watch) -> Result<(), Fault> {
+    let name = String::from_str(alloc, name)?;
+    watch.begin("append_doctype_to_document")?;
+    let came = dom.append_doctype_to_document(alloc, name, String::new(alloc), String::new(alloc));
+    watch.end(&came)?;
+    Ok(came?)
+}
+
+/// Whether a node may be put last below another, by the public tests of conditions.
+fn can_append(dom: &RcDom, parent: Handle, child: Handle) -> bool
+    ensures { IsTrue result → CanAppend dom.now parent (NodeOrText.AppendNode child) }
+{
+    dom.is_node(parent)
+        && dom.is_node(child)
+        && !dom.has_parent(child)
+        && !dom.is_inclusive_ancestor(child, parent)
+}
+
+/// `append PARENT CHILD`, where a child is a text behind `"`, or a node by its name.
+fn append(
+    alloc: Global,
+    page: &mut Page,
+    parent: &str,
+    child: &str,
+    watch: Watch,
+) -> Result<(), Fault> {
+    let Some(parent) = page.find(parent) else {
+        return Err(UNKNOWN);
+    };
+    if let Some(text) = child.strip_prefix('"') {
+        let text = NodeOrText::AppendText(unescaped(alloc, text)?);
+        watch.begin("append")?;
+        let came = page.dom.append(alloc, parent, text);
+        watch.end(&came)?;
+        return Ok(came?);
+    }
+    let Some(child) = page.find(child) else {
+        return Err(UNKNOWN);
+    };
+    if !can_append(&page.dom, parent, child) {
+        return Err(Fault::Malformed("the node can't be appended"));
+    }
+    watch.begin("append")?;
+    let came = page
+        .dom
+        .append(alloc, parent, NodeOrText::AppendNode(child));
+    watch.end(&came)?;
+    Ok(came?)
+}
+
+/// `append_before_sibling SIBLING CHILD`.
+fn append_before(
+    alloc: Global,
+    page: &mut Page,
+    sibling: &str,
+    child: &str,
+    watch: Watch,
+) -> Result<(), Fault> {
+    let Some(sibling) = page.find(sibling) else {
+        return Err(UNKNOWN);
+    };
+    if !page.dom.has_parent(sibling) {
+        return Err(Fault::Malformed("the sibling has no parent"));
+    }
+    if let Some(text) = child.strip_prefix('"') {
+        let text = NodeOrText::AppendText(unescaped(alloc, text)?);
+        watch.begin("append_before_sibling")?;
+        let came = page.dom.append_before_sibling(alloc, sibling, text);
+        watch.end(&came)?;
+        return Ok(came?);
+    }
+    let Some(child) = page.find(child) else {
+        return Err(UNKNOWN);
+    };
+    put_before(alloc, &mut page.dom, sibling, child, watch)
+}
+
+/// Puts a node before its sibling.
+fn put_before(
+    alloc: Global,
+    dom: &mut RcDom,
+    sibling: Handle,
+    child: Handle,
+    watch: Watch,
+) -> Result<(), Fault> {
+    if !dom.is_node(child)
+        || !dom.has_parent(sibling)
+        || dom.is_inclusive_ancestor(child, sibling)
+    {
+        return Err(Fault::Malformed("the node can't be put there"));
+    }
+    watch.begin("append_before_sibling")?;
+    let came = dom.append_before_sibling(alloc, sibling, NodeOrText::AppendNode(child));
+    watch.end(&came)?;
+    Ok(came?)
+}
+
+/// `append_based_on_parent_node ELEMENT PREV CHILD`.
+fn append_by_parent(
+    alloc: Global,
+    page: &mut Page,
+    element: &str,
+    more: &str,
+    watch: Watch,
+) -> Result<(), Fault> {
+    let (other, child) = split_word(more);
+    let Some(element) = page.find(element) else {
+        return Err(UNKNOWN);
+    };
+    let Some(other) = page.find(other) else {
+        return Err(UNKNOWN);
+    };
+    if let Some(text) = child.strip_prefix('"') {
+        let text = NodeOrText::AppendText(unescaped(alloc, text)?);
+        watch.begin("append_based_on_parent_node")?;
+        let came = page
+            .dom
+            .append_based_on_parent_node(alloc, element, other, text);
+        watch.end(&came)?;
+        return Ok(came?);
+    }
+    let Some(child) = page.find(child) else {
+        return Err(UNKNOWN);
+    };
+    put_by_parent(alloc, &mut page.dom, element, other, child, watch)
+}
+
+/// Puts a node before the element, where that has a parent, and else last below the other node.
+fn put_by_parent(
+    alloc: Global,
+    dom: &mut RcDom,
+    element: Handle,
+    other: Handle,
+    child: Handle,
+    watch: Watch,
+) -> Result<(), Fault>
+    requires element { IsNode dom.old element }
+    requires other { IsNode dom.old other }
+{
+    let is_put = match dom.get_parent(element) {
+        Some(_) => dom.is_node(child) && !dom.is_inclusive_ancestor(child, element),
+        None => can_append(dom, other, child),
+    };
+    if !is_put {
+        return Err(Fault::Malformed("the node can't be put there"));
+    }
+    let child = NodeOrText::AppendNode(child);
+    watch.begin("append_based_on_parent_node")?;
+    let came = dom.append_based_on_parent_node(alloc, element, other, child);
+    watch.end(&came)?;
+    Ok(came?)
+}
+
+/// `reparent_children NODE NEW_PARENT`.
+fn reparent(
+    alloc: Global,
+    page: &mut Page,
+    from: &str,
+    to: &str,
+    watch: Watch,
+) -> Result<(), Fault> {
+    let Some(from) = page.find(from) else {
+        return Err(UNKNOWN);
+    };
+    let Some(to) = page.find(to) else {
+        return Err(UNKNOWN);
+    };
+    if page.dom.is_inclusive_ancestor(from, to) {
+        return Err(Fault::Malformed("the children can't be moved there"));
+    }
+    watch.begin("reparent_children")?;
+    let came = page.dom.reparent_children(alloc, from, to);
+    watch.end(&came)?;
+    Ok(came?)
+}
+
+/// `remove_from_parent NODE`.
+fn remove(page: &mut Page, node: &str, watch: Watch) -> Result<(), Fault> {
+    let Some(node) = page.find(node) else {
+        return Err(UNKNOWN);
+    };
+    watch.begin("remove_from_parent")?;
+    page.dom.remove_from_parent(node);
+    watch.end(&Ok(()))
+}
+
+/// `add_attrs_if_missing NODE @NAME=VALUE@NAME=VALUE`.
+fn add_attributes(
+    alloc: Global,
+    page: &mut Page,
+    node: &str,
+    more: &str,
+    watch: Watch,
+) -> Result<(), Fault> {
+    let Some(node) = page.find(node) else {
+        return Err(UNKNOWN);
+    };
+    let Some(fields) = more.strip_prefix('@') else {
+        return Err(Fault::Malformed("there are no attributes"));
+    };
+    let given = attributes(alloc, fields)?;
+    if !page.dom.is_element(node) {
+        return Err(Fault::Malformed("the node is no element"));
+    }
+    watch.begin("add_attrs_if_missing")?;
+    let came = page.dom.add_attrs_if_missing(alloc, node, given);
+    watch.end(&came)?;
+    Ok(came?)
+}
