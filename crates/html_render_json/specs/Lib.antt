@@ -1,3 +1,4 @@
 pub mod Refusals
 pub mod Service
+pub mod OwnText
 pub mod Documents

@@ -1,7 +1,10 @@
 //! Documents in JSON, and the calls that build them.
 
-ghost use Rattle.std.specs.Prelude.{◌≡◌, ◌≤◌, OnOk};
+ghost use Rattle.std.specs.Prelude.{◌≡◌, ◌≤◌, OnOk, string_bytes};
+ghost use Rattle.std.specs.Option.{is_some};
 ghost use Rattle.html_render_dom.specs.Dom.{IsNode, node_count};
+ghost use Rattle.html_render_dom.specs.Edits.{last_text};
+ghost use Rattle.html_render_json.specs.OwnText.{HasOwnText};
 
 use crate::answers::{Refusal, answered};
 use crate::reading::{Members, Readable, list, once, read_members, tag};
@@ -103,6 +106,7 @@ impl Readable for Document {
 /// Whether a node's last child is a text.
 fn ends_in_text(dom: &RcDom, node: Handle) -> bool
     requires { IsNode dom.now node }
+    ensures { result ≡ is_some (last_text dom.now.nodes node) }
 {
     match dom.child_list(node).last() {
         Some(last) => matches!(dom.data(*last), NodeData::Text { .. }),
@@ -114,6 +118,7 @@ fn ends_in_text(dom: &RcDom, node: Handle) -> bool
 /// that hangs nowhere, and moved from there.
 fn append_text(alloc: Global, dom: &mut RcDom, parent: Handle, text: String) -> Result<(), Refusal>
     requires { IsNode dom.old parent }
+    ensures own { OnOk result (HasOwnText dom.old dom.new parent (string_bytes text)) }
     ensures grows { OnOk result (node_count dom.old ≤ node_count dom.new) }
 {
     if !ends_in_text(dom, parent) {

@@ -1,12 +1,49 @@
-//! What no call shows of decorations, as the contract of a function that does nothing.
+//! Laws of what is rendered, each the contract of a function that does nothing.
 
-ghost use Rattle.std.specs.Prelude.{◌≡◌, map, replicate};
+ghost use Rattle.std.specs.Prelude.{◌≡◌, ◌↔◌, Bool, true, ℕ, None, IfSome, map, replicate};
 ghost use Rattle.html_render_dom.specs.Selectors.{specificity_of};
 ghost use Rattle.html_render_dom.specs.declared.style.origins.StyleOrigin.TheVariants as origin;
+ghost use Rattle.html_render_values.specs.Forest.{Forest};
+ghost use Rattle.html_render_layout.specs.Layout.{layout_lines, mark_names};
 ghost use Rattle.html_render_tree.specs.Decorations.{decorations, decoration_specificity};
+ghost use Rattle.html_render_tree.specs.Rendering.{AreLines};
+
+use html_render_dom::Error;
+use html_render_dom::dom::Handle;
+use html_render_layout::settings::{ImageRenderMode, LayoutSettings};
+use html_render_nodes::tree::RenderNode;
+use html_render_parts::decorate::{RichAnnotation, TextDecorator};
 
 /// The decorations are ten rules of the agent, each as specific as an element's name and a pseudo-element.
 fn decorations_are_ten_rules_of_the_agent()
     ensures origins { map (λ rule. rule.origin) decorations ≡ replicate 10 origin.Agent }
     ensures specificities { map specificity_of decorations ≡ replicate 10 decoration_specificity }
+{}
+
+/// Where a tree has lines in a width, they are what every call that renders promises of them.
+#[tactic(auto, using(crate::specs::laws::Rendering::lines_promised))]
+fn lines_are_promised<D: TextDecorator>()
+    ensures { (settings : LayoutSettings) (tree : Forest RenderNode) (decorator : D) (width : ℕ) (overflow : Bool) →
+        IfSome (layout_lines D.decoration settings tree decorator width overflow) (AreLines D.decoration settings tree decorator width overflow) }
+{}
+
+/// A tree has lines in a width exactly where it has the names of their marks.
+#[tactic(auto, using(crate::specs::laws::Rendering::none_together))]
+fn lines_and_names_are_there_together<D: TextDecorator>()
+    ensures { (settings : LayoutSettings) (tree : Forest RenderNode) (decorator : D) (width : ℕ) (overflow : Bool) →
+        (layout_lines D.decoration settings tree decorator width overflow ≡ None)
+        ↔ (mark_names D.decoration settings tree decorator width overflow ≡ None) }
+{}
+
+/// Two errors are equal exactly if they are the same, and two handles exactly if they name the same node.
+fn errors_and_handles_are_equal_as_values(a: Error, b: Error, x: Handle, y: Handle)
+    ensures errors { (⟦<Error as PartialEq>⟧.eq a b ≡ true) ↔ (a ≡ b) }
+    ensures handles { (⟦<Handle as PartialEq>⟧.eq x y ≡ true) ↔ (x ≡ y) }
+{}
+
+/// By default an image without a title isn't shown, and what stands in nothing has the annotation of that.
+fn defaults_are_the_plain_ones()
+    ensures modes { (mode : ImageRenderMode) → ⟦<ImageRenderMode as Default>⟧.is_default mode ↔ (mode ≡ ImageRenderMode.IgnoreEmpty) }
+    ensures annotations { (annotation : RichAnnotation) →
+        ⟦<RichAnnotation as Default>⟧.is_default annotation ↔ (annotation ≡ RichAnnotation.Default) }
 {}

@@ -1,16 +1,13 @@
 //! The calls of a configuration that render: to a text, to tagged lines, and to a text under a colour map.
 
-ghost use Rattle.std.specs.Prelude.{◌≡◌, ◌≢◌, ◌≤◌, List, true, false, Some, Err, IfOk, IfErr, IfSome, option_map, string_bytes};
+ghost use Rattle.std.specs.Prelude.{◌≡◌, ◌≢◌, ◌≤◌, List, true, false, Some, Err, IfOk, IfErr, option_map, string_bytes};
 ghost use Rattle.html_render_values.specs.Outcome.{Refuses};
-ghost use Rattle.html_render_lines.specs.Line.{AllWithinWidth};
 ghost use Rattle.html_render_nodes.specs.Counts.{CountsNodes};
-ghost use Rattle.html_render_nodes.specs.Pass.{run};
-ghost use Rattle.html_render_layout.specs.Kept.{visited_nodes, KeepsTexts};
-ghost use Rattle.html_render_layout.specs.Layout.{Defined, defined, defined_inside, estimated, empty_state};
+ghost use Rattle.html_render_layout.specs.Layout.{defined, defined_inside, estimated, empty_state};
 ghost use Rattle.html_render_tagged.specs.Colouring.{IsColoured};
 ghost use Rattle.html_render_tagged.specs.Grouping.{Piece, lines_of};
 ghost use Rattle.html_render_tagged.specs.TaggedLine.{AllTaggedWithinWidth};
-ghost use Rattle.html_render_tree.specs.Rendering.{rendered_lines, rendered_strings};
+ghost use Rattle.html_render_tree.specs.Rendering.{rendered_lines, rendered_strings, AreStrings, HasLines, LeavesTexts, Rendered};
 ghost use Rattle.html_render_tree.specs.Texts.{text_of};
 
 use crate::config::Config;
@@ -33,7 +30,7 @@ impl<D: TextDecorator> Config<D> {
     ///
     /// `TooNarrow` at width 0, and, where overflow isn't allowed, where a character is wider than a line or a prefix
     /// leaves too few columns; otherwise `OutOfMemory`.
-    #[tactic(auto, using(crate::specs::laws::Rendering::lines_within, crate::specs::laws::Rendering::lines_keep, crate::specs::laws::Rendering::lines_leave))]
+    #[tactic(auto, using(crate::specs::laws::Rendering::lines_there, crate::specs::laws::Rendering::texts_left))]
     pub fn render_to_string(
         &self,
         alloc: Global,
@@ -45,22 +42,13 @@ impl<D: TextDecorator> Config<D> {
         ensures err { IfErr result (λ e. Refuses e (rendered_lines D.decoration self.now tree width)) }
         ensures no_width { width ≡ 0 → result ≡ Err Error.TooNarrow }
 
-        // with overflow off and links wrapped no line passes the width; with overflow on nothing is too narrow, and where overflow off gives
-        // lines, the text is theirs
-        ensures within { self.now.overflow ≡ false → self.now.nodes.wrap_links ≡ true
-            → IfSome (rendered_lines D.decoration self.now tree width) (AllWithinWidth width) }
+        // what is promised of its lines: that they keep to the width, are those without overflow, and lose no visible character
+        ensures lines { IfOk result (λ text. Rendered D.decoration self.now tree width (λ lines. string_bytes text ≡ text_of lines)) }
+
+        // with overflow on nothing is too narrow but width 0; and a tree that is laid out leaves the texts that follow as they were
         ensures wide { self.now.overflow ≡ true → 1 ≤ width → result ≢ Err Error.TooNarrow }
-        ensures same { IfOk result (λ text. IfSome (rendered_lines D.decoration (record self.now { overflow = false }) tree width)
-            (λ lines. string_bytes text ≡ text_of lines)) }
-
-        // no visible character of the texts that are visited is lost
-        ensures kept { IfSome (rendered_lines D.decoration self.now tree width)
-            (KeepsTexts (visited_nodes D.decoration self.now.nodes tree self.now.decorator width self.now.overflow)) }
-
-        // a tree that is laid out leaves the texts that follow, with their annotations, and the decorator of any state as they were
-        ensures stacks { (s : Defined D D.Annotation) →
-            IfSome (run (defined D.decoration) (estimated D.decoration self.now.nodes self.now.decorator tree) s)
-            (λ r. (r.text ≡ s.text) × (r.decorator ≡ s.decorator)) }
+        ensures there { HasLines D.decoration self.now tree width }
+        ensures stacks { LeavesTexts D.decoration }
     {
         let lines = lay_out_untagged(
             alloc,
@@ -80,7 +68,7 @@ impl<D: TextDecorator> Config<D> {
     /// # Errors
     ///
     /// As [`Config::render_to_string`].
-    #[tactic(auto, using(crate::specs::laws::Rendering::lines_within, crate::specs::laws::Rendering::lines_keep, crate::specs::laws::Rendering::lines_leave))]
+    #[tactic(auto, using(crate::specs::laws::Rendering::lines_there, crate::specs::laws::Rendering::texts_left))]
     pub fn render_to_lines(
         &self,
         alloc: Global,
@@ -93,29 +81,26 @@ impl<D: TextDecorator> Config<D> {
         ensures no_width { width ≡ 0 → result ≡ Err Error.TooNarrow }
 
         // as for a text
+        ensures lines { IfOk result (λ answer. Rendered D.decoration self.now tree width
+            (AreStrings D.decoration self.now tree width D.Annotation.eq (lines_of answer.items))) }
         ensures within { self.now.overflow ≡ false → self.now.nodes.wrap_links ≡ true
             → IfOk result (λ lines. AllTaggedWithinWidth width lines.items) }
         ensures wide { self.now.overflow ≡ true → 1 ≤ width → result ≢ Err Error.TooNarrow }
-        ensures same { IfOk result (λ answer.
-            IfSome (rendered_strings D.decoration (record self.now { overflow = false }) tree width D.Annotation.eq)
-            (λ lines. lines_of answer.items ≡ lines)) }
-        ensures kept { IfSome (rendered_lines D.decoration self.now tree width)
-            (KeepsTexts (visited_nodes D.decoration self.now.nodes tree self.now.decorator width self.now.overflow)) }
-        ensures stacks { (s : Defined D D.Annotation) →
-            IfSome (run (defined D.decoration) (estimated D.decoration self.now.nodes self.now.decorator tree) s)
-            (λ r. (r.text ≡ s.text) × (r.decorator ≡ s.decorator)) }
+        ensures there { HasLines D.decoration self.now tree width }
+        ensures stacks { LeavesTexts D.decoration }
     {
         let mut meter = Meter::default();
         self.render_to_lines_metered(alloc, tree, width, &mut meter)
     }
 
-    /// The same, and what the layout visits: `entered` and `left` count the nodes, `frames` is the most nodes that were open
-    /// at once. They count from 0, also where the call refuses; `probes` stays.
+    /// The same, and what the layout visits: `entered` and `left` count the nodes but those below a cell that is skipped or
+    /// below a superscript that is written in digits, and `frames` is the most nodes that were open at once. They count from 0,
+    /// also where the call refuses; `probes` stays.
     ///
     /// # Errors
     ///
     /// As [`Config::render_to_string`].
-    #[tactic(auto, using(crate::specs::laws::Rendering::lines_within, crate::specs::laws::Rendering::lines_keep, crate::specs::laws::Rendering::lines_leave))]
+    #[tactic(auto, using(crate::specs::laws::Rendering::lines_there, crate::specs::laws::Rendering::texts_left))]
     pub fn render_to_lines_metered(
         &self,
         alloc: Global,
@@ -127,17 +112,13 @@ impl<D: TextDecorator> Config<D> {
         ensures ok { IfOk result (λ lines. rendered_strings D.decoration self.now tree width D.Annotation.eq ≡ Some (lines_of lines.items)) }
         ensures err { IfErr result (λ e. Refuses e (rendered_lines D.decoration self.now tree width)) }
         ensures no_width { width ≡ 0 → result ≡ Err Error.TooNarrow }
+        ensures lines { IfOk result (λ answer. Rendered D.decoration self.now tree width
+            (AreStrings D.decoration self.now tree width D.Annotation.eq (lines_of answer.items))) }
         ensures within { self.now.overflow ≡ false → self.now.nodes.wrap_links ≡ true
             → IfOk result (λ lines. AllTaggedWithinWidth width lines.items) }
         ensures wide { self.now.overflow ≡ true → 1 ≤ width → result ≢ Err Error.TooNarrow }
-        ensures same { IfOk result (λ answer.
-            IfSome (rendered_strings D.decoration (record self.now { overflow = false }) tree width D.Annotation.eq)
-            (λ lines. lines_of answer.items ≡ lines)) }
-        ensures kept { IfSome (rendered_lines D.decoration self.now tree width)
-            (KeepsTexts (visited_nodes D.decoration self.now.nodes tree self.now.decorator width self.now.overflow)) }
-        ensures stacks { (s : Defined D D.Annotation) →
-            IfSome (run (defined D.decoration) (estimated D.decoration self.now.nodes self.now.decorator tree) s)
-            (λ r. (r.text ≡ s.text) × (r.decorator ≡ s.decorator)) }
+        ensures there { HasLines D.decoration self.now tree width }
+        ensures stacks { LeavesTexts D.decoration }
 
         // what was counted, where there are lines, and where there are none
         ensures counts { CountsNodes result (defined D.decoration) (defined_inside D.decoration)
@@ -165,7 +146,7 @@ impl<D: TextDecorator> Config<D> {
     /// # Errors
     ///
     /// As [`Config::render_to_string`]; `OutOfMemory` also where the map answers it.
-    #[tactic(auto, using(crate::specs::laws::Rendering::lines_within, crate::specs::laws::Rendering::lines_keep, crate::specs::laws::Rendering::lines_leave))]
+    #[tactic(auto, using(crate::specs::laws::Rendering::lines_there, crate::specs::laws::Rendering::texts_left))]
     pub fn render_coloured<F: Fn(&[D::Annotation], &str) -> Result<String, Error>>(
         &self,
         alloc: Global,
@@ -184,17 +165,12 @@ impl<D: TextDecorator> Config<D> {
         ensures no_width { width ≡ 0 → result ≡ Err Error.TooNarrow }
 
         // as for a text
-        ensures within { self.now.overflow ≡ false → self.now.nodes.wrap_links ≡ true
-            → IfSome (rendered_lines D.decoration self.now tree width) (AllWithinWidth width) }
+        ensures lines { IfOk result (λ text. (strings : List (List (Piece (List D.Annotation))))
+            × Rendered D.decoration self.now tree width (AreStrings D.decoration self.now tree width D.Annotation.eq strings)
+            × IsColoured (F.post colour_map) strings (string_bytes text)) }
         ensures wide { self.now.overflow ≡ true → 1 ≤ width → result ≢ Err Error.TooNarrow }
-        ensures same { IfOk result (λ text.
-            IfSome (rendered_strings D.decoration (record self.now { overflow = false }) tree width D.Annotation.eq)
-            (λ lines. IsColoured (F.post colour_map) lines (string_bytes text))) }
-        ensures kept { IfSome (rendered_lines D.decoration self.now tree width)
-            (KeepsTexts (visited_nodes D.decoration self.now.nodes tree self.now.decorator width self.now.overflow)) }
-        ensures stacks { (s : Defined D D.Annotation) →
-            IfSome (run (defined D.decoration) (estimated D.decoration self.now.nodes self.now.decorator tree) s)
-            (λ r. (r.text ≡ s.text) × (r.decorator ≡ s.decorator)) }
+        ensures there { HasLines D.decoration self.now tree width }
+        ensures stacks { LeavesTexts D.decoration }
     {
         let lines = self.render_to_lines(alloc, tree, width)?;
         coloured(alloc, &lines, &colour_map)
