@@ -3,7 +3,8 @@
  * With REFUSED_GROWTH=N the program's N-th growth is refused, from 1, and the last line of its standard error is "refused N",
  * with how many were. Without it growths are counted between a line "call NAME" and a line "came ANSWER" that the program
  * writes to standard output: when a call is made first, its first growth is refused, then its second one, and so on, until a
- * call meets no refusal; "refused N" stands behind each "came".
+ * call meets no refusal; "refused N" stands behind each "came". Nothing is refused to the call that UNREFUSED names: several of
+ * its name may belong to one question, which is asked again from its first call on.
  *
  * A list to which room is refused asks again at once, for as much as it needs. So the growth behind a refused one is refused
  * too or, with THE_REST_TOO=1, all that follow. */
@@ -18,7 +19,8 @@
 void *__libc_malloc(size_t), *__libc_calloc(size_t, size_t), *__libc_realloc(void *, size_t), *__libc_memalign(size_t, size_t);
 
 static long wanted = 1, count, refused;
-static int is_started, is_whole, is_counting, rest_too;
+static int is_started, is_whole, is_naming, is_counting, rest_too;
+static char named[256];
 
 static void start(void) {
     const char *growth = getenv("REFUSED_GROWTH");
@@ -53,16 +55,28 @@ void *realloc(void *old, size_t size) { return refuses() ? NULL : __libc_realloc
 void *aligned_alloc(size_t to, size_t size) { return refuses() ? NULL : __libc_memalign(to, size); }
 int posix_memalign(void **got, size_t to, size_t size) { return (*got = aligned_alloc(to, size)) ? 0 : ENOMEM; }
 
+static void name(const char *text, size_t length) {
+    const char *unrefused = getenv("UNREFUSED");
+    size_t had = strlen(named), more = length < sizeof named - had ? length : 0;
+    memcpy(named + had, text, more);
+    named[had + more] = 0;
+    if (text[length - 1] != '\n') return;
+    is_naming = 0;
+    is_counting = !unrefused || strncmp(named + 5, unrefused, strlen(unrefused));
+    count = refused = 0;
+}
+
 ssize_t write(int to, const void *text, size_t length) {
     int is_call = to == 1 && length >= 5 && !memcmp(text, "call ", 5), is_end = to == 1 && length >= 5 && !memcmp(text, "came ", 5);
     ssize_t written = syscall(SYS_write, to, text, length);
     start();
-    if (is_whole || !(is_call || is_end)) return written;
-    is_counting = is_call;
+    if (is_whole || to != 1 || !length) return written;
+    if (is_call) is_naming = 1, named[0] = 0;
+    if (is_naming) name(text, length);
     if (is_end) {
         tell(1);
-        wanted = refused ? wanted + 1 : 1;
+        if (is_counting) wanted = refused ? wanted + 1 : 1;
+        is_counting = 0;
     }
-    count = refused = 0;
     return written;
 }

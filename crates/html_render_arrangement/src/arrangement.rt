@@ -13,7 +13,7 @@ ghost use Rattle.html_render_arrangement.specs.Stacks.{TopTrees, places};
 use crate::tables::push_arranged;
 use html_render_drafts::finish::{PlacedWriter, finish_below};
 use html_render_drafts::store::{Place, Store};
-use html_render_nodes::tree::{Entry, NodeKind, Part, RenderNode, RenderTree};
+use html_render_nodes::tree::{Entry, Flat, NodeKind, Part, RenderNode};
 use html_render_values::Error;
 use std::alloc::Global;
 
@@ -128,15 +128,14 @@ impl PlacedWriter<RenderNode> for Settling {
 /// # Errors
 ///
 /// `Fail`, where a part stands in no table and is no caption. `OutOfMemory`.
-pub fn arrange(alloc: Global, tree: RenderTree) -> Result<RenderTree, Error>
+pub fn arrange(alloc: Global, tree: Flat<RenderNode>) -> Result<Flat<RenderNode>, Error>
     ensures ok { IfOk result (λ t. in_place tree ≡ Some t) }
     ensures err { IfErr result (λ e. Fails e (in_place tree)) }
 {
-    if all_stay(tree.nodes().entries()) {
+    if all_stay(tree.entries()) {
         return Ok(tree);
     }
     let mut store = Store::new(alloc);
-    let roots = arrange_all(alloc, &mut store, tree.into_nodes().into_entries())?;
-    let nodes = finish_below(alloc, &store, roots.as_slice(), (), &Settling)?;
-    Ok(RenderTree::from(nodes))
+    let roots = arrange_all(alloc, &mut store, tree.into_entries())?;
+    finish_below(alloc, &store, roots.as_slice(), (), &Settling)
 }

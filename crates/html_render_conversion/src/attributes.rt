@@ -11,7 +11,7 @@ ghost use Rattle.html_render_conversion.specs.Tables.{size_of, size_or_one, span
 
 use html_render_dom::Error;
 use html_render_dom::dom::{Attribute, Namespace, QualName};
-use html_render_dom::text::Text;
+use html_render_nodes::text::NodeText;
 use html_render_nodes::tree::CellSpan;
 use std::alloc::Global;
 
@@ -127,13 +127,13 @@ pub fn mark_of(
     alloc: Global,
     element: &QualName,
     attributes: &[Attribute],
-) -> Result<Option<Text>, Error>
+) -> Result<Option<NodeText>, Error>
     ensures ok { IfOk result (λ mark. mark ≡ mark_of (name_of element.now) (map property_of attributes.now)) }
     ensures err { IfErr result (λ e. e ≡ Error.OutOfMemory) }
 {
     match mark_attribute(element, attributes) {
         Some(attribute) => {
-            let name = Text::from_str(alloc, attribute.value.as_str())?;
+            let name = NodeText::from_str(alloc, attribute.value.as_str())?;
             Ok(Some(name))
         }
         None => Ok(None),

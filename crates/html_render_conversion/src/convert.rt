@@ -22,8 +22,8 @@ use crate::tables::place_rows;
 use html_render_dom::Error;
 use html_render_dom::dom::{Handle, NodeData, RcDom};
 use html_render_dom::style::StyleRule;
-use html_render_dom::text::Text;
-use html_render_nodes::tree::{Builder, NodeKind, RenderNode, RenderTree};
+use html_render_nodes::text::NodeText;
+use html_render_nodes::tree::{Builder, Flat, NodeKind, RenderNode};
 use std::alloc::Global;
 
 /// An element whose children are being converted, from the last to the first. The content behind them has been made, and
@@ -45,9 +45,9 @@ pub struct Open {
     /// Whether a child has become something that counts, also where that isn't kept.
     pub has_results: bool,
     /// The name of its mark, which comes before all else.
-    pub mark: Option<Text>,
+    pub mark: Option<NodeText>,
     /// The content that comes before what its children become.
-    pub before: Option<Text>,
+    pub before: Option<NodeText>,
 }
 
 impl Open {
@@ -84,7 +84,7 @@ impl Open {
 }
 
 /// Puts a content in front of what has been made, if there is one.
-fn put_content(builder: &mut Builder<RenderNode>, content: Option<Text>) -> Result<(), Error>
+fn put_content(builder: &mut Builder<RenderNode>, content: Option<NodeText>) -> Result<(), Error>
     ensures ok { OnOk result (builder.new ≡ put_content content builder.old) }
     ensures err { IfErr result (λ e. e ≡ Error.OutOfMemory) }
 {
@@ -95,7 +95,7 @@ fn put_content(builder: &mut Builder<RenderNode>, content: Option<Text>) -> Resu
 }
 
 /// Puts a mark in front of what has been made, if there is one.
-fn put_mark(builder: &mut Builder<RenderNode>, mark: Option<Text>) -> Result<(), Error>
+fn put_mark(builder: &mut Builder<RenderNode>, mark: Option<NodeText>) -> Result<(), Error>
     ensures ok { OnOk result (builder.new ≡ put_mark mark builder.old) }
     ensures err { IfErr result (λ e. e ≡ Error.OutOfMemory) }
 {
@@ -207,8 +207,8 @@ fn open_node(
 /// Builds an element's node, with its mark and its contents, where its children are made and the content behind them.
 fn build_element(
     node: RenderNode,
-    mark: Option<Text>,
-    before: Option<Text>,
+    mark: Option<NodeText>,
+    before: Option<NodeText>,
     inner: usize,
     outer: usize,
     builder: &mut Builder<RenderNode>,
@@ -238,7 +238,7 @@ fn build_element(
 
 /// Takes back what was made of an element that becomes nothing: its mark is left.
 fn vanish(
-    mark: Option<Text>,
+    mark: Option<NodeText>,
     outer: usize,
     elements: &mut Vec<Open>,
     builder: &mut Builder<RenderNode>,
@@ -347,7 +347,7 @@ pub fn dom_to_render_tree(
     alloc: Global,
     rules: &[StyleRule],
     dom: &RcDom,
-) -> Result<RenderTree, Error>
+) -> Result<Flat<RenderNode>, Error>
     ensures ok { IfOk result (λ tree. tree_of_parts (map rule_of rules.now) dom.now ≡ Some tree) }
     ensures err { IfErr result (λ e. Fails e (tree_of_parts (map rule_of rules.now) dom.now)) }
 {
@@ -368,7 +368,7 @@ pub fn dom_to_render_tree(
             place_table(alloc, &mut element, &builder)?;
             close_element(element, &mut open, &mut builder)?;
         } else {
-            return Ok(RenderTree::from(builder));
+            return Ok(builder.finish());
         }
     }
 }

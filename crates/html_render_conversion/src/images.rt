@@ -8,7 +8,7 @@ ghost use Rattle.html_render_conversion.specs.Images.{read, image_parts, is_titl
 
 use html_render_dom::Error;
 use html_render_dom::dom::{Attribute, Handle, Namespace, NodeData, RcDom};
-use html_render_dom::text::Text;
+use html_render_nodes::text::NodeText;
 use std::alloc::{AllocError, Global};
 
 /// An image's source and title, once an attribute more is read.
@@ -102,14 +102,14 @@ fn direct_texts(alloc: Global, dom: &RcDom, node: Handle) -> Result<String, Allo
 /// # Errors
 ///
 /// `OutOfMemory`.
-pub fn drawing_title(alloc: Global, dom: &RcDom, node: Handle) -> Result<Text, Error>
+pub fn drawing_title(alloc: Global, dom: &RcDom, node: Handle) -> Result<NodeText, Error>
     requires forest { IsForest dom.now }
     requires node { IsNode dom.now node }
     ensures ok { IfOk result (λ title. title ≡ drawing_title (trees_of dom.now (children_at dom.now node))) }
     ensures err { IfErr result (λ e. e ≡ Error.OutOfMemory) }
 {
     match last_title(dom, node) {
-        Some(title) => Ok(Text::new(direct_texts(alloc, dom, title)?)),
-        None => Ok(Text::new(String::new(alloc))),
+        Some(title) => Ok(NodeText::from(direct_texts(alloc, dom, title)?)),
+        None => Ok(NodeText::from(String::new(alloc))),
     }
 }

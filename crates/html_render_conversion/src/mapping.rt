@@ -21,7 +21,7 @@ use html_render_dom::dom::{Attribute, Handle, Namespace, NodeData, QualName, RcD
 use html_render_dom::style::{
     ComputedStyle, Specificity, StyleOrigin, StyleRule, WhiteSpace, WithSpec, computed_style,
 };
-use html_render_dom::text::Text;
+use html_render_nodes::text::NodeText;
 use html_render_nodes::tree::{Emphasis, Estimate, Image, NodeKind, NodeStyle, Part, RenderNode};
 use std::alloc::Global;
 
@@ -61,11 +61,11 @@ pub enum Outline {
         /// Whether what stands in it is converted.
         has_children: bool,
         /// The name of its mark.
-        mark: Option<Text>,
+        mark: Option<NodeText>,
         /// The content before its children.
-        before: Option<Text>,
+        before: Option<NodeText>,
         /// The content behind them.
-        after: Option<Text>,
+        after: Option<NodeText>,
     },
 }
 
@@ -119,7 +119,7 @@ fn link_mapping(alloc: Global, attributes: &[Attribute]) -> Result<Mapping, Erro
 {
     match first_value(attributes, "href") {
         Some(target) => {
-            let target = Text::from_str(alloc, target)?;
+            let target = NodeText::from_str(alloc, target)?;
             Ok(Mapping::Parent(NodeKind::Link(target), IfEmpty::Vanishes))
         }
         None => Ok(Mapping::Parent(NodeKind::Container, IfEmpty::Stands)),
@@ -134,8 +134,8 @@ fn image_mapping(alloc: Global, source: &str, title: &str) -> Result<Mapping, Er
     if source.is_empty() {
         return Ok(Mapping::Nothing);
     }
-    let source = Text::from_str(alloc, source)?;
-    let title = Text::from_str(alloc, title)?;
+    let source = NodeText::from_str(alloc, source)?;
+    let title = NodeText::from_str(alloc, title)?;
     let image = Image::new(alloc, source, title)?;
     Ok(Mapping::Leaf(NodeKind::Image(image)))
 }
@@ -156,7 +156,7 @@ fn html_element_mapping(
             image_mapping(alloc, source, title)
         }
         "wbr" => {
-            let space = Text::from_str(alloc, "\u{200b}")?;
+            let space = NodeText::from_str(alloc, "\u{200b}")?;
             Ok(Mapping::Leaf(NodeKind::Text(space)))
         }
         _ => Ok(html_mapping(name, attributes)),
@@ -222,17 +222,17 @@ fn node_style(style: &ComputedStyle) -> NodeStyle
 }
 
 /// The text of a content, if there is one. It isn't copied.
-fn text_of(content: WithSpec<String>) -> Option<Text>
+fn text_of(content: WithSpec<String>) -> Option<NodeText>
     ensures { result ≡ option_map string_bytes (value_of content) }
 {
     match content.into_val() {
-        Some(text) => Some(Text::new(text)),
+        Some(text) => Some(NodeText::from(text)),
         None => None,
     }
 }
 
 /// What becomes of an element that becomes nothing: its mark is left.
-fn mark_alone(mark: Option<Text>) -> Outline
+fn mark_alone(mark: Option<NodeText>) -> Outline
     ensures { result ≡ mark_alone mark }
 {
     match mark {
@@ -242,7 +242,7 @@ fn mark_alone(mark: Option<Text>) -> Outline
 }
 
 /// What becomes of an element that has a style, its children aside.
-fn styled_outline(mapping: Mapping, mark: Option<Text>, style: ComputedStyle) -> Outline
+fn styled_outline(mapping: Mapping, mark: Option<NodeText>, style: ComputedStyle) -> Outline
     ensures { result ≡ styled_outline mapping mark (style_of style) }
 {
     if style.display.val().is_some() {
@@ -268,7 +268,7 @@ fn styled_outline(mapping: Mapping, mark: Option<Text>, style: ComputedStyle) ->
 }
 
 /// What becomes of an element whose style is that of no declarations, its children aside.
-fn unstyled_outline(mapping: Mapping, mark: Option<Text>) -> Outline
+fn unstyled_outline(mapping: Mapping, mark: Option<NodeText>) -> Outline
     ensures { result ≡ styled_outline mapping mark (style_by []) }
 {
     let (kind, if_empty, has_children) = match mapping {
@@ -320,7 +320,7 @@ pub fn text_node(alloc: Global, contents: &str) -> Result<RenderNode, Error>
     ensures ok { IfOk result (λ node. node ≡ text_node contents.now) }
     ensures err { IfErr result (λ e. e ≡ Error.OutOfMemory) }
 {
-    let text = Text::from_str(alloc, contents)?;
+    let text = NodeText::from_str(alloc, contents)?;
     Ok(RenderNode::from(NodeKind::Text(text)))
 }
 

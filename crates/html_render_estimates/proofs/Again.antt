@@ -1,6 +1,7 @@
 -- Nodes that are measured a second time.
 use Rattle.std.proofs.Common.{◌≡◌, Bool, true, false, ◌||◌, ℕ, ◌+◌, ◌-◌, ◌<◌, ◌≤◌, List, [], ◌∷◌, ◌++◌, length, take, drop, map, set, get_or}
-use Rattle.std.proofs.Common.{refl, sym, ap, ◌∙◌, arith}
+use Rattle.std.proofs.Common.{max, refl, sym, ap, ◌∙◌, arith}
+use Rattle.std.proofs.lemmas.Bool.{or_parts, true≢false}
 use Rattle.std.proofs.lemmas.List.{map-append, length-map, take-append-drop, take-map, drop-map, drop-set, get_or_default}
 use Rattle.std.proofs.Math.Seq.{take-append_seam, drop-append_seam, drop-length}
 use Rattle.html_render_values.specs.Forest.{Forest, none, node}
@@ -9,13 +10,15 @@ use Rattle.html_render_nodes.specs.RenderNodes.{unmeasured}
 use Rattle.html_render_nodes.specs.declared.tree.Entry.{Entry}
 use Rattle.html_render_nodes.specs.declared.tree.Estimate.{Estimate}
 use Rattle.html_render_nodes.specs.declared.tree.NodeKind.{NodeKind}
+use Rattle.html_render_nodes.specs.declared.tree.NodeKind.TheVariants.{Text, Break, Image, Svg, FragmentStart, Table}
 use Rattle.html_render_nodes.specs.declared.tree.NodeStyle.{NodeStyle}
 use Rattle.html_render_nodes.specs.declared.tree.RenderNode.{RenderNode}
 use Rattle.html_render_nodes.specs.Preorder.{flatten, forest_of}
 use Rattle.html_render_nodes.specs.laws.Preorder.{forest_of-flatten, IsForest, IsForest-flatten}
-use Rattle.html_render_estimates.specs.Estimates.{is_table, has_table, sized_estimate_of, measured_as, measured}
-use Rattle.html_render_estimates.specs.Passes.{MeasuresAs}
-use Rattle.html_render_estimates.proofs.Measuring.{length-after, Measuring, Measuring-done, Found}
+use Rattle.html_render_estimates.specs.Estimates.{trees, greatest_least, estimate_of, measured}
+use Rattle.html_render_estimates.specs.Passes.{is_table, has_table, without_size, without_sizes, with_needed_sizes, MeasuresAs}
+use Rattle.html_render_estimates.specs.laws.Least.{tables-measured}
+use Rattle.html_render_estimates.proofs.Measuring.{after, length-after, Measuring, Measuring-done, Found}
 
 -- ---- tables among nodes
 
@@ -73,10 +76,23 @@ blank e = record e { node = record e.node { estimate = unmeasured } }
 
 module _ {D A : Type 0} (decoration : Decoration D A) (decorator : D) (min_wrap_width : ℕ) where
   abbrev with_sizes : Forest RenderNode → Forest RenderNode
-  with_sizes t = measured_as decoration decorator min_wrap_width true t
+  with_sizes t = measured decoration decorator min_wrap_width t
+
+  -- what each pass answers for a node
+  abbrev pub sized : NodeKind → (children : Forest RenderNode) → Estimate
+  sized kind children = estimate_of decoration decorator min_wrap_width kind children
+
+  abbrev pub unsized : NodeKind → (children : Forest RenderNode) → Estimate
+  unsized kind children = without_size (sized kind children)
+
+  pub after_sized : (t : Forest RenderNode) → after sized t ≡ with_sizes t
+  after_sized none = refl
+  after_sized (node n children beside) =
+      ap (λ f. node (record n { estimate = sized n.kind f }) f (after sized beside)) (after_sized children)
+      ∙ ap (node (record n { estimate = sized n.kind (with_sizes children) }) (with_sizes children)) (after_sized beside)
 
   abbrev without : Forest RenderNode → Forest RenderNode
-  without t = measured_as decoration decorator min_wrap_width false t
+  without t = after unsized t
 
   -- a forest of these nodes, measured as another one
   record Again (t : Forest RenderNode) (es : List (Entry RenderNode)) : Type 0 where
@@ -87,7 +103,7 @@ module _ {D A : Type 0} (decoration : Decoration D A) (decorator : D) (min_wrap_
 
   abbrev sized_node : NodeKind → NodeStyle → (children beside : Forest RenderNode) → Forest RenderNode
   sized_node kind style children beside =
-      node (record { kind = kind; style = style; estimate = sized_estimate_of decoration decorator min_wrap_width kind children }) children beside
+      node (record { kind = kind; style = style; estimate = sized kind children }) children beside
 
   again : (t : Forest RenderNode) (es : List (Entry RenderNode)) → map blank es ≡ map blank (flatten t) → Again t es
   again none [] h = record { forest = none; is = refl; long = refl; same = refl }
@@ -138,11 +154,11 @@ module _ {D A : Type 0} (decoration : Decoration D A) (decorator : D) (min_wrap_
       ∙ ap (λ l. map blank (flatten children) ++ l) (blank-after beside)
       ∙ sym (map-append blank (flatten children) (flatten beside)))
       ∙ ap (λ k. blank (record { node = n; size = k + 1 }) ∷ map blank (flatten children ++ flatten beside))
-      (length-after decoration decorator min_wrap_width false children)
+      (length-after unsized children)
 
   -- nodes of which those from one place on are measured without sizes
   pub stopped : (t : Forest RenderNode) (now : List (Entry RenderNode)) (at : ℕ) →
-      Measuring decoration decorator min_wrap_width false t now at → MeasuresAs decoration decorator min_wrap_width t now
+      Measuring unsized t now at → MeasuresAs decoration decorator min_wrap_width t now
   stopped t now at w =
       let same : map blank now ≡ map blank (flatten t) =
       ap (map blank) (sym (take-append-drop at now)) ∙ map-append blank (take at now) (drop at now)
@@ -158,8 +174,8 @@ module _ {D A : Type 0} (decoration : Decoration D A) (decorator : D) (min_wrap_
 
   -- the node before them is a table
   pub stopped_at_table : (t : Forest RenderNode) (now : List (Entry RenderNode)) (at : ℕ) (e : Entry RenderNode) →
-      Found decoration decorator min_wrap_width false t now at e → is_table e.node.kind ≡ true → has_table t ≡ true
-  stopped_at_table t now at e f table = found_table t at e (drop (at + 1) (flatten t)) f.entry table
+      Found unsized t now at e → is_table e.node.kind ≡ true → has_table (with_sizes t) ≡ true
+  stopped_at_table t now at e f table = tables-measured decoration decorator min_wrap_width t ∙ found_table t at e (drop (at + 1) (flatten t)) f.entry table
 
   tables-after : (t : Forest RenderNode) → has_table (without t) ≡ has_table t
   tables-after none = refl
@@ -167,25 +183,56 @@ module _ {D A : Type 0} (decoration : Decoration D A) (decorator : D) (min_wrap_
       ap (λ b. is_table n.kind || (b || has_table (without beside))) (tables-after children)
       ∙ ap (λ b. is_table n.kind || (has_table children || b)) (tables-after beside)
 
+  -- where no node is a table, the first pass leaves the sizes out of the measured trees
+  leasts-same : (t : Forest RenderNode) → greatest_least (without_sizes t) ≡ greatest_least t
+  leasts-same none = refl
+  leasts-same (node n children beside) = ap (max n.estimate.least) (leasts-same beside)
+
+  trees-same : (t : Forest RenderNode) → trees (without_sizes t) ≡ trees t
+  trees-same none = refl
+  trees-same (node n children beside) = ap (λ k. k + 1) (trees-same beside)
+
+  unsized-same : (kind : NodeKind) (t : Forest RenderNode) → is_table kind ≡ false → unsized kind (without_sizes t) ≡ unsized kind t
+  unsized-same (Table grid) t plain = absurd (true≢false plain)
+  unsized-same (Text text) t plain = refl
+  unsized-same Break t plain = refl
+  unsized-same (Image image) t plain = refl
+  unsized-same (Svg title) t plain = refl
+  unsized-same (FragmentStart name) t plain = refl
+  unsized-same kind t plain = cc (leasts-same t, trees-same t)
+
+  after_unsized : (t : Forest RenderNode) → has_table t ≡ false → without t ≡ without_sizes (with_sizes t)
+  after_unsized none plain = refl
+  after_unsized (node n children beside) plain =
+      let front = or_parts (is_table n.kind) (has_table children || has_table beside) plain in
+      let rest = or_parts (has_table children) (has_table beside) front.1 in
+      let below = without_sizes (with_sizes children) in
+      ap (λ f. node (record n { estimate = unsized n.kind f }) f (without beside)) (after_unsized children rest.0)
+      ∙ ap (node (record n { estimate = unsized n.kind below }) below) (after_unsized beside rest.1)
+      ∙ ap (λ e. node (record n { estimate = e }) below (without_sizes (with_sizes beside)))
+      (unsized-same n.kind (with_sizes children) front.0)
+
   -- all nodes are measured without sizes, and none is a table
   pub record AllPlain (t : Forest RenderNode) (now : List (Entry RenderNode)) : Type 0 where
-    pub plain : has_table t ≡ false
-    pub is : now ≡ flatten (without t)
+    pub plain : has_table (with_sizes t) ≡ false
+    pub is : now ≡ flatten (without_sizes (with_sizes t))
 
   pub all_plain : (t : Forest RenderNode) (now : List (Entry RenderNode)) (at : ℕ) →
-      Measuring decoration decorator min_wrap_width false t now at → any_table (drop at now) ≡ false → at ≡ 0 → AllPlain t now
-  all_plain t now at w plain zero_at =
-      let now_is : now ≡ flatten (without t) = Measuring-done decoration decorator min_wrap_width false t now at w zero_at in
+      Measuring unsized t now at → any_table (drop at now) ≡ false → at ≡ 0 → AllPlain t now
+  all_plain t now at w none_is zero_at =
+      let now_is : now ≡ flatten (without t) = Measuring-done unsized t now at w zero_at in
+      let plain : has_table t ≡ false =
+      sym (tables-after t) ∙ sym (any_table-flatten (without t)) ∙ ap any_table (sym now_is)
+      ∙ ap (λ n. any_table (drop n now)) (sym zero_at) ∙ none_is in
       record {
-        plain = sym (tables-after t) ∙ sym (any_table-flatten (without t)) ∙ ap any_table (sym now_is)
-            ∙ ap (λ n. any_table (drop n now)) (sym zero_at) ∙ plain;
-        is = now_is;
+        plain = tables-measured decoration decorator min_wrap_width t ∙ plain;
+        is = now_is ∙ ap flatten (after_unsized t plain);
       }
 
   -- ---- the whole tree
 
   abbrev all_measured : Forest RenderNode → Forest RenderNode
-  all_measured t = measured decoration decorator min_wrap_width t
+  all_measured t = with_needed_sizes (with_sizes t)
 
   pub done : (t : Forest RenderNode) (old es : List (Entry RenderNode)) → old ≡ flatten t → es ≡ flatten (all_measured (forest_of old)) →
       IsForest es (all_measured t)

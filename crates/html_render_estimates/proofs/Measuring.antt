@@ -1,5 +1,5 @@
 -- What measuring from the last node to the first keeps true.
-use Rattle.std.proofs.Common.{◌≡◌, ◌⊎◌, ltb, Bool, cond, ℕ, ◌+◌, ◌-◌, ◌<◌, ◌≤◌, max, List, [], ◌∷◌, ◌++◌, length, take, drop, set, get_or}
+use Rattle.std.proofs.Common.{◌≡◌, ◌⊎◌, ltb, ℕ, ◌+◌, ◌-◌, ◌<◌, ◌≤◌, max, List, [], ◌∷◌, ◌++◌, length, take, drop, set, get_or}
 use Rattle.std.proofs.Common.{zero, suc, refl, sym, ap, ◌∙◌, subst, arith}
 use Rattle.std.proofs.Common.{append_assoc, length-append, length-drop, length-set, inl, inr}
 use Rattle.std.proofs.lemmas.List.{drop-append-le, drop-drop, drop-set, take-set-le, take-take, drop_more}
@@ -7,14 +7,13 @@ use Rattle.std.proofs.lemmas.List.{get_or-take, get_or-drop, get_or_default}
 use Rattle.std.proofs.Math.Seq.{take-append_seam, drop-append_seam, drop-length}
 use Rattle.std.proofs.lemmas.Bool.{cases_Bool, ltb-true, ltb-false}
 use Rattle.html_render_values.specs.Forest.{Forest, none, node, followed_by}
-use Rattle.html_render_parts.specs.Decoration.{Decoration}
 use Rattle.html_render_nodes.specs.declared.tree.Entry.{Entry}
 use Rattle.html_render_nodes.specs.declared.tree.Estimate.{Estimate}
 use Rattle.html_render_nodes.specs.declared.tree.NodeKind.{NodeKind}
 use Rattle.html_render_nodes.specs.declared.tree.RenderNode.{RenderNode}
 use Rattle.html_render_nodes.specs.Preorder.{flatten, forest_of}
 use Rattle.html_render_nodes.specs.laws.Preorder.{forest_of-flatten, flatten-followed_by, IsForest, IsForest-flatten}
-use Rattle.html_render_estimates.specs.Estimates.{trees, greatest_least, estimate_of, sized_estimate_of, measured_as}
+use Rattle.html_render_estimates.specs.Estimates.{trees, greatest_least}
 
 -- ---- the trees beside each other, one after the other
 
@@ -112,18 +111,16 @@ node_at (node k children beside) (suc i) h =
 
 -- ---- nodes that are measured from the last to the first
 
-module _ {D A : Type 0} (decoration : Decoration D A) (decorator : D) (min_wrap_width : ℕ) (sized : Bool) where
-  abbrev pub estimate_as : NodeKind → (children : Forest RenderNode) → Estimate
-  estimate_as kind children =
-      cond sized (sized_estimate_of decoration decorator min_wrap_width kind children) (estimate_of decoration decorator min_wrap_width kind children)
-
+-- each node is given what this answers of its measured children
+module _ (estimate_by : NodeKind → (children : Forest RenderNode) → Estimate) where
   abbrev pub after : Forest RenderNode → Forest RenderNode
-  after t = measured_as decoration decorator min_wrap_width sized t
+  after none = none
+  after (node n children beside) = node (record n { estimate = estimate_by n.kind (after children) }) (after children) (after beside)
 
   after-followed_by : (t u : Forest RenderNode) → after (followed_by t u) ≡ followed_by (after t) (after u)
   after-followed_by none u = refl
   after-followed_by (node n children beside) u =
-      ap (λ f. node (record n { estimate = estimate_as n.kind (after children) }) (after children) f)
+      ap (λ f. node (record n { estimate = estimate_by n.kind (after children) }) (after children) f)
       (after-followed_by beside u)
 
   pub length-after : (t : Forest RenderNode) → length (flatten (after t)) ≡ length (flatten t)
@@ -153,7 +150,7 @@ module _ {D A : Type 0} (decoration : Decoration D A) (decorator : D) (min_wrap_
     pub end : at + e.size ≤ length now
     pub entry : drop at (flatten t) ≡ e ∷ drop (at + 1) (flatten t)
     pub under : take (e.size - 1) (drop (at + 1) now) ≡ flatten (after children)
-    pub next : (m : Estimate) → m ≡ estimate_as e.node.kind (after children) →
+    pub next : (m : Estimate) → m ≡ estimate_by e.node.kind (after children) →
         Measuring t (set now at (record e { node = record e.node { estimate = m } })) at
 
   pub Measuring-start : (t : Forest RenderNode) (now : List (Entry RenderNode)) (at : ℕ) → now ≡ flatten t →
@@ -218,7 +215,7 @@ module _ {D A : Type 0} (decoration : Decoration D A) (decorator : D) (min_wrap_
         under = ap (λ n. take n (drop (before + 1) now)) less ∙ ap (take (length (flatten (after s.children)))) filled
             ∙ take-append_seam (flatten (after s.children)) (flatten (after s.beside));
         next = λ m is_estimate. (let x : Entry RenderNode = record e { node = record e.node { estimate = m } } in
-            let its : Estimate = estimate_as s.top.kind (after s.children) in
+            let its : Estimate = estimate_by s.top.kind (after s.children) in
             let node_is : x ≡ record { node = record s.top { estimate = its }; size = length (flatten (after s.children)) + 1 } =
             cc (is_estimate, same, size) in
             record {
@@ -247,11 +244,11 @@ module _ {D A : Type 0} (decoration : Decoration D A) (decorator : D) (min_wrap_
   -- the node x at the place, with the estimate of the node that was found there
   pub Found-next : (t : Forest RenderNode) (now all : List (Entry RenderNode)) (at n : ℕ) (e x : Entry RenderNode) (m : Estimate)
       (f : Found t now at e) → all ≡ now → n ≡ e.size - 1 →
-      m ≡ estimate_as e.node.kind (forest_of (take n (drop (at + 1) all))) →
+      m ≡ estimate_by e.node.kind (forest_of (take n (drop (at + 1) all))) →
       e ≡ get_or all at e → x ≡ get_or now at x → Measuring t (set now at (record x { node = record x.node { estimate = m } })) at
   Found-next t now all at n e x m f same less is_estimate is_e is_x =
       let there : e ≡ x =
       is_e ∙ ap (λ l. get_or l at e) same ∙ get_or_default now at e x (omega (arith, f.end, f.size)) ∙ sym is_x in
       subst (λ (y : Entry RenderNode). Measuring t (set now at (record y { node = record y.node { estimate = m } })) at) there
       (f.next m (is_estimate
-      ∙ ap (estimate_as e.node.kind) (Found-part t now all at n e f same less).is))
+      ∙ ap (estimate_by e.node.kind) (Found-part t now all at n e f same less).is))

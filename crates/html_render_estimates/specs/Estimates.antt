@@ -1,5 +1,5 @@
 -- What each node of a forest measures, from its kind and what its children measure.
-use Rattle.std.specs.Prelude.{ℕ, pos, ◌+◌, ◌-◌, ◌*◌, ◌/◌, ◌+ℤ◌, ◌-ℤ◌, max, min, ℤ, List, sum_by, Bool, true, false, ◌||◌, if◌then◌else◌}
+use Rattle.std.specs.Prelude.{ℕ, pos, ◌+◌, ◌-◌, ◌*◌, ◌/◌, ◌+ℤ◌, ◌-ℤ◌, max, min, ℤ, List, sum_by, if◌then◌else◌}
 use Rattle.std.specs.Int.{saturate_signed, w64}
 use Rattle.std.specs.Str.{chars}
 use Rattle.html_render_values.specs.Forest.{Forest, none, node}
@@ -29,15 +29,6 @@ greatest_least (node n children beside) = max n.estimate.least (greatest_least b
 abbrev pub total_size : Forest RenderNode → ℕ
 total_size none = 0
 total_size (node n children beside) = saturated (n.estimate.size + total_size beside)
-
--- whether one of their nodes is a table
-abbrev pub is_table : NodeKind → Bool
-is_table (Table grid) = true
-is_table kind = false
-
-abbrev pub has_table : Forest RenderNode → Bool
-has_table none = false
-has_table (node n children beside) = is_table n.kind || (has_table children || has_table beside)
 
 -- THE SIZE OF A TABLE: each column of a cell has an equal part of its size, rounded down, and a column's size is that of all its
 -- parts; one column of text stands between any two columns
@@ -70,16 +61,6 @@ prefix_columns text = saturated (text_columns (chars text))
 abbrev pub last_number : ℤ → (items : ℕ) → ℤ
 last_number first items = saturate_signed w64 (first +ℤ pos items -ℤ pos 1)
 
--- the size of a node whose children have this size, with this prefix; a link has five columns for what stands round it
-abbrev pub node_size : NodeKind → (below prefix : ℕ) → ℕ
-node_size (Text text) below prefix = text_size text
-node_size Break below prefix = 1
-node_size (Image image) below prefix = image_size image.title
-node_size (Svg title) below prefix = text_size title
-node_size (FragmentStart name) below prefix = 0
-node_size (Link target) below prefix = saturated (below + 5)
-node_size kind below prefix = saturated (below + prefix)
-
 module _ {D A : Type 0} (decoration : Decoration D A) (decorator : D) where
   -- the columns of what stands before the lines of a node with so many children
   abbrev pub prefix_of : NodeKind → (children : ℕ) → ℕ
@@ -95,35 +76,29 @@ module _ {D A : Type 0} (decoration : Decoration D A) (decorator : D) where
   module _ (min_wrap_width : ℕ) where
     -- the estimate of what is written in one piece, of this size
     abbrev pub piece : (size : ℕ) → Estimate
-    piece size = record { least = min size min_wrap_width; size = 0; prefix = 0; children = 0 }
+    piece size = record { least = min size min_wrap_width; size = size; prefix = 0; children = 0 }
 
-    -- THE ESTIMATE of a node over its measured children, where nothing asks for sizes
+    -- THE ESTIMATE of a node over its measured children: a link has five columns for what stands round it
     abbrev pub estimate_of : NodeKind → (children : Forest RenderNode) → Estimate
     estimate_of (Text text) children = piece (text_size text)
-    estimate_of Break children = record { least = 1; size = 0; prefix = 0; children = 0 }
+    estimate_of Break children = record { least = 1; size = 1; prefix = 0; children = 0 }
     estimate_of (Image image) children = piece (image_size image.title)
     estimate_of (Svg title) children = piece (text_size title)
     estimate_of (FragmentStart name) children = record { least = 0; size = 0; prefix = 0; children = 0 }
-    estimate_of (Link target) children = record { least = max (greatest_least children) 5; size = 0; prefix = 0; children = trees children }
+    estimate_of (Link target) children =
+        record { least = max (greatest_least children) 5; size = saturated (total_size children + 5); prefix = 0; children = trees children }
+    estimate_of (Table grid) children = table_estimate grid.columns (cell_needs children) (trees children)
     estimate_of kind children =
         let prefix = prefix_of kind (trees children) in
-        record { least = saturated (greatest_least children + prefix); size = 0; prefix = prefix; children = trees children }
-
-    -- AND WITH ITS SIZE, as a tree with a table asks for it
-    abbrev pub sized_estimate_of : NodeKind → (children : Forest RenderNode) → Estimate
-    sized_estimate_of (Table grid) children = table_estimate grid.columns (cell_needs children) (trees children)
-    sized_estimate_of kind children =
-        let e = estimate_of kind children in
-        record { least = e.least; size = node_size kind (total_size children) e.prefix; prefix = e.prefix; children = e.children }
-
-    -- the trees, each node with its estimate; sized says that sizes are asked for
-    abbrev pub measured_as : (sized : Bool) → Forest RenderNode → Forest RenderNode
-    measured_as sized none = none
-    measured_as sized (node n children beside) =
-        let below = measured_as sized children in
-        let e = if sized then sized_estimate_of n.kind below else estimate_of n.kind below in
-        node (record n { estimate = e }) below (measured_as sized beside)
+        record {
+          least = saturated (greatest_least children + prefix);
+          size = saturated (total_size children + prefix);
+          prefix = prefix;
+          children = trees children;
+        }
 
     -- THE MEASURED TREES: each node with its estimate
     abbrev pub measured : Forest RenderNode → Forest RenderNode
-    measured t = measured_as (has_table t) t
+    measured none = none
+    measured (node n children beside) =
+        let below = measured children in node (record n { estimate = estimate_of n.kind below }) below (measured beside)

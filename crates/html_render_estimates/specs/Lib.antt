@@ -2,9 +2,9 @@
 pub mod TextSize
 -- the cells of a table
 pub mod Cells
--- THE DEFINITION of estimates, and of sizes beside them
+-- THE DEFINITION of estimates
 pub mod Estimates
--- what measuring twice keeps
+-- what the passes of the code compute
 pub mod Passes
 -- what follows from the definitions
 pub mod laws

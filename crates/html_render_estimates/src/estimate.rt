@@ -6,12 +6,12 @@
 ghost use Rattle.std.specs.Prelude.{◌≡◌, max, min, true, false, IfOk, IfErr, OnOk, MatchBool};
 ghost use Rattle.html_render_nodes.specs.Preorder.{flatten, forest_of};
 ghost use Rattle.html_render_estimates.specs.Estimates.{trees, greatest_least, image_size, prefix_of, last_number};
-ghost use Rattle.html_render_estimates.specs.Estimates.{estimate_of, sized_estimate_of, is_table, has_table, measured_as, measured};
-ghost use Rattle.html_render_estimates.specs.Passes.{MeasuresAs};
+ghost use Rattle.html_render_estimates.specs.Estimates.{estimate_of, measured};
+ghost use Rattle.html_render_estimates.specs.Passes.{is_table, has_table, without_size, without_sizes, with_needed_sizes, MeasuresAs};
 
-use crate::sized::{node_size, table_estimate};
+use crate::sized::{table_estimate, total_size};
 use crate::text::{columns, size_within};
-use html_render_nodes::tree::{Entry, Estimate, Flat, NodeKind, RenderNode, RenderTree};
+use html_render_nodes::tree::{Entry, Estimate, Flat, NodeKind, RenderNode};
 use html_render_parts::decorate::TextDecorator;
 use html_render_values::Error;
 use std::alloc::Global;
@@ -148,7 +148,7 @@ fn link_estimate(below: &[Entry<RenderNode>]) -> Estimate
     }
 }
 
-/// The estimate of a node over measured ones.
+/// The estimate of a node that isn't a table over measured ones, without its size.
 #[inline]
 fn estimate_of<D: TextDecorator>(
     alloc: Global,
@@ -158,7 +158,8 @@ fn estimate_of<D: TextDecorator>(
     below: &[Entry<RenderNode>],
 ) -> Result<Estimate, Error>
     requires { flatten (forest_of below.now) ≡ below.now }
-    ensures ok { IfOk result (λ e. e ≡ estimate_of D.decoration decorator.now min_wrap_width kind.now (forest_of below.now)) }
+    ensures ok { IfOk result (λ e. is_table kind.now ≡ false →
+        e ≡ without_size (estimate_of D.decoration decorator.now min_wrap_width kind.now (forest_of below.now))) }
     ensures err { IfErr result (λ e. e ≡ Error.OutOfMemory) }
 {
     match kind {
@@ -186,7 +187,7 @@ fn estimate_of<D: TextDecorator>(
     }
 }
 
-/// The estimate of a node over measured ones that have their sizes, with its own.
+/// The estimate of a node over measured ones that have their sizes.
 fn sized_estimate_of<D: TextDecorator>(
     alloc: Global,
     decorator: &D,
@@ -195,17 +196,22 @@ fn sized_estimate_of<D: TextDecorator>(
     below: &[Entry<RenderNode>],
 ) -> Result<Estimate, Error>
     requires { flatten (forest_of below.now) ≡ below.now }
-    ensures ok { IfOk result (λ e. e ≡ sized_estimate_of D.decoration decorator.now min_wrap_width kind.now (forest_of below.now)) }
+    ensures ok { IfOk result (λ e. e ≡ estimate_of D.decoration decorator.now min_wrap_width kind.now (forest_of below.now)) }
     ensures err { IfErr result (λ e. e ≡ Error.OutOfMemory) }
 {
     if let NodeKind::Table(grid) = kind {
         return table_estimate(alloc, grid.columns(), below);
     }
     let estimate = estimate_of(alloc, decorator, min_wrap_width, kind, below)?;
-    Ok(Estimate {
-        size: node_size(kind, below, estimate.prefix),
-        ..estimate
-    })
+    let size = match kind {
+        NodeKind::Text(text) | NodeKind::Svg(text) => size_within(text.as_str(), usize::MAX),
+        NodeKind::Break => 1,
+        NodeKind::Image(image) => image_size_within(image.title().as_str(), usize::MAX),
+        NodeKind::FragmentStart(_) => 0,
+        NodeKind::Link(_) => total_size(below).saturating_add(5),
+        _ => total_size(below).saturating_add(estimate.prefix),
+    };
+    Ok(Estimate { size, ..estimate })
 }
 
 /// Whether a node is a table.
@@ -226,9 +232,9 @@ fn measure_without_sizes<D: TextDecorator>(
 ) -> Result<bool, Error>
     requires { flatten (forest_of entries.old.items) ≡ entries.old.items }
     ensures ok { IfOk result (λ all. MatchBool all
-        ((has_table (forest_of entries.old.items) ≡ false)
-        × (entries.new.items ≡ flatten (measured_as D.decoration decorator.now min_wrap_width false (forest_of entries.old.items))))
-        ((has_table (forest_of entries.old.items) ≡ true)
+        ((has_table (measured D.decoration decorator.now min_wrap_width (forest_of entries.old.items)) ≡ false)
+        × (entries.new.items ≡ flatten (without_sizes (measured D.decoration decorator.now min_wrap_width (forest_of entries.old.items)))))
+        ((has_table (measured D.decoration decorator.now min_wrap_width (forest_of entries.old.items)) ≡ true)
         × MeasuresAs D.decoration decorator.now min_wrap_width (forest_of entries.old.items) entries.new.items)) }
     ensures err { IfErr result (λ e. e ≡ Error.OutOfMemory) }
 {
@@ -255,7 +261,7 @@ fn measure_with_sizes<D: TextDecorator>(
     entries: &mut Vec<Entry<RenderNode>>,
 ) -> Result<(), Error>
     requires { flatten (forest_of entries.old.items) ≡ entries.old.items }
-    ensures ok { OnOk result (entries.new.items ≡ flatten (measured_as D.decoration decorator.now min_wrap_width true (forest_of entries.old.items))) }
+    ensures ok { OnOk result (entries.new.items ≡ flatten (measured D.decoration decorator.now min_wrap_width (forest_of entries.old.items))) }
     ensures err { IfErr result (λ e. e ≡ Error.OutOfMemory) }
 {
     let mut at = entries.len();
@@ -284,7 +290,8 @@ fn measure_nodes<D: TextDecorator>(
     entries: &mut Vec<Entry<RenderNode>>,
 ) -> Result<(), Error>
     requires { flatten (forest_of entries.old.items) ≡ entries.old.items }
-    ensures ok { OnOk result (entries.new.items ≡ flatten (measured D.decoration decorator.now min_wrap_width (forest_of entries.old.items))) }
+    ensures ok { OnOk result (entries.new.items
+        ≡ flatten (with_needed_sizes (measured D.decoration decorator.now min_wrap_width (forest_of entries.old.items)))) }
     ensures err { IfErr result (λ e. e ≡ Error.OutOfMemory) }
 {
     if measure_without_sizes(alloc, decorator, min_wrap_width, entries)? {
@@ -293,7 +300,7 @@ fn measure_nodes<D: TextDecorator>(
     measure_with_sizes(alloc, decorator, min_wrap_width, entries)
 }
 
-/// The tree with each node's estimate. Its size is 0, unless the tree has a table.
+/// The tree with each node's estimate. Without a table in the tree its size is left out, as 0.
 ///
 /// # Errors
 ///
@@ -302,12 +309,12 @@ pub fn measure<D: TextDecorator>(
     alloc: Global,
     decorator: &D,
     min_wrap_width: usize,
-    tree: RenderTree,
-) -> Result<RenderTree, Error>
-    ensures ok { IfOk result (λ t. t ≡ measured D.decoration decorator.now min_wrap_width tree) }
+    tree: Flat<RenderNode>,
+) -> Result<Flat<RenderNode>, Error>
+    ensures ok { IfOk result (λ t. t ≡ with_needed_sizes (measured D.decoration decorator.now min_wrap_width tree)) }
     ensures err { IfErr result (λ e. e ≡ Error.OutOfMemory) }
 {
-    let mut entries = tree.into_nodes().into_entries();
+    let mut entries = tree.into_entries();
     measure_nodes(alloc, decorator, min_wrap_width, &mut entries)?;
-    Ok(RenderTree::from(Flat::from_entries(entries)))
+    Ok(Flat::from_entries(entries))
 }

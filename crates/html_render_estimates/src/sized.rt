@@ -1,23 +1,22 @@
-//! The sizes of nodes, and the estimates of tables, which stand on them.
+//! The sizes of trees, and the estimates of tables, which stand on them.
 
 ghost use Rattle.std.specs.Prelude.{◌≡◌, ◌*◌, ◌/◌, sum_by, IfOk, IfErr};
 ghost use Rattle.html_render_parts.specs.Needs.{AreSome};
 ghost use Rattle.html_render_nodes.specs.Preorder.{flatten, forest_of};
 ghost use Rattle.html_render_estimates.specs.TextSize.{saturated};
 ghost use Rattle.html_render_estimates.specs.Cells.{cell_needs};
-ghost use Rattle.html_render_estimates.specs.Estimates.{trees, total_size, node_size, table_estimate};
+ghost use Rattle.html_render_estimates.specs.Estimates.{trees, total_size, table_estimate};
 
 use crate::cells::cell_needs;
-use crate::estimate::{children_of, image_size_within};
-use crate::text::size_within;
+use crate::estimate::children_of;
 use crate::trees::first_tree;
-use html_render_nodes::tree::{Entry, Estimate, NodeKind, RenderNode};
+use html_render_nodes::tree::{Entry, Estimate, RenderNode};
 use html_render_parts::widths::{CellNeed, ColumnNeed, are_cells, column_needs};
 use html_render_values::Error;
 use std::alloc::Global;
 
 /// The sizes of trees together.
-fn total_size(trees: &[Entry<RenderNode>]) -> usize
+pub(crate) fn total_size(trees: &[Entry<RenderNode>]) -> usize
     requires { flatten (forest_of trees.now) ≡ trees.now }
     ensures { result ≡ total_size (forest_of trees.now) }
 {
@@ -28,21 +27,6 @@ fn total_size(trees: &[Entry<RenderNode>]) -> usize
         rest = first.beside;
     }
     size
-}
-
-/// The size of a node that isn't a table, over measured ones, with this prefix.
-pub fn node_size(kind: &NodeKind, below: &[Entry<RenderNode>], prefix: usize) -> usize
-    requires { flatten (forest_of below.now) ≡ below.now }
-    ensures { result ≡ node_size kind.now (total_size (forest_of below.now)) prefix }
-{
-    match kind {
-        NodeKind::Text(text) | NodeKind::Svg(text) => size_within(text.as_str(), usize::MAX),
-        NodeKind::Break => 1,
-        NodeKind::Image(image) => image_size_within(image.title().as_str(), usize::MAX),
-        NodeKind::FragmentStart(_) => 0,
-        NodeKind::Link(_) => total_size(below).saturating_add(5),
-        _ => total_size(below).saturating_add(prefix),
-    }
 }
 
 /// The sizes of cells together, each as many columns as its columns have of it, in equal parts that are rounded down.

@@ -1,3 +1,4 @@
 mod Apart
-mod OwnTexts
+mod OwnNodes
 mod Rendered
+mod Sayings

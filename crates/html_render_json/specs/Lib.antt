@@ -1,4 +1,5 @@
 pub mod Refusals
 pub mod Service
-pub mod OwnText
+pub mod Said
+pub mod Built
 pub mod Documents

@@ -1,10 +1,12 @@
 //! Documents in JSON, and the calls that build them.
 
-ghost use Rattle.std.specs.Prelude.{◌≡◌, ◌≤◌, OnOk, string_bytes};
+ghost use Rattle.std.specs.Prelude.{◌≡◌, ◌≤◌, [], ◌∷◌, IfOk, OnOk, string_bytes};
 ghost use Rattle.std.specs.Option.{is_some};
-ghost use Rattle.html_render_dom.specs.Dom.{IsNode, node_count};
+ghost use Rattle.html_render_dom.specs.Content.{comment, doctype, instruction, text};
+ghost use Rattle.html_render_dom.specs.Dom.{HaveTrees, IsNode, node_count};
 ghost use Rattle.html_render_dom.specs.Edits.{last_text};
-ghost use Rattle.html_render_json.specs.OwnText.{HasOwnText};
+ghost use Rattle.html_render_json.specs.Built.{HasOwn, HasSaid};
+ghost use Rattle.html_render_json.specs.Said.{document_tree, said};
 
 use crate::answers::{Refusal, answered};
 use crate::reading::{Members, Readable, list, once, read_members, tag};
@@ -116,19 +118,24 @@ fn ends_in_text(dom: &RcDom, node: Handle) -> bool
 
 /// Puts a text behind a node's last child, as a node of its own. What would join another text is made below a comment
 /// that hangs nowhere, and moved from there.
-fn append_text(alloc: Global, dom: &mut RcDom, parent: Handle, text: String) -> Result<(), Refusal>
+fn append_text(
+    alloc: Global,
+    dom: &mut RcDom,
+    parent: Handle,
+    contents: String,
+) -> Result<(), Refusal>
     requires { IsNode dom.old parent }
-    ensures own { OnOk result (HasOwnText dom.old dom.new parent (string_bytes text)) }
+    ensures own { OnOk result (HasOwn dom.old dom.new parent (text (string_bytes contents))) }
     ensures grows { OnOk result (node_count dom.old ≤ node_count dom.new) }
 {
     if !ends_in_text(dom, parent) {
-        dom.append(alloc, parent, NodeOrText::AppendText(text))?;
+        dom.append(alloc, parent, NodeOrText::AppendText(contents))?;
         return Ok(());
     }
     // the document is named so that the proof can read that the nodes are a forest
     let _ = dom.get_document();
     let apart = dom.create_comment(alloc, String::new(alloc))?;
-    dom.append(alloc, apart, NodeOrText::AppendText(text))?;
+    dom.append(alloc, apart, NodeOrText::AppendText(contents))?;
     dom.reparent_children(alloc, apart, parent)?;
     Ok(())
 }
@@ -141,6 +148,7 @@ fn append_comment(
     contents: String,
 ) -> Result<(), Refusal>
     requires { IsNode dom.old parent }
+    ensures own { OnOk result (HasOwn dom.old dom.new parent (comment (string_bytes contents))) }
     ensures grows { OnOk result (node_count dom.old ≤ node_count dom.new) }
 {
     let comment = dom.create_comment(alloc, contents)?;
@@ -151,6 +159,7 @@ fn append_comment(
 /// Puts a processing instruction behind a node's last child.
 fn append_instruction(alloc: Global, dom: &mut RcDom, parent: Handle) -> Result<(), Refusal>
     requires { IsNode dom.old parent }
+    ensures own { OnOk result (HasOwn dom.old dom.new parent (instruction [] [])) }
     ensures grows { OnOk result (node_count dom.old ≤ node_count dom.new) }
 {
     let made = dom.create_pi(alloc, String::new(alloc), String::new(alloc))?;
@@ -160,8 +169,11 @@ fn append_instruction(alloc: Global, dom: &mut RcDom, parent: Handle) -> Result<
 
 /// Puts a document type behind the document's last child.
 fn append_doctype(alloc: Global, dom: &mut RcDom, name: String) -> Result<(), Refusal>
+    ensures own { OnOk result (HasOwn dom.old dom.new 0 (doctype (string_bytes name) [] [])) }
     ensures grows { OnOk result (node_count dom.old ≤ node_count dom.new) }
 {
+    // the document is named so that the proof can read that it is a node
+    let _ = dom.get_document();
     dom.append_doctype_to_document(alloc, name, String::new(alloc), String::new(alloc))?;
     Ok(())
 }
@@ -169,6 +181,7 @@ fn append_doctype(alloc: Global, dom: &mut RcDom, name: String) -> Result<(), Re
 /// Puts a node behind another's last child, with all that is below it.
 fn append_node(alloc: Global, dom: &mut RcDom, parent: Handle, node: Node) -> Result<(), Refusal>
     requires { IsNode dom.old parent }
+    ensures said { OnOk result (HasSaid dom.old dom.new parent (said node)) }
     ensures grows { OnOk result (node_count dom.old ≤ node_count dom.new) }
 {
     match node {
@@ -197,7 +210,9 @@ fn append_node(alloc: Global, dom: &mut RcDom, parent: Handle, node: Node) -> Re
 }
 
 /// The DOM of a document.
-pub fn built(alloc: Global, document: Document) -> Result<RcDom, Refusal> {
+pub fn built(alloc: Global, document: Document) -> Result<RcDom, Refusal>
+    ensures { IfOk result (λ dom. HaveTrees dom (0 ∷ []) (document_tree document.children)) }
+{
     let mut dom = RcDom::new(alloc)?;
     let top = dom.get_document();
     let children = document.children.unwrap_or(Vec::new(alloc));

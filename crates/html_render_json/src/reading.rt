@@ -358,7 +358,8 @@ fn replacement<F: Format>(
     if begin_named(alloc, from, &["Replace"])? != 0 {
         return Err(from.unknown_variant());
     }
-    Ok(ImageRenderMode::Replace(Text::new(last(alloc, from)?)))
+    let title: String = last(alloc, from)?;
+    Ok(ImageRenderMode::Replace(Text::from(title)))
 }
 
 /// A mode without a text.

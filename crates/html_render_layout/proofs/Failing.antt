@@ -17,6 +17,8 @@ counts-failed r (Err e) Q h steps inside t s old new c = record {
   entered_at_most = c.entered_at_most;
   left_at_most = c.left_at_most;
   visited_at_most = c.visited_at_most;
+  frames = tt;
   frames_at_most = c.frames_at_most;
+  open_at_most = c.open_at_most;
   probes = c.probes;
 }

@@ -1,6 +1,6 @@
 -- THE DEFINITION of the layout, node kind by node kind.
 use Rattle.std.specs.Prelude.{ℕ, ℤ, pos, ◌+◌, ◌+ℤ◌, ◌-◌, ◌==◌, ◌||◌, ◌&&◌, not, Bool, true, false, List, [], ◌∷◌, ◌++◌, length, map, codes, slice_index_or}
-use Rattle.std.specs.Prelude.{Option, Some, None, option_map, replicate, if◌then◌else◌}
+use Rattle.std.specs.Prelude.{Option, Some, None, replicate, if◌then◌else◌}
 use Rattle.std.specs.Char.{is_ascii_digit}
 use Rattle.std.specs.Fmt.{decimal}
 use Rattle.std.specs.Int.{saturate_signed, w64}
@@ -525,11 +525,6 @@ mark_names {S} {A} d settings t decorator width overflow =
     else shown_after d onto definition.operations definition.ending (λ (s : Defined S A). s.names) (estimated d settings decorator t)
     (empty_state d settings decorator width overflow)
 
-abbrev pub no_tag : {X : Type 0} → X → Unit {0}
-no_tag x = tt
-
 -- the same lines without annotations
-abbrev pub untagged_lines : {S A : Type 0} → Decoration S A → LayoutSettings → Forest RenderNode → S → (width : ℕ) → (overflow : Bool) →
-    Option (List (Line (Unit {0}) ℕ))
-untagged_lines {S} {A} d settings t decorator width overflow =
-    option_map (lines_with (λ (stack : List A). no_tag stack)) (layout_lines d settings t decorator width overflow)
+abbrev pub unannotated : {A : Type 0} → List (Line (List A) ℕ) → List (Line (Unit {0}) ℕ)
+unannotated lines = lines_with (λ stack. tt) lines

@@ -9,3 +9,4 @@ pub mod Opening
 pub mod Working
 -- laws of the definitions
 pub mod laws
+pub mod Promises

@@ -1,6 +1,7 @@
 pub mod Stacks
 pub mod Styles
 pub mod Opening
+pub mod Sizes
 pub mod Ending
 pub mod Representation
 pub mod LayoutKeeps
@@ -8,3 +9,4 @@ pub mod LayoutLaws
 pub mod LayoutWorks
 pub mod LayoutOverflow
 pub mod LayoutVisible
+pub mod Promises

@@ -2,16 +2,16 @@
 //!
 //! `lay_out(alloc, &decorator, tree, 10, false, &mut meter)?` answers the lines of the tree, wrapped to 10 columns.
 
-ghost use Rattle.std.specs.Prelude.{◌≡◌, ◌≢◌, ◌≤◌, ◌<◌, Some, ℕ, true, false, Err, OnOk, OnErr, IfOk, IfErr, IfSome};
+ghost use Rattle.std.specs.Prelude.{◌≡◌, ◌≢◌, ◌≤◌, ◌<◌, Some, ℕ, true, Err, OnOk, OnErr, IfOk, IfErr};
 ghost use Rattle.html_render_values.specs.Outcome.{Refuses};
-ghost use Rattle.html_render_lines.specs.Line.{AllWithinWidth};
 ghost use Rattle.html_render_blocks.specs.BlockMachine as machine;
 ghost use Rattle.html_render_nodes.specs.Counts.{CountsNodes};
-ghost use Rattle.html_render_nodes.specs.Pass.{run, inside_of};
+ghost use Rattle.html_render_nodes.specs.Pass.{inside_of};
 ghost use Rattle.html_render_estimates.specs.Estimates.{measured};
-ghost use Rattle.html_render_layout.specs.Layout.{steps, begin_with, shown_after, Defined, defined, defined_inside, empty_state};
-ghost use Rattle.html_render_layout.specs.Layout.{block_setting, padding, estimated, layout_lines, mark_names, untagged_lines};
-ghost use Rattle.html_render_layout.specs.Kept.{visited_nodes, KeepsTexts};
+ghost use Rattle.html_render_estimates.specs.Passes.{with_needed_sizes};
+ghost use Rattle.html_render_layout.specs.Layout.{steps, begin_with, shown_after, defined, defined_inside, empty_state};
+ghost use Rattle.html_render_layout.specs.Layout.{block_setting, padding, estimated, layout_lines, mark_names, unannotated};
+ghost use Rattle.html_render_layout.specs.Promises.{AreLines, Lines, HasLines, LeavesTexts};
 ghost use Rattle.html_render_layout.specs.Opening.{opened, closed};
 ghost use Rattle.html_render_layout.specs.laws.Opening.{steps-told};
 ghost use Rattle.html_render_layout.specs.Working.{tabled, work_lines, work_names, laid_out, untagged_work};
@@ -24,7 +24,7 @@ use html_render_blocks::block::{Block, BlockSetting};
 use html_render_estimates::estimate::measure;
 use html_render_lines::line::Line;
 use html_render_lines::tag::Tag;
-use html_render_nodes::tree::{Entry, RenderNode, RenderTree};
+use html_render_nodes::tree::{Entry, Flat, RenderNode, RenderTree};
 use html_render_nodes::walk::{Pass, walk};
 use html_render_parts::decorate::TextDecorator;
 use html_render_parts::widths::Meter;
@@ -133,7 +133,7 @@ fn begin_with<D: TextDecorator, G: Tagging<D::Annotation>>(
 #[tactic(auto, using(html_render_values::specs::laws::Outcome::refusals))]
 fn lay_out_into<D: TextDecorator, G: Tagging<D::Annotation>>(
     alloc: Global,
-    tree: &RenderTree,
+    tree: &Flat<RenderNode>,
     state: &mut LayoutState<D, G, G::Tag, Block<G::Tag, usize>>,
     meter: &mut Meter,
 ) -> Result<(), Error>
@@ -146,14 +146,14 @@ fn lay_out_into<D: TextDecorator, G: Tagging<D::Annotation>>(
     let tag = state.text.tag;
     let link_footnotes = state.settings.link_footnotes;
     let wrap_links = state.settings.wrap_links;
-    walk::<Layout<D, G>>(alloc, tree.nodes(), state, meter)?;
+    walk::<Layout<D, G>>(alloc, tree, state, meter)?;
     ending::end(alloc, link_footnotes, wrap_links, tag, state)
 }
 
 /// The state once a tree is laid out and the document is closed.
 fn laid_out_from<D: TextDecorator, G: Tagging<D::Annotation>>(
     alloc: Global,
-    tree: &RenderTree,
+    tree: &Flat<RenderNode>,
     state: LayoutState<D, G, G::Tag, Block<G::Tag, usize>>,
     meter: &mut Meter,
 ) -> Result<LayoutState<D, G, G::Tag, Block<G::Tag, usize>>, Error>
@@ -172,7 +172,7 @@ fn laid_out_from<D: TextDecorator, G: Tagging<D::Annotation>>(
 /// The lines of a tree from a state, with the stacks of their tags.
 fn lines_from<D: TextDecorator>(
     alloc: Global,
-    tree: &RenderTree,
+    tree: &Flat<RenderNode>,
     state: LayoutState<D, Stacks<D::Annotation>, usize, Block<usize, usize>>,
     meter: &mut Meter,
 ) -> Result<LaidOut<D::Annotation>, Error>
@@ -191,18 +191,18 @@ fn lines_from<D: TextDecorator>(
 }
 
 /// A tree with the estimate of each node, whose prefixes are those of a sub-block of this sub-block's decorator. A text needs
-/// so many columns at least, unless its own are fewer.
+/// so many columns at least, unless its own are fewer. Sizes are left out of a tree without a table.
 fn estimated<D: TextDecorator>(
     alloc: Global,
     inner: &D,
     min_wrap_width: usize,
     tree: RenderTree,
-) -> Result<RenderTree, Error>
-    ensures ok { IfOk result (λ t. t ≡ measured D.decoration (D.decoration.subblock inner.now) min_wrap_width tree) }
+) -> Result<Flat<RenderNode>, Error>
+    ensures ok { IfOk result (λ t. t ≡ with_needed_sizes (measured D.decoration (D.decoration.subblock inner.now) min_wrap_width tree)) }
     ensures err { IfErr result (λ e. e ≡ Error.OutOfMemory) }
 {
     let innermost = inner.make_subblock_decorator(alloc)?;
-    measure(alloc, &innermost, min_wrap_width, tree)
+    measure(alloc, &innermost, min_wrap_width, tree.into_nodes())
 }
 
 /// The tag of the spaces that lines are filled with, if they are.
@@ -244,6 +244,7 @@ fn outermost<T: Tag>(
 ///
 /// `TooNarrow`, at width 0, and, without `overflow`, where a character is wider than a line or a prefix leaves too few
 /// columns. `OutOfMemory`.
+#[tactic(auto, using(crate::specs::laws::Promises::lines_there, crate::specs::laws::Promises::texts_left))]
 pub fn lay_out<D: TextDecorator>(
     alloc: Global,
     decorator: &D,
@@ -253,26 +254,18 @@ pub fn lay_out<D: TextDecorator>(
     settings: &LayoutSettings,
     meter: &mut Meter,
 ) -> Result<LaidOut<D::Annotation>, Error>
-    ensures ok { IfOk result (λ lines. layout_lines D.decoration settings.now tree decorator.now width overflow ≡ Some (laid_out lines)) }
+    // the lines are those of the tree, of which each promise holds; want of memory aside, it is too narrow exactly where there are none
+    ensures ok { IfOk result (λ lines. AreLines D.decoration settings.now tree decorator.now width overflow (laid_out lines)) }
     ensures names { IfOk result (λ lines. mark_names D.decoration settings.now tree decorator.now width overflow ≡ Some lines.names) }
     ensures err { IfErr result (λ e. Refuses e (layout_lines D.decoration settings.now tree decorator.now width overflow)) }
 
-    // no line is too wide, where closing lines are cut, and with overflow no width is too small but 0, before anything is
-    // allocated
-    ensures within { IfOk result (λ lines. overflow ≡ false → settings.now.wrap_links ≡ true → AllWithinWidth width (laid_out lines)) }
-    ensures answered { 0 < width → overflow ≡ true → result ≢ Err Error.TooNarrow }
+    // with overflow no width is too small but 0, before anything is allocated
+    ensures wide { 0 < width → overflow ≡ true → result ≢ Err Error.TooNarrow }
     ensures no_width { width ≡ 0 → result ≡ Err Error.TooNarrow }
 
-    // where overflow off gives lines, they are the answer with overflow on too
-    ensures same { IfOk result (λ answer.
-        IfSome (layout_lines D.decoration settings.now tree decorator.now width false) (λ lines. laid_out answer ≡ lines)) }
-
-    // no visible character of the texts that are visited is lost
-    ensures kept { IfOk result (λ lines. KeepsTexts (visited_nodes D.decoration settings.now tree decorator.now width overflow) (laid_out lines)) }
-
-    // a tree that is laid out leaves the texts that follow, with their annotations, and the decorator of any state as they were
-    ensures stacks { (s : Defined D D.Annotation) →
-        IfSome (run (defined D.decoration) (estimated D.decoration settings.now decorator.now tree) s) (λ r. (r.text ≡ s.text) × (r.decorator ≡ s.decorator)) }
+    // what holds of every tree: where there are lines, and what is left as it was
+    ensures there { HasLines D.decoration settings.now tree decorator.now width overflow }
+    ensures stacks { LeavesTexts D.decoration }
 
     // what was counted, where there are lines, and where there are none
     ensures counts { CountsNodes result (defined D.decoration) (defined_inside D.decoration)
@@ -284,7 +277,7 @@ pub fn lay_out<D: TextDecorator>(
     if width == 0 {
         return Err(Error::TooNarrow);
     }
-    let own = settings.try_clone()?;
+    let own = settings.try_clone(alloc)?;
     let inner = decorator.make_subblock_decorator(alloc)?;
     let tree = estimated(alloc, &inner, settings.min_wrap_width, tree)?;
     let block = outermost(alloc, settings, width, overflow, 0);
@@ -295,7 +288,7 @@ pub fn lay_out<D: TextDecorator>(
 /// The lines of a tree from a state without annotations.
 fn untagged_lines_from<D: TextDecorator>(
     alloc: Global,
-    tree: &RenderTree,
+    tree: &Flat<RenderNode>,
     state: LayoutState<D, Untagged, (), Block<(), usize>>,
 ) -> Result<Vec<Line<(), usize>>, Error>
     ensures ok { IfOk result (λ lines. untagged_work D.decoration tree.now state ≡ Some lines.items) }
@@ -314,6 +307,7 @@ fn untagged_lines_from<D: TextDecorator>(
 ///
 /// `TooNarrow`, at width 0, and, without `overflow`, where a character is wider than a line or a prefix leaves too few
 /// columns. `OutOfMemory`.
+#[tactic(auto, using(crate::specs::laws::Promises::lines_there, crate::specs::laws::Promises::texts_left))]
 pub fn lay_out_untagged<D: TextDecorator>(
     alloc: Global,
     decorator: &D,
@@ -322,21 +316,18 @@ pub fn lay_out_untagged<D: TextDecorator>(
     overflow: bool,
     settings: &LayoutSettings,
 ) -> Result<Vec<Line<(), usize>>, Error>
-    ensures ok { IfOk result (λ lines. untagged_lines D.decoration settings.now tree decorator.now width overflow ≡ Some lines.items) }
-    ensures err { IfErr result (λ e. Refuses e (untagged_lines D.decoration settings.now tree decorator.now width overflow)) }
-
     // as for the lines with annotations
-    ensures within { IfOk result (λ lines. overflow ≡ false → settings.now.wrap_links ≡ true → AllWithinWidth width lines.items) }
-    ensures answered { 0 < width → overflow ≡ true → result ≢ Err Error.TooNarrow }
+    ensures ok { IfOk result (λ answer. Lines D.decoration settings.now tree decorator.now width overflow (λ lines. answer.items ≡ unannotated lines)) }
+    ensures err { IfErr result (λ e. Refuses e (layout_lines D.decoration settings.now tree decorator.now width overflow)) }
+    ensures wide { 0 < width → overflow ≡ true → result ≢ Err Error.TooNarrow }
     ensures no_width { width ≡ 0 → result ≡ Err Error.TooNarrow }
-    ensures same { IfOk result (λ answer.
-        IfSome (untagged_lines D.decoration settings.now tree decorator.now width false) (λ lines. answer.items ≡ lines)) }
-    ensures kept { IfOk result (λ lines. KeepsTexts (visited_nodes D.decoration settings.now tree decorator.now width overflow) lines.items) }
+    ensures there { HasLines D.decoration settings.now tree decorator.now width overflow }
+    ensures stacks { LeavesTexts D.decoration }
 {
     if width == 0 {
         return Err(Error::TooNarrow);
     }
-    let own = settings.try_clone()?;
+    let own = settings.try_clone(alloc)?;
     let inner = decorator.make_subblock_decorator(alloc)?;
     let tree = estimated(alloc, &inner, settings.min_wrap_width, tree)?;
     let block = outermost(alloc, settings, width, overflow, ());

@@ -4,6 +4,7 @@ ghost use Rattle.std.specs.Prelude.{◌≡◌, IfOk, IfErr};
 
 use html_render_values::Error;
 use html_render_values::text::Text;
+use std::alloc::Global;
 
 /// What stands in the place of an image whose title is empty.
 #[derive(Clone, Debug, Default, PartialEq, Eq, Drop)]
@@ -25,11 +26,18 @@ impl ImageRenderMode {
     /// # Errors
     ///
     /// `OutOfMemory`.
-    pub fn try_clone(&self) -> Result<ImageRenderMode, Error>
+    pub fn try_clone(&self, alloc: Global) -> Result<ImageRenderMode, Error>
         ensures ok { IfOk result (λ mode. mode ≡ self.now) }
         ensures err { IfErr result (λ e. e ≡ Error.OutOfMemory) }
     {
-        Ok(self.clone()?)
+        Ok(match self {
+            ImageRenderMode::IgnoreEmpty => ImageRenderMode::IgnoreEmpty,
+            ImageRenderMode::ShowAlways => ImageRenderMode::ShowAlways,
+            ImageRenderMode::Replace(title) => {
+                ImageRenderMode::Replace(Text::from_str(alloc, title.as_str())?)
+            }
+            ImageRenderMode::Filename => ImageRenderMode::Filename,
+        })
     }
 }
 
@@ -89,14 +97,14 @@ impl LayoutSettings {
     /// # Errors
     ///
     /// `OutOfMemory`.
-    pub fn try_clone(&self) -> Result<LayoutSettings, Error>
+    pub fn try_clone(&self, alloc: Global) -> Result<LayoutSettings, Error>
         ensures ok { IfOk result (λ settings. settings ≡ self.now) }
         ensures err { IfErr result (λ e. e ≡ Error.OutOfMemory) }
     {
         Ok(LayoutSettings {
             link_footnotes: self.link_footnotes,
             unicode_strikeout: self.unicode_strikeout,
-            empty_images: self.empty_images.try_clone()?,
+            empty_images: self.empty_images.try_clone(alloc)?,
             wrap_links: self.wrap_links,
             pad_block_width: self.pad_block_width,
             max_wrap_width: self.max_wrap_width,

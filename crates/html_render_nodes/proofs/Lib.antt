@@ -1,4 +1,4 @@
 pub mod Building
 pub mod Copies
 pub mod Walking
-mod Dumps
+mod Depths

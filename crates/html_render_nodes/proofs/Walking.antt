@@ -6,17 +6,17 @@ use Rattle.std.proofs.Math.Seq.{take-append_seam, drop-append_seam}
 use Rattle.std.specs.Option.{option_and_then}
 use Rattle.std.specs.Result.{IsErrAnd}
 use Rattle.html_render_values.specs.declared.errors.Error.{Error}
-use Rattle.html_render_values.specs.Forest.{Forest, none, node, depth}
+use Rattle.html_render_values.specs.Forest.{Forest, none, node}
 use Rattle.html_render_values.specs.Outcome.{Refuses}
 use Rattle.html_render_values.specs.laws.Outcome.{Refuses-then, Refuses-same}
 use Rattle.html_render_parts.specs.declared.widths.Meter.{Meter}
 use Rattle.html_render_nodes.specs.Counts.{CountsNodes}
 use Rattle.html_render_nodes.specs.declared.tree.Entry.{Entry}
 use Rattle.html_render_nodes.specs.declared.walk.Frame.{Frame}
-use Rattle.html_render_nodes.specs.Pass.{Steps, Way, Into, Past, run, through, into, inside_of, from, visited}
+use Rattle.html_render_nodes.specs.Pass.{Steps, Way, Into, Past, run, through, into, inside_of, from, count_from, visited, most_open}
 use Rattle.html_render_nodes.specs.Preorder.{flatten}
 use Rattle.html_render_nodes.specs.laws.Preorder.{IsForest, IsForest-flatten}
-use Rattle.html_render_nodes.specs.laws.Visits.{opened-asks, visited-at_most}
+use Rattle.html_render_nodes.specs.laws.Visits.{opened-asks, visited-at_most, most_open-at_most}
 
 -- ---- answers, and counts of what follows one
 
@@ -30,20 +30,15 @@ and_then_some : {A : Type 0} (o : Option A) → option_and_then (λ x. Some x) o
 and_then_some None = refl
 and_then_some (Some x) = refl
 
--- how many follow an answer
-abbrev pub many : {A : Type 0} → (A → ℕ) → Option A → ℕ
-many f None = 0
-many f (Some x) = f x
+count_from-then : {A B : Type 0} (o : Option A) (g : A → Option B) (f : B → ℕ) → count_from f (option_and_then g o) ≡ count_from (λ x. count_from f (g x)) o
+count_from-then None g f = refl
+count_from-then (Some x) g f = refl
 
-many-then : {A B : Type 0} (o : Option A) (g : A → Option B) (f : B → ℕ) → many f (option_and_then g o) ≡ many (λ x. many f (g x)) o
-many-then None g f = refl
-many-then (Some x) g f = refl
+count_from-sum : {A : Type 0} (o : Option A) (f g : A → ℕ) → count_from f o + count_from g o ≡ count_from (λ x. f x + g x) o
+count_from-sum None f g = omega arith
+count_from-sum (Some x) f g = refl
 
-many-sum : {A : Type 0} (o : Option A) (f g : A → ℕ) → many f o + many g o ≡ many (λ x. f x + g x) o
-many-sum None f g = omega arith
-many-sum (Some x) f g = refl
-
-length-from : {K S : Type 0} (f : S → List K) (o : Option S) → length (from f o) ≡ many (λ t. length (f t)) o
+length-from : {K S : Type 0} (f : S → List K) (o : Option S) → length (from f o) ≡ count_from (λ t. length (f t)) o
 length-from f None = refl
 length-from f (Some t) = refl
 
@@ -77,11 +72,6 @@ module _ {K T : Type 0} where
   Ends n at [] = at ≡ n
   Ends n at (x ∷ path) = (x.0.end ≡ at) × Ends n (x.0.end + length (flatten x.1)) path
 
-  -- the most levels that the trees beside the open nodes reach
-  abbrev pub levels : Path K T → ℕ
-  levels [] = 0
-  levels (x ∷ path) = max (length path + depth x.1) (levels path)
-
   length-frames_of : (path : Path K T) → length (frames_of path) ≡ length path
   length-frames_of [] = refl
   length-frames_of (x ∷ path) = omega (arith, length-append (frames_of path) (x.0 ∷ []), length-frames_of path)
@@ -102,11 +92,11 @@ module _ {K S T : Type 0} (d : How K S T) where
   -- how many nodes are visited once the innermost open node's children are over
   abbrev pub later : Path K T → S → ℕ
   later [] s = 0
-  later (x ∷ path) s = many (λ t. length (nodes_visited x.1 t) + many (later path) (run d.steps x.1 t)) (d.closed x.0.kept s)
+  later (x ∷ path) s = count_from (λ t. length (nodes_visited x.1 t) + count_from (later path) (run d.steps x.1 t)) (d.closed x.0.kept s)
 
   -- how many in these trees, and after them
   abbrev pub onward : Path K T → Forest K → S → ℕ
-  onward path rest s = length (nodes_visited rest s) + many (later path) (run d.steps rest s)
+  onward path rest s = length (nodes_visited rest s) + count_from (later path) (run d.steps rest s)
 
   -- the state behind a node that is opened so
   abbrev pub behind : Forest K → Option (Way S T) → Option S
@@ -119,11 +109,31 @@ module _ {K S T : Type 0} (d : How K S T) where
   -- how many nodes are visited below it and after it
   abbrev pub further : Path K T → Forest K → Forest K → Option (Way S T) → ℕ
   further path children beside w =
-      length (from (λ q. nodes_visited children q) (option_and_then into w)) + many (onward path beside) (behind children w)
+      length (from (λ q. nodes_visited children q) (option_and_then into w)) + count_from (onward path beside) (behind children w)
+
+  -- how many nodes are open at once in the trees, at most
+  abbrev pub nodes_open : Forest K → S → ℕ
+  nodes_open t s = most_open d.steps (inside_of d.opened) t s
+
+  -- how many are open at once, those of the path among them, once the innermost open node's children are over
+  abbrev pub later_open : Path K T → S → ℕ
+  later_open [] s = 0
+  later_open (x ∷ path) s =
+      count_from (λ t. max (length path + nodes_open x.1 t) (count_from (later_open path) (run d.steps x.1 t))) (d.closed x.0.kept s)
+
+  -- how many in these trees, and after them
+  abbrev pub onward_open : Path K T → Forest K → S → ℕ
+  onward_open path rest s = max (length path + nodes_open rest s) (count_from (later_open path) (run d.steps rest s))
+
+  -- how many below a node that is opened so, and after it
+  abbrev pub further_open : Path K T → Forest K → Forest K → Option (Way S T) → ℕ
+  further_open path children beside w =
+      max (count_from (λ q. length path + 1 + nodes_open children q) (option_and_then into w))
+      (count_from (onward_open path beside) (behind children w))
 
 -- where the walk stands: at a place among the nodes, with these open, so many entered and so many open at most, in this
--- state; wanted is what comes out, all how many are visited, and deep the most levels
-pub record Walking {K S T : Type 0} (d : How K S T) (nodes : List (Entry K)) (wanted : Option S) (all deep : ℕ) (frames : List (Frame T))
+-- state; wanted is what comes out, all how many are visited, and peak how many are open at once, at most
+pub record Walking {K S T : Type 0} (d : How K S T) (nodes : List (Entry K)) (wanted : Option S) (all peak : ℕ) (frames : List (Frame T))
     (entered most next : ℕ) (s : S) : Type 0 where
   pub rest : Forest K
   pub path : Path K T
@@ -132,16 +142,15 @@ pub record Walking {K S T : Type 0} (d : How K S T) (nodes : List (Entry K)) (wa
   pub ends : Ends (length nodes) (next + length (flatten rest)) path
   pub result : option_and_then (after d path) (run d.steps rest s) ≡ wanted
   pub counted : entered + onward d path rest s ≡ all
-  pub within : most ≤ deep
-  pub here : length path + depth rest ≤ deep
-  pub there : levels path ≤ deep
+  pub few : length path ≤ most
+  pub peaks : max most (onward_open d path rest s) ≡ peak
 
 -- no open node is over here
 abbrev pub NotOver : {T : Type 0} → List (Frame T) → ℕ → Type 0
 NotOver {T} frames next = (below : List (Frame T)) (f : Frame T) → frames ≡ below ++ f ∷ [] → f.end ≢ next
 
 -- what holds where a node is about to be opened
-pub record Opening {K S T : Type 0} (d : How K S T) (nodes : List (Entry K)) (wanted : Option S) (all deep : ℕ) (frames : List (Frame T))
+pub record Opening {K S T : Type 0} (d : How K S T) (nodes : List (Entry K)) (wanted : Option S) (all peak : ℕ) (frames : List (Frame T))
     (entered most next : ℕ) (s : S) (e : Entry K) : Type 0 where
   pub children : Forest K
   pub beside : Forest K
@@ -152,13 +161,11 @@ pub record Opening {K S T : Type 0} (d : How K S T) (nodes : List (Entry K)) (wa
   pub ends : Ends (length nodes) (next + e.size + length (flatten beside)) path
   pub result : beyond d path children beside (d.opened e.node children s) ≡ wanted
   pub counted : entered + (1 + further d path children beside (d.opened e.node children s)) ≡ all
-  pub within : most ≤ deep
-  pub below : length path + 1 + depth children ≤ deep
-  pub here : length path + depth beside ≤ deep
-  pub there : levels path ≤ deep
+  pub few : length path ≤ most
+  pub peaks : max most (further_open d path children beside (d.opened e.node children s)) ≡ peak
 
 -- what holds where a node is about to be closed
-pub record Closing {K S T : Type 0} (d : How K S T) (nodes : List (Entry K)) (wanted : Option S) (all deep : ℕ) (frames : List (Frame T))
+pub record Closing {K S T : Type 0} (d : How K S T) (nodes : List (Entry K)) (wanted : Option S) (all peak : ℕ) (frames : List (Frame T))
     (entered most next : ℕ) (s : S) (l : T) : Type 0 where
   pub rest : Forest K
   pub path : Path K T
@@ -166,20 +173,20 @@ pub record Closing {K S T : Type 0} (d : How K S T) (nodes : List (Entry K)) (wa
   pub ahead : drop next nodes ≡ flatten rest ++ tails path
   pub ends : Ends (length nodes) (next + length (flatten rest)) path
   pub result : option_and_then (λ t. option_and_then (after d path) (run d.steps rest t)) (d.closed l s) ≡ wanted
-  pub counted : entered + many (onward d path rest) (d.closed l s) ≡ all
-  pub within : most ≤ deep
-  pub here : length path + depth rest ≤ deep
-  pub there : levels path ≤ deep
+  pub counted : entered + count_from (onward d path rest) (d.closed l s) ≡ all
+  pub few : length path ≤ most
+  pub peaks : max most (count_from (onward_open d path rest) (d.closed l s)) ≡ peak
 
 -- what holds once all nodes are closed
-pub record Done {S T : Type 0} (wanted : Option S) (all : ℕ) (frames : List (Frame T)) (entered : ℕ) (s : S) : Type 0 where
+pub record Done {S T : Type 0} (wanted : Option S) (all peak : ℕ) (frames : List (Frame T)) (entered most : ℕ) (s : S) : Type 0 where
   pub result : wanted ≡ Some s
   pub empty : frames ≡ []
   pub counted : entered ≡ all
+  pub peaks : most ≡ peak
 
 module _ {K S T : Type 0} (d : How K S T) where
   pub Walking-start : (t : Forest K) (s : S) →
-      Walking d (flatten t) (run d.steps t s) (length (nodes_visited d t s)) (depth t) [] 0 0 0 s
+      Walking d (flatten t) (run d.steps t s) (length (nodes_visited d t s)) (nodes_open d t s) [] 0 0 0 s
   Walking-start t s = record {
     rest = t;
     path = [];
@@ -188,14 +195,17 @@ module _ {K S T : Type 0} (d : How K S T) where
     ends = omega arith;
     result = and_then_some (run d.steps t s);
     counted = none_later (run d.steps t s);
-    within = omega arith;
-    here = omega arith;
-    there = omega arith;
+    few = omega arith;
+    peaks = none_open (run d.steps t s);
   }
     where
-      none_later : (o : Option S) → 0 + (length (nodes_visited d t s) + many (later d []) o) ≡ length (nodes_visited d t s)
+      none_later : (o : Option S) → 0 + (length (nodes_visited d t s) + count_from (later d []) o) ≡ length (nodes_visited d t s)
       none_later None = omega arith
       none_later (Some r) = omega arith
+
+      none_open : (o : Option S) → max 0 (max (0 + nodes_open d t s) (count_from (later_open d []) o)) ≡ nodes_open d t s
+      none_open None = omega arith
+      none_open (Some r) = omega arith
 
   -- a node's steps as its way
   regroup : (path : Path K T) (k : K) (children beside : Forest K) (s : S) →
@@ -213,30 +223,47 @@ module _ {K S T : Type 0} (d : How K S T) where
       let o = d.steps k children (λ q. run d.steps children q) s in
       let below = from (λ q. nodes_visited d children q) (inside_of d.opened k children s) in
       let next = from (λ t. nodes_visited d beside t) o in
-      let both : many (λ t. length (nodes_visited d beside t)) o + many (later d path) (option_and_then (run d.steps beside) o)
-      ≡ many (onward d path beside) o =
-      ap (λ n. many (λ t. length (nodes_visited d beside t)) o + n) (many-then o (run d.steps beside) (later d path))
-      ∙ many-sum o (λ t. length (nodes_visited d beside t)) (λ t. many (later d path) (run d.steps beside t)) in
+      let both : count_from (λ t. length (nodes_visited d beside t)) o + count_from (later d path) (option_and_then (run d.steps beside) o)
+      ≡ count_from (onward d path beside) o =
+      ap (λ n. count_from (λ t. length (nodes_visited d beside t)) o + n) (count_from-then o (run d.steps beside) (later d path))
+      ∙ count_from-sum o (λ t. length (nodes_visited d beside t)) (λ t. count_from (later d path) (run d.steps beside t)) in
       omega (
         arith,
         length-append below next,
         length-from (λ t. nodes_visited d beside t) o,
         both,
-        ap (many (onward d path beside)) told,
+        ap (count_from (onward d path beside)) told,
       )
 
-  module _ (nodes : List (Entry K)) (wanted : Option S) (all deep : ℕ) where
+  -- and how many are open at once on it, with those that have been
+  reopen : (path : Path K T) (most : ℕ) → length path ≤ most → (k : K) (children beside : Forest K) (s : S) →
+      max most (onward_open d path (node k children beside) s) ≡ max most (further_open d path children beside (d.opened k children s))
+  reopen path most few k children beside s =
+      by (inside_of d.opened k children s) (d.steps k children (λ q. run d.steps children q) s)
+      ∙ ap (λ o. max most (max (count_from (λ q. length path + 1 + nodes_open d children q) (inside_of d.opened k children s))
+      (count_from (onward_open d path beside) o))) (d.told k children (λ q. run d.steps children q) s)
+    where
+      by : (i o : Option S) →
+          max most (max (length path + max (count_from (λ q. 1 + nodes_open d children q) i) (count_from (λ t. nodes_open d beside t) o))
+          (count_from (later_open d path) (option_and_then (run d.steps beside) o)))
+          ≡ max most (max (count_from (λ q. length path + 1 + nodes_open d children q) i) (count_from (onward_open d path beside) o))
+      by None None = omega (arith, few)
+      by None (Some t) = omega (arith, few)
+      by (Some q) None = omega (arith, few)
+      by (Some q) (Some t) = omega (arith, few)
+
+  module _ (nodes : List (Entry K)) (wanted : Option S) (all peak : ℕ) where
     close_at : (fs : List (Frame T)) (f : Frame T) (entered most next : ℕ) (s : S) (rest : Forest K) (path : Path K T) →
         frames_of path ≡ fs ++ f ∷ [] → f.end ≡ next → drop next nodes ≡ flatten rest ++ tails path →
         Ends (length nodes) (next + length (flatten rest)) path → option_and_then (after d path) (run d.steps rest s) ≡ wanted →
-        entered + onward d path rest s ≡ all → most ≤ deep → levels path ≤ deep →
-        Closing d nodes wanted all deep fs entered most next s f.kept
-    close_at fs f entered most next s rest [] e over ahead ends result counted within there =
+        entered + onward d path rest s ≡ all → length path ≤ most → max most (onward_open d path rest s) ≡ peak →
+        Closing d nodes wanted all peak fs entered most next s f.kept
+    close_at fs f entered most next s rest [] e over ahead ends result counted few peaks =
         absurd (omega (arith, ap length e, length-append fs (f ∷ [])))
-    close_at fs f entered most next s (node k children beside) (x ∷ path) e over ahead ends result counted within there =
+    close_at fs f entered most next s (node k children beside) (x ∷ path) e over ahead ends result counted few peaks =
         let same = same_from_push (frames_of path) fs x.0 f e in
         absurd (omega (arith, ends.0, over, ap (λ g. g.end) same.1))
-    close_at fs f entered most next s none (x ∷ path) e over ahead ends result counted within there =
+    close_at fs f entered most next s none (x ∷ path) e over ahead ends result counted few peaks =
         let same = same_from_push (frames_of path) fs x.0 f e in
         let here : x.0.end ≡ next = ap (λ (g : Frame T). g.end) same.1 ∙ over in
         record {
@@ -247,22 +274,21 @@ module _ {K S T : Type 0} (d : How K S T) where
           ends = subst (λ m. Ends (length nodes) (m + length (flatten x.1)) path) here ends.1;
           result = ap (λ (g : Frame T). option_and_then (λ t. option_and_then (after d path) (run d.steps x.1 t)) (d.closed g.kept s))
               (sym same.1) ∙ result;
-          counted = omega (arith, counted, ap (λ (g : Frame T). many (onward d path x.1) (d.closed g.kept s)) same.1);
-          within = within;
-          here = omega arith;
-          there = omega arith;
+          counted = omega (arith, counted, ap (λ (g : Frame T). count_from (onward d path x.1) (d.closed g.kept s)) same.1);
+          few = omega (arith, few);
+          peaks = omega (arith, few, peaks, ap (λ (g : Frame T). count_from (onward_open d path x.1) (d.closed g.kept s)) same.1);
         }
 
     pub Walking-close : (frames fs : List (Frame T)) (f : Frame T) (entered most next : ℕ) (s : S) →
-        Walking d nodes wanted all deep frames entered most next s → frames ≡ fs ++ f ∷ [] → f.end ≡ next →
-        Closing d nodes wanted all deep fs entered most next s f.kept
+        Walking d nodes wanted all peak frames entered most next s → frames ≡ fs ++ f ∷ [] → f.end ≡ next →
+        Closing d nodes wanted all peak fs entered most next s f.kept
     Walking-close frames fs f entered most next s w e over =
-        close_at fs f entered most next s w.rest w.path (sym w.stack ∙ e) over w.ahead w.ends w.result w.counted w.within w.there
+        close_at fs f entered most next s w.rest w.path (sym w.stack ∙ e) over w.ahead w.ends w.result w.counted w.few w.peaks
 
     -- behind the node
     pub Closing-done : (fs : List (Frame T)) (l : T) (entered most next : ℕ) (s r : S) →
-        Closing d nodes wanted all deep fs entered most next s l → d.closed l s ≡ Some r →
-        Walking d nodes wanted all deep fs entered most next r
+        Closing d nodes wanted all peak fs entered most next s l → d.closed l s ≡ Some r →
+        Walking d nodes wanted all peak fs entered most next r
     Closing-done fs l entered most next s r w step =
         record {
           rest = w.rest;
@@ -271,53 +297,51 @@ module _ {K S T : Type 0} (d : How K S T) where
           ahead = w.ahead;
           ends = w.ends;
           result = ap (option_and_then (λ t. option_and_then (after d w.path) (run d.steps w.rest t))) (sym step) ∙ w.result;
-          counted = ap (λ o. entered + many (onward d w.path w.rest) o) (sym step) ∙ w.counted;
-          within = w.within;
-          here = w.here;
-          there = w.there;
+          counted = ap (λ o. entered + count_from (onward d w.path w.rest) o) (sym step) ∙ w.counted;
+          few = w.few;
+          peaks = ap (λ o. max most (count_from (onward_open d w.path w.rest) o)) (sym step) ∙ w.peaks;
         }
 
     -- where the node can't be closed, nothing comes out
     pub Closing-refuses : (fs : List (Frame T)) (l : T) (entered most next : ℕ) (s : S) (why : Error) →
-        Closing d nodes wanted all deep fs entered most next s l → Refuses why (d.closed l s) → Refuses why wanted
+        Closing d nodes wanted all peak fs entered most next s l → Refuses why (d.closed l s) → Refuses why wanted
     Closing-refuses fs l entered most next s why w h =
         Refuses-same why wanted _ (sym w.result) (Refuses-then why (d.closed l s) _ h)
 
-    done_at : (frames : List (Frame T)) (entered next : ℕ) (s : S) (rest : Forest K) (path : Path K T) →
+    done_at : (frames : List (Frame T)) (entered most next : ℕ) (s : S) (rest : Forest K) (path : Path K T) →
         frames ≡ frames_of path → NotOver frames next → next ≡ length nodes → drop next nodes ≡ flatten rest ++ tails path →
         Ends (length nodes) (next + length (flatten rest)) path → option_and_then (after d path) (run d.steps rest s) ≡ wanted →
-        entered + onward d path rest s ≡ all → Done wanted all frames entered s
-    done_at frames entered next s none [] stack not_over over ahead ends result counted =
-        record { result = sym result; empty = stack; counted = omega arith }
-    done_at frames entered next s none (x ∷ path) stack not_over over ahead ends result counted =
+        entered + onward d path rest s ≡ all → max most (onward_open d path rest s) ≡ peak → Done wanted all peak frames entered most s
+    done_at frames entered most next s none [] stack not_over over ahead ends result counted peaks =
+        record { result = sym result; empty = stack; counted = omega arith; peaks = omega (arith, peaks) }
+    done_at frames entered most next s none (x ∷ path) stack not_over over ahead ends result counted peaks =
         absurd (not_over (frames_of path) x.0 stack (omega (arith, ends.0)))
-    done_at frames entered next s (node k children beside) path stack not_over over ahead ends result counted =
+    done_at frames entered most next s (node k children beside) path stack not_over over ahead ends result counted peaks =
         absurd (omega (arith, ap length ahead, length-drop next nodes, length-append (flatten children ++ flatten beside) (tails path)))
 
     pub Walking-done : (frames : List (Frame T)) (entered most next : ℕ) (s : S) →
-        Walking d nodes wanted all deep frames entered most next s → NotOver frames next → next ≡ length nodes →
-        Done wanted all frames entered s
+        Walking d nodes wanted all peak frames entered most next s → NotOver frames next → next ≡ length nodes →
+        Done wanted all peak frames entered most s
     Walking-done frames entered most next s w not_over over =
-        done_at frames entered next s w.rest w.path w.stack not_over over w.ahead w.ends w.result w.counted
+        done_at frames entered most next s w.rest w.path w.stack not_over over w.ahead w.ends w.result w.counted w.peaks
 
     open_at : (frames : List (Frame T)) (entered most next : ℕ) (s : S) (e : Entry K) (rest : Forest K) (path : Path K T) →
         frames ≡ frames_of path → NotOver frames next → next < length nodes → e ≡ get_or nodes next e →
         drop next nodes ≡ flatten rest ++ tails path →
         Ends (length nodes) (next + length (flatten rest)) path → option_and_then (after d path) (run d.steps rest s) ≡ wanted →
-        entered + onward d path rest s ≡ all → most ≤ deep → length path + depth rest ≤ deep → levels path ≤ deep →
-        Opening d nodes wanted all deep frames entered most next s e
-    open_at frames entered most next s e none [] stack not_over in_nodes is ahead ends result counted within here there =
+        entered + onward d path rest s ≡ all → length path ≤ most → max most (onward_open d path rest s) ≡ peak →
+        Opening d nodes wanted all peak frames entered most next s e
+    open_at frames entered most next s e none [] stack not_over in_nodes is ahead ends result counted few peaks =
         absurd (omega arith)
-    open_at frames entered most next s e none (x ∷ path) stack not_over in_nodes is ahead ends result counted within here there =
+    open_at frames entered most next s e none (x ∷ path) stack not_over in_nodes is ahead ends result counted few peaks =
         absurd (not_over (frames_of path) x.0 stack (omega (arith, ends.0)))
-    open_at frames entered most next s e (node k children beside) path stack not_over in_nodes is ahead ends result counted within here
-        there =
+    open_at frames entered most next s e (node k children beside) path stack not_over in_nodes is ahead ends result counted few peaks =
         let first : Entry K = record { node = k; size = length (flatten children) + 1 } in
         let cut = drop-cons nodes next e in_nodes in
         let heads : get_or nodes next e ∷ drop (suc next) nodes ≡ first ∷ ((flatten children ++ flatten beside) ++ tails path) = sym cut
         ∙ ahead in
         let same : e ≡ first = is ∙ cc heads in
-        subst (λ (x : Entry K). Opening d nodes wanted all deep frames entered most next s x) (sym same) record {
+        subst (λ (x : Entry K). Opening d nodes wanted all peak frames entered most next s x) (sym same) record {
           children = children;
           beside = beside;
           path = path;
@@ -327,30 +351,29 @@ module _ {K S T : Type 0} (d : How K S T) where
           ends = subst (λ m. Ends (length nodes) m path) (omega (arith, length-append (flatten children) (flatten beside))) ends;
           result = regroup path k children beside s ∙ result;
           counted = omega (arith, counted, recount path k children beside s);
-          within = within;
-          below = omega arith;
-          here = omega arith;
-          there = there;
+          few = few;
+          peaks = sym (reopen path most few k children beside s) ∙ peaks;
         }
 
     pub Walking-open : (frames : List (Frame T)) (entered most next : ℕ) (s : S) (e : Entry K) (here : List (Entry K)) → here ≡ nodes →
-        Walking d nodes wanted all deep frames entered most next s → NotOver frames next → next < length here →
-        e ≡ get_or here next e → Opening d nodes wanted all deep frames entered most next s e
+        Walking d nodes wanted all peak frames entered most next s → NotOver frames next → next < length here →
+        e ≡ get_or here next e → Opening d nodes wanted all peak frames entered most next s e
     Walking-open frames entered most next s e here same w not_over in_nodes is =
         open_at frames entered most next s e w.rest w.path w.stack not_over (omega (arith, in_nodes, ap length same))
-        (is ∙ ap (λ l. get_or l next e) same) w.ahead w.ends w.result w.counted w.within w.here w.there
+        (is ∙ ap (λ l. get_or l next e) same) w.ahead w.ends w.result w.counted w.few w.peaks
 
     -- into the node
     pub Opening-into : (frames : List (Frame T)) (entered most next : ℕ) (s q : S) (l : T) (e : Entry K) →
-        (w : Opening d nodes wanted all deep frames entered most next s e) (trees : Forest K) → trees ≡ w.children →
+        (w : Opening d nodes wanted all peak frames entered most next s e) (trees : Forest K) → trees ≡ w.children →
         d.opened e.node trees s ≡ Some (Into q l) →
-        Walking d nodes wanted all deep (frames ++ record { end = next + e.size; kept = l } ∷ []) (entered + 1)
+        Walking d nodes wanted all peak (frames ++ record { end = next + e.size; kept = l } ∷ []) (entered + 1)
         (max most (length frames + 1)) (next + 1) q
     Opening-into frames entered most next s q l e w trees same at_trees =
         let step : d.opened e.node w.children s ≡ Some (Into q l) = ap (λ f. d.opened e.node f s) (sym same) ∙ at_trees in
         let f : Frame T = record { end = next + e.size; kept = l } in
         let long : length frames ≡ length w.path = ap length w.stack ∙ length-frames_of w.path in
         let way = ap (further d w.path w.children w.beside) step in
+        let top = ap (further_open d w.path w.children w.beside) step in
         record {
           rest = w.children;
           path = (f, w.beside) ∷ w.path;
@@ -360,20 +383,20 @@ module _ {K S T : Type 0} (d : How K S T) where
           result = sym (and_then_assoc (run d.steps w.children q) (d.closed l)
               (λ t. option_and_then (after d w.path) (run d.steps w.beside t)))
               ∙ ap (beyond d w.path w.children w.beside) (sym step) ∙ w.result;
-          counted = omega (arith, w.counted, way, many-then (run d.steps w.children q) (d.closed l) (onward d w.path w.beside));
-          within = omega (arith, w.within, w.below);
-          here = omega (arith, w.below);
-          there = omega (arith, w.here, w.there);
+          counted = omega (arith, w.counted, way, count_from-then (run d.steps w.children q) (d.closed l) (onward d w.path w.beside));
+          few = omega (arith, long);
+          peaks = omega (arith, long, w.peaks, top, count_from-then (run d.steps w.children q) (d.closed l) (onward_open d w.path w.beside));
         }
 
     -- past the node
     pub Opening-past : (frames : List (Frame T)) (entered most next : ℕ) (s t : S) (e : Entry K) →
-        (w : Opening d nodes wanted all deep frames entered most next s e) (trees : Forest K) → trees ≡ w.children →
+        (w : Opening d nodes wanted all peak frames entered most next s e) (trees : Forest K) → trees ≡ w.children →
         d.opened e.node trees s ≡ Some (Past t) →
-        Walking d nodes wanted all deep frames (entered + 1) most (next + e.size) t
+        Walking d nodes wanted all peak frames (entered + 1) most (next + e.size) t
     Opening-past frames entered most next s t e w trees same at_trees =
         let step : d.opened e.node w.children s ≡ Some (Past t) = ap (λ f. d.opened e.node f s) (sym same) ∙ at_trees in
         let way = ap (further d w.path w.children w.beside) step in
+        let top = ap (further_open d w.path w.children w.beside) step in
         let at : next + 1 + length (flatten w.children) ≡ next + e.size = omega (arith, w.size) in
         record {
           rest = w.beside;
@@ -385,19 +408,18 @@ module _ {K S T : Type 0} (d : How K S T) where
           ends = w.ends;
           result = ap (beyond d w.path w.children w.beside) (sym step) ∙ w.result;
           counted = omega (arith, w.counted, way);
-          within = w.within;
-          here = w.here;
-          there = w.there;
+          few = w.few;
+          peaks = omega (arith, w.peaks, top);
         }
 
     -- the node's last is within the nodes
     pub Opening-end : (frames : List (Frame T)) (entered most next : ℕ) (s : S) (e : Entry K) →
-        Opening d nodes wanted all deep frames entered most next s e → next + e.size ≤ length nodes
+        Opening d nodes wanted all peak frames entered most next s e → next + e.size ≤ length nodes
     Opening-end frames entered most next s e w = omega (arith, Ends-le (length nodes) _ w.path w.ends)
 
     -- its children's entries, as a part of all
     pub Opening-part : (frames : List (Frame T)) (entered most next : ℕ) (s : S) (e : Entry K) (here : List (Entry K)) (n : ℕ) →
-        here ≡ nodes → n ≡ e.size - 1 → (w : Opening d nodes wanted all deep frames entered most next s e) →
+        here ≡ nodes → n ≡ e.size - 1 → (w : Opening d nodes wanted all peak frames entered most next s e) →
         IsForest (take n (drop (next + 1) here)) w.children
     Opening-part frames entered most next s e here n same less w =
         let many : n ≡ length (flatten w.children) = omega (arith, w.size) in
@@ -408,25 +430,25 @@ module _ {K S T : Type 0} (d : How K S T) where
 
     -- where the node can't be opened, nothing comes out
     pub Opening-refuses : (frames : List (Frame T)) (entered most next : ℕ) (s : S) (e : Entry K) (why : Error) →
-        (w : Opening d nodes wanted all deep frames entered most next s e) (trees : Forest K) → trees ≡ w.children →
+        (w : Opening d nodes wanted all peak frames entered most next s e) (trees : Forest K) → trees ≡ w.children →
         Refuses why (d.opened e.node trees s) → Refuses why wanted
     Opening-refuses frames entered most next s e why w trees same h =
         Refuses-same why wanted _ (sym w.result)
         (Refuses-then why _ _ (Refuses-then why _ _ (Refuses-same why _ _ (ap (λ f. d.opened e.node f s) (sym same)) h)))
 
-    -- no more were open at once than the forest is deep, and no more entered than are visited
+    -- no more were open at once, and no more entered, than there are
     pub Walking-within : (frames : List (Frame T)) (entered most next : ℕ) (s : S) →
-        Walking d nodes wanted all deep frames entered most next s → (most ≤ deep) × (entered ≤ all)
-    Walking-within frames entered most next s w = (w.within, omega (arith, w.counted))
+        Walking d nodes wanted all peak frames entered most next s → (most ≤ peak) × (entered ≤ all)
+    Walking-within frames entered most next s w = (omega (arith, w.peaks), omega (arith, w.counted))
 
 -- what is counted where the walk ends with an error
 pub counted-refused : {K S T X : Type 0} (d : How K S T) (r : Result X Error) (Q : Error → Type 0) → IsErrAnd r Q → (f : Forest K) (s now : S)
     (nodes : List (Entry K)) (wanted : Option S) (frames : List (Frame T)) (next : ℕ) (old new : Meter) →
-    Walking d nodes wanted (length (nodes_visited d f s)) (depth f) frames new.entered new.frames next now →
+    Walking d nodes wanted (length (nodes_visited d f s)) (nodes_open d f s) frames new.entered new.frames next now →
     new.left ≤ new.entered → new.probes ≡ old.probes → CountsNodes r d.steps (inside_of d.opened) f s old new
 counted-refused d (Ok x) Q h f s now nodes wanted frames next old new w left probes = absurd h
 counted-refused d (Err e) Q h f s now nodes wanted frames next old new w left probes =
-    let within = Walking-within d nodes wanted (length (nodes_visited d f s)) (depth f) frames new.entered new.frames next now w in
+    let within = Walking-within d nodes wanted (length (nodes_visited d f s)) (nodes_open d f s) frames new.entered new.frames next now w in
     record {
       asks = opened-asks d.steps d.opened d.closed d.told;
       entered = tt;
@@ -434,6 +456,8 @@ counted-refused d (Err e) Q h f s now nodes wanted frames next old new w left pr
       entered_at_most = within.1;
       left_at_most = left;
       visited_at_most = visited-at_most d.steps (inside_of d.opened) f s;
+      frames = tt;
       frames_at_most = within.0;
+      open_at_most = most_open-at_most d.steps (inside_of d.opened) f s;
       probes = probes;
     }

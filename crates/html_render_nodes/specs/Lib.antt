@@ -1,3 +1,5 @@
+-- the texts of nodes
+pub mod Texts
 -- the tree: its nodes in one vector, and where it is parted
 pub mod Grids
 pub mod RenderNodes
@@ -5,9 +7,10 @@ pub mod Preorder
 pub mod Splits
 -- its dump
 pub mod Dump
-pub mod Dumping
 -- the walk: what a pass computes, and what the walk counts
 pub mod Pass
 pub mod Counts
+-- the depths of the nodes
+pub mod Depths
 -- laws of the definitions
 pub mod laws

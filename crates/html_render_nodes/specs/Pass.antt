@@ -1,5 +1,5 @@
 -- What a pass over a forest computes, step by step, and which nodes it visits.
-use Rattle.std.specs.Prelude.{◌≡◌, List, [], ◌∷◌, ◌++◌, Option, Some, None}
+use Rattle.std.specs.Prelude.{◌≡◌, ℕ, ◌+◌, max, List, [], ◌∷◌, ◌++◌, Option, Some, None}
 use Rattle.html_render_values.specs.Forest.{Forest, none, node}
 use Rattle.html_render_values.specs.Outcome.{◌>>=◌}
 
@@ -43,6 +43,19 @@ visited steps inside none s = []
 visited steps inside (node k children beside) s =
     k ∷ (from (λ q. visited steps inside children q) (inside k children s)
     ++ from (λ t. visited steps inside beside t) (steps k children (λ q. run steps children q) s))
+
+-- what is counted from a state on, if there is one
+abbrev pub count_from : {S : Type 0} → (S → ℕ) → Option S → ℕ
+count_from count None = 0
+count_from count (Some t) = count t
+
+-- HOW MANY of the visited nodes whose children are asked for stand open at once, at most: a node is open while those below it
+-- are visited
+abbrev pub most_open : {K S : Type 0} → Steps K S → Inside K S → Forest K → S → ℕ
+most_open steps inside none s = 0
+most_open steps inside (node k children beside) s =
+    max (count_from (λ q. 1 + most_open steps inside children q) (inside k children s))
+    (count_from (λ t. most_open steps inside beside t) (steps k children (λ q. run steps children q) s))
 
 -- ---- what a walk does
 

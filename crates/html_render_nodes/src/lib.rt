@@ -1,5 +1,6 @@
-//! Render trees: their nodes in one vector in pre-order, and a walk over them.
+//! Render trees: their nodes in one vector in pre-order, the texts of nodes, and a walk over trees.
 #![tactic(auto)]
 
+pub mod text;
 pub mod tree;
 pub mod walk;

@@ -9,10 +9,10 @@ ghost use Rattle.html_render_values.specs.Forest.{none, count};
 ghost use Rattle.html_render_nodes.specs.Preorder.{flatten, forest_of};
 ghost use Rattle.html_render_nodes.specs.Splits.{SplitAt, Reversed, FirstTree};
 
+use crate::text::NodeText;
 use html_render_parts::table::CellKind;
 use html_render_values::Error;
 use html_render_values::colours::Colour;
-use html_render_values::text::Text;
 use html_render_values::white_space::WhiteSpace;
 use std::alloc::Global;
 use std::marker::Model;
@@ -219,7 +219,7 @@ pub enum Emphasis {
 #[derive(Drop)]
 pub enum NodeKind {
     /// A text.
-    Text(Text),
+    Text(NodeText),
     /// Its children, one after the other.
     Container,
     /// A line break.
@@ -251,13 +251,13 @@ pub enum NodeKind {
     /// A part of a line that is raised.
     Superscript,
     /// A link to this target.
-    Link(Text),
+    Link(NodeText),
     /// An image.
     Image(Image),
     /// A drawing, with this title.
-    Svg(Text),
+    Svg(NodeText),
     /// The place that this name stands for. It is shown as nothing.
-    FragmentStart(Text),
+    FragmentStart(NodeText),
     /// A table, over its rows: how many columns it has, and what stands below its last row.
     Table(Grid),
     /// A row of a table, over its cells: what stands in it, placeholders and gaps too.
@@ -390,9 +390,9 @@ impl Grid {
 #[derive(Drop)]
 pub struct ImageParts {
     /// Its address.
-    pub source: Text,
+    pub source: NodeText,
     /// What it is called, which may be nothing.
-    pub title: Text,
+    pub title: NodeText,
 }
 
 /// An image, held so that a node is moved in few bytes.
@@ -415,7 +415,7 @@ impl Image {
     /// # Errors
     ///
     /// `OutOfMemory`.
-    pub fn new(alloc: Global, source: Text, title: Text) -> Result<Image, Error>
+    pub fn new(alloc: Global, source: NodeText, title: NodeText) -> Result<Image, Error>
         ensures ok { IfOk result (λ i. i ≡ record { source = source; title = title }) }
         ensures err { IfErr result (λ e. e ≡ Error.OutOfMemory) }
     {
@@ -424,14 +424,14 @@ impl Image {
     }
 
     /// Its address.
-    pub fn source(&self) -> &Text
+    pub fn source(&self) -> &NodeText
         ensures { result.now ≡ self.now.source }
     {
         &self.parts.source
     }
 
     /// What it is called.
-    pub fn title(&self) -> &Text
+    pub fn title(&self) -> &NodeText
         ensures { result.now ≡ self.now.title }
     {
         &self.parts.title
@@ -457,7 +457,7 @@ pub struct NodeStyle {
 pub struct Estimate {
     /// The least width in which the node can be laid out well.
     pub least: usize,
-    /// The columns that its texts and prefixes take. It is 0 in a tree without a table, where nothing asks for it.
+    /// The columns that its texts and prefixes take. It is left at 0 in a tree without a table, where nothing asks for it.
     pub size: usize,
     /// The columns of what stands before its lines.
     pub prefix: usize,
@@ -496,14 +496,17 @@ impl From<NodeKind> for RenderNode {
 pub struct RenderTree {
     /// The nodes.
     nodes: Flat<RenderNode>,
+    /// How deep each of them stands, in pre-order.
+    depths: Vec<usize>,
 }
 
 impl Model for RenderTree {
-    ghost use Rattle.std.specs.Prelude.{List};
+    ghost use Rattle.std.specs.Prelude.{◌≡◌, List};
     ghost use Rattle.std.specs.Coded.{codes, code_by, coded_list};
     ghost use Rattle.html_render_values.specs.Forest.{Forest};
     ghost use Rattle.html_render_nodes.specs.declared.tree.Entry.{Entry};
     ghost use Rattle.html_render_nodes.specs.declared.tree.RenderNode.{RenderNode};
+    ghost use Rattle.html_render_nodes.specs.Depths.{depths_of};
     ghost use Rattle.html_render_nodes.specs.Preorder.{forest_of, flatten};
     ghost use Rattle.html_render_nodes.specs.laws.Preorder.{forest_of-flatten};
 
@@ -512,26 +515,8 @@ impl Model for RenderTree {
     ghost coded = { code_by (List (Entry RenderNode)) (coded_list (Prim.hlevel codes)) flatten forest_of forest_of-flatten };
 
     ghost view = { λ t. t.nodes };
-}
 
-impl From<Builder<RenderNode>> for RenderTree {
-    ghost from_gives = { λ b t. t ≡ b };
-
-    /// The document of the trees.
-    fn from(builder: Builder<RenderNode>) -> RenderTree {
-        RenderTree {
-            nodes: builder.finish(),
-        }
-    }
-}
-
-impl From<Flat<RenderNode>> for RenderTree {
-    ghost from_gives = { λ nodes t. t ≡ nodes };
-
-    /// The document of the trees.
-    fn from(nodes: Flat<RenderNode>) -> RenderTree {
-        RenderTree { nodes }
-    }
+    ghost invariant = { λ t. t.depths.items ≡ depths_of 0 t.nodes };
 }
 
 impl RenderTree {
@@ -551,4 +536,5 @@ impl RenderTree {
 }
 
 mod copies;
+mod depths;
 mod dump;

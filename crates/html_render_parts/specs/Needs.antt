@@ -1,5 +1,5 @@
 -- What the columns of a table need for its cells.
-use Rattle.std.specs.Prelude.{ℕ, ◌+◌, ◌/◌, ◌≤◌, ◌<◌, Bool, ◌&&◌, nat_le, nat_lt, List, All, map, Option, None, if◌then◌else◌}
+use Rattle.std.specs.Prelude.{ℕ, ◌+◌, ◌-◌, ◌/◌, ◌≤◌, ◌<◌, Bool, ◌&&◌, nat_le, nat_lt, List, All, map, sum, slice_range, Option, None, if◌then◌else◌}
 use Rattle.std.specs.List.{list_all, range_with_len}
 use Rattle.html_render_parts.specs.declared.widths.needs.CellNeed.{CellNeed}
 use Rattle.html_render_parts.specs.declared.widths.shares.ColumnNeed.{ColumnNeed}
@@ -43,7 +43,11 @@ pub record IsCell (columns : ℕ) (c : CellNeed) : Type 0 where
 abbrev pub AreCells : (columns : ℕ) → List CellNeed → Type 0
 AreCells columns cells = All (IsCell columns) cells
 
--- the same as a test
+-- a cell has its least width over its columns, with the separators between them
+abbrev pub HasRoom : (widths : List ℕ) → CellNeed → Type 0
+HasRoom widths c = c.least ≤ sum (slice_range widths c.start (c.start + c.count)) + (c.count - 1)
+
+-- cells of these columns as a test
 abbrev pub cell_stands : (columns : ℕ) → CellNeed → Bool
 cell_stands columns c = nat_le (c.start + c.count) columns && (nat_lt 0 c.count && nat_le c.least c.size)
 

@@ -1,16 +1,15 @@
 -- What a configuration makes of a render tree.
-use Rattle.std.specs.Prelude.{◌≡◌, ◌≤◌, ℕ, Bool, true, false, List, [], Option, Some, IfSome, IsSome}
+use Rattle.std.specs.Prelude.{◌≡◌, ℕ, Bool, false, List, [], Option, Some, IfSome}
 use Rattle.std.specs.Cmp.Lexicographic.{pointwise}
 use Rattle.html_render_values.specs.Forest.{Forest}
 use Rattle.html_render_values.specs.Outcome.{◌>>=◌}
 use Rattle.html_render_dom.specs.Rules.{Rule}
-use Rattle.html_render_lines.specs.Line.{Line, AllWithinWidth}
+use Rattle.html_render_lines.specs.Line.{Line}
 use Rattle.html_render_parts.specs.Decoration.{Decoration}
 use Rattle.html_render_nodes.specs.declared.tree.RenderNode.{RenderNode}
-use Rattle.html_render_nodes.specs.Pass.{run}
 use Rattle.html_render_layout.specs.declared.settings.LayoutSettings.{LayoutSettings}
-use Rattle.html_render_layout.specs.Kept.{visited_nodes, KeepsTexts}
-use Rattle.html_render_layout.specs.Layout.{layout_lines, mark_names, Defined, defined}
+use Rattle.html_render_layout.specs.Layout.{layout_lines, mark_names}
+use Rattle.html_render_layout.specs.Promises.{Lines}
 use Rattle.html_render_layout.specs.Settings.{default_settings}
 use Rattle.html_render_tagged.specs.Grouping.{Piece, grouped_lines}
 
@@ -44,19 +43,9 @@ module _ {S A : Type 0} (d : Decoration S A) (options : Options S) (tree : Fores
 
 -- ---- what every call that renders promises
 
--- of the lines that it answers: they are those of the tree in the width; with overflow off and links wrapped none passes the width;
--- where overflow off gives lines, they are these; and each visible character of the texts that are visited stands in them
-pub record AreLines {S A : Type 0} (d : Decoration S A) (settings : LayoutSettings) (tree : Forest RenderNode) (decorator : S) (width : ℕ)
-    (overflow : Bool) (lines : List (Line (List A) ℕ)) : Type 0 where
-  pub are : layout_lines d settings tree decorator width overflow ≡ Some lines
-  pub within : overflow ≡ false → settings.wrap_links ≡ true → AllWithinWidth width lines
-  pub same : IfSome (layout_lines d settings tree decorator width false) (λ others. lines ≡ others)
-  pub kept : KeepsTexts (visited_nodes d settings tree decorator width overflow) lines
-
--- the lines that it answers, of which this holds
+-- what is promised of the lines that it answers, of which this holds
 abbrev pub Rendered : {S A : Type 0} → Decoration S A → Options S → Forest RenderNode → (width : ℕ) → (List (Line (List A) ℕ) → Type 0) → Type 0
-Rendered {S} {A} d options tree width Shown =
-    (lines : List (Line (List A) ℕ)) × AreLines d options.nodes tree options.decorator width options.overflow lines × Shown lines
+Rendered d options tree width Shown = Lines d options.nodes tree options.decorator width options.overflow Shown
 
 -- of tagged strings: they are the lines under the names of their marks, which are those of the tree in the width; where overflow off
 -- gives names, they are these
@@ -66,12 +55,3 @@ pub record AreStrings {S A : Type 0} (d : Decoration S A) (options : Options S) 
   pub are_names : rendered_names d options tree width ≡ Some names
   pub same_names : IfSome (mark_names d options.nodes tree options.decorator width false) (λ others. names ≡ others)
   pub are : strings ≡ grouped_lines (pointwise eq) names lines
-
--- with overflow on there are lines in every width but 0
-abbrev pub HasLines : {S A : Type 0} → Decoration S A → Options S → Forest RenderNode → (width : ℕ) → Type 0
-HasLines d options tree width = options.overflow ≡ true → 1 ≤ width → IsSome (rendered_lines d options tree width)
-
--- every tree that is laid out leaves the texts that follow, with their annotations, and the decorator of any state as they were
-abbrev pub LeavesTexts : {S A : Type 0} → Decoration S A → Type 0
-LeavesTexts {S} {A} d =
-    (t : Forest RenderNode) (s : Defined S A) → IfSome (run (defined d) t s) (λ r. (r.text ≡ s.text) × (r.decorator ≡ s.decorator))

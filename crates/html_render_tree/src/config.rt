@@ -230,7 +230,8 @@ impl<D: TextDecorator> Config<D> {
         ensures err { IfErr result (λ e. Fails e (render_tree_of self.now.rules dom.now)) }
     {
         let parts = convert::dom_to_render_tree(alloc, &self.rules, dom)?;
-        arrange(alloc, parts)
+        let nodes = arrange(alloc, parts)?;
+        RenderTree::new(alloc, nodes)
     }
 }
 

@@ -5,8 +5,8 @@ ghost use Rattle.html_render_dom.specs.Selectors.{specificity_of};
 ghost use Rattle.html_render_dom.specs.declared.style.origins.StyleOrigin.TheVariants as origin;
 ghost use Rattle.html_render_values.specs.Forest.{Forest};
 ghost use Rattle.html_render_layout.specs.Layout.{layout_lines, mark_names};
+ghost use Rattle.html_render_layout.specs.Promises.{AreLines};
 ghost use Rattle.html_render_tree.specs.Decorations.{decorations, decoration_specificity};
-ghost use Rattle.html_render_tree.specs.Rendering.{AreLines};
 
 use html_render_dom::Error;
 use html_render_dom::dom::Handle;
@@ -21,7 +21,7 @@ fn decorations_are_ten_rules_of_the_agent()
 {}
 
 /// Where a tree has lines in a width, they are what every call that renders promises of them.
-#[tactic(auto, using(crate::specs::laws::Rendering::lines_promised))]
+#[tactic(auto, using(html_render_layout::specs::laws::Promises::lines_promised))]
 fn lines_are_promised<D: TextDecorator>()
     ensures { (settings : LayoutSettings) (tree : Forest RenderNode) (decorator : D) (width : ℕ) (overflow : Bool) →
         IfSome (layout_lines D.decoration settings tree decorator width overflow) (AreLines D.decoration settings tree decorator width overflow) }

@@ -9,8 +9,9 @@ pub mod htree;
 mod laws;
 mod texts;
 
-pub use html_render_dom::{Error, dom, style, text};
+pub use html_render_dom::{Error, dom, style};
 pub use html_render_parts::decorate;
+pub use html_render_values::text;
 
 /// The grid of a table.
 pub mod table {

@@ -1,7 +1,5 @@
 -- finite trees beside each other
 pub mod Forest
--- the bytes of a text
-pub mod Texts
 -- how text is coloured, and how white space is treated
 pub mod Colours
 pub mod WhiteSpace

@@ -1,52 +1,34 @@
 //! A text that is cloned and compared by its bytes.
 //!
 //! To a proof a `String` is also its place in memory and its capacity. A [`Text`] is its bytes alone, so that a
-//! clone is the same value as its source: `Text::new(string).as_str()` gives the string's text back. A short text stands in
-//! the value itself, so that most of the texts of a document take no memory of their own.
+//! clone is the same value as its source: `Text::from(string)` holds the string, which `into_string` gives back.
 
 ghost use Rattle.std.specs.Prelude.{◌≡◌, List, ℕ, IfOk, string_bytes};
 ghost use Rattle.std.specs.Str.{bytes_eq};
 ghost use Rattle.std.specs.Cmp.{partial_equiv_from_equiv};
 ghost use Rattle.std.specs.Cmp.Lexicographic.{nat_list_eq_equiv};
-ghost use Rattle.html_render_values.specs.Texts.{bytes_in};
 
-use arrayvec::ArrayString;
 use std::alloc::{AllocError, Global};
 use std::marker::Model;
-
-/// How many bytes a text has at most that stands in the value itself.
-const SHORT: usize = 24;
-
-/// The bytes of a text.
-#[derive(Debug, Drop)]
-enum Bytes {
-    /// Few of them, in the value itself.
-    Short(ArrayString<SHORT>),
-    /// More.
-    Long(String),
-}
 
 /// A text, which a clause sees as its bytes.
 #[derive(Debug, Drop)]
 pub struct Text {
-    bytes: Bytes,
+    string: String,
 }
 
 impl Model for Text {
     ghost Value = { List ℕ };
 
-    ghost view = { λ t. bytes_in t.bytes };
+    ghost view = { λ t. string_bytes t.string };
 }
 
 impl Clone for Text {
     ghost is_clone = { λ a b. b ≡ a };
 
     fn clone(&self) -> Result<Text, AllocError> {
-        let bytes = match &self.bytes {
-            Bytes::Short(bytes) => Bytes::Short(*bytes),
-            Bytes::Long(bytes) => Bytes::Long(bytes.clone()?),
-        };
-        Ok(Text { bytes })
+        let string = self.string.clone()?;
+        Ok(Text { string })
     }
 }
 
@@ -64,21 +46,16 @@ impl Eq for Text {
     ghost laws = { nat_list_eq_equiv };
 }
 
-impl Text {
-    /// The text of a string.
-    pub fn new(bytes: String) -> Text
-        ensures { result ≡ string_bytes bytes }
-    {
-        if let Ok(short) = ArrayString::from(bytes.as_str()) {
-            return Text {
-                bytes: Bytes::Short(short),
-            };
-        }
-        Text {
-            bytes: Bytes::Long(bytes),
-        }
-    }
+impl From<String> for Text {
+    ghost from_gives = { λ string text. text ≡ string_bytes string };
 
+    /// The text of a string, which it holds. It takes no memory.
+    fn from(string: String) -> Text {
+        Text { string }
+    }
+}
+
+impl Text {
     /// A copy of a text.
     ///
     /// # Errors
@@ -87,24 +64,21 @@ impl Text {
     pub fn from_str(alloc: Global, text: &str) -> Result<Text, AllocError>
         ensures { IfOk result (λ t. t ≡ text.now) }
     {
-        if let Ok(short) = ArrayString::from(text) {
-            return Ok(Text {
-                bytes: Bytes::Short(short),
-            });
-        }
-        let bytes = String::from_str(alloc, text)?;
-        Ok(Text {
-            bytes: Bytes::Long(bytes),
-        })
+        let string = String::from_str(alloc, text)?;
+        Ok(Text { string })
     }
 
     /// The text, borrowed.
     pub fn as_str(&self) -> &str
         ensures { result.now ≡ self.now }
     {
-        match &self.bytes {
-            Bytes::Short(bytes) => bytes.as_str(),
-            Bytes::Long(bytes) => bytes.as_str(),
-        }
+        self.string.as_str()
+    }
+
+    /// The string that it holds. It takes no memory.
+    pub fn into_string(self) -> String
+        ensures { string_bytes result ≡ self }
+    {
+        self.string
     }
 }

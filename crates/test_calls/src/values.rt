@@ -117,11 +117,21 @@ fn white_space_is_kept_or_wrapped(rt: HostRuntime) {
 }
 
 #[test]
+fn texts_give_their_strings_back(rt: HostRuntime) -> Result<(), Fail> {
+    let alloc = rt.alloc();
+    let text = Text::from(string(alloc, "a\u{300}")?);
+    assert_eq!(rt; text.as_str(), "a\u{300}");
+    assert_eq!(rt; text, Text::from_str(alloc, "a\u{300}")?);
+    assert_eq!(rt; text.into_string().as_str(), "a\u{300}");
+    Ok(())
+}
+
+#[test]
 fn annotations_are_cloned_and_compared(rt: HostRuntime) -> Result<(), Fail> {
     let alloc = rt.alloc();
-    let link = RichAnnotation::Link(Text::new(string(alloc, "u")?));
+    let link = RichAnnotation::Link(Text::from(string(alloc, "u")?));
     assert_eq!(rt; link.clone()?, link);
-    assert!(rt; link != RichAnnotation::Image(Text::new(string(alloc, "u")?)));
+    assert!(rt; link != RichAnnotation::Image(Text::from(string(alloc, "u")?)));
     assert_eq!(rt; RichAnnotation::default(), RichAnnotation::Default);
     Ok(())
 }
@@ -145,6 +155,26 @@ fn a_sub_block_has_the_same_decorator(rt: HostRuntime) -> Result<(), Fail> {
 #[test]
 fn images_without_a_title_are_left_out_where_nothing_is_said(rt: HostRuntime) {
     assert!(rt; matches!(ImageRenderMode::default(), ImageRenderMode::IgnoreEmpty));
+}
+
+#[test]
+fn a_copy_of_an_image_mode_is_equal_to_it(rt: HostRuntime) -> Result<(), Fail> {
+    let alloc = rt.alloc();
+    for text in ["", "in place", "a title that takes memory of its own"] {
+        let mode = ImageRenderMode::Replace(Text::from(string(alloc, text)?));
+        let copy = mode.try_clone(alloc)?;
+        drop(mode);
+        let same = ImageRenderMode::Replace(Text::from(string(alloc, text)?));
+        assert_eq!(rt; copy, same);
+    }
+    for mode in [
+        ImageRenderMode::IgnoreEmpty,
+        ImageRenderMode::ShowAlways,
+        ImageRenderMode::Filename,
+    ] {
+        assert_eq!(rt; mode.try_clone(alloc)?, mode);
+    }
+    Ok(())
 }
 
 #[test]

@@ -3,6 +3,7 @@
 use case_calls::faults::Fault;
 use case_calls::rules::rule;
 use case_calls::texts::{number, split_word, truth, unescaped};
+use case_calls::watch::Watch;
 use html_render_tree::config::ImageRenderMode;
 use html_render_tree::text::Text;
 use named_configs::calls::{DecoratorName, Preset, Setting};
@@ -57,14 +58,22 @@ fn image_mode(alloc: Global, given: &str) -> Result<ImageRenderMode, Fault> {
         ("Filename", _) => Ok(ImageRenderMode::Filename),
         ("Replace", text) => {
             let title = unescaped(alloc, text)?;
-            Ok(ImageRenderMode::Replace(Text::new(title)))
+            Ok(ImageRenderMode::Replace(Text::from(title)))
         }
         _ => Err(Fault::Malformed("no mode of images has this name")),
     }
 }
 
+/// A copy of a mode.
+fn copy(alloc: Global, mode: &ImageRenderMode, watch: Watch) -> Result<ImageRenderMode, Fault> {
+    watch.begin("ImageRenderMode::try_clone")?;
+    let came = mode.try_clone(alloc);
+    watch.end(&came)?;
+    Ok(came?)
+}
+
 /// A call that changes a configuration.
-fn setting(alloc: Global, line: &str) -> Result<Setting, Fault> {
+fn setting(alloc: Global, line: &str, watch: Watch) -> Result<Setting, Fault> {
     let (name, given) = split_word(line);
     match name {
         "pad_block_width" => Ok(Setting::PadBlockWidth),
@@ -78,17 +87,20 @@ fn setting(alloc: Global, line: &str) -> Result<Setting, Fault> {
         "raw_mode" => Ok(Setting::RawMode(truth(given)?)),
         "unicode_strikeout" => Ok(Setting::UnicodeStrikeout(truth(given)?)),
         "link_footnotes" => Ok(Setting::LinkFootnotes(truth(given)?)),
-        "empty_img_mode" => Ok(Setting::EmptyImgMode(image_mode(alloc, given)?)),
+        "empty_img_mode" => {
+            let mode = image_mode(alloc, given)?;
+            Ok(Setting::EmptyImgMode(copy(alloc, &mode, watch)?))
+        }
         "add_style_rule" => Ok(Setting::AddStyleRule(rule(alloc, given)?)),
         _ => Err(Fault::Malformed("no setting has this name")),
     }
 }
 
 /// Calls that change a configuration.
-pub fn settings(alloc: Global, lines: &[&str]) -> Result<Vec<Setting>, Fault> {
+pub fn settings(alloc: Global, lines: &[&str], watch: Watch) -> Result<Vec<Setting>, Fault> {
     let mut settings = Vec::new(alloc);
     for line in lines {
-        settings.push(setting(alloc, line)?)?;
+        settings.push(setting(alloc, line, watch)?)?;
     }
     Ok(settings)
 }

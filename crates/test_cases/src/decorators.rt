@@ -184,6 +184,18 @@ fn coloured<D: TextDecorator>(
     Ok(came?)
 }
 
+/// A text of a string that another text gave back.
+fn text(alloc: Global, word: &str, watch: Watch) -> Result<Text, Fault> {
+    let string = String::from_str(alloc, word)?;
+    watch.begin("Text::from")?;
+    let text = Text::from(string);
+    watch.end(&Ok(()))?;
+    watch.begin("Text::into_string")?;
+    let string = text.into_string();
+    watch.end(&Ok(()))?;
+    Ok(Text::from(string))
+}
+
 /// The lines that stand behind a document with links to these places.
 fn finalised<D: TextDecorator>(
     alloc: Global,
@@ -193,7 +205,7 @@ fn finalised<D: TextDecorator>(
 ) -> Result<Vec<String>, Fault> {
     let mut links = Vec::new(alloc);
     for word in given.split_whitespace() {
-        links.push(Text::from_str(alloc, word)?)?;
+        links.push(text(alloc, word, watch)?)?;
     }
     watch.begin("finalise")?;
     let came = decorator.finalise(alloc, &links);

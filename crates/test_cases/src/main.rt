@@ -46,6 +46,7 @@
 mod cases;
 mod configs;
 mod decorators;
+mod display;
 mod programs;
 mod refusing;
 mod rendering;

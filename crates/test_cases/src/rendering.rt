@@ -4,6 +4,7 @@ ghost use Rattle.std.specs.Prelude.{◌≡◌, IfErr};
 
 use crate::configs::{preset, settings};
 use crate::decorators::Shown;
+use crate::display::displayed;
 use crate::refusing::Refusing;
 use crate::sweeps::{Kept, sweep};
 use case_calls::faults::Fault;
@@ -57,7 +58,8 @@ pub fn answer(
     let Some((first, others)) = calls.split_first() else {
         return Err(Fault::Malformed("no call makes a configuration"));
     };
-    let settings = settings(alloc, others)?;
+    let watch = question.watch.only_if(question.asked == "settings");
+    let settings = settings(alloc, others, watch)?;
     if let Some(name) = first.strip_prefix("with_decorator refusing:") {
         let Some(refusing) = Refusing::of(name) else {
             return Err(Fault::Malformed("no function of a decorator has this name"));
@@ -128,7 +130,7 @@ where
             question.watch.begin("dom_to_render_tree")?;
             let came = config.dom_to_render_tree(alloc, dom);
             question.watch.end(&came)?;
-            printed(alloc, &came?.to_string(alloc)?)
+            displayed(alloc, &came?, question.watch)
         }
         _ => {
             let tree = config.dom_to_render_tree(alloc, dom)?;
@@ -166,7 +168,7 @@ fn copy(alloc: Global, tree: RenderTree, watch: Watch) -> Result<String, Fault> 
     watch.begin("drop")?;
     drop(tree);
     watch.end(&Ok(()))?;
-    printed(alloc, &copy.to_string(alloc)?)
+    displayed(alloc, &copy, watch)
 }
 
 /// The call's name, which tells width 0 apart, where it takes no memory.

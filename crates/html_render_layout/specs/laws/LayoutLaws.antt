@@ -1,18 +1,11 @@
 -- The laws of the layout: with overflow off no line passes the width; with overflow on no width is too small but 0.
-use Rattle.std.proofs.Common.{◌≡◌, ◌≢◌, ℕ, ◌<◌, ◌≤◌, ◌==◌, Bool, true, false, cond, List, [], ◌∷◌, Option, Some, None, refl, ap, sym, ◌∙◌, subst}
-use Rattle.std.proofs.Common.{arith, IfSome, IsSome, IfOk, IfErr, Result, Ok, Err, option_and_then, option_map}
+use Rattle.std.proofs.Common.{◌≡◌, ℕ, ◌<◌, ◌==◌, Bool, true, false, cond, List, [], Option, Some, None, refl, sym, subst}
+use Rattle.std.proofs.Common.{arith, IfSome, IsSome, option_and_then}
 use Rattle.std.specs.Option.{IsSomeAnd}
 use Rattle.std.proofs.lemmas.Bool.{eqb-true}
-use Rattle.std.proofs.lemmas.List.Elements.{All-nil, All-cons, All-head, All-tail}
-use Rattle.std.proofs.lemmas.Option.{same_Some}
-use Rattle.html_render_values.specs.declared.errors.Error.{Error}
-use Rattle.html_render_values.specs.declared.errors.Error.TheVariants.{TooNarrow, Fail, OutOfMemory}
-use Rattle.html_render_values.specs.Outcome.{Refuses}
 use Rattle.html_render_values.specs.Forest.{Forest}
 use Rattle.html_render_parts.specs.Decoration.{Decoration}
-use Rattle.html_render_lines.specs.Line.{Line, columns, AllWithinWidth}
-use Rattle.html_render_lines.specs.Tags.{line_with, lines_with}
-use Rattle.html_render_lines.specs.laws.Tags.{columns-with}
+use Rattle.html_render_lines.specs.Line.{Line, AllWithinWidth}
 use Rattle.html_render_nodes.specs.declared.tree.RenderNode.{RenderNode}
 use Rattle.html_render_nodes.specs.Pass.{run}
 use Rattle.html_render_nodes.specs.laws.Runs.{IfSome-then}
@@ -22,8 +15,7 @@ use Rattle.html_render_blocks.specs.laws.BlockLaws.{IsWithin, Overflows, empty_w
 use Rattle.html_render_blocks.specs.laws.Closing.{finish_within, add_closing_lines_within, finish_succeeds, add_closing_lines_succeeds}
 use Rattle.html_render_layout.specs.declared.settings.LayoutSettings.{LayoutSettings}
 use Rattle.html_render_layout.specs.Ending.{ended}
-use Rattle.html_render_layout.specs.Layout.{onto, shown_after, Defined, defined, block_setting, padding, empty_state, estimated, layout_lines, no_tag}
-use Rattle.html_render_layout.specs.Layout.{untagged_lines}
+use Rattle.html_render_layout.specs.Layout.{onto, shown_after, Defined, defined, block_setting, padding, empty_state, estimated, layout_lines}
 use Rattle.html_render_layout.specs.laws.Ending.{ended-keeps, ended-succeeds}
 use Rattle.html_render_layout.specs.laws.LayoutKeeps.{layout-keeps, layout-returns, layout-succeeds}
 
@@ -31,15 +23,6 @@ then_some : {X Y : Type 0} (P : X → Type 0) (o : Option X) (f : X → Option Y
     IsSome (option_and_then f o)
 then_some P None f h next = absurd h
 then_some P (Some x) f h next = next x h
-
--- a map of tags keeps the widths
-pub within-with : {T U M : Type 0} (f : T → U) (w : ℕ) (lines : List (Line T M)) → AllWithinWidth w lines →
-    AllWithinWidth w (lines_with f lines)
-within-with {T} {U} {M} f w [] h = All-nil (λ (l : Line U M). columns l ≤ w)
-within-with {T} {U} {M} f w (l ∷ ls) h =
-    All-cons (λ (l : Line U M). columns l ≤ w) (line_with f l) (lines_with f ls)
-    (subst (λ n. n ≤ w) (sym (columns-with f l)) (All-head (λ (l : Line T M). columns l ≤ w) l ls h))
-    (within-with f w ls (All-tail (λ (l : Line T M). columns l ≤ w) l ls h))
 
 module _ {S A : Type 0} (d : Decoration S A) (settings : LayoutSettings) where
   abbrev lines_from : Forest RenderNode → Defined S A → Option (List (Line (List A) ℕ))
@@ -91,69 +74,3 @@ module _ {S A : Type 0} (d : Decoration S A) (settings : LayoutSettings) where
   pub layout_leaves : (t : Forest RenderNode) (s : Defined S A) →
       IfSome (run (defined d) t s) (λ r. (r.text ≡ s.text) × (r.decorator ≡ s.decorator))
   layout_leaves t = layout-returns d onto definition.operations t
-
-  -- ---- the laws, of what a call answers
-
-  pub within-answered : {X : Type 0} (t : Forest RenderNode) (decorator : S) (w : ℕ) (o : Bool) (lines : X →
-      List (Line (List A) ℕ)) (r : Result X Error) →
-      IfOk r (λ v. layout_lines d settings t decorator w o ≡ Some (lines v)) →
-      IfOk r (λ v. o ≡ false → settings.wrap_links ≡ true → AllWithinWidth w (lines v))
-  within-answered t decorator w o lines (Err e) h = tt
-  within-answered t decorator w o lines (Ok v) h =
-      λ off wrapped. by (layout_lines d settings t decorator w false) (layout_within t decorator w wrapped)
-      (ap (λ b. layout_lines d settings t decorator w b) (sym off) ∙ h)
-    where
-      by : (q : Option (List (Line (List A) ℕ))) → IfSome q (λ ls. AllWithinWidth w ls) → q ≡ Some (lines v) →
-          AllWithinWidth w (lines v)
-      by None k e = cc
-      by (Some ls) k e = subst (λ x. AllWithinWidth w x) (same_Some ls (lines v) e) k
-
-  pub succeeds-answered : {X : Type 0} (t : Forest RenderNode) (decorator : S) (w : ℕ) (o : Bool) (r : Result X Error) →
-      IfErr r (λ e. Refuses e (layout_lines d settings t decorator w o)) → 0 < w → o ≡ true → r ≢ Err TooNarrow
-  succeeds-answered t decorator w o (Ok v) h positive on e = cc
-  succeeds-answered {X} t decorator w o (Err x) h positive on e =
-      by (layout_lines d settings t decorator w true) (layout_succeeds t decorator w positive) (ap (λ b. layout_lines d settings t decorator w b) (sym on)
-      ∙ subst (λ (y : Error). Refuses y (layout_lines d settings t decorator w o)) (same_error x e) h)
-    where
-      same_error : (x : Error) → ◌≡◌ {A = Result X Error} (Err x) (Err TooNarrow) → x ≡ TooNarrow
-      same_error x e = cc
-
-      by : (q : Option (List (Line (List A) ℕ))) → IsSome q → q ≡ None → ⊥
-      by None k e = cc
-      by (Some p) k e = cc
-
-  -- the same of the lines without annotations
-  pub untagged_within : (t : Forest RenderNode) (decorator : S) (w : ℕ) → settings.wrap_links ≡ true →
-      IfSome (untagged_lines d settings t decorator w false) (λ lines. AllWithinWidth w lines)
-  untagged_within t decorator w wrapped = by (layout_lines d settings t decorator w false) (layout_within t decorator w wrapped)
-    where
-      by : (o : Option (List (Line (List A) ℕ))) → IfSome o (λ ls. AllWithinWidth w ls) →
-          IfSome (option_map (lines_with (λ (s : List A). no_tag s)) o) (λ ls. AllWithinWidth w ls)
-      by None h = tt
-      by (Some ls) h = within-with (λ (s : List A). no_tag s) w ls h
-
-  pub untagged_within-answered : {X : Type 0} (t : Forest RenderNode) (decorator : S) (w : ℕ) (o : Bool) (lines : X →
-      List (Line (Unit {0}) ℕ)) (r : Result X Error) →
-      IfOk r (λ v. untagged_lines d settings t decorator w o ≡ Some (lines v)) →
-      IfOk r (λ v. o ≡ false → settings.wrap_links ≡ true → AllWithinWidth w (lines v))
-  untagged_within-answered t decorator w o lines (Err e) h = tt
-  untagged_within-answered t decorator w o lines (Ok v) h =
-      λ off wrapped. by (untagged_lines d settings t decorator w false) (untagged_within t decorator w wrapped)
-      (ap (λ b. untagged_lines d settings t decorator w b) (sym off) ∙ h)
-    where
-      by : (q : Option (List (Line (Unit {0}) ℕ))) → IfSome q (λ ls. AllWithinWidth w ls) → q ≡ Some (lines v) →
-          AllWithinWidth w (lines v)
-      by None k e = cc
-      by (Some ls) k e = subst (λ x. AllWithinWidth w x) (same_Some ls (lines v) e) k
-
-  -- an error says the same of both
-  pub refuses-untagged : (t : Forest RenderNode) (decorator : S) (w : ℕ) (o : Bool) (e : Error) →
-      Refuses e (untagged_lines d settings t decorator w o) → Refuses e (layout_lines d settings t decorator w o)
-  refuses-untagged t decorator w o e h = by e (layout_lines d settings t decorator w o) h
-    where
-      by : (e : Error) (q : Option (List (Line (List A) ℕ))) → Refuses e (option_map (lines_with (λ (s : List A). no_tag s)) q) →
-          Refuses e q
-      by TooNarrow None h = refl
-      by TooNarrow (Some ls) h = cc
-      by OutOfMemory q h = h
-      by Fail q h = h

@@ -3,15 +3,13 @@ use Rattle.std.specs.Prelude.{codes, if◌then◌else◌, ◌&&◌, not}
 use Rattle.std.specs.Fmt.{decimal}
 use Rattle.std.specs.Str.{chars}
 use Rattle.std.proofs.Common.{◌≡◌, ℕ, ◌+◌, ◌==◌, Bool, true, false, cond, List, [], ◌++◌, length, map, Option, Some, None}
-use Rattle.std.proofs.Common.{IfSome, IfOk, Result, Ok, Err, option_map, option_and_then, refl, ap, sym, ◌∙◌, subst}
+use Rattle.std.proofs.Common.{IfSome, option_map, option_and_then, refl, ap, sym, ◌∙◌, subst}
 use Rattle.std.proofs.lemmas.Option.{same_Some}
-use Rattle.html_render_values.specs.declared.errors.Error.{Error}
 use Rattle.html_render_values.specs.Forest.{Forest}
 use Rattle.html_render_values.specs.declared.colours.Colour.{Colour}
 use Rattle.html_render_parts.specs.Decoration.{Decoration, Round, link}
 use Rattle.html_render_parts.specs.declared.widths.needs.CellNeed.{CellNeed}
 use Rattle.html_render_lines.specs.Line.{Line}
-use Rattle.html_render_lines.specs.Tags.{lines_with}
 use Rattle.html_render_nodes.specs.declared.tree.Estimate.{Estimate}
 use Rattle.html_render_nodes.specs.declared.tree.NodeKind.{NodeKind}
 use Rattle.html_render_nodes.specs.declared.tree.NodeKind.TheVariants.{Text, Container, Break, Block, Div, Emphasis}
@@ -48,7 +46,7 @@ use Rattle.html_render_values.specs.declared.white_space.WhiteSpace.TheVariants.
 use Rattle.html_render_layout.specs.Layout.{emphasis_decoration, begun, decorated, titled, image, struck_out, superscript, linked}
 use Rattle.html_render_layout.specs.Layout.{fence_style, fenced, table_begun, table_ended, row_begun, in_cell, as_cell}
 use Rattle.html_render_layout.specs.Layout.{numbers, kind_steps, node_steps, steps}
-use Rattle.html_render_layout.specs.Layout.{shown_after, onto, Defined, empty_state, estimated, layout_lines, mark_names, no_tag, untagged_lines}
+use Rattle.html_render_layout.specs.Layout.{shown_after, onto, Defined, empty_state, estimated, layout_lines, mark_names}
 
 module _ {S A K T B : Type 0} (d : Decoration S A) (push : K → T → A → K × T) (o : Operations B T) (f : B → B) (h : Refines f o) where
   abbrev State : Type 0
@@ -333,17 +331,18 @@ with_either {L} f h false = itself (f false)
     itself None = tt
     itself (Some lines) = refl
 
--- an answer is what is there with overflow off
-agrees : {L : Type 0} (p q : Option L) (lines : L) → IfSome p (λ ls. q ≡ Some ls) → q ≡ Some lines → IfSome p (λ ls. lines ≡ ls)
-agrees None q lines h e = tt
-agrees (Some ls) q lines h e = same_Some lines ls (sym e ∙ h)
+-- so an answer is what is there with overflow off
+pub same_answer : {L : Type 0} (f : Bool → Option L) → IfSome (f false) (λ lines. f true ≡ Some lines) → (o : Bool) (lines : L) →
+    f o ≡ Some lines → IfSome (f false) (λ others. lines ≡ others)
+same_answer {L} f h o lines e = by (f false) (with_either f h o)
+  where
+    by : (p : Option L) → IfSome p (λ others. f o ≡ Some others) → IfSome p (λ others. lines ≡ others)
+    by None h = tt
+    by (Some others) h = same_Some lines others (sym e ∙ h)
 
 module _ {S A : Type 0} (d : Decoration S A) (settings : LayoutSettings) where
   abbrev lines_from : Forest RenderNode → Defined S A → Option (List (Line (List A) ℕ))
   lines_from t s = shown_after d onto definition.operations definition.ending (λ (r : Defined S A). r.block.lines) t s
-
-  abbrev bare : List (Line (List A) ℕ) → List (Line (Unit {0}) ℕ)
-  bare lines = lines_with (λ (stack : List A). no_tag stack) lines
 
   -- THE LAW: where there are lines with overflow off, they are the lines with overflow on
   pub layout_same : (t : Forest RenderNode) (decorator : S) (w : ℕ) →
@@ -371,33 +370,3 @@ module _ {S A : Type 0} (d : Decoration S A) (settings : LayoutSettings) where
       by false =
           shown-image d onto definition.operations overflowing operations_refine definition.ending finish_stays add_closing_lines_stays
           (λ (s : Defined S A). s.names) (λ r. refl) (estimated d settings decorator t) (empty_state d settings decorator w false)
-
-  -- the same of the lines without annotations
-  pub untagged_same : (t : Forest RenderNode) (decorator : S) (w : ℕ) →
-      IfSome (untagged_lines d settings t decorator w false) (λ lines. untagged_lines d settings t decorator w true ≡ Some lines)
-  untagged_same t decorator w = by (layout_lines d settings t decorator w false) (layout_lines d settings t decorator w true) (layout_same t decorator w)
-    where
-      by : (p q : Option (List (Line (List A) ℕ))) → IfSome p (λ lines. q ≡ Some lines) →
-          IfSome (option_map bare p) (λ lines. option_map bare q ≡ Some lines)
-      by None q e = tt
-      by (Some lines) q e = ap (option_map bare) e
-
-  -- ---- the laws, of what a call answers
-
-  pub same-answered : {X : Type 0} (t : Forest RenderNode) (decorator : S) (w : ℕ) (o : Bool) (lines : X → List (Line (List A) ℕ))
-      (r : Result X Error) →
-      IfOk r (λ v. layout_lines d settings t decorator w o ≡ Some (lines v)) →
-      IfOk r (λ v. IfSome (layout_lines d settings t decorator w false) (λ ls. lines v ≡ ls))
-  same-answered t decorator w o lines (Err e) h = tt
-  same-answered t decorator w o lines (Ok v) h =
-      agrees (layout_lines d settings t decorator w false) (layout_lines d settings t decorator w o) (lines v)
-      (with_either (λ b. layout_lines d settings t decorator w b) (layout_same t decorator w) o) h
-
-  pub untagged_same-answered : {X : Type 0} (t : Forest RenderNode) (decorator : S) (w : ℕ) (o : Bool)
-      (lines : X → List (Line (Unit {0}) ℕ)) (r : Result X Error) →
-      IfOk r (λ v. untagged_lines d settings t decorator w o ≡ Some (lines v)) →
-      IfOk r (λ v. IfSome (untagged_lines d settings t decorator w false) (λ ls. lines v ≡ ls))
-  untagged_same-answered t decorator w o lines (Err e) h = tt
-  untagged_same-answered t decorator w o lines (Ok v) h =
-      agrees (untagged_lines d settings t decorator w false) (untagged_lines d settings t decorator w o) (lines v)
-      (with_either (λ b. untagged_lines d settings t decorator w b) (untagged_same t decorator w) o) h

@@ -2,20 +2,16 @@
 use Rattle.std.specs.Fmt.{decimal}
 use Rattle.std.specs.Str.{chars}
 use Rattle.std.proofs.Common.{◌≡◌, ℕ, ◌+◌, ◌≤◌, ◌==◌, Bool, true, false, cond, List, [], ◌∷◌, ◌++◌, length, codes, Option, Some, None}
-use Rattle.std.proofs.Common.{option_map, option_and_then, IfSome, IfOk, Result, Ok, Err, refl, ap, sym, ◌∙◌, subst, arith, append_assoc}
+use Rattle.std.proofs.Common.{option_and_then, IfSome, refl, ap, sym, ◌∙◌, arith, append_assoc}
 use Rattle.std.specs.Option.{is_some}
 use Rattle.std.specs.Prelude.{map, sum_by, not, ◌&&◌, if◌then◌else◌}
-use Rattle.std.proofs.lemmas.Option.{same_Some}
 use Rattle.std.proofs.lemmas.List.Sums.{sum_by-cons, sum_by-append}
-use Rattle.html_render_values.specs.declared.errors.Error.{Error}
 use Rattle.html_render_values.specs.Forest.{Forest, none, node}
 use Rattle.html_render_parts.specs.Decoration.{Decoration, Round, link}
 use Rattle.html_render_parts.specs.declared.widths.needs.CellNeed.{CellNeed}
 use Rattle.html_render_lines.specs.Character.{is_collapsible}
 use Rattle.html_render_lines.specs.Line.{Line}
-use Rattle.html_render_lines.specs.Tags.{line_with, lines_with}
-use Rattle.html_render_lines.specs.Visible.{if_visible, visible_in_line, visible_in_lines}
-use Rattle.html_render_lines.specs.declared.line.Element.TheVariants as element
+use Rattle.html_render_lines.specs.Visible.{if_visible, visible_in_lines}
 use Rattle.html_render_nodes.specs.declared.tree.Estimate.{Estimate}
 use Rattle.html_render_nodes.specs.declared.tree.NodeKind.{NodeKind}
 use Rattle.html_render_nodes.specs.declared.tree.NodeKind.TheVariants.{Text, Container, Break, Block, Div, Emphasis}
@@ -25,9 +21,8 @@ use Rattle.html_render_nodes.specs.declared.tree.NodeKind.TheVariants.{TableCell
 use Rattle.html_render_nodes.specs.declared.tree.RenderNode.{RenderNode}
 use Rattle.html_render_nodes.specs.declared.tree.Slot.{Slot}
 use Rattle.html_render_nodes.specs.Grids.{GridRows}
-use Rattle.html_render_nodes.specs.Pass.{Steps, Inside, run, from}
+use Rattle.html_render_nodes.specs.Pass.{Steps, Inside, run, from, count_from}
 use Rattle.html_render_nodes.specs.laws.Runs.{IfSome-then, IfSome-weaken}
-use Rattle.html_render_nodes.specs.laws.Growth.{count_from}
 use Rattle.html_render_blocks.specs.Operations.{Operations}
 use Rattle.html_render_blocks.specs.Block as definition
 use Rattle.html_render_blocks.specs.Block.{DefinedBlock}
@@ -51,7 +46,7 @@ use Rattle.html_render_layout.specs.Layout.{emphasis_decoration, begun, decorate
 use Rattle.html_render_layout.specs.Layout.{superscript, superscript_inside, striking, with_target, link_number, linked}
 use Rattle.html_render_layout.specs.Layout.{fence_style, fenced, table_begun, table_ended, row_begun, in_cell, as_cell}
 use Rattle.html_render_layout.specs.Layout.{in_style, kind_steps, node_steps, steps, kind_inside, node_inside, placed_inside, inside}
-use Rattle.html_render_layout.specs.Layout.{shown_after, onto, Defined, defined, empty_state, estimated, layout_lines, no_tag, untagged_lines}
+use Rattle.html_render_layout.specs.Layout.{shown_after, onto, Defined, defined, empty_state, estimated, layout_lines}
 use Rattle.html_render_layout.specs.Ending.{ended}
 use Rattle.html_render_layout.specs.laws.Ending.{ended-keeps}
 use Rattle.html_render_layout.specs.laws.Styles.{in_style-block}
@@ -500,22 +495,6 @@ for_each : {X : Type 0} (P : ℕ → X → Type 0) (o : Option X) → ((c : ℕ)
 for_each P None h = tt
 for_each P (Some x) h = h
 
-line-with : {T U M : Type 0} (f : T → U) (l : Line T M) → visible_in_line (line_with f l) ≡ visible_in_line l
-line-with f [] = refl
-line-with f (element.Character c tag ∷ es) = ap (λ r. if_visible c ++ r) (line-with f es)
-line-with f (element.Mark m ∷ es) = line-with f es
-
--- a map of tags keeps the characters
-lines-with : {T U M : Type 0} (f : T → U) (ls : List (Line T M)) → visible_in_lines (lines_with f ls) ≡ visible_in_lines ls
-lines-with f [] = refl
-lines-with f (l ∷ ls) =
-    ap (λ r. r ++ visible_in_lines (lines_with f ls)) (line-with f l) ∙ ap (λ r. visible_in_line l ++ r) (lines-with f ls)
-
--- what is known of an answer
-of_lines : {L : Type 0} (P : L → Type 0) (p : Option L) (lines : L) → IfSome p P → p ≡ Some lines → P lines
-of_lines P None lines h e = cc
-of_lines P (Some ls) lines h e = subst P (same_Some ls lines e) h
-
 module _ {S A : Type 0} (d : Decoration S A) where
   abbrev lines_from : Forest RenderNode → Defined S A → Option (List (Line (List A) ℕ))
   lines_from t s = shown_after d onto definition.operations definition.ending (λ (r : Defined S A). r.block.lines) t s
@@ -555,34 +534,3 @@ module _ {S A : Type 0} (d : Decoration S A) where
           (λ lines. text_count c (text_characters (visited_nodes d settings t decorator w o)) ≤ count c (visible_in_lines lines))
       by c true = tt
       by c false = lines c
-
-  -- the same of the lines without annotations
-  pub untagged_keeps_texts : (settings : LayoutSettings) (t : Forest RenderNode) (decorator : S) (w : ℕ) (o : Bool) →
-      IfSome (untagged_lines d settings t decorator w o) (KeepsTexts (visited_nodes d settings t decorator w o))
-  untagged_keeps_texts settings t decorator w o = by (layout_lines d settings t decorator w o) (layout_keeps_texts settings t decorator w o)
-    where
-      by : (p : Option (List (Line (List A) ℕ))) → IfSome p (KeepsTexts (visited_nodes d settings t decorator w o)) →
-          IfSome (option_map (lines_with (λ (s : List A). no_tag s)) p) (KeepsTexts (visited_nodes d settings t decorator w o))
-      by None h = tt
-      by (Some ls) h = λ c. subst (λ cs. text_count c (text_characters (visited_nodes d settings t decorator w o)) ≤ count c cs)
-          (sym (lines-with (λ (s : List A). no_tag s) ls)) (h c)
-
-  -- ---- the laws, of what a call answers
-
-  pub keeps-answered : {X : Type 0} (settings : LayoutSettings) (t : Forest RenderNode) (decorator : S) (w : ℕ) (o : Bool)
-      (lines : X → List (Line (List A) ℕ)) (r : Result X Error) →
-      IfOk r (λ v. layout_lines d settings t decorator w o ≡ Some (lines v)) →
-      IfOk r (λ v. KeepsTexts (visited_nodes d settings t decorator w o) (lines v))
-  keeps-answered settings t decorator w o lines (Err e) h = tt
-  keeps-answered settings t decorator w o lines (Ok v) h =
-      of_lines (KeepsTexts (visited_nodes d settings t decorator w o)) (layout_lines d settings t decorator w o) (lines v)
-      (layout_keeps_texts settings t decorator w o) h
-
-  pub untagged_keeps-answered : {X : Type 0} (settings : LayoutSettings) (t : Forest RenderNode) (decorator : S) (w : ℕ) (o : Bool)
-      (lines : X → List (Line (Unit {0}) ℕ)) (r : Result X Error) →
-      IfOk r (λ v. untagged_lines d settings t decorator w o ≡ Some (lines v)) →
-      IfOk r (λ v. KeepsTexts (visited_nodes d settings t decorator w o) (lines v))
-  untagged_keeps-answered settings t decorator w o lines (Err e) h = tt
-  untagged_keeps-answered settings t decorator w o lines (Ok v) h =
-      of_lines (KeepsTexts (visited_nodes d settings t decorator w o)) (untagged_lines d settings t decorator w o) (lines v)
-      (untagged_keeps_texts settings t decorator w o) h

@@ -13,21 +13,23 @@ use Rattle.html_render_lines.specs.declared.line.Element.TheVariants.{Character,
 use Rattle.html_render_lines.specs.Line.{Line}
 use Rattle.html_render_lines.specs.Tags.{element_with, line_with, lines_with}
 use Rattle.html_render_nodes.specs.declared.tree.RenderNode.{RenderNode}
+use Rattle.html_render_estimates.specs.Passes.{with_needed_sizes}
 use Rattle.html_render_blocks.specs.Block as definition
 use Rattle.html_render_blocks.specs.BlockMachine as machine
 use Rattle.html_render_blocks.specs.laws.BlockFed.{block_of}
 use Rattle.html_render_blocks.specs.laws.BlockTags.{block_with}
 use Rattle.html_render_layout.specs.Stacks.{stack_at}
 use Rattle.html_render_nodes.specs.Counts.{CountsNodes}
-use Rattle.html_render_nodes.specs.Pass.{visited, inside_of}
+use Rattle.html_render_nodes.specs.Pass.{visited, most_open, inside_of}
 use Rattle.html_render_nodes.specs.laws.Counts.{counts-same}
 use Rattle.html_render_layout.specs.declared.settings.LayoutSettings.{LayoutSettings}
 use Rattle.html_render_layout.specs.Layout.{onto, steps, shown_after, Defined, defined, defined_inside, begin_with, block_setting, padding, empty_state}
-use Rattle.html_render_layout.specs.Layout.{estimated, layout_lines, mark_names, untagged_lines}
+use Rattle.html_render_layout.specs.Layout.{estimated, layout_lines, mark_names, unannotated}
 use Rattle.html_render_layout.specs.Opening.{opened}
 use Rattle.html_render_layout.specs.laws.Opening.{layout-asks}
-use Rattle.html_render_layout.specs.Working.{Worked, tabled, work_lines, work_names, Untagged, untagged, untagged_work}
-use Rattle.html_render_layout.specs.laws.Representation.{Represents, visited-represented, lines-represented, names-represented}
+use Rattle.html_render_layout.specs.laws.Sizes.{shown-needed, counts-needed}
+use Rattle.html_render_layout.specs.Working.{Worked, tabled, tagged, work_lines, work_names, Untagged, untagged, untagged_work}
+use Rattle.html_render_layout.specs.laws.Representation.{Represents, visited-represented, most_open-represented, lines-represented, names-represented}
 
 -- ---- a map of tags that changes none
 
@@ -122,16 +124,20 @@ module _ {S A : Type 0} (d : Decoration S A) (settings : LayoutSettings) where
 
   -- from an empty block of a width that isn't 0, what the code does with the measured trees makes the lines of the tree
   pub layout_lines-works : (t measured : Forest RenderNode) (decorator : S) (w : ℕ) (o : Bool) (s : Worked S A) → w ≢ 0 →
-      measured ≡ estimated d settings decorator t → s ≡ empty_worked decorator w o → work_lines d measured s ≡ layout_lines d settings t decorator w o
+      measured ≡ with_needed_sizes (estimated d settings decorator t) → s ≡ empty_worked decorator w o → work_lines d measured s ≡ layout_lines d settings t decorator w o
   layout_lines-works t measured decorator w o s wide m e =
       ap (λ x. work_lines d measured x) e ∙ ap (λ x. work_lines d x (empty_worked decorator w o)) m
+      ∙ shown-needed d tabled machine.operations machine.ending (λ (r : Worked S A). tagged r.stacks r.block.lines)
+      (estimated d settings decorator t) (empty_worked decorator w o)
       ∙ work_lines-wanted (estimated d settings decorator t) decorator w o ∙ wanted-lines t decorator w o wide
 
   -- and so are the names of its marks
   pub mark_names-works : (t measured : Forest RenderNode) (decorator : S) (w : ℕ) (o : Bool) (s : Worked S A) → w ≢ 0 →
-      measured ≡ estimated d settings decorator t → s ≡ empty_worked decorator w o → work_names d measured s ≡ mark_names d settings t decorator w o
+      measured ≡ with_needed_sizes (estimated d settings decorator t) → s ≡ empty_worked decorator w o → work_names d measured s ≡ mark_names d settings t decorator w o
   mark_names-works t measured decorator w o s wide m e =
       ap (λ x. work_names d measured x) e ∙ ap (λ x. work_names d x (empty_worked decorator w o)) m
+      ∙ shown-needed d tabled machine.operations machine.ending (λ (r : Worked S A). r.names)
+      (estimated d settings decorator t) (empty_worked decorator w o)
       ∙ names-represented d tabled stack_at (λ (s : List A). s) Pushed (λ k. ([], sym (append-nil k))) Pushed-goes
       (λ k t a. ((stack_at k t ++ a ∷ []) ∷ [], refl)) tag_pushed (estimated d settings decorator t) (empty_worked decorator w o)
       (empty_state d settings decorator w o) (begins decorator w o)
@@ -145,7 +151,7 @@ module _ {S A : Type 0} (d : Decoration S A) (settings : LayoutSettings) where
       by true z = absurd (wide (eqb-true w 0 z))
       by false z = refl
 
-  -- of any trees it visits what the definition visits
+  -- of any trees it visits what the definition visits, with as many open at once
   counts-wanted : {X : Type 0} (r : Result X Error) (t : Forest RenderNode) (decorator : S) (w : ℕ) (o : Bool) (s : Worked S A)
       (old other new : Meter) → s ≡ empty_worked decorator w o → other.probes ≡ old.probes →
       CountsNodes r (steps d tabled machine.operations) (inside_of (opened d tabled machine.operations)) t s other new →
@@ -157,17 +163,22 @@ module _ {S A : Type 0} (d : Decoration S A) (settings : LayoutSettings) where
       ∙ visited-represented d tabled stack_at (λ (s : List A). s) Pushed (λ k. ([], sym (append-nil k))) Pushed-goes
       (λ k t a. ((stack_at k t ++ a ∷ []) ∷ [], refl)) tag_pushed t (empty_worked decorator w o) (empty_state d settings decorator w o)
       (begins decorator w o))
+      (ap (λ x. most_open (steps d tabled machine.operations) (inside_of (opened d tabled machine.operations)) t x) e
+      ∙ most_open-represented d tabled stack_at (λ (s : List A). s) Pushed (λ k. ([], sym (append-nil k))) Pushed-goes
+      (λ k t a. ((stack_at k t ++ a ∷ []) ∷ [], refl)) tag_pushed t (empty_worked decorator w o) (empty_state d settings decorator w o)
+      (begins decorator w o))
       (layout-asks d onto definition.operations) probes c
 
   -- and it counts what the definition visits
   pub counts-work : {X : Type 0} (r : Result X Error) (t measured : Forest RenderNode) (decorator : S) (w : ℕ) (o : Bool)
-      (s : Worked S A) (old other new : Meter) → measured ≡ estimated d settings decorator t → s ≡ empty_worked decorator w o →
+      (s : Worked S A) (old other new : Meter) → measured ≡ with_needed_sizes (estimated d settings decorator t) → s ≡ empty_worked decorator w o →
       other.probes ≡ old.probes →
       CountsNodes r (steps d tabled machine.operations) (inside_of (opened d tabled machine.operations)) measured s other new →
       CountsNodes r (defined d) (defined_inside d) (estimated d settings decorator t) (empty_state d settings decorator w o) old new
   counts-work r t measured decorator w o s old other new m e probes c =
       counts-wanted r (estimated d settings decorator t) decorator w o s old other new e probes
-      (subst (λ x. CountsNodes r (steps d tabled machine.operations) (inside_of (opened d tabled machine.operations)) x s other new) m c)
+      (counts-needed d tabled machine.operations r (estimated d settings decorator t) s other new
+      (subst (λ x. CountsNodes r (steps d tabled machine.operations) (inside_of (opened d tabled machine.operations)) x s other new) m c))
 
   -- ---- no tags
 
@@ -196,9 +207,11 @@ module _ {S A : Type 0} (d : Decoration S A) (settings : LayoutSettings) where
 
   -- the same, without what the characters are annotated with
   pub untagged_lines-works : {K : Type 0} (t measured : Forest RenderNode) (decorator : S) (w : ℕ) (o : Bool) (k : K)
-      (s : Untagged S K) → w ≢ 0 → measured ≡ estimated d settings decorator t → s ≡ empty_untagged k decorator w o →
-      untagged_work d measured s ≡ untagged_lines d settings t decorator w o
-  untagged_lines-works t measured decorator w o k s wide m e =
+      (s : Untagged S K) → w ≢ 0 → measured ≡ with_needed_sizes (estimated d settings decorator t) → s ≡ empty_untagged k decorator w o →
+      untagged_work d measured s ≡ option_map unannotated (layout_lines d settings t decorator w o)
+  untagged_lines-works {K} t measured decorator w o k s wide m e =
       ap (λ x. untagged_work d measured x) e ∙ ap (λ x. untagged_work d x (empty_untagged k decorator w o)) m
+      ∙ shown-needed d untagged machine.operations machine.ending (λ (r : Untagged S K). r.block.lines)
+      (estimated d settings decorator t) (empty_untagged k decorator w o)
       ∙ untagged_work-wanted (estimated d settings decorator t) decorator w o k
       ∙ ap (option_map (lines_with (λ (s : List A). tt))) (wanted-lines t decorator w o wide)

@@ -43,7 +43,7 @@ and_then_assoc None f h = refl
 and_then_assoc (Some x) f h = refl
 
 -- two that go on alike
-and_then_same : {A B : Type 0} (o : Option A) (f h : A → Option B) → ((x : A) → f x ≡ h x) → option_and_then f o ≡ option_and_then h o
+pub and_then_same : {A B : Type 0} (o : Option A) (f h : A → Option B) → ((x : A) → f x ≡ h x) → option_and_then f o ≡ option_and_then h o
 and_then_same None f h e = refl
 and_then_same (Some x) f h e = e x
 

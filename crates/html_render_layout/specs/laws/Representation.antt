@@ -26,9 +26,9 @@ use Rattle.html_render_nodes.specs.declared.tree.Slot.{Slot}
 use Rattle.html_render_nodes.specs.Grids.{GridRows}
 use Rattle.html_render_estimates.specs.Cells.{cell_needs}
 use Rattle.html_render_estimates.specs.Estimates.{prefix_columns}
-use Rattle.html_render_nodes.specs.laws.Agree.{Agree, Agree-then, Agree-weaken, Agree-along, mapped-Agree, run-agree, visited-agree}
-use Rattle.html_render_nodes.specs.laws.Visits.{visited-same}
-use Rattle.html_render_nodes.specs.Pass.{run, visited, inside_of}
+use Rattle.html_render_nodes.specs.laws.Agree.{Agree, Agree-then, Agree-weaken, Agree-along, mapped-Agree, run-agree, visited-agree, most_open-agree}
+use Rattle.html_render_nodes.specs.laws.Visits.{visited-same, most_open-same}
+use Rattle.html_render_nodes.specs.Pass.{run, visited, most_open, inside_of}
 use Rattle.html_render_blocks.specs.Operations.{Operations}
 use Rattle.html_render_blocks.specs.Block as definition
 use Rattle.html_render_blocks.specs.Block.{DefinedBlock}
@@ -1067,6 +1067,17 @@ module _ {S A K T V : Type 0} (d : Decoration S A) (push : K → T → A → K �
       visited-same (steps d push machine.operations) (inside_of (opened d push machine.operations)) (inside d push machine.operations)
       (opened-inside d push machine.operations) t s
       ∙ visited-agree (steps d push machine.operations) (defined d) (λ s e. Represents s e) (λ s r. Grows s r) (λ s. stays s.stacks)
+      (λ s q r a b. goes s.stacks q.stacks r.stacks a b) steps-represents (inside d push machine.operations) (defined_inside d)
+      inside-represents t s e h
+
+  -- and keeps as many of them open at once
+  pub most_open-represented : (t : Forest RenderNode) (s : Worked) (e : Defined S A) → Represents s e →
+      most_open (steps d push machine.operations) (inside_of (opened d push machine.operations)) t s
+      ≡ most_open (defined d) (defined_inside d) t e
+  most_open-represented t s e h =
+      most_open-same (steps d push machine.operations) (inside_of (opened d push machine.operations)) (inside d push machine.operations)
+      (opened-inside d push machine.operations) t s
+      ∙ most_open-agree (steps d push machine.operations) (defined d) (λ s e. Represents s e) (λ s r. Grows s r) (λ s. stays s.stacks)
       (λ s q r a b. goes s.stacks q.stacks r.stacks a b) steps-represents (inside d push machine.operations) (defined_inside d)
       inside-represents t s e h
 

@@ -37,7 +37,7 @@ fn bullet_place<D: TextDecorator>(
     let bullet = decorator.unordered_item_prefix(alloc)?;
     Ok(Place {
         columns: columns(bullet.as_str()),
-        prefix: Text::new(bullet),
+        prefix: Text::from(bullet),
         least,
         behind: Around::Bullets { least },
     })
@@ -64,7 +64,7 @@ fn number_place<D: TextDecorator>(
     let prefix = decorator.ordered_item_prefix(alloc, number)?;
     let prefix = padded(prefix, columns)?;
     Ok(Place {
-        prefix: Text::new(prefix),
+        prefix: Text::from(prefix),
         columns,
         least,
         behind: Around::Numbers {

@@ -16,7 +16,6 @@ use crate::tagging::Tagging;
 use html_render_blocks::block::Block;
 use html_render_parts::decorate::TextDecorator;
 use html_render_values::Error;
-use html_render_values::text::Text;
 use std::alloc::Global;
 
 /// Adds the mark of this name.
@@ -25,7 +24,7 @@ use std::alloc::Global;
 ///
 /// `OutOfMemory`.
 pub fn add_mark<D: TextDecorator, G: Tagging<D::Annotation>>(
-    name: &Text,
+    name: &str,
     state: &mut LayoutState<D, G, G::Tag, Block<G::Tag, usize>>,
 ) -> Result<(), Error>
     ensures ok { OnOk result (state.new ≡ marked machine.operations name.now state.old) }
@@ -43,7 +42,7 @@ pub fn add_mark<D: TextDecorator, G: Tagging<D::Annotation>>(
 #[tactic(auto, using(html_render_values::specs::laws::Outcome::refusals))]
 pub fn begin_link<D: TextDecorator, G: Tagging<D::Annotation>>(
     alloc: Global,
-    target: &Text,
+    target: &str,
     state: &mut LayoutState<D, G, G::Tag, Block<G::Tag, usize>>,
 ) -> Result<(), Error>
     ensures ok { OnOk result (begun D.decoration G.annotated machine.operations (link D.decoration target.now)
@@ -52,7 +51,7 @@ pub fn begin_link<D: TextDecorator, G: Tagging<D::Annotation>>(
         (with_target target.now state.old))) }
 {
     state.targets.push(target)?;
-    let start = state.decorator.decorate_link_start(alloc, target.as_str())?;
+    let start = state.decorator.decorate_link_start(alloc, target)?;
     begin(alloc, start, state)
 }
 

@@ -96,11 +96,11 @@ impl TextList {
     /// # Errors
     ///
     /// `OutOfMemory`.
-    pub fn push(&mut self, text: &Text) -> Result<(), Error>
+    pub fn push(&mut self, text: &str) -> Result<(), Error>
         ensures ok { OnOk result (self.new ≡ self.old ++ text.now ∷ []) }
         ensures err { IfErr result (λ e. e ≡ Error.OutOfMemory) }
     {
-        let text = text.clone()?;
+        let text = Text::from_str(*self.texts.allocator(), text)?;
         self.texts.push(text)?;
         Ok(())
     }

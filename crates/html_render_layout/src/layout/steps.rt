@@ -52,7 +52,7 @@ fn open_quote<D: TextDecorator, G: Tagging<D::Annotation>>(
     ensures err { IfErr result (λ e. Refuses e (quote_opened D.decoration G.annotated machine.operations (string_bytes prefix) estimate.now state.old)) }
 {
     let columns = columns(prefix.as_str());
-    let prefix = Text::new(prefix);
+    let prefix = Text::from(prefix);
     let outer = nest(
         alloc,
         prefix,
@@ -155,7 +155,7 @@ fn open_superscript<D: TextDecorator, G: Tagging<D::Annotation>>(
 #[tactic(auto, using(html_render_values::specs::laws::Outcome::refusals))]
 fn open_link<D: TextDecorator, G: Tagging<D::Annotation>>(
     alloc: Global,
-    target: &Text,
+    target: &str,
     state: &mut LayoutState<D, G, G::Tag, Block<G::Tag, usize>>,
 ) -> Result<Option<KindClosing<D, G::Tag, Block<G::Tag, usize>>>, Error>
     ensures ok { IfOk result (λ c. link_opened D.decoration G.annotated machine.operations target.now state.old ≡ Some (way state.new c)) }
@@ -266,7 +266,7 @@ fn open_kind<D: TextDecorator, G: Tagging<D::Annotation>>(
         NodeKind::Dd => open_description(alloc, estimate, state),
         NodeKind::Strikeout => open_strikeout(alloc, state),
         NodeKind::Superscript => open_superscript(alloc, children, state),
-        NodeKind::Link(target) => open_link(alloc, target, state),
+        NodeKind::Link(target) => open_link(alloc, target.as_str(), state),
         NodeKind::Image(image) => {
             add_image(
                 alloc,
@@ -281,7 +281,7 @@ fn open_kind<D: TextDecorator, G: Tagging<D::Annotation>>(
             Ok(None)
         }
         NodeKind::FragmentStart(name) => {
-            add_mark(name, state)?;
+            add_mark(name.as_str(), state)?;
             Ok(None)
         }
     }

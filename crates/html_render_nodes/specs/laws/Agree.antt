@@ -1,8 +1,8 @@
 -- Two partial answers that agree, and two runs that do.
-use Rattle.std.proofs.Common.{◌≡◌, Option, Some, None, List, ◌∷◌, ◌++◌, refl, ap, ◌∙◌, option_and_then, option_map}
+use Rattle.std.proofs.Common.{◌≡◌, ℕ, ◌+◌, Option, Some, None, List, ◌∷◌, ◌++◌, refl, ap, ◌∙◌, arith, option_and_then, option_map}
 use Rattle.std.proofs.lemmas.Option.{same_Some}
 use Rattle.html_render_values.specs.Forest.{Forest, none, node}
-use Rattle.html_render_nodes.specs.Pass.{Steps, Inside, run, from, visited}
+use Rattle.html_render_nodes.specs.Pass.{Steps, Inside, run, from, count_from, visited, most_open}
 
 -- both have an answer, and R relates these, or neither has one
 abbrev pub Agree : {X Y : Type 0} → (X → Y → Type 0) → Option X → Option Y → Type 0
@@ -62,6 +62,13 @@ module _ {K S D : Type 0} (m : Steps K S) (n : Steps K D) (R : S → D → Type 
   from-agree Q f g None (Some d) h same = absurd h
   from-agree Q f g (Some s) None h same = absurd h
 
+  count_from-agree : (Q : S → D → Type 0) (f : S → ℕ) (g : D → ℕ) (o : Option S) (p : Option D) → Agree Q o p →
+      ((s : S) (d : D) → Q s d → f s ≡ g d) → count_from f o ≡ count_from g p
+  count_from-agree Q f g None None h same = refl
+  count_from-agree Q f g (Some s) (Some d) h same = same s d h
+  count_from-agree Q f g None (Some d) h same = absurd h
+  count_from-agree Q f g (Some s) None h same = absurd h
+
   -- they visit the same nodes, if they ask for children in states that are so related
   module _ (i : Inside K S) (j : Inside K D)
       (inside : (k : K) (trees : Forest K) (s : S) (d : D) → R s d → Agree R (i k trees s) (j k trees d)) where
@@ -75,3 +82,16 @@ module _ {K S D : Type 0} (m : Steps K S) (n : Steps K D) (R : S → D → Type 
         (from-agree (λ t u. R t u × E s t) (λ q. visited m i beside q) (λ e. visited n j beside e)
         (m k children (λ q. run m children q) s) (n k children (λ e. run n children e) d)
         (each k children _ _ (λ q e. run-agree children q e) s d h) (λ q e a. visited-agree beside q e a.0))
+
+    -- and as many of them stand open at once
+    pub most_open-agree : (t : Forest K) (s : S) (d : D) → R s d → most_open m i t s ≡ most_open n j t d
+    most_open-agree none s d h = refl
+    most_open-agree (node k children beside) s d h =
+        omega (
+          arith,
+          count_from-agree R (λ q. 1 + most_open m i children q) (λ e. 1 + most_open n j children e) (i k children s) (j k children d)
+              (inside k children s d h) (λ q e a. ap (λ o. 1 + o) (most_open-agree children q e a)),
+          count_from-agree (λ t u. R t u × E s t) (λ q. most_open m i beside q) (λ e. most_open n j beside e)
+              (m k children (λ q. run m children q) s) (n k children (λ e. run n children e) d)
+              (each k children _ _ (λ q e. run-agree children q e) s d h) (λ q e a. most_open-agree beside q e a.0),
+        )

@@ -2,23 +2,25 @@
 use Rattle.std.specs.Prelude.{◌≡◌, ◌≤◌, List, length, Result, Ok, Err, OnOk}
 use Rattle.std.specs.Result.{IsErrAnd}
 use Rattle.std.proofs.Common.{arith, subst, ◌∙◌}
-use Rattle.html_render_values.specs.Forest.{Forest, count}
+use Rattle.html_render_values.specs.Forest.{Forest, count, depth}
 use Rattle.html_render_parts.specs.declared.widths.Meter.{Meter}
 use Rattle.html_render_nodes.specs.Counts.{CountsNodes}
-use Rattle.html_render_nodes.specs.Pass.{Steps, Inside, AsksIn, visited}
-use Rattle.html_render_nodes.specs.laws.Visits.{visited-at_most}
+use Rattle.html_render_nodes.specs.Pass.{Steps, Inside, AsksIn, visited, most_open}
+use Rattle.html_render_nodes.specs.laws.Visits.{visited-at_most, most_open-at_most}
 
 pub counts-same : {X E K S D : Type 0} (r : Result X E) (m : Steps K S) (i : Inside K S) (n : Steps K D) (j : Inside K D) (t : Forest K)
-    (s : S) (d : D) (old other new : Meter) → visited m i t s ≡ visited n j t d → AsksIn n j → other.probes ≡ old.probes →
+    (s : S) (d : D) (old other new : Meter) → visited m i t s ≡ visited n j t d → most_open m i t s ≡ most_open n j t d → AsksIn n j → other.probes ≡ old.probes →
     CountsNodes r m i t s other new → CountsNodes r n j t d old new
-counts-same {X} {E} {K} r m i n j t s d old other new same asks probes c = record {
+counts-same {X} {E} {K} r m i n j t s d old other new same peak asks probes c = record {
   asks = asks;
   entered = subst (λ (l : List K). OnOk r (new.entered ≡ length l)) same c.entered;
   left = subst (λ (l : List K). OnOk r (new.left ≡ length l)) same c.left;
   entered_at_most = subst (λ (l : List K). new.entered ≤ length l) same c.entered_at_most;
   left_at_most = c.left_at_most;
   visited_at_most = subst (λ (l : List K). length l ≤ count t) same c.visited_at_most;
-  frames_at_most = c.frames_at_most;
+  frames = subst (λ o. OnOk r (new.frames ≡ o)) peak c.frames;
+  frames_at_most = subst (λ o. new.frames ≤ o) peak c.frames_at_most;
+  open_at_most = subst (λ o. o ≤ depth t) peak c.open_at_most;
   probes = c.probes ∙ probes;
 }
 
@@ -33,6 +35,8 @@ none-counted (Err e) Q h steps inside t s old new asks entered left frames probe
   entered_at_most = omega arith;
   left_at_most = omega arith;
   visited_at_most = visited-at_most steps inside t s;
+  frames = tt;
   frames_at_most = omega arith;
+  open_at_most = most_open-at_most steps inside t s;
   probes = probes;
 }

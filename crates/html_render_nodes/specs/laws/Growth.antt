@@ -3,13 +3,8 @@ use Rattle.std.specs.Prelude.{ℕ, ◌+◌, ◌≤◌, ◌≡◌, List, ◌∷�
 use Rattle.std.proofs.Common.{arith}
 use Rattle.std.proofs.lemmas.List.Sums.{sum_by-cons, sum_by-append}
 use Rattle.html_render_values.specs.Forest.{Forest, none, node}
-use Rattle.html_render_nodes.specs.Pass.{Steps, Inside, run, from, visited}
+use Rattle.html_render_nodes.specs.Pass.{Steps, Inside, run, from, count_from, visited}
 use Rattle.html_render_nodes.specs.laws.Runs.{IfSome-weaken}
-
--- what is counted in a state, if there is one
-abbrev pub count_from : {S : Type 0} → (S → ℕ) → Option S → ℕ
-count_from count None = 0
-count_from count (Some s) = count s
 
 count_from-visits : {K S : Type 0} (w : K → ℕ) (visits : S → List K) (o : Option S) →
     count_from (λ q. sum_by w (visits q)) o ≡ sum_by w (from visits o)

@@ -143,6 +143,11 @@ impl RenderTree {
         ensures err { IfErr result (λ e. e ≡ Error.OutOfMemory) }
     {
         let entries = copies_of(alloc, self.nodes.entries())?;
-        Ok(RenderTree::from(Flat::from_entries(entries)))
+        let mut depths = Vec::new(alloc);
+        depths.extend_from_slice(&self.depths)?;
+        Ok(RenderTree {
+            nodes: Flat::from_entries(entries),
+            depths,
+        })
     }
 }

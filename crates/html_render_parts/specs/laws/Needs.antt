@@ -1,19 +1,22 @@
--- What cells need fits: no column needs more than its size, and the columns side by side keep to their width.
+-- What cells need fits: no column needs more than its size, the columns side by side keep to their width, and each cell has its
+-- least width over its columns.
 use Rattle.std.proofs.Common.{◌≡◌, ℕ, ◌+◌, ◌-◌, ◌/◌, Bool, true, false, ◌≤◌, ◌<◌, List, [], ◌∷◌, length, sum, map, cond, sym, subst, arith, IfSome}
+use Rattle.std.proofs.Common.{All, Contains, ap, ◌∙◌, get_or}
 use Rattle.std.proofs.Common.{◌&&◌, leb, nat_lt, refl, Some, None}
 use Rattle.std.proofs.Math.Nat.{div-mul-le_self, le-div_iff_mul-le}
-use Rattle.std.proofs.lemmas.Bool.{leb-true, ltb-true}
-use Rattle.std.proofs.lemmas.List.Elements.{All-nil, All-cons, All-head, All-tail, All-from_get_or}
+use Rattle.std.proofs.lemmas.Bool.{and_from, leb-true, le-leb, ltb-true, lt-ltb}
+use Rattle.std.proofs.lemmas.List.{get_or-map, length-map}
+use Rattle.std.proofs.lemmas.List.Elements.{All-nil, All-cons, All-head, All-tail, All-contains, All-contains_itself, All-from_get_or, All-weaker}
 use Rattle.std.proofs.lemmas.List.FromFn.{length-map-range_with_len, get_or-map-range_with_len}
 use Rattle.html_render_parts.specs.declared.widths.needs.CellNeed.{CellNeed}
 use Rattle.html_render_parts.specs.declared.widths.shares.ColumnNeed.{ColumnNeed}
-use Rattle.html_render_parts.specs.Cuts.{cut_by_units}
+use Rattle.html_render_parts.specs.Cuts.{cut_by_units, units_taken, HoldTogether}
 use Rattle.html_render_parts.specs.Shares.{AreNeeds, least_widths, shares, stand_side_by_side, widths_across}
 use Rattle.html_render_parts.specs.Spans.{covers, given, greatest_at}
-use Rattle.html_render_parts.specs.Needs.{no_need, size_part, least_part, need_at, column_needs, IsCell, AreCells}
+use Rattle.html_render_parts.specs.Needs.{no_need, size_part, least_part, need_at, column_needs, HasRoom, IsCell, AreCells}
 use Rattle.html_render_parts.specs.Needs.{cell_stands, cells_stand, table_widths, standing_widths}
-use Rattle.html_render_parts.specs.laws.Cuts.{cut-within}
-use Rattle.html_render_parts.specs.laws.SharesFit.{shares_fit}
+use Rattle.html_render_parts.specs.laws.Cuts.{cut-within, neighbours-cut}
+use Rattle.html_render_parts.specs.laws.SharesFit.{few_units_across, shares_fit}
 use Rattle.html_render_parts.specs.laws.UnitCut.{cut_by_units-fairest}
 
 -- no column needs more at least than its size
@@ -84,3 +87,65 @@ standing_within columns cells w = by (cells_stand columns cells) refl
         IfSome (cond b (table_widths columns cells w) None) (λ ws. sum ws + (length ws - 1) ≤ w)
     by true e = across_within w (column_needs columns cells) (are_needs columns cells (cells_are columns cells e))
     by false e = tt
+
+-- ---- cells side by side have their least widths
+
+-- no column needs less than the part of any cell over it
+given-most : (cells : List CellNeed) (k : ℕ) → All (λ c. given (least_part c) k ≤ greatest_at (map least_part cells) k) cells
+given-most [] k = All-nil (λ c. given (least_part c) k ≤ greatest_at (map least_part []) k)
+given-most (c ∷ cs) k =
+    All-cons (λ d. given (least_part d) k ≤ greatest_at (map least_part (c ∷ cs)) k) c cs (omega arith)
+    (All-weaker (λ d. given (least_part d) k ≤ greatest_at (map least_part cs) k)
+    (λ d. given (least_part d) k ≤ greatest_at (map least_part (c ∷ cs)) k) (λ d less. omega (arith, less)) cs (given-most cs k))
+
+-- a cell gives its part to each of its columns
+part-given : (c : CellNeed) (k : ℕ) → c.start ≤ k → k < c.start + c.count → c.least / c.count ≤ given (least_part c) k
+part-given c k from to =
+    let over : covers (least_part c) k ≡ true =
+    and_from (leb c.start k) (nat_lt k (c.start + c.count)) (le-leb c.start k from) (lt-ltb k (c.start + c.count) to) in
+    subst (λ b. c.least / c.count ≤ cond b (c.least / c.count) 0) (sym over) (omega arith)
+
+has_room : (columns : ℕ) (cells : List CellNeed) (ws : List ℕ) → AreCells columns cells →
+    HoldTogether (least_widths (column_needs columns cells)) ws → All (HasRoom ws) cells
+has_room columns cells ws h hold = All-weaker (Contains cells) (HasRoom ws) room cells (All-contains_itself cells)
+  where
+    needs : List ColumnNeed
+    needs = column_needs columns cells
+
+    len : length needs ≡ columns
+    len = length-map-range_with_len (need_at cells) 0 columns
+
+    least-at : (k : ℕ) → k < columns → get_or (least_widths needs) k 0 ≡ greatest_at (map least_part cells) k
+    least-at k inside =
+        get_or-map (λ (n : ColumnNeed). n.least) needs k no_need 0 (omega (arith, inside, len))
+        ∙ ap (λ (n : ColumnNeed). n.least) (get_or-map-range_with_len (need_at cells) 0 columns k k no_need inside (omega arith))
+
+    room : (c : CellNeed) → Contains cells c → HasRoom ws c
+    room c inside =
+        let is = All-contains (IsCell columns) cells c h inside in
+        let over = is.over in
+        hold c.start c.count c.least is.some (omega (arith, over, len, length-map needs (λ (n : ColumnNeed). n.least))) (λ k from to.
+        let in_columns : k < columns = omega (arith, to, over) in
+        let most = All-contains (λ d. given (least_part d) k ≤ greatest_at (map least_part cells) k) cells c (given-most cells k) inside in
+        omega (arith, least-at k in_columns, part-given c k from to, most))
+
+-- where the columns stand side by side, each cell has room for its least width
+pub cells_have_room : (columns : ℕ) (cells : List CellNeed) (w : ℕ) → AreCells columns cells →
+    IfSome (table_widths columns cells w) (λ ws. All (HasRoom ws) cells)
+cells_have_room columns cells w h = by (stand_side_by_side w needs) refl
+  where
+    needs : List ColumnNeed
+    needs = column_needs columns cells
+
+    by : (b : Bool) → stand_side_by_side w needs ≡ b →
+        IfSome (cond b (Some (cut_by_units (least_widths needs) (shares w needs) w)) None) (λ ws. All (HasRoom ws) cells)
+    by true e =
+        let ws = cut_by_units (least_widths needs) (shares w needs) w in
+        let best = cut_by_units-fairest (least_widths needs) (shares w needs) w (shares_fit w needs (are_needs columns cells h) e) in
+        has_room columns cells ws h (neighbours-cut (least_widths needs) (shares w needs) w ws best.is_cut)
+    by false e = tt
+
+-- and no column takes more units from its share than the width has
+pub few_units_of_cells : (columns : ℕ) (cells : List CellNeed) (w : ℕ) → AreCells columns cells →
+    IfSome (table_widths columns cells w) (λ ws. units_taken (shares w (column_needs columns cells)) ws ≤ w)
+few_units_of_cells columns cells w h = few_units_across w (column_needs columns cells) (are_needs columns cells h)

@@ -1,12 +1,16 @@
--- The shares of columns that can stand side by side can be cut to the width.
+-- The shares of columns that can stand side by side can be cut to the width, and keep to it but for their least widths.
 use Rattle.std.proofs.Common.{◌≡◌, ℕ, ◌+◌, ◌-◌, ◌*◌, ◌/◌, ◌<◌, ◌≤◌, ◌==◌, Bool, true, false, not}
-use Rattle.std.proofs.Common.{cond, ◌&&◌, leb, List, length, sum, min, max, get_or, refl, sym, ◌∙◌, arith}
+use Rattle.std.proofs.Common.{zero, suc, cond, ◌&&◌, leb, List, [], ◌∷◌, length, sum, map, min, max, get_or, refl, ap, sym, ◌∙◌, arith, IfSome, Some, None}
+use Rattle.std.proofs.Math.Nat.{add-mul, div-zero, div-mul-le_self, div-le_of_le-mul, le-div_iff_mul-le}
 use Rattle.std.proofs.lemmas.Bool.{leb-true, eqb-true}
 use Rattle.std.proofs.lemmas.List.{get_or-map, length-map}
+use Rattle.std.proofs.lemmas.List.Sums.{sum_by-cons}
 use Rattle.std.proofs.lemmas.List.Elements.{All-get_or}
 use Rattle.html_render_parts.specs.declared.widths.shares.ColumnNeed.{ColumnNeed}
-use Rattle.html_render_parts.specs.Cuts.{CutFits}
-use Rattle.html_render_parts.specs.Shares.{least_widths, total_size, share, shares, stand_side_by_side, AreNeeds}
+use Rattle.html_render_parts.specs.Cuts.{cut_by_units, units_taken, CutFits}
+use Rattle.html_render_parts.specs.Shares.{least_widths, total_size, share, shares, stand_side_by_side, widths_across, AreNeeds}
+use Rattle.html_render_parts.specs.laws.Cuts.{few-units}
+use Rattle.html_render_parts.specs.laws.UnitCut.{cut_by_units-fairest}
 
 no_need : ColumnNeed
 no_need = record { size = 0; least = 0 }
@@ -36,3 +40,54 @@ shares_fit w needs h stand =
           (least-share w (total_size needs) (get_or needs k no_need) (All-get_or (λ n. n.least ≤ n.size) needs k no_need k_in h));
       room = omega (arith, room, same);
     }
+
+-- ---- the shares' sum
+
+-- two parts of a whole, rounded down, are at most both together, rounded down
+div-both : (a b t : ℕ) → a / t + b / t ≤ (a + b) / t
+div-both a b zero = omega (arith, div-zero a, div-zero b)
+div-both a b (suc t) =
+    (le-div_iff_mul-le {k = suc t} {x = a / suc t + b / suc t} {y = a + b} (omega arith)).1
+    (omega (arith, add-mul (a / suc t) (b / suc t) (suc t), div-mul-le_self a (suc t), div-mul-le_self b (suc t)))
+
+share-most : (w t : ℕ) (n : ColumnNeed) → share w t n ≤ n.least + n.size * w / t
+share-most w t n = by (n.size == 0)
+  where
+    by : (b : Bool) → cond b 0 (min n.size (max (n.size * w / t) n.least)) ≤ n.least + n.size * w / t
+    by true = omega arith
+    by false = omega arith
+
+shares-most : (w t : ℕ) (needs : List ColumnNeed) → sum (map (share w t) needs) ≤ sum (least_widths needs) + total_size needs * w / t
+shares-most w t [] = omega arith
+shares-most w t (n ∷ ns) =
+    let one = share-most w t n in
+    let rest = shares-most w t ns in
+    let both = div-both (n.size * w) (total_size ns * w) t in
+    omega (
+      arith,
+      one,
+      rest,
+      both,
+      ap (λ x. x / t) (ap (λ x. x * w) (sum_by-cons (λ (m : ColumnNeed). m.size) n ns) ∙ add-mul n.size (total_size ns) w),
+      sum_by-cons (λ x. x) (share w t n) (map (share w t) ns),
+      sum_by-cons (λ x. x) n.least (least_widths ns),
+    )
+
+pub shares_keep : (w : ℕ) (needs : List ColumnNeed) → sum (shares w needs) ≤ sum (least_widths needs) + w
+shares_keep w needs =
+    let most = shares-most w (total_size needs) needs in
+    let whole : total_size needs * w / total_size needs ≤ w = div-le_of_le-mul (total_size needs) {m = total_size needs * w} {n = w} (omega arith) in
+    omega (arith, most, whole)
+
+-- so a cut of them takes few units
+pub few_units_across : (w : ℕ) (needs : List ColumnNeed) → AreNeeds needs →
+    IfSome (widths_across w needs) (λ ws. units_taken (shares w needs) ws ≤ w)
+few_units_across w needs h = by (stand_side_by_side w needs) refl
+  where
+    by : (b : Bool) → stand_side_by_side w needs ≡ b →
+        IfSome (cond b (Some (cut_by_units (least_widths needs) (shares w needs) w)) None) (λ ws. units_taken (shares w needs) ws ≤ w)
+    by true e =
+        let fits = shares_fit w needs h e in
+        let best = cut_by_units-fairest (least_widths needs) (shares w needs) w fits in
+        few-units (least_widths needs) (shares w needs) w (cut_by_units (least_widths needs) (shares w needs) w) fits best.is_cut (shares_keep w needs)
+    by false e = tt

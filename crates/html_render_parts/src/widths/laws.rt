@@ -1,9 +1,13 @@
 //! Laws of cuts and of the meter, each the contract of a function that does nothing.
 
-ghost use Rattle.std.specs.Prelude.{◌≡◌, ◌≢◌, ℕ, ◌↔◌, ◌⊎◌, List};
-ghost use Rattle.html_render_parts.specs.Cuts.{cut_by_units, CutFits, GivesBefore, IsFairestCut, IsLevelForm};
+ghost use Rattle.std.specs.Prelude.{◌≡◌, ◌≢◌, ℕ, ◌+◌, ◌≤◌, ◌↔◌, ◌⊎◌, List, All, sum, IfSome};
+ghost use Rattle.html_render_parts.specs.Cuts.{cut_by_units, units_taken, CutFits, GivesBefore, IsFairestCut, IsLevelForm};
+ghost use Rattle.html_render_parts.specs.Needs.{column_needs, table_widths, AreCells, HasRoom};
+ghost use Rattle.html_render_parts.specs.Shares.{least_widths, shares};
 
 use super::Meter;
+use super::needs::CellNeed;
+use super::shares::ColumnNeed;
 
 /// Of two columns at different places exactly one gives a unit before the other, none gives before itself, and what
 /// gives before a column gives before all those that it gives before.
@@ -30,6 +34,17 @@ fn level_forms_are_one()
     ensures { (minimums shares : List ℕ) (width : ℕ) (widths other : List ℕ) (level lowered l d : ℕ) → CutFits minimums shares width
         → IsLevelForm minimums shares width widths level lowered → IsLevelForm minimums shares width other l d
         → (other ≡ widths) × (l ≡ level) × (d ≡ lowered) }
+{}
+
+/// The shares of columns are together at most their least widths and the width, so that columns side by side take at most as
+/// many units from them as the width has columns. Each cell has at least its least width over its columns, with the separators
+/// between them.
+fn columns_side_by_side()
+    ensures shares { (width : ℕ) (needs : List ColumnNeed) → sum (shares width needs) ≤ sum (least_widths needs) + width }
+    ensures taken { (columns : ℕ) (cells : List CellNeed) (width : ℕ) → AreCells columns cells
+        → IfSome (table_widths columns cells width) (λ widths. units_taken (shares width (column_needs columns cells)) widths ≤ width) }
+    ensures room { (columns : ℕ) (cells : List CellNeed) (width : ℕ) → AreCells columns cells
+        → IfSome (table_widths columns cells width) (λ widths. All (HasRoom widths) cells) }
 {}
 
 /// The default of a meter has nothing counted.

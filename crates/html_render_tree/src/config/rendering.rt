@@ -4,10 +4,11 @@ ghost use Rattle.std.specs.Prelude.{◌≡◌, ◌≢◌, ◌≤◌, List, true,
 ghost use Rattle.html_render_values.specs.Outcome.{Refuses};
 ghost use Rattle.html_render_nodes.specs.Counts.{CountsNodes};
 ghost use Rattle.html_render_layout.specs.Layout.{defined, defined_inside, estimated, empty_state};
+ghost use Rattle.html_render_layout.specs.Promises.{HasLines, LeavesTexts};
 ghost use Rattle.html_render_tagged.specs.Colouring.{IsColoured};
 ghost use Rattle.html_render_tagged.specs.Grouping.{Piece, lines_of};
 ghost use Rattle.html_render_tagged.specs.TaggedLine.{AllTaggedWithinWidth};
-ghost use Rattle.html_render_tree.specs.Rendering.{rendered_lines, rendered_strings, AreStrings, HasLines, LeavesTexts, Rendered};
+ghost use Rattle.html_render_tree.specs.Rendering.{rendered_lines, rendered_strings, AreStrings, Rendered};
 ghost use Rattle.html_render_tree.specs.Texts.{text_of};
 
 use crate::config::Config;
@@ -30,7 +31,7 @@ impl<D: TextDecorator> Config<D> {
     ///
     /// `TooNarrow` at width 0, and, where overflow isn't allowed, where a character is wider than a line or a prefix
     /// leaves too few columns; otherwise `OutOfMemory`.
-    #[tactic(auto, using(crate::specs::laws::Rendering::lines_there, crate::specs::laws::Rendering::texts_left))]
+    #[tactic(auto, using(html_render_layout::specs::laws::Promises::lines_there, html_render_layout::specs::laws::Promises::texts_left))]
     pub fn render_to_string(
         &self,
         alloc: Global,
@@ -47,7 +48,7 @@ impl<D: TextDecorator> Config<D> {
 
         // with overflow on nothing is too narrow but width 0; and a tree that is laid out leaves the texts that follow as they were
         ensures wide { self.now.overflow ≡ true → 1 ≤ width → result ≢ Err Error.TooNarrow }
-        ensures there { HasLines D.decoration self.now tree width }
+        ensures there { HasLines D.decoration self.now.nodes tree self.now.decorator width self.now.overflow }
         ensures stacks { LeavesTexts D.decoration }
     {
         let lines = lay_out_untagged(
@@ -68,7 +69,7 @@ impl<D: TextDecorator> Config<D> {
     /// # Errors
     ///
     /// As [`Config::render_to_string`].
-    #[tactic(auto, using(crate::specs::laws::Rendering::lines_there, crate::specs::laws::Rendering::texts_left))]
+    #[tactic(auto, using(html_render_layout::specs::laws::Promises::lines_there, html_render_layout::specs::laws::Promises::texts_left))]
     pub fn render_to_lines(
         &self,
         alloc: Global,
@@ -86,7 +87,7 @@ impl<D: TextDecorator> Config<D> {
         ensures within { self.now.overflow ≡ false → self.now.nodes.wrap_links ≡ true
             → IfOk result (λ lines. AllTaggedWithinWidth width lines.items) }
         ensures wide { self.now.overflow ≡ true → 1 ≤ width → result ≢ Err Error.TooNarrow }
-        ensures there { HasLines D.decoration self.now tree width }
+        ensures there { HasLines D.decoration self.now.nodes tree self.now.decorator width self.now.overflow }
         ensures stacks { LeavesTexts D.decoration }
     {
         let mut meter = Meter::default();
@@ -100,7 +101,7 @@ impl<D: TextDecorator> Config<D> {
     /// # Errors
     ///
     /// As [`Config::render_to_string`].
-    #[tactic(auto, using(crate::specs::laws::Rendering::lines_there, crate::specs::laws::Rendering::texts_left))]
+    #[tactic(auto, using(html_render_layout::specs::laws::Promises::lines_there, html_render_layout::specs::laws::Promises::texts_left))]
     pub fn render_to_lines_metered(
         &self,
         alloc: Global,
@@ -117,7 +118,7 @@ impl<D: TextDecorator> Config<D> {
         ensures within { self.now.overflow ≡ false → self.now.nodes.wrap_links ≡ true
             → IfOk result (λ lines. AllTaggedWithinWidth width lines.items) }
         ensures wide { self.now.overflow ≡ true → 1 ≤ width → result ≢ Err Error.TooNarrow }
-        ensures there { HasLines D.decoration self.now tree width }
+        ensures there { HasLines D.decoration self.now.nodes tree self.now.decorator width self.now.overflow }
         ensures stacks { LeavesTexts D.decoration }
 
         // what was counted, where there are lines, and where there are none
@@ -146,7 +147,7 @@ impl<D: TextDecorator> Config<D> {
     /// # Errors
     ///
     /// As [`Config::render_to_string`]; `OutOfMemory` also where the map answers it.
-    #[tactic(auto, using(crate::specs::laws::Rendering::lines_there, crate::specs::laws::Rendering::texts_left))]
+    #[tactic(auto, using(html_render_layout::specs::laws::Promises::lines_there, html_render_layout::specs::laws::Promises::texts_left))]
     pub fn render_coloured<F: Fn(&[D::Annotation], &str) -> Result<String, Error>>(
         &self,
         alloc: Global,
@@ -169,7 +170,7 @@ impl<D: TextDecorator> Config<D> {
             × Rendered D.decoration self.now tree width (AreStrings D.decoration self.now tree width D.Annotation.eq strings)
             × IsColoured (F.post colour_map) strings (string_bytes text)) }
         ensures wide { self.now.overflow ≡ true → 1 ≤ width → result ≢ Err Error.TooNarrow }
-        ensures there { HasLines D.decoration self.now tree width }
+        ensures there { HasLines D.decoration self.now.nodes tree self.now.decorator width self.now.overflow }
         ensures stacks { LeavesTexts D.decoration }
     {
         let lines = self.render_to_lines(alloc, tree, width)?;

@@ -168,4 +168,4 @@ returns-in_default-pop-clause-ok c =
     let rules = map rule_of c.args.rules.now in
     let empty : length c.converting.open.items ≡ 0 =
     omega (arith, c.in_default-pop.ensures.cases, ap length c.in_default.ensures.same) in
-    Converting-done rules dom c.get_document.ensures.forest _ _ empty c.converting.invariant ∙ ap Some (sym c.from.ensures)
+    Converting-done rules dom c.get_document.ensures.forest _ _ empty c.converting.invariant ∙ ap Some (sym c.finish.ensures)

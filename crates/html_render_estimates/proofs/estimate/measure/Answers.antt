@@ -1,15 +1,14 @@
-use Rattle.std.proofs.Common.{ap, ◌∙◌}
-use Rattle.html_render_nodes.specs.Preorder.{flatten}
+use Rattle.std.proofs.Common.{◌∙◌}
 use Rattle.html_render_estimates.proofs.Again.{done}
 use Rattle.html_render_estimates.proofs.estimate.measure.Goals as goal
 
 pub from_entries-requires : goal.from_entries-requires
 from_entries-requires g c =
     (done g.D.TextDecorator.decoration c.args.decorator.now c.args.min_wrap_width c.args.tree _ _
-    (c.into_entries-entries.ensures ∙ ap flatten c.into_nodes.ensures) c.in_ok-measure_nodes.ensures.ok).kept
+    c.into_entries-entries.ensures c.in_ok-measure_nodes.ensures.ok).kept
 
 pub returns-clause-ok : goal.returns-clause-ok
 returns-clause-ok g c =
-    c.from.ensures ∙ c.from_entries.ensures
+    c.from_entries.ensures
     ∙ (done g.D.TextDecorator.decoration c.args.decorator.now c.args.min_wrap_width c.args.tree _ _
-    (c.into_entries-entries.ensures ∙ ap flatten c.into_nodes.ensures) c.in_ok-measure_nodes.ensures.ok).is
+    c.into_entries-entries.ensures c.in_ok-measure_nodes.ensures.ok).is

@@ -1,44 +1,47 @@
-use Rattle.std.proofs.Common.{true, sym, arith}
-use Rattle.html_render_nodes.specs.Preorder.{forest_of}
+use Rattle.std.proofs.Common.{sym, ap, ◌∙◌, arith}
+use Rattle.html_render_nodes.specs.Preorder.{flatten, forest_of}
+use Rattle.html_render_estimates.proofs.Again.{sized, after_sized}
 use Rattle.html_render_estimates.proofs.Measuring.{Measuring-start, Measuring-at, Measuring-done, Found-part, Found-next}
 use Rattle.html_render_estimates.proofs.estimate.measure_with_sizes.Goals as goal
 
 pub loop-at-init : goal.loop-at-init
 loop-at-init g c =
-    Measuring-start g.D.TextDecorator.decoration c.args.decorator.now c.args.min_wrap_width true (forest_of c.args.entries.now.items)
+    Measuring-start (sized g.D.TextDecorator.decoration c.args.decorator.now c.args.min_wrap_width) (forest_of c.args.entries.now.items)
     c.args.entries.now.items c.len-at.result (sym c.requires) (omega (arith, c.len-at.ensures, c.args.entries.now.ok.0))
 
 pub overflow_add-below-in-loop-at : goal.overflow_add-below-in-loop-at
 overflow_add-below-in-loop-at g c =
-    let f = Measuring-at _ _ _ _ _ _ _ _ _ c.loop-at.invariant c.loop-at-test.true c.as_slice-all.ensures.value c.index-all-at.is in
+    let f = Measuring-at _ _ _ _ _ _ c.loop-at.invariant c.loop-at-test.true c.as_slice-all.ensures.value c.index-all-at.is in
     omega (arith, f.end, c.loop-at.entries.ok.0)
 
 pub slice_bounds-below-count : goal.slice_bounds-below-count
 slice_bounds-below-count g c =
-    let f = Measuring-at _ _ _ _ _ _ _ _ _ c.loop-at.invariant c.loop-at-test.true c.as_slice-all.ensures.value c.index-all-at.is in
+    let f = Measuring-at _ _ _ _ _ _ c.loop-at.invariant c.loop-at-test.true c.as_slice-all.ensures.value c.index-all-at.is in
     omega (arith, f.size)
 
 pub slice_bounds-below-start : goal.slice_bounds-below-start
 slice_bounds-below-start g c =
-    let f = Measuring-at _ _ _ _ _ _ _ _ _ c.loop-at.invariant c.loop-at-test.true c.as_slice-all.ensures.value c.index-all-at.is in
+    let f = Measuring-at _ _ _ _ _ _ c.loop-at.invariant c.loop-at-test.true c.as_slice-all.ensures.value c.index-all-at.is in
     omega (arith, f.size)
 
 pub slice_bounds-below-end : goal.slice_bounds-below-end
 slice_bounds-below-end g c =
-    let f = Measuring-at _ _ _ _ _ _ _ _ _ c.loop-at.invariant c.loop-at-test.true c.as_slice-all.ensures.value c.index-all-at.is in
+    let f = Measuring-at _ _ _ _ _ _ c.loop-at.invariant c.loop-at-test.true c.as_slice-all.ensures.value c.index-all-at.is in
     omega (arith, f.end, c.as_slice-all.ensures.len, c.loop-at.entries.ok.0)
 
 pub sized_estimate_of-requires : goal.sized_estimate_of-requires
 sized_estimate_of-requires g c =
-    let f = Measuring-at _ _ _ _ _ _ _ _ _ c.loop-at.invariant c.loop-at-test.true c.as_slice-all.ensures.value c.index-all-at.is in
-    (Found-part _ _ _ _ _ _ _ _ _ _ f c.as_slice-all.ensures.value (omega arith)).kept
+    let f = Measuring-at _ _ _ _ _ _ c.loop-at.invariant c.loop-at-test.true c.as_slice-all.ensures.value c.index-all-at.is in
+    (Found-part _ _ _ _ _ _ _ f c.as_slice-all.ensures.value (omega arith)).kept
 
 pub loop-at-preserved : goal.loop-at-preserved
 loop-at-preserved g c =
     let e = c.index-all-at.result in
-    let f = Measuring-at _ _ _ _ _ _ _ _ _ c.loop-at.invariant c.loop-at-test.true c.as_slice-all.ensures.value c.index-all-at.is in
-    Found-next _ _ _ _ _ _ _ _ _ e c.index_mut.result.now c.in_ok-estimate.estimate f c.as_slice-all.ensures.value (omega arith)
+    let f = Measuring-at _ _ _ _ _ _ c.loop-at.invariant c.loop-at-test.true c.as_slice-all.ensures.value c.index-all-at.is in
+    Found-next _ _ _ _ _ _ e c.index_mut.result.now c.in_ok-estimate.estimate f c.as_slice-all.ensures.value (omega arith)
     c.in_ok-estimate.ensures.ok c.index-all-at.is c.index_mut.ensures.value
 
 pub returns-clause-ok : goal.returns-clause-ok
-returns-clause-ok g c = Measuring-done _ _ _ _ _ _ _ c.loop-at.invariant (omega arith)
+returns-clause-ok g c =
+    Measuring-done _ _ _ _ c.loop-at.invariant (omega arith)
+    ∙ ap flatten (after_sized g.D.TextDecorator.decoration c.args.decorator.now c.args.min_wrap_width (forest_of c.args.entries.now.items))

@@ -1,11 +1,11 @@
-use Rattle.std.proofs.Common.{true}
 use Rattle.html_render_nodes.specs.Preorder.{forest_of}
+use Rattle.html_render_estimates.proofs.Again.{sized}
 use Rattle.html_render_estimates.proofs.Measuring.{Measuring}
 use Rattle.html_render_estimates.proofs.estimate.measure_with_sizes.Given as goal
 
 abbrev pub invariant-loop-at : goal.invariant-loop-at
 invariant-loop-at g l =
-    Measuring g.D.TextDecorator.decoration l.decorator l.min_wrap_width true (forest_of l.fn.entries.items) l.entries.items l.at
+    Measuring (sized g.D.TextDecorator.decoration l.decorator l.min_wrap_width) (forest_of l.fn.entries.items) l.entries.items l.at
 
 abbrev pub decreases-loop-at : goal.decreases-loop-at
 decreases-loop-at g l = l.at

@@ -1,14 +1,13 @@
-use Rattle.std.proofs.Common.{◌≡◌, Some, IfOk, IfErr, refl, subst}
+use Rattle.std.proofs.Common.{◌≡◌, Some, IfOk, IfErr, refl, sym, ◌∙◌, subst}
+use Rattle.std.proofs.lemmas.Result.{IfOk-weaker}
 use Rattle.html_render_values.specs.Outcome.{Refuses}
 use Rattle.html_render_nodes.specs.laws.Counts.{none-counted}
+use Rattle.html_render_estimates.specs.Passes.{with_needed_sizes}
 use Rattle.html_render_blocks.specs.Block as definition
 use Rattle.html_render_layout.specs.Layout.{onto, defined, defined_inside, empty_state, estimated, layout_lines}
 use Rattle.html_render_layout.specs.laws.Opening.{layout-asks}
-use Rattle.html_render_layout.specs.laws.LayoutKeeps.{layout-returns}
 use Rattle.html_render_layout.specs.laws.LayoutWorks.{empty_worked, layout_lines-works, mark_names-works, counts-work}
-use Rattle.html_render_layout.specs.laws.LayoutLaws.{within-answered, succeeds-answered}
-use Rattle.html_render_layout.specs.laws.LayoutOverflow.{same-answered}
-use Rattle.html_render_layout.specs.laws.LayoutVisible.{keeps-answered}
+use Rattle.html_render_layout.specs.laws.Promises.{are-lines, wide_enough}
 use Rattle.html_render_layout.specs.Working.{work_lines, laid_out}
 use Rattle.html_render_layout.proofs.layout.lay_out.Goals as goal
 use Rattle.html_render_layout.proofs.layout.lay_out.Given.{Over}
@@ -18,9 +17,9 @@ empty : (g : Over) (c : goal.After-drop-tree-inside-2 g) →
     c.begin_with-state.result ≡ empty_worked g.D.TextDecorator.decoration c.args.settings.now c.args.decorator.now c.args.width c.args.overflow
 empty g c = cc (c.begin_with-state.ensures, c.in_ok-own.ensures.ok, c.in_ok-inner.ensures.ok, c.new.ensures, c.outermost-block.ensures)
 
--- the tree that is laid out is the measured one
+-- the tree that is laid out is the measured one, with the sizes that are needed
 measured : (g : Over) (c : goal.After-drop-tree-inside-2 g) →
-    c.in_ok-tree.tree ≡ estimated g.D.TextDecorator.decoration c.args.settings.now c.args.decorator.now c.args.tree
+    c.in_ok-tree.tree ≡ with_needed_sizes (estimated g.D.TextDecorator.decoration c.args.settings.now c.args.decorator.now c.args.tree)
 measured g c = cc (c.in_ok-tree.ensures.ok, c.in_ok-inner.ensures.ok)
 
 -- what the code does is what is defined
@@ -32,7 +31,10 @@ works g c =
     c.begin_with-state.result c.if-width-eq0.false (measured g c) (empty g c)
 
 pub returns-clause-ok : goal.returns-clause-ok
-returns-clause-ok g c = subst (λ o. IfOk c.lines_from.result (λ lines. o ≡ Some (laid_out lines))) (works g c) c.lines_from.ensures.ok
+returns-clause-ok g c =
+    IfOk-weaker c.lines_from.result _ _
+    (λ lines e. are-lines g.D.TextDecorator.decoration c.args.settings.now c.args.tree c.args.decorator.now c.args.width c.args.overflow
+    (laid_out lines) (sym (works g c) ∙ e)) c.lines_from.ensures.ok
 
 pub returns-clause-names : goal.returns-clause-names
 returns-clause-names g c =
@@ -43,49 +45,10 @@ returns-clause-names g c =
 pub returns-clause-err : goal.returns-clause-err
 returns-clause-err g c = subst (λ o. IfErr c.lines_from.result (λ e. Refuses e o)) (works g c) c.lines_from.ensures.err
 
-pub returns-clause-within : goal.returns-clause-within
-returns-clause-within g c =
-    within-answered g.D.TextDecorator.decoration c.args.settings.now c.args.tree c.args.decorator.now c.args.width c.args.overflow
-    (λ l. laid_out l) c.lines_from.result (returns-clause-ok g c)
-
-pub returns-clause-answered : goal.returns-clause-answered
-returns-clause-answered g c =
-    succeeds-answered g.D.TextDecorator.decoration c.args.settings.now c.args.tree c.args.decorator.now c.args.width c.args.overflow c.lines_from.result
+pub returns-clause-wide : goal.returns-clause-wide
+returns-clause-wide g c =
+    wide_enough g.D.TextDecorator.decoration c.args.settings.now c.args.tree c.args.decorator.now c.args.width c.args.overflow c.lines_from.result
     (returns-clause-err g c)
-
-pub returns-clause-same : goal.returns-clause-same
-returns-clause-same g c =
-    same-answered g.D.TextDecorator.decoration c.args.settings.now c.args.tree c.args.decorator.now c.args.width c.args.overflow
-    (λ l. laid_out l) c.lines_from.result (returns-clause-ok g c)
-
-pub returns-clause-kept : goal.returns-clause-kept
-returns-clause-kept g c =
-    keeps-answered g.D.TextDecorator.decoration c.args.settings.now c.args.tree c.args.decorator.now c.args.width c.args.overflow
-    (λ l. laid_out l) c.lines_from.result (returns-clause-ok g c)
-
--- annotations and decorator, wherever the call ends
-pub returns-clause-stacks : goal.returns-clause-stacks
-returns-clause-stacks g c = layout-returns g.D.TextDecorator.decoration onto definition.operations
-    (estimated g.D.TextDecorator.decoration c.args.settings.now c.args.decorator.now c.args.tree)
-
-pub returns-then-width-eq0-clause-stacks : goal.returns-then-width-eq0-clause-stacks
-returns-then-width-eq0-clause-stacks g c = layout-returns g.D.TextDecorator.decoration onto definition.operations
-    (estimated g.D.TextDecorator.decoration c.args.settings.now c.args.decorator.now c.args.tree)
-
-pub returns-in_err-own-clause-stacks : goal.returns-in_err-own-clause-stacks
-returns-in_err-own-clause-stacks g c =
-    layout-returns g.D.TextDecorator.decoration onto definition.operations
-    (estimated g.D.TextDecorator.decoration c.args.settings.now c.args.decorator.now c.args.tree)
-
-pub returns-in_err-inner-clause-stacks : goal.returns-in_err-inner-clause-stacks
-returns-in_err-inner-clause-stacks g c =
-    layout-returns g.D.TextDecorator.decoration onto definition.operations
-    (estimated g.D.TextDecorator.decoration c.args.settings.now c.args.decorator.now c.args.tree)
-
-pub returns-in_err-tree-clause-stacks : goal.returns-in_err-tree-clause-stacks
-returns-in_err-tree-clause-stacks g c =
-    layout-returns g.D.TextDecorator.decoration onto definition.operations
-    (estimated g.D.TextDecorator.decoration c.args.settings.now c.args.decorator.now c.args.tree)
 
 -- what was counted
 pub returns-clause-counts : goal.returns-clause-counts

@@ -1,8 +1,7 @@
 use Rattle.std.proofs.Common.{◌≡◌, ◌+◌, ◌-◌, ◌*◌, ◌≤◌, length}
-use Rattle.html_render_values.specs.Forest.{depth}
 use Rattle.html_render_nodes.specs.Pass.{run}
 use Rattle.html_render_nodes.specs.Preorder.{flatten}
-use Rattle.html_render_nodes.proofs.Walking.{Walking, How, nodes_visited}
+use Rattle.html_render_nodes.proofs.Walking.{Walking, How, nodes_visited, nodes_open}
 use Rattle.html_render_nodes.proofs.walk.walk.Given as goal
 
 -- the pass that is run
@@ -14,7 +13,7 @@ invariant-walk g l =
     record {
       entries_are : l.entries ≡ flatten l.forest;
       walking : Walking (how g) (flatten l.forest) (run g.P.Pass.steps l.forest l.fn.state)
-          (length (nodes_visited (how g) l.forest l.fn.state)) (depth l.forest) l.frames.items l.meter.entered l.meter.frames l.next l.state;
+          (length (nodes_visited (how g) l.forest l.fn.state)) (nodes_open (how g) l.forest l.fn.state) l.frames.items l.meter.entered l.meter.frames l.next l.state;
       within : l.next ≤ length l.entries;
       visits : l.meter.entered ≤ l.next;
       left : l.meter.left + length l.frames.items ≡ l.meter.entered;

@@ -1,13 +1,13 @@
+use Rattle.std.proofs.lemmas.Result.{IfOk-weaker}
 use Rattle.html_render_tagged.specs.Grouping.{lines_of}
-use Rattle.html_render_tree.specs.laws.Rendering.{if-ok}
 use Rattle.html_render_tree.proofs.config.Config.render_coloured.Goals as goal
 
 pub returns-clause-ok : goal.returns-clause-ok
 returns-clause-ok g c =
-    if-ok c.coloured.result _ _ (λ text told. (lines_of c.in_ok-lines.lines.items, c.in_ok-lines.ensures.ok, told))
+    IfOk-weaker c.coloured.result _ _ (λ text told. (lines_of c.in_ok-lines.lines.items, c.in_ok-lines.ensures.ok, told))
     (rw c.deref.ensures.value at c.coloured.ensures.ok)
 
 pub returns-clause-lines : goal.returns-clause-lines
 returns-clause-lines g c =
-    if-ok c.coloured.result _ _ (λ text told. (lines_of c.in_ok-lines.lines.items, c.in_ok-lines.ensures.lines, told))
+    IfOk-weaker c.coloured.result _ _ (λ text told. (lines_of c.in_ok-lines.lines.items, c.in_ok-lines.ensures.lines, told))
     (rw c.deref.ensures.value at c.coloured.ensures.ok)

@@ -1,0 +1,90 @@
+-- The lines of a layout are what is promised of them.
+use Rattle.std.proofs.Common.{◌≡◌, ◌≢◌, ℕ, ◌<◌, Bool, true, false, List, Option, Some, None, Result, Ok, Err}
+use Rattle.std.proofs.Common.{IfErr, IfSome, IsSome, option_map, refl, sym, ap, ◌∙◌, subst, arith}
+use Rattle.std.proofs.lemmas.Option.{same_Some}
+use Rattle.html_render_values.specs.declared.errors.Error.{Error}
+use Rattle.html_render_values.specs.declared.errors.Error.TheVariants.{TooNarrow, Fail, OutOfMemory}
+use Rattle.html_render_values.specs.Outcome.{Refuses}
+use Rattle.html_render_values.specs.Forest.{Forest}
+use Rattle.html_render_parts.specs.Decoration.{Decoration}
+use Rattle.html_render_lines.specs.Line.{Line, AllWithinWidth}
+use Rattle.html_render_nodes.specs.declared.tree.RenderNode.{RenderNode}
+use Rattle.html_render_layout.specs.declared.settings.LayoutSettings.{LayoutSettings}
+use Rattle.html_render_layout.specs.Kept.{visited_nodes, KeepsTexts}
+use Rattle.html_render_layout.specs.Layout.{layout_lines, mark_names, unannotated}
+use Rattle.html_render_layout.specs.Promises.{AreLines, Lines, HasLines, LeavesTexts}
+use Rattle.html_render_layout.specs.Settings.{default_settings}
+use Rattle.html_render_layout.specs.laws.LayoutLaws.{layout_within, layout_succeeds, layout_leaves}
+use Rattle.html_render_layout.specs.laws.LayoutOverflow.{layout_same, names_same, same_answer}
+use Rattle.html_render_layout.specs.laws.LayoutVisible.{layout_keeps_texts}
+
+module _ {S A : Type 0} (d : Decoration S A) (settings : LayoutSettings) (tree : Forest RenderNode) (decorator : S) (width : ℕ)
+    (overflow : Bool) where
+  pub are-lines : (lines : List (Line (List A) ℕ)) → layout_lines d settings tree decorator width overflow ≡ Some lines →
+      AreLines d settings tree decorator width overflow lines
+  are-lines lines e =
+      record {
+        are = e;
+        within = λ off wrapped. subst (λ o. IfSome o (AllWithinWidth width)) (ap (layout_lines d settings tree decorator width) (sym off) ∙ e)
+            (layout_within d settings tree decorator width wrapped);
+        same = same_answer (layout_lines d settings tree decorator width) (layout_same d settings tree decorator width) overflow lines e;
+        kept = subst (λ o. IfSome o (KeepsTexts (visited_nodes d settings tree decorator width overflow))) e
+            (layout_keeps_texts d settings tree decorator width overflow);
+      }
+
+  pub lines_promised : IfSome (layout_lines d settings tree decorator width overflow) (AreLines d settings tree decorator width overflow)
+  lines_promised = by (layout_lines d settings tree decorator width overflow) are-lines
+    where
+      by : (o : Option (List (Line (List A) ℕ))) → ((lines : List (Line (List A) ℕ)) → o ≡ Some lines →
+          AreLines d settings tree decorator width overflow lines) → IfSome o (AreLines d settings tree decorator width overflow)
+      by None are = tt
+      by (Some lines) are = are lines refl
+
+  -- the names of their marks, where overflow off gives names
+  pub same-names : (names : List (List ℕ)) → mark_names d settings tree decorator width overflow ≡ Some names →
+      IfSome (mark_names d settings tree decorator width false) (λ others. names ≡ others)
+  same-names names e = same_answer (mark_names d settings tree decorator width) (names_same d settings tree decorator width) overflow names e
+
+  -- the lines of those without annotations
+  pub unannotated-are-lines : (bare : List (Line (Unit {0}) ℕ)) →
+      option_map unannotated (layout_lines d settings tree decorator width overflow) ≡ Some bare →
+      Lines d settings tree decorator width overflow (λ lines. bare ≡ unannotated lines)
+  unannotated-are-lines bare e = by (layout_lines d settings tree decorator width overflow) are-lines e
+    where
+      by : (o : Option (List (Line (List A) ℕ))) → ((lines : List (Line (List A) ℕ)) → o ≡ Some lines →
+          AreLines d settings tree decorator width overflow lines) → option_map unannotated o ≡ Some bare →
+          Lines d settings tree decorator width overflow (λ lines. bare ≡ unannotated lines)
+      by None are e = cc
+      by (Some lines) are e = (lines, are lines refl, sym (same_Some (unannotated lines) bare e))
+
+  -- with overflow on there are lines
+  pub lines_there : HasLines d settings tree decorator width overflow
+  lines_there on some =
+      subst (λ o. IsSome (layout_lines d settings tree decorator width o)) (sym on)
+      (layout_succeeds d settings tree decorator width (omega (arith, some)))
+
+  -- so it isn't too narrow
+  pub wide_enough : {X : Type 0} (r : Result X Error) → IfErr r (λ e. Refuses e (layout_lines d settings tree decorator width overflow)) →
+      0 < width → overflow ≡ true → r ≢ Err TooNarrow
+  wide_enough (Ok v) h positive on e = cc
+  wide_enough {X} (Err x) h positive on e =
+      by (layout_lines d settings tree decorator width overflow) (lines_there on (omega (arith, positive)))
+      (subst (λ (y : Error). Refuses y (layout_lines d settings tree decorator width overflow)) (same_error x e) h)
+    where
+      same_error : (x : Error) → ◌≡◌ {A = Result X Error} (Err x) (Err TooNarrow) → x ≡ TooNarrow
+      same_error x e = cc
+
+      by : (q : Option (List (Line (List A) ℕ))) → IsSome q → q ≡ None → ⊥
+      by None k e = cc
+      by (Some p) k e = cc
+
+-- an error says the same of lines and of what is made of them
+pub refuses-mapped : {L M : Type 0} (f : L → M) (e : Error) (o : Option L) → Refuses e (option_map f o) → Refuses e o
+refuses-mapped f TooNarrow None h = refl
+refuses-mapped f TooNarrow (Some ls) h = cc
+refuses-mapped f OutOfMemory o h = h
+refuses-mapped f Fail o h = h
+
+-- every tree leaves the texts that follow
+pub texts_left : {S A : Type 0} (d : Decoration S A) → LeavesTexts d
+texts_left d t s = layout_leaves d default_settings t s

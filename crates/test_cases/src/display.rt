@@ -1,0 +1,39 @@
+//! What a render tree is displayed as.
+
+use case_calls::faults::Fault;
+use case_calls::texts::printed;
+use case_calls::watch::Watch;
+use html_render_tree::Error;
+use html_render_tree::tree::RenderTree;
+use std::alloc::Global;
+use std::fmt;
+use std::fmt::Write;
+
+/// What is left of a text that is written once more, which takes no memory.
+#[derive(Drop)]
+struct Left<'a> {
+    text: &'a str,
+}
+
+impl fmt::Write for Left<'_> {
+    fn write_str(&mut self, text: &str) -> fmt::Result {
+        self.text = self.text.strip_prefix(text).ok_or(fmt::Error)?;
+        Ok(())
+    }
+}
+
+/// The lines of a tree. It is displayed twice, and watched where nothing but the tree could take memory.
+pub fn displayed(alloc: Global, tree: &RenderTree, watch: Watch) -> Result<String, Fault> {
+    let text = tree.to_string(alloc)?;
+    let mut left = Left {
+        text: text.as_str(),
+    };
+    watch.begin("display")?;
+    let came = write!(left, "{tree}").map_err(|_| Error::OutOfMemory);
+    watch.end(&came)?;
+    came?;
+    if !left.text.is_empty() {
+        return Err(Fault::Malformed("a tree is displayed in two ways"));
+    }
+    printed(alloc, &text)
+}
