@@ -1,7 +1,7 @@
 -- A table below its captions.
 use Rattle.std.proofs.Common.{◌≡◌, ℕ, ◌<◌, List, [], ◌∷◌, ◌++◌, length, refl, sym, ap, subst, ◌∙◌, arith}
 use Rattle.html_render_values.specs.Forest.{node, none, followed_by}
-use Rattle.html_render_nodes.specs.Grids.{GridRows}
+use Rattle.html_render_nodes.specs.Tables.{TableParts}
 use Rattle.html_render_nodes.specs.laws.Splits.{followed_by-followed_by}
 use Rattle.html_render_nodes.specs.declared.tree.Estimate.{Estimate}
 use Rattle.html_render_nodes.specs.declared.tree.NodeKind.TheVariants.{Block, Container}
@@ -21,7 +21,7 @@ module _ (s t : Trees RenderNode) where
       (Becomes-append s s t before blocks (planted s before) f (Becomes-same s before (planted s before) (Plants-at s before w)) b)
 
   -- then the table, and what stands behind it
-  pub with-back : (u : Trees RenderNode) (grid : GridRows) (rows after made trees all : List ℕ) (f g : Nodes) → Within s rows → Within s after →
+  pub with-back : (u : Trees RenderNode) (grid : TableParts) (rows after made trees all : List ℕ) (f g : Nodes) → Within s rows → Within s after →
       Becomes s t made (followed_by f g) → Becomes t u trees (followed_by (planted t made) (table_below grid (planted t rows))) →
       all ≡ trees ++ after →
       Becomes s u all (followed_by f (followed_by g (followed_by (table_below grid (planted s rows)) (planted s after))))
@@ -36,7 +36,7 @@ module _ (s t : Trees RenderNode) where
       (Becomes-same u after (planted s after) (Plants-grown s u after (planted s after) there.grown (Plants-at s after v)))))
 
 -- a table with captions, where its parts were made one after the other
-pub captioned-in : (s t u : Trees RenderNode) (grid : GridRows) (before after captions rows out : List ℕ) (f g r : Nodes) → Plants s before f →
+pub captioned-in : (s t u : Trees RenderNode) (grid : TableParts) (before after captions rows out : List ℕ) (f g r : Nodes) → Plants s before f →
     Plants s after g → Within s captions → Becomes s t rows r →
     Becomes t u out (followed_by (planted t before) (followed_by (as_kind Block (planted t captions))
     (followed_by (table_below grid (planted t rows)) (planted t after)))) →
@@ -51,7 +51,7 @@ captioned-in s t u grid before after captions rows out f g r p q w b c =
     ∙ ap (λ v. followed_by f (followed_by capt (followed_by (table_below grid v) (planted t after)))) b.plants.is
     ∙ ap (λ v. followed_by f (followed_by capt (followed_by (table_below grid r) v))) (Plants-grown s t after g b.grown q).is) c)
 
-module _ (style : NodeStyle) (estimate : Estimate) (grid : GridRows) (trees : Nodes) where
+module _ (style : NodeStyle) (estimate : Estimate) (grid : TableParts) (trees : Nodes) where
   pub table_of-captions : (s : Trees RenderNode) (captions : List ℕ) → Within s captions → 0 < length captions →
       node (record { kind = Container; style = style; estimate = estimate })
       (followed_by (front trees) (followed_by (as_kind Block (planted s captions))

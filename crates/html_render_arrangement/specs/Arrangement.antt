@@ -1,9 +1,8 @@
 -- THE PARTS OF TABLES in their places: what the rows and cells of a table are, and where what is inserted into its parts goes.
-use Rattle.std.specs.Prelude.{Bool, true, false, List, [], Option, Some, None, drop, if◌then◌else◌}
-use lib.ListN.{get_or}
+use Rattle.std.specs.Prelude.{Bool, true, false, Option, Some, None, if◌then◌else◌}
 use Rattle.html_render_values.specs.Forest.{Forest, none, node, followed_by}
 use Rattle.html_render_values.specs.Outcome.{◌>>=◌}
-use Rattle.html_render_nodes.specs.Grids.{GridRows}
+use Rattle.html_render_nodes.specs.Tables.{TableParts}
 use Rattle.html_render_nodes.specs.RenderNodes.{no_style, unmeasured}
 use Rattle.html_render_nodes.specs.declared.tree.Estimate.{Estimate}
 use Rattle.html_render_nodes.specs.declared.tree.NodeKind.{NodeKind}
@@ -11,7 +10,6 @@ use Rattle.html_render_nodes.specs.declared.tree.NodeKind.TheVariants.{Container
 use Rattle.html_render_nodes.specs.declared.tree.NodeStyle.{NodeStyle}
 use Rattle.html_render_nodes.specs.declared.tree.Part.TheVariants.{Body, Foot, Row, Cell, Caption}
 use Rattle.html_render_nodes.specs.declared.tree.RenderNode.{RenderNode}
-use Rattle.html_render_nodes.specs.declared.tree.Slot.{Slot}
 use Rattle.html_render_drafts.specs.Finish.{Placed, placed}
 use Rattle.html_render_arrangement.specs.declared.parts.Sort.{Sort}
 use Rattle.html_render_arrangement.specs.declared.parts.Sort.TheVariants.{Contents, Bodies, Feet, Rows, Cells, Captions}
@@ -91,34 +89,19 @@ rows_of (node n children beside) = followed_by (rows_in children) (rows_of besid
 abbrev pub table_rows : Nodes → Nodes
 table_rows children = followed_by (rows_of (picked Bodies children)) (rows_of (picked Feet children))
 
--- ---- the grid: what stands in each row
-
--- rows in their places; a row that the grid doesn't have is empty
-abbrev pub placed_rows : List (List Slot) → Nodes → Nodes
-placed_rows slots none = none
-placed_rows slots (node n cells beside) =
-    node (record n { kind = TableRow (get_or slots 0 []) }) cells (placed_rows (drop 1 slots) beside)
-
--- what stands below the last row
-abbrev pub slots_below : List (List Slot) → Nodes → List (List Slot)
-slots_below slots none = slots
-slots_below slots (node n cells beside) = slots_below (drop 1 slots) beside
-
 -- ---- tables
 
 -- a table over its rows
-abbrev pub table_over : NodeStyle → Estimate → GridRows → (rows : Nodes) → Nodes
-table_over style estimate grid rows =
-    node (record { kind = Table (record { columns = grid.columns; rows = slots_below grid.rows rows }); style = style; estimate = estimate })
-    (placed_rows grid.rows rows) none
+abbrev pub table_over : NodeStyle → Estimate → TableParts → (rows : Nodes) → Nodes
+table_over style estimate grid rows = node (record { kind = Table grid; style = style; estimate = estimate }) (as_kind TableRow rows) none
 
 -- the table below its captions: there is none without a row
-abbrev pub table_below : GridRows → (rows : Nodes) → Nodes
+abbrev pub table_below : TableParts → (rows : Nodes) → Nodes
 table_below grid none = none
 table_below grid (node n cells beside) = table_over no_style unmeasured grid (node n cells beside)
 
 -- a table with these captions among its children: without one, what was inserted into the table goes into its first cell
-abbrev pub table_of : NodeStyle → Estimate → GridRows → (captions children : Nodes) → Nodes
+abbrev pub table_of : NodeStyle → Estimate → TableParts → (captions children : Nodes) → Nodes
 table_of style estimate grid none children =
     table_over style estimate grid (into_first_row (front children) (back children) (table_rows children))
 table_of style estimate grid (node n inside beside) children =

@@ -17,7 +17,7 @@ use std::alloc::Global;
 /// # Errors
 ///
 /// `OutOfMemory`.
-pub fn change_kind(
+fn change_kind(
     alloc: Global,
     store: &mut Store<RenderNode>,
     tree: Place,

@@ -1,62 +1,16 @@
 //! Tables over their rows, on the columns of their grids.
 
-ghost use Rattle.std.specs.Prelude.{◌≡◌, [], ◌∷◌, drop, slice_index_or, IfOk, OnOk, IfErr};
+ghost use Rattle.std.specs.Prelude.{◌≡◌, [], ◌∷◌, IfOk, OnOk, IfErr};
 ghost use Rattle.html_render_values.specs.Forest.{followed_by};
 ghost use Rattle.html_render_drafts.specs.Store.{planted, Within, Becomes};
-ghost use Rattle.html_render_arrangement.specs.Arrangement.{as_kind, picked, placed_rows, table_over, table_below, table_of, tree_of};
+ghost use Rattle.html_render_arrangement.specs.Arrangement.{as_kind, picked, table_over, table_below, table_of, tree_of};
 
 use crate::parts::{Ends, Sort, ends_of, pick};
-use crate::rows::{change_kind, change_kinds, insert_into_first_row, rows_of_table};
+use crate::rows::{change_kinds, insert_into_first_row, rows_of_table};
 use html_render_drafts::store::{Place, Store};
-use html_render_nodes::tree::{Estimate, Grid, NodeKind, NodeStyle, RenderNode, Slots};
+use html_render_nodes::tree::{Estimate, Grid, NodeKind, NodeStyle, RenderNode};
 use html_render_values::Error;
 use std::alloc::Global;
-
-/// What stands in the row of a grid with this index: nothing where there is no such row.
-fn slots_at(alloc: Global, grid: &Grid, row: usize) -> Result<Slots, Error>
-    ensures ok { IfOk result (λ slots. slots ≡ slice_index_or grid.now.rows row []) }
-    ensures err { IfErr result (λ e. e ≡ Error.OutOfMemory) }
-{
-    match grid.rows().get(row) {
-        Some(slots) => slots.try_clone(alloc),
-        None => Ok(Slots::new(Vec::new(alloc))),
-    }
-}
-
-/// The grid of what stands below so many rows.
-fn grid_below(alloc: Global, grid: &Grid, rows: usize) -> Result<Grid, Error>
-    ensures ok { IfOk result (λ g. g ≡ record { columns = grid.now.columns; rows = drop rows grid.now.rows }) }
-    ensures err { IfErr result (λ e. e ≡ Error.OutOfMemory) }
-{
-    let all = grid.rows();
-    let behind = &all[rows.min(all.len())..];
-    let mut below = Vec::with_capacity(alloc, behind.len())?;
-    for slots in behind {
-        let copy = slots.try_clone(alloc)?;
-        below.push(copy)?;
-    }
-    Grid::new(alloc, grid.columns(), below)
-}
-
-/// Rows on the columns of a grid.
-fn place_rows(
-    alloc: Global,
-    store: &mut Store<RenderNode>,
-    grid: &Grid,
-    rows: &[Place],
-) -> Result<Vec<Place>, Error>
-    requires { Within store.old rows.now }
-    ensures ok { IfOk result (λ ps. Becomes store.old store.new ps.items (placed_rows grid.now.rows (planted store.old rows.now))) }
-    ensures err { IfErr result (λ e. e ≡ Error.OutOfMemory) }
-{
-    let mut placed = Vec::with_capacity(alloc, rows.len())?;
-    for (index, row) in rows.iter().enumerate() {
-        let slots = slots_at(alloc, grid, index)?;
-        let place = change_kind(alloc, store, *row, &NodeKind::TableRow(slots))?;
-        placed.push(place)?;
-    }
-    Ok(placed)
-}
 
 /// A table over its rows.
 fn push_table_over(
@@ -64,17 +18,16 @@ fn push_table_over(
     store: &mut Store<RenderNode>,
     style: NodeStyle,
     estimate: Estimate,
-    grid: &Grid,
+    grid: Grid,
     rows: &[Place],
 ) -> Result<Place, Error>
     requires { Within store.old rows.now }
-    ensures ok { IfOk result (λ p. Becomes store.old store.new (p ∷ []) (table_over style estimate grid.now (planted store.old rows.now))) }
+    ensures ok { IfOk result (λ p. Becomes store.old store.new (p ∷ []) (table_over style estimate grid (planted store.old rows.now))) }
     ensures err { IfErr result (λ e. e ≡ Error.OutOfMemory) }
 {
-    let below = grid_below(alloc, grid, rows.len())?;
-    let placed = place_rows(alloc, store, grid, rows)?;
+    let placed = change_kinds(alloc, store, rows, &NodeKind::TableRow)?;
     let node = RenderNode {
-        kind: NodeKind::Table(below),
+        kind: NodeKind::Table(grid),
         style,
         estimate,
     };
@@ -86,14 +39,14 @@ fn push_table_over(
 fn push_table_below(
     alloc: Global,
     store: &mut Store<RenderNode>,
-    grid: &Grid,
+    grid: Grid,
     rows: &[Place],
     trees: &mut Vec<Place>,
 ) -> Result<(), Error>
     requires rows { Within store.old rows.now }
     requires trees { Within store.old trees.old.items }
     ensures ok { OnOk result (Becomes store.old store.new trees.new.items
-        (followed_by (planted store.old trees.old.items) (table_below grid.now (planted store.old rows.now)))) }
+        (followed_by (planted store.old trees.old.items) (table_below grid (planted store.old rows.now)))) }
     ensures err { IfErr result (λ e. e ≡ Error.OutOfMemory) }
 {
     if !rows.is_empty() {
@@ -115,7 +68,7 @@ fn push_table_below(
 fn captioned(
     alloc: Global,
     store: &mut Store<RenderNode>,
-    grid: &Grid,
+    grid: Grid,
     captions: &[Place],
     ends: &Ends,
     rows: &[Place],
@@ -126,7 +79,7 @@ fn captioned(
     requires rows { Within store.old rows.now }
     ensures ok { IfOk result (λ ps. Becomes store.old store.new ps.items
         (followed_by (planted store.old ends.now.front.items) (followed_by (as_kind NodeKind.Block (planted store.old captions.now))
-        (followed_by (table_below grid.now (planted store.old rows.now)) (planted store.old ends.now.back.items))))) }
+        (followed_by (table_below grid (planted store.old rows.now)) (planted store.old ends.now.back.items))))) }
     ensures err { IfErr result (λ e. e ≡ Error.OutOfMemory) }
 {
     let mut trees = Vec::from_slice(alloc, ends.front.as_slice())?;
@@ -143,12 +96,12 @@ fn push_table(
     store: &mut Store<RenderNode>,
     style: NodeStyle,
     estimate: Estimate,
-    grid: &Grid,
+    grid: Grid,
     children: &[Place],
 ) -> Result<Place, Error>
     requires { Within store.old children.now }
     ensures ok { let trees = planted store.old children.now in
-        IfOk result (λ p. Becomes store.old store.new (p ∷ []) (table_of style estimate grid.now (picked Sort.Captions trees) trees)) }
+        IfOk result (λ p. Becomes store.old store.new (p ∷ []) (table_of style estimate grid (picked Sort.Captions trees) trees)) }
     ensures err { IfErr result (λ e. e ≡ Error.OutOfMemory) }
 {
     let captions = pick(alloc, store, children, Sort::Captions)?;
@@ -199,7 +152,7 @@ pub fn push_arranged(
         estimate,
     } = node;
     match kind {
-        NodeKind::Table(grid) => push_table(alloc, store, style, estimate, &grid, children),
+        NodeKind::Table(grid) => push_table(alloc, store, style, estimate, grid, children),
         kind => {
             let node = RenderNode {
                 kind,

@@ -14,15 +14,15 @@ module _ {T M : Type 0} where
   pub in_row-added : (b c : MachineBlock T M) (o : Option (OpenTable (Drawing T M) T M)) → cell_place o ≡ InRow →
       machine.cell_added b o c ≡ Some (record b { table = option_map (with_next (machine.kept_cell c)) o })
   in_row-added b c None e = cc
-  in_row-added b c (Some (Across p ws below None)) e = cc
-  in_row-added b c (Some (Across p ws below (Some row))) e = refl
+  in_row-added b c (Some (Across p ws ahead None)) e = cc
+  in_row-added b c (Some (Across p ws ahead (Some row))) e = refl
   in_row-added b c (Some (Stacked border has_lines)) e = cc
 
   pub below-added : (b c : MachineBlock T M) (o : Option (OpenTable (Drawing T M) T M)) → cell_place o ≡ Below →
       machine.cell_added b o c ≡ option_map (λ (e : MachineBlock T M). machine.put_below e c) (machine.flush b)
   below-added b c None e = refl
-  below-added b c (Some (Across p ws below None)) e = refl
-  below-added b c (Some (Across p ws below (Some row))) e = cc
+  below-added b c (Some (Across p ws ahead None)) e = refl
+  below-added b c (Some (Across p ws ahead (Some row))) e = cc
   below-added b c (Some (Stacked border has_lines)) e = cc
 
   pub in_stack-added : (b c : MachineBlock T M) (o : Option (OpenTable (Drawing T M) T M)) (border : Option T) (has_lines : Bool) →
@@ -30,8 +30,8 @@ module _ {T M : Type 0} where
       machine.cell_added b o c
       ≡ option_map (λ (e : MachineBlock T M). machine.put_stacked e border has_lines (not (is_empty c.lines)) c) (machine.flush b)
   in_stack-added b c None border has_lines e = cc
-  in_stack-added b c (Some (Across p ws below None)) border has_lines e = cc
-  in_stack-added b c (Some (Across p ws below (Some row))) border has_lines e = cc
+  in_stack-added b c (Some (Across p ws ahead None)) border has_lines e = cc
+  in_stack-added b c (Some (Across p ws ahead (Some row))) border has_lines e = cc
   in_stack-added b c (Some (Stacked own had)) border has_lines e =
       let same_border : own ≡ border = cc in
       let same_lines : had ≡ has_lines = cc in
@@ -42,23 +42,23 @@ module _ {T M : Type 0} where
   pub in_row-ended : (b : MachineBlock T M) (o : Option (OpenTable (Drawing T M) T M)) → cell_place o ≡ InRow →
       machine.row_ended b o ≡ Some (record b { table = option_map (with_row_over drawn_pictures) o })
   in_row-ended b None e = cc
-  in_row-ended b (Some (Across p ws below None)) e = cc
-  in_row-ended b (Some (Across p ws below (Some row))) e = refl
+  in_row-ended b (Some (Across p ws ahead None)) e = cc
+  in_row-ended b (Some (Across p ws ahead (Some row))) e = refl
   in_row-ended b (Some (Stacked border has_lines)) e = cc
 
   pub below-ended : (b : MachineBlock T M) (o : Option (OpenTable (Drawing T M) T M)) → b.table ≡ o → cell_place o ≡ Below →
       machine.row_ended b o ≡ Some b
   below-ended b None same e = refl
-  below-ended b (Some (Across p ws below None)) same e = ap (λ t. Some (record b { table = t })) (sym same)
-  below-ended b (Some (Across p ws below (Some row))) same e = cc
+  below-ended b (Some (Across p ws ahead None)) same e = ap (λ t. Some (record b { table = t })) (sym same)
+  below-ended b (Some (Across p ws ahead (Some row))) same e = cc
   below-ended b (Some (Stacked border has_lines)) same e = cc
 
   pub in_stack-ended : (b : MachineBlock T M) (o : Option (OpenTable (Drawing T M) T M)) (border : Option T) →
       cell_place o ≡ InStack border true →
       machine.row_ended b o ≡ option_map (λ (e : MachineBlock T M). machine.stacked_begun e border) (machine.flush b)
   in_stack-ended b None border e = cc
-  in_stack-ended b (Some (Across p ws below None)) border e = cc
-  in_stack-ended b (Some (Across p ws below (Some row))) border e = cc
+  in_stack-ended b (Some (Across p ws ahead None)) border e = cc
+  in_stack-ended b (Some (Across p ws ahead (Some row))) border e = cc
   in_stack-ended b (Some (Stacked own false)) border e = cc
   in_stack-ended b (Some (Stacked own true)) border e =
       let same_border : own ≡ border = cc in
@@ -67,8 +67,8 @@ module _ {T M : Type 0} where
   pub empty_stack-ended : (b : MachineBlock T M) (o : Option (OpenTable (Drawing T M) T M)) (border : Option T) →
       cell_place o ≡ InStack border false → machine.row_ended b o ≡ Some b
   empty_stack-ended b None border e = cc
-  empty_stack-ended b (Some (Across p ws below None)) border e = cc
-  empty_stack-ended b (Some (Across p ws below (Some row))) border e = cc
+  empty_stack-ended b (Some (Across p ws ahead None)) border e = cc
+  empty_stack-ended b (Some (Across p ws ahead (Some row))) border e = cc
   empty_stack-ended b (Some (Stacked own false)) border e = refl
   empty_stack-ended b (Some (Stacked own true)) border e = cc
 

@@ -3,7 +3,7 @@ use Rattle.std.proofs.Common.{◌≡◌, ℕ, ◌+◌, ◌-◌, ◌<◌, Bool, t
 use Rattle.std.proofs.Common.{arith, cond, get_or, sym, append_assoc, Option, length-append}
 use Rattle.std.proofs.lemmas.List.{take-append-drop, take_min, drop_min, reverse-append, at_drop_more}
 use Rattle.std.proofs.lemmas.List.Sums.{sum_by-append}
-use Rattle.html_render_nodes.specs.declared.tree.Slot.{Slot}
+use Rattle.html_render_parts.specs.declared.table.PlacedCell.{PlacedCell}
 use Rattle.html_render_blocks.specs.declared.block.rows.RowPlace.{RowPlace}
 use Rattle.html_render_blocks.specs.OpenRows.{is_cell, cell_width, places, next_width, behind_cell, before_cell, empty_cell, empty_cells}
 
@@ -70,27 +70,27 @@ empties-later {T} {M} xs before p e stands =
     ap (λ ps. empty_cells {T = T} {M = M} (before_cell ps)) (last-first xs before p e)
     ∙ ap (λ b. empty_cells {T = T} {M = M} (cond b [] (p ∷ before_cell (reverse before)))) stands
 
--- ---- the places of slots
+-- ---- the places of cells
 
-pub places-more : (widths : List ℕ) (slots : List Slot) (i : ℕ) (d : Slot) → i < length slots →
-    places widths (drop i slots)
-    ≡ record { is_cell = is_cell (get_or slots i d).kind; width = cell_width (take (get_or slots i d).columns widths) }
-    ∷ places (drop (get_or slots i d).columns widths) (drop (i + 1) slots)
-places-more widths slots i d h = at_drop_more (places widths) slots i d h
+pub places-more : (widths : List ℕ) (cells : List PlacedCell) (i : ℕ) (d : PlacedCell) → i < length cells →
+    places widths (drop i cells)
+    ≡ record { is_cell = is_cell (get_or cells i d).kind; width = cell_width (take (get_or cells i d).columns widths) }
+    ∷ places (drop (get_or cells i d).columns widths) (drop (i + 1) cells)
+places-more widths cells i d h = at_drop_more (places widths) cells i d h
 
 -- a place more
-pub places-step : (all : List RowPlace) (rest own behind : List ℕ) (slots : List Slot) (i : ℕ) (d : Slot) (row more : List RowPlace) (is : Bool)
-    (width : Option ℕ) → all ≡ row ++ places rest (drop i slots) → i < length slots → own ≡ take (get_or slots i d).columns rest →
-    behind ≡ drop (get_or slots i d).columns rest → is ≡ is_cell (get_or slots i d).kind → width ≡ cell_width own →
-    more ≡ row ++ record { is_cell = is; width = width } ∷ [] → all ≡ more ++ places behind (drop (i + 1) slots)
-places-step all rest own behind slots i d row more is width whole inside own_is behind_is is_is width_is more_is =
-    let s : Slot = get_or slots i d in
+pub places-step : (all : List RowPlace) (rest own behind : List ℕ) (cells : List PlacedCell) (i : ℕ) (d : PlacedCell) (row more : List RowPlace) (is : Bool)
+    (width : Option ℕ) → all ≡ row ++ places rest (drop i cells) → i < length cells → own ≡ take (get_or cells i d).columns rest →
+    behind ≡ drop (get_or cells i d).columns rest → is ≡ is_cell (get_or cells i d).kind → width ≡ cell_width own →
+    more ≡ row ++ record { is_cell = is; width = width } ∷ [] → all ≡ more ++ places behind (drop (i + 1) cells)
+places-step all rest own behind cells i d row more is width whole inside own_is behind_is is_is width_is more_is =
+    let s : PlacedCell = get_or cells i d in
     let here : RowPlace = record { is_cell = is_cell s.kind; width = cell_width (take s.columns rest) } in
     let step : more ≡ row ++ here ∷ [] = more_is
     ∙ ap (λ b. row ++ record { is_cell = b; width = width } ∷ []) is_is
     ∙ ap (λ w. row ++ record { is_cell = is_cell s.kind; width = w } ∷ []) (width_is ∙ ap cell_width own_is) in
     whole
-    ∙ ap (λ ps. row ++ ps) (places-more rest slots i d inside)
-    ∙ sym (append_assoc row (here ∷ []) (places (drop s.columns rest) (drop (i + 1) slots)))
-    ∙ ap (λ ps. ps ++ places (drop s.columns rest) (drop (i + 1) slots)) (sym step)
-    ∙ ap (λ ws. more ++ places ws (drop (i + 1) slots)) (sym behind_is)
+    ∙ ap (λ ps. row ++ ps) (places-more rest cells i d inside)
+    ∙ sym (append_assoc row (here ∷ []) (places (drop s.columns rest) (drop (i + 1) cells)))
+    ∙ ap (λ ps. ps ++ places (drop s.columns rest) (drop (i + 1) cells)) (sym step)
+    ∙ ap (λ ws. more ++ places ws (drop (i + 1) cells)) (sym behind_is)

@@ -24,10 +24,10 @@ use Rattle.html_render_blocks.specs.declared.block.tables.OpenTable.TheVariants.
 use Rattle.html_render_blocks.specs.OpenRows.{with_cell}
 use Rattle.html_render_blocks.specs.Tables.{Rows, defined_pictures, frame_of, rule, stacked_border, with_row_open, next_cell_width, skipped}
 use Rattle.html_render_blocks.specs.Tables.{with_open, picture_of}
-use Rattle.html_render_parts.specs.declared.widths.needs.CellNeed.{CellNeed}
-use Rattle.html_render_parts.specs.Needs.{standing_widths}
-use Rattle.html_render_nodes.specs.declared.tree.Slot.{Slot}
-use Rattle.html_render_nodes.specs.Grids.{GridRows}
+use Rattle.html_render_parts.specs.declared.widths.shares.ColumnNeed.{ColumnNeed}
+use Rattle.html_render_parts.specs.Shares.{widths_across}
+use Rattle.html_render_parts.specs.declared.table.PlacedCell.{PlacedCell}
+use Rattle.html_render_parts.specs.TableCells.{CellGrid, rows_on}
 use Rattle.html_render_pictures.specs.Padding.{filled}
 use Rattle.html_render_pictures.specs.Picture.{KeptCell, is_empty}
 
@@ -149,7 +149,7 @@ with_picture d p = add_marks (record d { lines = d.lines ++ p.0; table = None })
 -- the table that is open is over, if one is
 abbrev pub end_open : {T M : Type 0} → DefinedBlock T M → Option (OpenTable (Rows T M) T M) → DefinedBlock T M
 end_open d None = d
-end_open d (Some (Across picture widths below row)) = with_picture d (picture_of defined_pictures picture widths below row)
+end_open d (Some (Across picture widths ahead row)) = with_picture d (picture_of defined_pictures picture widths ahead row)
 end_open d (Some (Stacked border has_lines)) = record d { table = None }
 
 abbrev pub end_table : {T M : Type 0} → DefinedBlock T M → DefinedBlock T M
@@ -172,22 +172,22 @@ add_border d (Some tag) character = add_rule d tag character
 abbrev pub stacked_begun : {T M : Type 0} → DefinedBlock T M → Option T → DefinedBlock T M
 stacked_begun d border = record (add_border d border 0x2500) { table = Some (Stacked border false) }
 
-abbrev pub table_begun : {T M : Type 0} → DefinedBlock T M → T → (borders : Bool) → (below : List (List Slot)) → Option (List ℕ) → DefinedBlock T M
-table_begun d tag borders below None = stacked_begun d (stacked_border tag borders d.setting.width)
-table_begun d tag borders below (Some widths) =
-    record d { marks = []; table = Some (Across (defined_pictures.begun (frame_of tag borders widths) d.marks) widths below None) }
+abbrev pub table_begun : {T M : Type 0} → DefinedBlock T M → T → (borders : Bool) → (ahead : List (List PlacedCell)) → Option (List ℕ) → DefinedBlock T M
+table_begun d tag borders ahead None = stacked_begun d (stacked_border tag borders d.setting.width)
+table_begun d tag borders ahead (Some widths) =
+    record d { marks = []; table = Some (Across (defined_pictures.begun (frame_of tag borders widths) d.marks) widths ahead None) }
 
--- a table begins on this grid, with borders under this tag if there are any. Its cells need so much, and stand one below
+-- a table begins on this grid, with borders under this tag if there are any. Its columns need so much, and its cells stand one below
 -- another where the columns can't stand side by side, or where they are to
-abbrev pub begin_table : {T M : Type 0} → DefinedBlock T M → T → (borders stacked : Bool) → GridRows → List CellNeed →
+abbrev pub begin_table : {T M : Type 0} → DefinedBlock T M → T → (borders stacked : Bool) → CellGrid → List ColumnNeed →
     Option (DefinedBlock T M)
-begin_table {T} {M} d tag borders stacked grid cells = option_map
-    (λ (e : DefinedBlock T M). table_begun e tag borders grid.rows (if stacked then None else standing_widths grid.columns cells e.setting.width))
+begin_table {T} {M} d tag borders stacked grid needs = option_map
+    (λ (e : DefinedBlock T M). table_begun e tag borders (rows_on grid) (if stacked then None else widths_across e.setting.width needs))
     (flush (end_table d))
 
--- a row begins, in which this stands
-abbrev pub begin_row : {T M : Type 0} → DefinedBlock T M → List Slot → DefinedBlock T M
-begin_row d slots = record d { table = option_map (with_row_open slots) d.table }
+-- the next row begins
+abbrev pub begin_row : {T M : Type 0} → DefinedBlock T M → DefinedBlock T M
+begin_row d = record d { table = option_map with_row_open d.table }
 
 -- an empty block for the row's next cell; none where the cell is skipped
 abbrev pub cell_block : {T M : Type 0} → DefinedBlock T M → Option (DefinedBlock T M)
@@ -221,9 +221,9 @@ put_stacked d border has_lines more cell = record (put_below (if has_lines && mo
 -- the next cell is this flushed block
 abbrev pub cell_added : {T M : Type 0} → DefinedBlock T M → Option (OpenTable (Rows T M) T M) → DefinedBlock T M → Option (DefinedBlock T M)
 cell_added {T} {M} d None cell = option_map (λ (e : DefinedBlock T M). put_below e cell) (flush d)
-cell_added {T} {M} d (Some (Across picture widths below None)) cell = option_map (λ (e : DefinedBlock T M). put_below e cell) (flush d)
-cell_added d (Some (Across picture widths below (Some row))) cell =
-    Some (record d { table = Some (Across picture widths below (Some (with_cell row (kept_cell cell ∷ [])))) })
+cell_added {T} {M} d (Some (Across picture widths ahead None)) cell = option_map (λ (e : DefinedBlock T M). put_below e cell) (flush d)
+cell_added d (Some (Across picture widths ahead (Some row))) cell =
+    Some (record d { table = Some (Across picture widths ahead (Some (with_cell row (kept_cell cell ∷ [])))) })
 cell_added {T} {M} d (Some (Stacked border has_lines)) cell =
     option_map (λ (e : DefinedBlock T M). put_stacked e border has_lines (not (is_empty cell.lines)) cell) (flush d)
 
@@ -236,8 +236,8 @@ add_cell d cell = do
 -- the row that is open is over: below a row of cells one below another that have lines, there is a border
 abbrev pub row_ended : {T M : Type 0} → DefinedBlock T M → Option (OpenTable (Rows T M) T M) → Option (DefinedBlock T M)
 row_ended d None = Some d
-row_ended d (Some (Across picture widths below row)) =
-    Some (record d { table = Some (Across (with_open defined_pictures picture row) widths below None) })
+row_ended d (Some (Across picture widths ahead row)) =
+    Some (record d { table = Some (Across (with_open defined_pictures picture row) widths ahead None) })
 row_ended {T} {M} d (Some (Stacked border true)) =
     option_map (λ (e : DefinedBlock T M). record (add_border e border 0x2500) { table = Some (Stacked border false) }) (flush d)
 row_ended d (Some (Stacked border false)) = Some d

@@ -16,10 +16,10 @@ use Rattle.html_render_blocks.specs.declared.block.tables.OpenTable.TheVariants.
 use Rattle.html_render_blocks.specs.OpenRows.{with_cell}
 use Rattle.html_render_blocks.specs.Tables.{drawn_pictures, frame_of, rule, stacked_border, with_row_open, next_cell_width, skipped, with_open}
 use Rattle.html_render_blocks.specs.Tables.{picture_of}
-use Rattle.html_render_parts.specs.declared.widths.needs.CellNeed.{CellNeed}
-use Rattle.html_render_parts.specs.Needs.{standing_widths}
-use Rattle.html_render_nodes.specs.declared.tree.Slot.{Slot}
-use Rattle.html_render_nodes.specs.Grids.{GridRows}
+use Rattle.html_render_parts.specs.declared.widths.shares.ColumnNeed.{ColumnNeed}
+use Rattle.html_render_parts.specs.Shares.{widths_across}
+use Rattle.html_render_parts.specs.declared.table.PlacedCell.{PlacedCell}
+use Rattle.html_render_parts.specs.TableCells.{CellGrid, rows_on}
 use Rattle.html_render_pictures.specs.Picture.{KeptCell, is_empty}
 use Rattle.html_render_pictures.specs.Drawing.{Drawing}
 use Rattle.html_render_pictures.specs.Padding.{filled}
@@ -141,7 +141,7 @@ with_picture b p = add_marks (record b { lines = b.lines ++ p.0; table = None })
 -- the table that is open is over, if one is
 abbrev pub end_open : {T M : Type 0} → MachineBlock T M → Option (OpenTable (Drawing T M) T M) → MachineBlock T M
 end_open b None = b
-end_open b (Some (Across picture widths below row)) = with_picture b (picture_of drawn_pictures picture widths below row)
+end_open b (Some (Across picture widths ahead row)) = with_picture b (picture_of drawn_pictures picture widths ahead row)
 end_open b (Some (Stacked border has_lines)) = record b { table = None }
 
 abbrev pub end_table : {T M : Type 0} → MachineBlock T M → MachineBlock T M
@@ -164,25 +164,25 @@ add_border b (Some tag) character = add_rule b tag character
 abbrev pub stacked_begun : {T M : Type 0} → MachineBlock T M → Option T → MachineBlock T M
 stacked_begun b border = record (add_border b border 0x2500) { table = Some (Stacked border false) }
 
-abbrev pub table_begun : {T M : Type 0} → MachineBlock T M → T → (borders : Bool) → (below : List (List Slot)) → Option (List ℕ) → MachineBlock T M
-table_begun b tag borders below None = stacked_begun b (stacked_border tag borders b.setting.width)
-table_begun b tag borders below (Some widths) =
+abbrev pub table_begun : {T M : Type 0} → MachineBlock T M → T → (borders : Bool) → (ahead : List (List PlacedCell)) → Option (List ℕ) → MachineBlock T M
+table_begun b tag borders ahead None = stacked_begun b (stacked_border tag borders b.setting.width)
+table_begun b tag borders ahead (Some widths) =
     record b {
       paragraph = take_waiting b.paragraph;
-      table = Some (Across (drawn_pictures.begun (frame_of tag borders widths) (waiting b.paragraph)) widths below None);
+      table = Some (Across (drawn_pictures.begun (frame_of tag borders widths) (waiting b.paragraph)) widths ahead None);
     }
 
--- a table begins on this grid, with borders under this tag if there are any. Its cells need so much, and stand one below
+-- a table begins on this grid, with borders under this tag if there are any. Its columns need so much, and its cells stand one below
 -- another where the columns can't stand side by side, or where they are to
-abbrev pub begin_table : {T M : Type 0} → MachineBlock T M → T → (borders stacked : Bool) → GridRows → List CellNeed →
+abbrev pub begin_table : {T M : Type 0} → MachineBlock T M → T → (borders stacked : Bool) → CellGrid → List ColumnNeed →
     Option (MachineBlock T M)
-begin_table {T} {M} b tag borders stacked grid cells = option_map
-    (λ (e : MachineBlock T M). table_begun e tag borders grid.rows (if stacked then None else standing_widths grid.columns cells e.setting.width))
+begin_table {T} {M} b tag borders stacked grid needs = option_map
+    (λ (e : MachineBlock T M). table_begun e tag borders (rows_on grid) (if stacked then None else widths_across e.setting.width needs))
     (flush (end_table b))
 
--- a row begins, in which this stands
-abbrev pub begin_row : {T M : Type 0} → MachineBlock T M → List Slot → MachineBlock T M
-begin_row b slots = record b { table = option_map (with_row_open slots) b.table }
+-- the next row begins
+abbrev pub begin_row : {T M : Type 0} → MachineBlock T M → MachineBlock T M
+begin_row b = record b { table = option_map with_row_open b.table }
 
 -- an empty block for the row's next cell; none where the cell is skipped
 abbrev pub cell_block : {T M : Type 0} → MachineBlock T M → Option (MachineBlock T M)
@@ -216,9 +216,9 @@ put_stacked b border has_lines more cell = record (put_below (if has_lines && mo
 -- the next cell is this flushed block
 abbrev pub cell_added : {T M : Type 0} → MachineBlock T M → Option (OpenTable (Drawing T M) T M) → MachineBlock T M → Option (MachineBlock T M)
 cell_added {T} {M} b None cell = option_map (λ (e : MachineBlock T M). put_below e cell) (flush b)
-cell_added {T} {M} b (Some (Across picture widths below None)) cell = option_map (λ (e : MachineBlock T M). put_below e cell) (flush b)
-cell_added b (Some (Across picture widths below (Some row))) cell =
-    Some (record b { table = Some (Across picture widths below (Some (with_cell row (kept_cell cell ∷ [])))) })
+cell_added {T} {M} b (Some (Across picture widths ahead None)) cell = option_map (λ (e : MachineBlock T M). put_below e cell) (flush b)
+cell_added b (Some (Across picture widths ahead (Some row))) cell =
+    Some (record b { table = Some (Across picture widths ahead (Some (with_cell row (kept_cell cell ∷ [])))) })
 cell_added {T} {M} b (Some (Stacked border has_lines)) cell =
     option_map (λ (e : MachineBlock T M). put_stacked e border has_lines (not (is_empty cell.lines)) cell) (flush b)
 
@@ -231,8 +231,8 @@ add_cell b cell = do
 -- the row that is open is over: below a row of cells one below another that have lines, there is a border
 abbrev pub row_ended : {T M : Type 0} → MachineBlock T M → Option (OpenTable (Drawing T M) T M) → Option (MachineBlock T M)
 row_ended b None = Some b
-row_ended b (Some (Across picture widths below row)) =
-    Some (record b { table = Some (Across (with_open drawn_pictures picture row) widths below None) })
+row_ended b (Some (Across picture widths ahead row)) =
+    Some (record b { table = Some (Across (with_open drawn_pictures picture row) widths ahead None) })
 row_ended {T} {M} b (Some (Stacked border true)) =
     option_map (λ (e : MachineBlock T M). record (add_border e border 0x2500) { table = Some (Stacked border false) }) (flush b)
 row_ended b (Some (Stacked border false)) = Some b

@@ -4,7 +4,7 @@ use Rattle.std.specs.Prelude.{Option, Some, None, flat_map, if◌then◌else◌}
 use Rattle.std.specs.List.{list_any}
 use Rattle.html_render_parts.specs.declared.table.CellKind.{CellKind}
 use Rattle.html_render_parts.specs.declared.table.CellKind.TheVariants.{Cell, Placeholder, Gap}
-use Rattle.html_render_nodes.specs.declared.tree.Slot.{Slot}
+use Rattle.html_render_parts.specs.declared.table.PlacedCell.{PlacedCell}
 use Rattle.html_render_pictures.specs.Picture.{KeptCell, TableRow}
 use Rattle.html_render_blocks.specs.declared.block.rows.RowPlace.{RowPlace}
 
@@ -24,13 +24,13 @@ is_placeholder Placeholder = true
 is_placeholder Gap = false
 
 -- the places of a row over columns of these widths
-abbrev pub places : (widths : List ℕ) → List Slot → List RowPlace
+abbrev pub places : (widths : List ℕ) → List PlacedCell → List RowPlace
 places widths [] = []
 places widths (s ∷ ss) =
     record { is_cell = is_cell s.kind; width = cell_width (take s.columns widths) } ∷ places (drop s.columns widths) ss
 
-abbrev pub has_placeholder : List Slot → Bool
-has_placeholder slots = list_any (λ s. is_placeholder s.kind) slots
+abbrev pub has_placeholder : List PlacedCell → Bool
+has_placeholder cells = list_any (λ s. is_placeholder s.kind) cells
 
 -- the columns of the next cell of a row, unless it is skipped
 abbrev pub next_width : List RowPlace → Option ℕ
@@ -61,8 +61,8 @@ pub record OpenRow (T M : Type 0) : Type 0 where
   pub cells : List (KeptCell T M)
   pub placeholder : Bool
 
-abbrev pub open_row : {T M : Type 0} → (widths : List ℕ) → List Slot → OpenRow T M
-open_row widths slots = record { ahead = places widths slots; cells = []; placeholder = has_placeholder slots }
+abbrev pub open_row : {T M : Type 0} → (widths : List ℕ) → List PlacedCell → OpenRow T M
+open_row widths cells = record { ahead = places widths cells; cells = []; placeholder = has_placeholder cells }
 
 -- with its next cell, or without that
 abbrev pub with_cell : {T M : Type 0} → OpenRow T M → List (KeptCell T M) → OpenRow T M

@@ -1,8 +1,7 @@
 -- The operations on blocks that a layout is made of, and those that a document ends with.
 use Rattle.std.specs.Prelude.{ℕ, Bool, List, Option}
-use Rattle.html_render_parts.specs.declared.widths.needs.CellNeed.{CellNeed}
-use Rattle.html_render_nodes.specs.declared.tree.Slot.{Slot}
-use Rattle.html_render_nodes.specs.Grids.{GridRows}
+use Rattle.html_render_parts.specs.declared.widths.shares.ColumnNeed.{ColumnNeed}
+use Rattle.html_render_parts.specs.TableCells.{CellGrid}
 use Rattle.html_render_lines.specs.declared.character.TextStyle.{TextStyle}
 
 -- B are the blocks and T the tags; marks are numbers; none is "too narrow"
@@ -15,8 +14,8 @@ pub record Operations (B T : Type 0) : Type 0 where
   pub end_block : B → B
   pub sub_block : B → ℕ → ℕ → Option B  -- behind a prefix of so many columns, with so many columns of its own or more
   pub append : B → B → T → List ℕ → List ℕ → Option B  -- a tag, and what the first line and the later ones stand behind
-  pub begin_table : B → T → (borders stacked : Bool) → GridRows → List CellNeed → Option B  -- with the tag of its borders, its columns and rows below its own
-  pub begin_row : B → List Slot → B
+  pub begin_table : B → T → (borders stacked : Bool) → CellGrid → List ColumnNeed → Option B  -- with the tag of its borders
+  pub begin_row : B → B
   pub cell_block : B → Option B  -- for the next cell of the row; none where that is skipped
   pub add_cell : B → B → Option B
   pub skip_cell : B → B

@@ -1,9 +1,9 @@
 -- The table that is open in a block: its cells stand side by side, or one below another.
 use Rattle.std.specs.Prelude.{ℕ, ◌+◌, ◌-◌, ◌==◌, Bool, false, not, ◌&&◌, List, [], ◌∷◌, ◌++◌, sum, count_by}
-use Rattle.std.specs.Prelude.{Option, Some, None, replicate, if◌then◌else◌}
+use Rattle.std.specs.Prelude.{Option, Some, None, drop, replicate, slice_index_or, if◌then◌else◌}
 use Rattle.html_render_lines.specs.declared.line.Element.TheVariants.{Character}
 use Rattle.html_render_lines.specs.Line.{Line}
-use Rattle.html_render_nodes.specs.declared.tree.Slot.{Slot}
+use Rattle.html_render_parts.specs.declared.table.PlacedCell.{PlacedCell}
 use Rattle.html_render_pictures.specs.declared.picture.Frame.{Frame}
 use Rattle.html_render_pictures.specs.Picture.{KeptCell, TableRow, picture}
 use Rattle.html_render_pictures.specs.Drawing as drawing
@@ -53,34 +53,34 @@ rule tag character width = replicate width (Character character tag)
 abbrev pub stacked_border : {T : Type 0} → T → (borders : Bool) → (width : ℕ) → Option T
 stacked_border tag borders width = if borders && not (width == 0) then Some tag else None
 
--- a table with another row: one that is open goes on
-abbrev pub with_row_open : {P T M : Type 0} → List Slot → OpenTable P T M → OpenTable P T M
-with_row_open slots (Across picture widths below None) = Across picture widths below (Some (open_row widths slots))
-with_row_open slots (Across picture widths below (Some row)) = Across picture widths below (Some row)
-with_row_open slots (Stacked border has_lines) = Stacked border false
+-- a table whose next row begins, the first of those ahead: one that is open goes on
+abbrev pub with_row_open : {P T M : Type 0} → OpenTable P T M → OpenTable P T M
+with_row_open (Across picture widths ahead None) = Across picture widths (drop 1 ahead) (Some (open_row widths (slice_index_or ahead 0 [])))
+with_row_open (Across picture widths ahead (Some row)) = Across picture widths ahead (Some row)
+with_row_open (Stacked border has_lines) = Stacked border false
 
 -- the columns of its next cell's block, unless the cell is skipped; in a block of this width
 abbrev pub next_cell_width : {P T M : Type 0} → (width : ℕ) → Option (OpenTable P T M) → Option ℕ
-next_cell_width width (Some (Across picture widths below (Some row))) = next_width row.ahead
+next_cell_width width (Some (Across picture widths ahead (Some row))) = next_width row.ahead
 next_cell_width width _ = Some width
 
 -- a table without its next cell
 abbrev pub skipped : {P T M : Type 0} → OpenTable P T M → OpenTable P T M
-skipped (Across picture widths below (Some row)) = Across picture widths below (Some (with_cell row []))
-skipped (Across picture widths below None) = Across picture widths below None
+skipped (Across picture widths ahead (Some row)) = Across picture widths ahead (Some (with_cell row []))
+skipped (Across picture widths ahead None) = Across picture widths ahead None
 skipped (Stacked border has_lines) = Stacked border has_lines
 
 -- and with that cell
 abbrev pub with_next : {P T M : Type 0} → KeptCell T M → OpenTable P T M → OpenTable P T M
-with_next cell (Across picture widths below (Some row)) = Across picture widths below (Some (with_cell row (cell ∷ [])))
-with_next cell (Across picture widths below None) = Across picture widths below None
+with_next cell (Across picture widths ahead (Some row)) = Across picture widths ahead (Some (with_cell row (cell ∷ [])))
+with_next cell (Across picture widths ahead None) = Across picture widths ahead None
 with_next cell (Stacked border has_lines) = Stacked border has_lines
 
 -- where the next cell goes
 abbrev pub cell_place : {P T M : Type 0} → Option (OpenTable P T M) → CellPlace T
 cell_place None = Below
-cell_place (Some (Across picture widths below None)) = Below
-cell_place (Some (Across picture widths below (Some row))) = InRow
+cell_place (Some (Across picture widths ahead None)) = Below
+cell_place (Some (Across picture widths ahead (Some row))) = InRow
 cell_place (Some (Stacked border has_lines)) = InStack border has_lines
 
 module _ {P T M : Type 0} (pictures : Pictures P T M) where
@@ -91,14 +91,14 @@ module _ {P T M : Type 0} (pictures : Pictures P T M) where
 
   -- a table whose open row is over
   abbrev pub with_row_over : OpenTable P T M → OpenTable P T M
-  with_row_over (Across picture widths below row) = Across (with_open picture row) widths below None
+  with_row_over (Across picture widths ahead row) = Across (with_open picture row) widths ahead None
   with_row_over (Stacked border has_lines) = Stacked border has_lines
 
-  -- a picture with the rows below the table's own, in which no cell begins
-  abbrev pub with_below : (widths : List ℕ) → (below : List (List Slot)) → P → P
-  with_below widths [] picture = picture
-  with_below widths (slots ∷ rest) picture = with_below widths rest (pictures.with_row picture (whole_row (open_row widths slots)))
+  -- a picture with rows in which no cell begins: those below the table's own
+  abbrev pub with_ahead : (widths : List ℕ) → (ahead : List (List PlacedCell)) → P → P
+  with_ahead widths [] picture = picture
+  with_ahead widths (cells ∷ ahead) picture = with_ahead widths ahead (pictures.with_row picture (whole_row (open_row widths cells)))
 
   -- the lines of a table's picture, once its rows are over, and the marks that wait behind them
-  abbrev pub picture_of : P → (widths : List ℕ) → (below : List (List Slot)) → Option (OpenRow T M) → List (Line T M) × List M
-  picture_of picture widths below row = pictures.finished (with_below widths below (with_open picture row))
+  abbrev pub picture_of : P → (widths : List ℕ) → (ahead : List (List PlacedCell)) → Option (OpenRow T M) → List (Line T M) × List M
+  picture_of picture widths ahead row = pictures.finished (with_ahead widths ahead (with_open picture row))

@@ -28,7 +28,7 @@ row_count c (Some row) = count c (visible_in_cells row.cells)
 
 abbrev pub table_count : {T M : Type 0} → ℕ → Option (OpenTable (Rows T M) T M) → ℕ
 table_count c None = 0
-table_count c (Some (Across p widths below row)) = count c (visible_in_rows p.rows) + row_count c row
+table_count c (Some (Across p widths ahead row)) = count c (visible_in_rows p.rows) + row_count c row
 table_count c (Some (Stacked border has_lines)) = 0
 
 abbrev pub visible_count : {T M : Type 0} → ℕ → DefinedBlock T M → ℕ

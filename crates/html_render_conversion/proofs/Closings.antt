@@ -75,7 +75,7 @@ split_before front t u at is s = record {
 -- into a node that has children
 admits-some : (k : NodeKind) → admits_insertions k true ≡ true
 admits-some (Table grid) = refl
-admits-some (TableRow slots) = refl
+admits-some TableRow = refl
 admits-some (Part p) = by p
   where
     by : (p : TablePart) → part_admits_insertions p true ≡ true
@@ -90,7 +90,7 @@ admits-some _ = refl
 -- into a node that stands beside its contents
 admits-beside : (k : NodeKind) (has_children : Bool) → holds_insertions k ≡ false → admits_insertions k has_children ≡ true
 admits-beside (Table grid) has_children h = cc
-admits-beside (TableRow slots) has_children h = cc
+admits-beside TableRow has_children h = cc
 admits-beside (Part p) has_children h = cc
 admits-beside _ has_children h = refl
 

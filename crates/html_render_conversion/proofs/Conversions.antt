@@ -30,8 +30,10 @@ use Rattle.html_render_conversion.specs.Insertion.{Tree, are_any, container, in_
 use Rattle.html_render_conversion.specs.Marks.{mark_of}
 use Rattle.html_render_conversion.specs.Conversion.{element_mapping, own_style, node_style, keeps, kept, counts}
 use Rattle.html_render_conversion.specs.Conversion.{counts_any, standing, over, styled, result_of, converted}
-use Rattle.html_render_conversion.specs.Conversion.{render_tree_of, has_grid, styled_has_grids, has_grids, have_grids, tree_of_parts}
-use Rattle.html_render_conversion.specs.Tables.{grid_over, is_unplaced, placed_kind, placed}
+use Rattle.html_render_conversion.specs.Conversion.{all_converted, has_grid, styled_has_grids, has_grids, have_grids, tree_of_parts}
+use Rattle.html_render_parts.specs.TableCells.{cell_grid_of}
+use Rattle.html_render_nodes.specs.Tables.{unmeasured_table}
+use Rattle.html_render_conversion.specs.Tables.{table_rows, is_unplaced, placed_kind, placed}
 use Rattle.html_render_conversion.specs.Converting.{Progress, mark_alone, styled_outline, outline_of, outline_at, put_content}
 use Rattle.html_render_conversion.specs.Converting.{received, is_kept, with_result, open_node, close_element, ClosingAt}
 
@@ -149,7 +151,7 @@ outline_grids rules (instruction target contents) below below_have_grids results
 grid-none : (kind : NodeKind) → has_grid kind none ≡ true
 grid-none kind = by (is_unplaced kind)
   where
-    by : (b : Bool) → is_some (if b then option_map Table (grid_over none) else Some kind) ≡ true
+    by : (b : Bool) → is_some (if b then option_map (λ cells. Table (unmeasured_table cells)) (cell_grid_of (table_rows none)) else Some kind) ≡ true
     by true = refl
     by false = refl
 
@@ -248,7 +250,7 @@ pub record Converting (rules : List StyleRule) (dom : Dom) (elements : List Open
   pub results : Forest RenderNode
   pub elements_are : elements ≡ elements_of path
   pub built_is : built ≡ followed_by (kept_in path results) (inside path)
-  pub result : resumed rules dom path results ≡ render_tree_of rules dom
+  pub result : resumed rules dom path results ≡ all_converted rules dom
   pub grids : resumed_grids rules dom path results ≡ have_grids rules (tree_of dom 0)
   pub sound : AreSound dom path results
 
@@ -258,7 +260,7 @@ pub record Opening (rules : List StyleRule) (dom : Dom) (h : ℕ) (elements : Li
   pub results : Forest RenderNode
   pub elements_are : elements ≡ elements_of path
   pub built_is : built ≡ followed_by (kept_in path results) (inside path)
-  pub result : resumed rules dom path (followed_by (converted rules (tree_of dom h)) results) ≡ render_tree_of rules dom
+  pub result : resumed rules dom path (followed_by (converted rules (tree_of dom h)) results) ≡ all_converted rules dom
   pub grids : (have_grids rules (tree_of dom h)
       && resumed_grids rules dom path (followed_by (converted rules (tree_of dom h)) results)) ≡ have_grids rules (tree_of dom 0)
   pub sound : AreSound dom path results
@@ -270,7 +272,7 @@ Opening-start rules dom is = record {
   results = none;
   elements_are = refl;
   built_is = refl;
-  result = followed_by-none (render_tree_of rules dom);
+  result = followed_by-none (all_converted rules dom);
   grids = and-true (have_grids rules (tree_of dom 0));
   sound = tt;
   is_node = is;
@@ -295,7 +297,7 @@ module _ (rules : List StyleRule) (dom : Dom) (f : IsForest dom) where
 
   result-at : (r : Option Tree) (p : Progress) (path : Path) (results : Forest RenderNode) → p.open_elements ≡ elements_of path →
       p.made_nodes ≡ followed_by (kept_in path results) (inside path) → AreSound dom path results →
-      resumed rules dom path (in_front r results) ≡ render_tree_of rules dom →
+      resumed rules dom path (in_front r results) ≡ all_converted rules dom →
       resumed_grids rules dom path (in_front r results) ≡ have_grids rules (tree_of dom 0) →
       Converting rules dom (with_result r p).open_elements (with_result r p).made_nodes
   result-at None p path results elements_are built_is sound result grids = record {
@@ -373,7 +375,7 @@ module _ (rules : List StyleRule) (dom : Dom) (f : IsForest dom) where
     ahead_grids false kind = grid-none kind
 
     open_node-by : (o : Outline) → let trees = trees_of dom (children_at dom h) in
-        resumed rules dom path (in_front (result_by o (converted rules trees)) results) ≡ render_tree_of rules dom →
+        resumed rules dom path (in_front (result_by o (converted rules trees)) results) ≡ all_converted rules dom →
         (grids_by o (have_grids rules trees) (converted rules trees)
         && resumed_grids rules dom path (in_front (result_by o (converted rules trees)) results)) ≡ have_grids rules (tree_of dom 0) →
         Converting rules dom (open_node dom h o p).open_elements (open_node dom h o p).made_nodes
@@ -466,7 +468,7 @@ module _ (rules : List StyleRule) (dom : Dom) (f : IsForest dom) where
 
     child_at : (h : ℕ) (path : Path) (results : Forest RenderNode) → o.ahead ≡ suc n → h ≡ get_or (children_at dom o.handle) n h →
         elements ++ o ∷ [] ≡ elements_of path → built ≡ followed_by (kept_in path results) (inside path) →
-        resumed rules dom path results ≡ render_tree_of rules dom →
+        resumed rules dom path results ≡ all_converted rules dom →
         resumed_grids rules dom path results ≡ have_grids rules (tree_of dom 0) → AreSound dom path results →
         Opening rules dom h (elements ++ shorter ∷ []) built
     child_at h [] results ahead at elements_are built_is result grids sound =
@@ -554,7 +556,7 @@ module _ (rules : List StyleRule) (dom : Dom) (f : IsForest dom) where
 
     close_at : (path : Path) (results : Forest RenderNode) → o.ahead ≡ 0 →
         elements ++ o ∷ [] ≡ elements_of path → built ≡ followed_by (kept_in path results) (inside path) →
-        resumed rules dom path results ≡ render_tree_of rules dom →
+        resumed rules dom path results ≡ all_converted rules dom →
         resumed_grids rules dom path results ≡ have_grids rules (tree_of dom 0) → AreSound dom path results →
         Closed
     close_at [] results ahead elements_are built_is result grids sound =
@@ -621,10 +623,10 @@ module _ (rules : List StyleRule) (dom : Dom) (f : IsForest dom) where
   -- ---- the end of it all
 
   done_at : (elements : List Open) (built : Forest RenderNode) (path : Path) (results : Forest RenderNode) → length elements ≡ 0 →
-      elements ≡ elements_of path → built ≡ followed_by (kept_in path results) (inside path) → resumed rules dom path results ≡ render_tree_of rules dom →
+      elements ≡ elements_of path → built ≡ followed_by (kept_in path results) (inside path) → resumed rules dom path results ≡ all_converted rules dom →
       resumed_grids rules dom path results ≡ have_grids rules (tree_of dom 0) → tree_of_parts rules dom ≡ Some built
   done_at elements built [] results empty elements_are built_is result grids =
-      ap (λ b. if b then Some (render_tree_of rules dom) else None) (sym grids)
+      ap (λ b. if b then Some (all_converted rules dom) else None) (sym grids)
       ∙ ap Some (sym (built_is ∙ followed_by-none results ∙ result))
   done_at elements built (x ∷ path) results empty elements_are built_is result grids =
       absurd (omega (arith, ap length elements_are, length-append (elements_of path) (x.element ∷ [])))
@@ -634,7 +636,7 @@ module _ (rules : List StyleRule) (dom : Dom) (f : IsForest dom) where
   Converting-done elements built empty c = done_at elements built c.path c.results empty c.elements_are c.built_is c.result c.grids
 
   pub no_tree : have_grids rules (tree_of dom 0) ≡ false → tree_of_parts rules dom ≡ None
-  no_tree e = ap (λ b. if b then Some (render_tree_of rules dom) else None) e
+  no_tree e = ap (λ b. if b then Some (all_converted rules dom) else None) e
 
 -- ---- why it ends
 

@@ -1,4 +1,4 @@
--- THE DEFINITION of the conversion: which nodes of a render tree the nodes of a document become.
+-- What becomes of each element; and the nodes that the code makes first, with the parts of tables among them.
 use Rattle.std.specs.Prelude.{ℕ, ◌^◌, nat_lt, ℤ, pos, negsuc, Bool, true, false, not, ◌&&◌, ◌||◌, List, [], ◌∷◌, length, codes, Option, Some, None, is_some}
 use Rattle.std.specs.Prelude.{◌++◌, option_and_then, option_map, option_to_list, unwrap_or, if◌then◌else◌}
 use Rattle.std.specs.Str.{bytes_eq, all_ascii_digits, trim}
@@ -281,9 +281,9 @@ converted rules none = none
 converted rules (node content children beside) =
     in_front (result_of rules content children (converted rules children)) (converted rules beside)
 
--- the render tree of a document, where a table without a grid stays as it is
-abbrev pub render_tree_of : List StyleRule → Dom → Forest RenderNode
-render_tree_of rules dom = converted rules (tree_of dom 0)
+-- what the nodes of a document become, where a table without a grid stays as it is
+abbrev pub all_converted : List StyleRule → Dom → Forest RenderNode
+all_converted rules dom = converted rules (tree_of dom 0)
 
 -- ---- tables without a grid
 
@@ -315,6 +315,6 @@ have_grids rules none = true
 have_grids rules (node content children beside) =
     has_grids rules content children (have_grids rules children) (converted rules children) && have_grids rules beside
 
--- THE RENDER TREE of a document, its tables' parts not in their places yet, or none where a table has no grid
+-- the nodes of a document, its tables' parts not in their places yet, or none where a table has no grid
 abbrev pub tree_of_parts : List StyleRule → Dom → Option (Forest RenderNode)
-tree_of_parts rules dom = if have_grids rules (tree_of dom 0) then Some (render_tree_of rules dom) else None
+tree_of_parts rules dom = if have_grids rules (tree_of dom 0) then Some (all_converted rules dom) else None

@@ -49,7 +49,7 @@ holds_insertions (Image image) = false
 holds_insertions (Svg title) = false
 holds_insertions (FragmentStart name) = false
 holds_insertions (Table grid) = true
-holds_insertions (TableRow slots) = true
+holds_insertions TableRow = true
 holds_insertions TableCell = true
 holds_insertions (Part p) = true
 
@@ -65,7 +65,7 @@ part_admits_insertions part.Caption has_children = true
 
 abbrev pub admits_insertions : NodeKind → (has_children : Bool) → Bool
 admits_insertions (Table grid) has_children = has_children
-admits_insertions (TableRow slots) has_children = has_children
+admits_insertions TableRow has_children = has_children
 admits_insertions (Part p) has_children = part_admits_insertions p has_children
 admits_insertions _ has_children = true
 

@@ -6,15 +6,13 @@ use Rattle.std.specs.Str.Parse.{without_leading_plus, digits_value}
 use Rattle.html_render_dom.specs.Content.{Property}
 use Rattle.html_render_values.specs.Forest.{Forest, none, node}
 use Rattle.html_render_dom.specs.Selectors.{first_value}
-use Rattle.html_render_nodes.specs.Grids.{GridRows}
 use Rattle.html_render_nodes.specs.declared.tree.CellSpan.{CellSpan}
 use Rattle.html_render_nodes.specs.declared.tree.NodeKind.{NodeKind}
 use Rattle.html_render_nodes.specs.declared.tree.NodeKind.TheVariants.{Table, Part}
 use Rattle.html_render_nodes.specs.declared.tree.Part.TheVariants as part
 use Rattle.html_render_nodes.specs.declared.tree.RenderNode.{RenderNode}
-use Rattle.html_render_nodes.specs.declared.tree.Slot.{Slot}
-use Rattle.html_render_parts.specs.Grid.{Grid, grid_of}
-use Rattle.html_render_parts.specs.declared.table.PlacedCell.{PlacedCell}
+use Rattle.html_render_nodes.specs.Tables.{unmeasured_table}
+use Rattle.html_render_parts.specs.TableCells.{cell_grid_of}
 use Rattle.html_render_parts.specs.declared.table.Span.{Span}
 
 -- ---- what a cell asks for
@@ -94,18 +92,6 @@ table_rows children = rows_of_parts false children ++ rows_of_parts true childre
 
 -- ---- its grid
 
--- a cell, a placeholder or a gap in its row
-abbrev pub slot_of : PlacedCell → Slot
-slot_of c = record { kind = c.kind; columns = c.columns }
-
--- the rows of a grid, and how many columns it has
-abbrev pub rows_on : Grid → GridRows
-rows_on g = record { columns = length g.edges - 1; rows = map (map slot_of) g.rows }
-
--- THE GRID of a table over these trees, or none where a cell would end past the last position
-abbrev pub grid_over : Forest RenderNode → Option GridRows
-grid_over children = option_map rows_on (grid_of (table_rows children))
-
 -- whether a node is a table whose rows aren't placed
 abbrev pub is_unplaced : NodeKind → Bool
 is_unplaced (Part part.Table) = true
@@ -113,7 +99,7 @@ is_unplaced _ = false
 
 -- the kind of a node over its children: a table gets its grid, or there is none
 abbrev pub placed_kind : NodeKind → (children : Forest RenderNode) → Option NodeKind
-placed_kind kind children = if is_unplaced kind then option_map Table (grid_over children) else Some kind
+placed_kind kind children = if is_unplaced kind then option_map (λ cells. Table (unmeasured_table cells)) (cell_grid_of (table_rows children)) else Some kind
 
 -- a node over its children; a table without a grid stays as it is
 abbrev pub placed : RenderNode → (children : Forest RenderNode) → RenderNode

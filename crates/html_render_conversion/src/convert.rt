@@ -14,8 +14,9 @@ ghost use Rattle.html_render_conversion.specs.Converting.{close_element, outline
 ghost use Rattle.html_render_conversion.specs.Tables.{placed_kind};
 ghost use Rattle.html_render_parts.specs.Refusal.{Fails};
 ghost use Rattle.html_render_conversion.specs.declared.convert.Open.{Open};
-ghost use Rattle.html_render_nodes.specs.Splits.{SplitAt};
+ghost use Rattle.html_render_nodes.specs.Splits.{Reversed, SplitAt};
 
+use crate::held::{HeldText, OpenNode, held, released};
 use crate::kinds::{admits_insertions, counts, holds_insertions, keeps};
 use crate::mapping::{IfEmpty, Outline, outline_of, text_node};
 use crate::tables::place_rows;
@@ -23,7 +24,7 @@ use html_render_dom::Error;
 use html_render_dom::dom::{Handle, NodeData, RcDom};
 use html_render_dom::style::StyleRule;
 use html_render_nodes::text::NodeText;
-use html_render_nodes::tree::{Builder, Flat, NodeKind, RenderNode};
+use html_render_nodes::tree::{Builder, Entry, Flat, NodeKind, RenderNode};
 use std::alloc::Global;
 
 /// An element whose children are being converted, from the last to the first. The content behind them has been made, and
@@ -39,15 +40,15 @@ pub struct Open {
     /// How many nodes had been made before what its children become.
     pub inner: usize,
     /// The node that it becomes.
-    pub node: RenderNode,
+    pub node: OpenNode,
     /// What becomes of it if its children have no results that count.
     pub if_empty: IfEmpty,
     /// Whether a child has become something that counts, also where that isn't kept.
     pub has_results: bool,
     /// The name of its mark, which comes before all else.
-    pub mark: Option<NodeText>,
+    pub mark: Option<HeldText>,
     /// The content that comes before what its children become.
-    pub before: Option<NodeText>,
+    pub before: Option<HeldText>,
 }
 
 impl Open {
@@ -196,8 +197,8 @@ fn open_node(
                 node,
                 if_empty,
                 has_results: false,
-                mark,
-                before,
+                mark: held(alloc, mark)?,
+                before: held(alloc, before)?,
             })?;
         }
     }
@@ -271,7 +272,7 @@ fn close_element(
     ensures err { IfErr result (λ e. e ≡ Error.OutOfMemory) }
 {
     if element.vanishes() {
-        return vanish(element.mark, element.outer, elements, builder);
+        return vanish(released(element.mark), element.outer, elements, builder);
     }
     let has_children = builder.len() != element.inner;
     if !receive_element(elements, &element, has_children) {
@@ -286,7 +287,28 @@ fn close_element(
         before,
         ..
     } = element;
-    build_element(node, mark, before, inner, outer, builder)
+    build_element(
+        RenderNode::from(node),
+        released(mark),
+        released(before),
+        inner,
+        outer,
+        builder,
+    )
+}
+
+/// Gives a node over the trees of these nodes its grid, if it is a table.
+fn place_node(
+    alloc: Global,
+    node: &mut OpenNode,
+    children: &[Entry<RenderNode>],
+) -> Result<(), Error>
+    requires { Reversed children.now }
+    ensures ok { OnOk result ((s : Reversed children.now) → placed_kind node.old.kind s.trees ≡ Some node.new.kind) }
+    ensures same { node.new ≡ record node.old { kind = node.new.kind } }
+    ensures err { IfErr result (λ e. (s : Reversed children.now) → Fails e (placed_kind node.old.kind s.trees)) }
+{
+    place_rows(alloc, &mut node.kind, children)
 }
 
 /// Gives an element whose children are converted its grid, if it is a table.
@@ -305,7 +327,7 @@ fn place_table(
         Fails e (placed_kind element.old.node.kind s.children)) }
 {
     let children = builder.since(element.inner);
-    place_rows(alloc, &mut element.node.kind, children)
+    place_node(alloc, &mut element.node, children)
 }
 
 /// The last of the children that the innermost open element has ahead, which has one fewer ahead then; `None` where no

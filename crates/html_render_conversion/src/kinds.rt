@@ -21,7 +21,7 @@ pub fn holds_insertions(kind: &NodeKind) -> bool
         | NodeKind::Dt
         | NodeKind::Dd
         | NodeKind::Table(_)
-        | NodeKind::TableRow(_)
+        | NodeKind::TableRow
         | NodeKind::TableCell
         | NodeKind::Part(_) => true,
         NodeKind::Text(_)
@@ -54,7 +54,7 @@ pub fn admits_insertions(kind: &NodeKind, has_children: bool) -> bool
     ensures { result ≡ admits_insertions kind.now has_children }
 {
     match kind {
-        NodeKind::Table(_) | NodeKind::TableRow(_) => has_children,
+        NodeKind::Table(_) | NodeKind::TableRow => has_children,
         NodeKind::Part(part) => part_admits_insertions(part, has_children),
         _ => true,
     }

@@ -3,6 +3,7 @@
 
 mod attributes;
 pub mod convert;
+mod held;
 mod images;
 mod kinds;
 pub mod mapping;

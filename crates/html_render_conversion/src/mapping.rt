@@ -15,6 +15,7 @@ ghost use Rattle.html_render_conversion.specs.Conversion.{is_preformatted, prefo
 ghost use Rattle.html_render_conversion.specs.Converting.{mark_alone, styled_outline, outline_at};
 
 use crate::attributes::{first_value, mark_of, span_of, start_of};
+use crate::held::OpenNode;
 use crate::images::{drawing_title, image_parts};
 use html_render_dom::Error;
 use html_render_dom::dom::{Attribute, Handle, Namespace, NodeData, QualName, RcDom};
@@ -22,7 +23,7 @@ use html_render_dom::style::{
     ComputedStyle, Specificity, StyleOrigin, StyleRule, WhiteSpace, WithSpec, computed_style,
 };
 use html_render_nodes::text::NodeText;
-use html_render_nodes::tree::{Emphasis, Estimate, Image, NodeKind, NodeStyle, Part, RenderNode};
+use html_render_nodes::tree::{Emphasis, Image, NodeKind, NodeStyle, Part, RenderNode};
 use std::alloc::Global;
 
 /// What becomes of an element whose children have no results that count.
@@ -55,7 +56,7 @@ pub enum Outline {
     /// A node over what its children become, with a mark and a content before these and a content behind them.
     Over {
         /// The node.
-        node: RenderNode,
+        node: OpenNode,
         /// What becomes of it if its children have no results that count.
         if_empty: IfEmpty,
         /// Whether what stands in it is converted.
@@ -254,10 +255,9 @@ fn styled_outline(mapping: Mapping, mark: Option<NodeText>, style: ComputedStyle
         Mapping::Parent(kind, if_empty) => (kind, if_empty, true),
     };
     Outline::Over {
-        node: RenderNode {
+        node: OpenNode {
             kind,
             style: node_style(&style),
-            estimate: Estimate::default(),
         },
         if_empty,
         has_children,
@@ -277,7 +277,7 @@ fn unstyled_outline(mapping: Mapping, mark: Option<NodeText>) -> Outline
         Mapping::Parent(kind, if_empty) => (kind, if_empty, true),
     };
     Outline::Over {
-        node: RenderNode::from(kind),
+        node: OpenNode::from(kind),
         if_empty,
         has_children,
         mark,
@@ -342,7 +342,7 @@ pub fn outline_of(
 {
     match dom.data(node) {
         NodeData::Document => Ok(Outline::Over {
-            node: RenderNode::from(NodeKind::Container),
+            node: OpenNode::from(NodeKind::Container),
             if_empty: IfEmpty::Stands,
             has_children: true,
             mark: None,

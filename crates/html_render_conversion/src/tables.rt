@@ -5,18 +5,18 @@
 
 ghost use Rattle.std.specs.Prelude.{◌≡◌, ◌+◌, ◌-◌, ◌<◌, ◌^◌, ◌++◌, IfOk, OnOk, IfErr, Some, option_map, map};
 ghost use Rattle.html_render_nodes.specs.Splits.{Reversed};
-ghost use Rattle.html_render_parts.specs.Grid.{AreValid, grid_of};
+ghost use Rattle.html_render_nodes.specs.Tables.{unmeasured_table};
+ghost use Rattle.html_render_parts.specs.TableCells.{cell_grid_of};
 ghost use Rattle.html_render_parts.specs.Placement.{lists};
 ghost use Rattle.html_render_parts.specs.Refusal.{Fails};
 ghost use Rattle.html_render_conversion.specs.Tables.{cell_at, cells_in, rows_in, width_of, greatest_width, spanned, spanned_in};
-ghost use Rattle.html_render_conversion.specs.Tables.{holds_rows, rows_of_parts, table_rows, slot_of, rows_on, grid_over, is_unplaced, placed_kind};
+ghost use Rattle.html_render_conversion.specs.Tables.{holds_rows, rows_of_parts, table_rows, is_unplaced, placed_kind};
 
 use crate::kinds::is_row;
 use html_render_dom::Error;
-use html_render_nodes::tree::{
-    CellSpan, Entry, Grid, NodeKind, Part, RenderNode, Slot, Slots, first_tree,
-};
-use html_render_parts::table::{PlacedCell, Span, table_grid};
+use html_render_nodes::tree::{CellSpan, Entry, Grid, NodeKind, Part, RenderNode, first_tree};
+use html_render_parts::table::Span;
+use html_render_parts::table::cells::TableCells;
 use std::alloc::Global;
 
 /// What a node asks for, if it is a cell.
@@ -180,49 +180,6 @@ fn table_rows(alloc: Global, table: &[Entry<RenderNode>]) -> Result<Vec<Vec<Span
     Ok(rows)
 }
 
-/// What stands in a place of a row.
-fn slot_of(cell: &PlacedCell) -> Slot
-    ensures { result ≡ slot_of cell.now }
-{
-    Slot {
-        kind: cell.kind,
-        columns: cell.columns,
-    }
-}
-
-/// What stands in a row.
-fn slots_of(alloc: Global, cells: &[PlacedCell]) -> Result<Vec<Slot>, Error>
-    ensures ok { IfOk result (λ slots. slots.items ≡ map slot_of cells.now) }
-    ensures err { IfErr result (λ e. e ≡ Error.OutOfMemory) }
-{
-    let slots: Vec<Slot> = cells.iter().map(|cell| slot_of(cell)).collect(alloc)?;
-    Ok(slots)
-}
-
-/// What stands in each row.
-fn slots_of_rows(alloc: Global, rows: &[Vec<PlacedCell>]) -> Result<Vec<Slots>, Error>
-    ensures ok { IfOk result (λ slots. slots.items ≡ map (map slot_of) (lists rows.now)) }
-    ensures err { IfErr result (λ e. e ≡ Error.OutOfMemory) }
-{
-    let mut slots = Vec::new(alloc);
-    for row in rows {
-        slots.push(Slots::new(slots_of(alloc, row.as_slice())?))?;
-    }
-    Ok(slots)
-}
-
-/// The grid of rows.
-fn grid_of_rows(alloc: Global, rows: &[Vec<Span>]) -> Result<Grid, Error>
-    requires { AreValid (lists rows.now) }
-    ensures ok { IfOk result (λ grid. option_map rows_on (grid_of (lists rows.now)) ≡ Some grid) }
-    ensures err { IfErr result (λ e. Fails e (option_map rows_on (grid_of (lists rows.now)))) }
-{
-    let placed = table_grid(alloc, rows)?;
-    let columns = placed.edges.len().saturating_sub(1);
-    let slots = slots_of_rows(alloc, placed.rows.as_slice())?;
-    Grid::new(alloc, columns, slots)
-}
-
 /// The grid of a table over the trees of these nodes.
 ///
 /// # Errors
@@ -230,11 +187,12 @@ fn grid_of_rows(alloc: Global, rows: &[Vec<Span>]) -> Result<Grid, Error>
 /// `Fail` exactly where a cell would end past `u128::MAX`, and `OutOfMemory`.
 fn grid_over(alloc: Global, table: &[Entry<RenderNode>]) -> Result<Grid, Error>
     requires { Reversed table.now }
-    ensures ok { IfOk result (λ grid. (s : Reversed table.now) → grid_over s.trees ≡ Some grid) }
-    ensures err { IfErr result (λ e. (s : Reversed table.now) → Fails e (grid_over s.trees)) }
+    ensures ok { IfOk result (λ grid. (s : Reversed table.now) → option_map unmeasured_table (cell_grid_of (table_rows s.trees)) ≡ Some grid) }
+    ensures err { IfErr result (λ e. (s : Reversed table.now) → Fails e (option_map unmeasured_table (cell_grid_of (table_rows s.trees)))) }
 {
     let rows = table_rows(alloc, table)?;
-    grid_of_rows(alloc, rows.as_slice())
+    let cells = TableCells::new(alloc, rows.as_slice())?;
+    Grid::new(alloc, cells)
 }
 
 /// Whether a node is a table whose rows aren't placed.

@@ -6,6 +6,7 @@ use Rattle.std.proofs.lemmas.List.{map-append, length-map, take-append-drop, tak
 use Rattle.std.proofs.Math.Seq.{take-append_seam, drop-append_seam, drop-length}
 use Rattle.html_render_values.specs.Forest.{Forest, none, node}
 use Rattle.html_render_parts.specs.Decoration.{Decoration}
+use Rattle.html_render_parts.specs.declared.widths.shares.ColumnNeed.{ColumnNeed}
 use Rattle.html_render_nodes.specs.RenderNodes.{unmeasured}
 use Rattle.html_render_nodes.specs.declared.tree.Entry.{Entry}
 use Rattle.html_render_nodes.specs.declared.tree.Estimate.{Estimate}
@@ -15,7 +16,7 @@ use Rattle.html_render_nodes.specs.declared.tree.NodeStyle.{NodeStyle}
 use Rattle.html_render_nodes.specs.declared.tree.RenderNode.{RenderNode}
 use Rattle.html_render_nodes.specs.Preorder.{flatten, forest_of}
 use Rattle.html_render_nodes.specs.laws.Preorder.{forest_of-flatten, IsForest, IsForest-flatten}
-use Rattle.html_render_estimates.specs.Estimates.{trees, greatest_least, estimate_of, measured}
+use Rattle.html_render_estimates.specs.Estimates.{trees, greatest_least, needs_of, with_needs, estimate_of, measured_node, measured}
 use Rattle.html_render_estimates.specs.Passes.{is_table, has_table, without_size, without_sizes, with_needed_sizes, MeasuresAs}
 use Rattle.html_render_estimates.specs.laws.Least.{tables-measured}
 use Rattle.html_render_estimates.proofs.Measuring.{after, length-after, Measuring, Measuring-done, Found}
@@ -78,18 +79,29 @@ module _ {D A : Type 0} (decoration : Decoration D A) (decorator : D) (min_wrap_
   abbrev with_sizes : Forest RenderNode → Forest RenderNode
   with_sizes t = measured decoration decorator min_wrap_width t
 
-  -- what each pass answers for a node
-  abbrev pub sized : NodeKind → (children : Forest RenderNode) → Estimate
-  sized kind children = estimate_of decoration decorator min_wrap_width kind children
+  -- what each pass makes of a node
+  abbrev pub sized : RenderNode → (children : Forest RenderNode) → RenderNode
+  sized n children = measured_node decoration decorator min_wrap_width n children
 
-  abbrev pub unsized : NodeKind → (children : Forest RenderNode) → Estimate
-  unsized kind children = without_size (sized kind children)
+  abbrev unsized_estimate : NodeKind → (children : Forest RenderNode) → Estimate
+  unsized_estimate kind children = without_size (estimate_of decoration decorator min_wrap_width kind children)
+
+  abbrev pub unsized : RenderNode → (children : Forest RenderNode) → RenderNode
+  unsized n children = record n { estimate = unsized_estimate n.kind children }
+
+  -- a node that keeps what was found out of it
+  pub noted : (n : RenderNode) (needs : List ColumnNeed) (e : Estimate) (f : Forest RenderNode) → needs ≡ needs_of n.kind f →
+      e ≡ estimate_of decoration decorator min_wrap_width n.kind f →
+      record n { kind = with_needs needs n.kind; estimate = e } ≡ sized n f
+  noted n needs e f is_needs is_estimate =
+      ap (λ x. record n { kind = with_needs x n.kind; estimate = e }) is_needs
+      ∙ ap (λ x. record n { kind = with_needs (needs_of n.kind f) n.kind; estimate = x }) is_estimate
 
   pub after_sized : (t : Forest RenderNode) → after sized t ≡ with_sizes t
   after_sized none = refl
   after_sized (node n children beside) =
-      ap (λ f. node (record n { estimate = sized n.kind f }) f (after sized beside)) (after_sized children)
-      ∙ ap (node (record n { estimate = sized n.kind (with_sizes children) }) (with_sizes children)) (after_sized beside)
+      ap (λ f. node (sized n f) f (after sized beside)) (after_sized children)
+      ∙ ap (node (sized n (with_sizes children)) (with_sizes children)) (after_sized beside)
 
   abbrev without : Forest RenderNode → Forest RenderNode
   without t = after unsized t
@@ -103,7 +115,7 @@ module _ {D A : Type 0} (decoration : Decoration D A) (decorator : D) (min_wrap_
 
   abbrev sized_node : NodeKind → NodeStyle → (children beside : Forest RenderNode) → Forest RenderNode
   sized_node kind style children beside =
-      node (record { kind = kind; style = style; estimate = sized kind children }) children beside
+      node (sized (record { kind = kind; style = style; estimate = unmeasured }) children) children beside
 
   again : (t : Forest RenderNode) (es : List (Entry RenderNode)) → map blank es ≡ map blank (flatten t) → Again t es
   again none [] h = record { forest = none; is = refl; long = refl; same = refl }
@@ -192,7 +204,8 @@ module _ {D A : Type 0} (decoration : Decoration D A) (decorator : D) (min_wrap_
   trees-same none = refl
   trees-same (node n children beside) = ap (λ k. k + 1) (trees-same beside)
 
-  unsized-same : (kind : NodeKind) (t : Forest RenderNode) → is_table kind ≡ false → unsized kind (without_sizes t) ≡ unsized kind t
+  unsized-same : (kind : NodeKind) (t : Forest RenderNode) → is_table kind ≡ false →
+      unsized_estimate kind (without_sizes t) ≡ unsized_estimate kind t
   unsized-same (Table grid) t plain = absurd (true≢false plain)
   unsized-same (Text text) t plain = refl
   unsized-same Break t plain = refl
@@ -201,16 +214,22 @@ module _ {D A : Type 0} (decoration : Decoration D A) (decorator : D) (min_wrap_
   unsized-same (FragmentStart name) t plain = refl
   unsized-same kind t plain = cc (leasts-same t, trees-same t)
 
+  kept-same : (needs : List ColumnNeed) (kind : NodeKind) → is_table kind ≡ false → with_needs needs kind ≡ kind
+  kept-same needs (Table grid) plain = absurd (true≢false plain)
+  kept-same needs kind plain = refl
+
   after_unsized : (t : Forest RenderNode) → has_table t ≡ false → without t ≡ without_sizes (with_sizes t)
   after_unsized none plain = refl
   after_unsized (node n children beside) plain =
       let front = or_parts (is_table n.kind) (has_table children || has_table beside) plain in
       let rest = or_parts (has_table children) (has_table beside) front.1 in
       let below = without_sizes (with_sizes children) in
-      ap (λ f. node (record n { estimate = unsized n.kind f }) f (without beside)) (after_unsized children rest.0)
-      ∙ ap (node (record n { estimate = unsized n.kind below }) below) (after_unsized beside rest.1)
+      ap (λ f. node (unsized n f) f (without beside)) (after_unsized children rest.0)
+      ∙ ap (node (unsized n below) below) (after_unsized beside rest.1)
       ∙ ap (λ e. node (record n { estimate = e }) below (without_sizes (with_sizes beside)))
       (unsized-same n.kind (with_sizes children) front.0)
+      ∙ ap (λ k. node (record { kind = k; style = n.style; estimate = unsized_estimate n.kind (with_sizes children) }) below
+      (without_sizes (with_sizes beside))) (sym (kept-same (needs_of n.kind (with_sizes children)) n.kind front.0))
 
   -- all nodes are measured without sizes, and none is a table
   pub record AllPlain (t : Forest RenderNode) (now : List (Entry RenderNode)) : Type 0 where

@@ -1,6 +1,6 @@
+pub mod NeedsOfCells
 pub mod Sizes
 pub mod Measuring
 pub mod Parting
-pub mod SlotSteps
 pub mod Totals
 pub mod Again

@@ -8,8 +8,6 @@ use Rattle.std.proofs.Math.Seq.{take-append_seam, drop-append_seam, drop-length}
 use Rattle.std.proofs.lemmas.Bool.{cases_Bool, ltb-true, ltb-false}
 use Rattle.html_render_values.specs.Forest.{Forest, none, node, followed_by}
 use Rattle.html_render_nodes.specs.declared.tree.Entry.{Entry}
-use Rattle.html_render_nodes.specs.declared.tree.Estimate.{Estimate}
-use Rattle.html_render_nodes.specs.declared.tree.NodeKind.{NodeKind}
 use Rattle.html_render_nodes.specs.declared.tree.RenderNode.{RenderNode}
 use Rattle.html_render_nodes.specs.Preorder.{flatten, forest_of}
 use Rattle.html_render_nodes.specs.laws.Preorder.{forest_of-flatten, flatten-followed_by, IsForest, IsForest-flatten}
@@ -111,17 +109,16 @@ node_at (node k children beside) (suc i) h =
 
 -- ---- nodes that are measured from the last to the first
 
--- each node is given what this answers of its measured children
-module _ (estimate_by : NodeKind → (children : Forest RenderNode) → Estimate) where
+-- each node becomes what this answers of it over its measured children
+module _ (measured_by : RenderNode → (children : Forest RenderNode) → RenderNode) where
   abbrev pub after : Forest RenderNode → Forest RenderNode
   after none = none
-  after (node n children beside) = node (record n { estimate = estimate_by n.kind (after children) }) (after children) (after beside)
+  after (node n children beside) = node (measured_by n (after children)) (after children) (after beside)
 
   after-followed_by : (t u : Forest RenderNode) → after (followed_by t u) ≡ followed_by (after t) (after u)
   after-followed_by none u = refl
   after-followed_by (node n children beside) u =
-      ap (λ f. node (record n { estimate = estimate_by n.kind (after children) }) (after children) f)
-      (after-followed_by beside u)
+      ap (λ f. node (measured_by n (after children)) (after children) f) (after-followed_by beside u)
 
   pub length-after : (t : Forest RenderNode) → length (flatten (after t)) ≡ length (flatten t)
   length-after none = refl
@@ -150,8 +147,7 @@ module _ (estimate_by : NodeKind → (children : Forest RenderNode) → Estimate
     pub end : at + e.size ≤ length now
     pub entry : drop at (flatten t) ≡ e ∷ drop (at + 1) (flatten t)
     pub under : take (e.size - 1) (drop (at + 1) now) ≡ flatten (after children)
-    pub next : (m : Estimate) → m ≡ estimate_by e.node.kind (after children) →
-        Measuring t (set now at (record e { node = record e.node { estimate = m } })) at
+    pub next : (m : RenderNode) → m ≡ measured_by e.node (after children) → Measuring t (set now at (record e { node = m })) at
 
   pub Measuring-start : (t : Forest RenderNode) (now : List (Entry RenderNode)) (at : ℕ) → now ≡ flatten t →
       at ≡ length now → Measuring t now at
@@ -214,10 +210,9 @@ module _ (estimate_by : NodeKind → (children : Forest RenderNode) → Estimate
         entry = drop_more old before e (omega (arith, w.within, one)) ∙ ap (λ x. x ∷ drop (before + 1) old) (sym (is ∙ there));
         under = ap (λ n. take n (drop (before + 1) now)) less ∙ ap (take (length (flatten (after s.children)))) filled
             ∙ take-append_seam (flatten (after s.children)) (flatten (after s.beside));
-        next = λ m is_estimate. (let x : Entry RenderNode = record e { node = record e.node { estimate = m } } in
-            let its : Estimate = estimate_by s.top.kind (after s.children) in
-            let node_is : x ≡ record { node = record s.top { estimate = its }; size = length (flatten (after s.children)) + 1 } =
-            cc (is_estimate, same, size) in
+        next = λ m is_measured. (let x : Entry RenderNode = record e { node = m } in
+            let its : RenderNode = measured_by s.top (after s.children) in
+            let node_is : x ≡ record { node = its; size = length (flatten (after s.children)) + 1 } = cc (is_measured, same, size) in
             record {
               rest = node s.top s.children s.beside;
               within = omega (arith, w.within);
@@ -241,14 +236,13 @@ module _ (estimate_by : NodeKind → (children : Forest RenderNode) → Estimate
   Found-part t now all at n e f same less =
       IsForest-flatten _ _ (ap (λ m. take m (drop (at + 1) all)) less ∙ ap (λ l. take (e.size - 1) (drop (at + 1) l)) same ∙ f.under)
 
-  -- the node x at the place, with the estimate of the node that was found there
-  pub Found-next : (t : Forest RenderNode) (now all : List (Entry RenderNode)) (at n : ℕ) (e x : Entry RenderNode) (m : Estimate)
-      (f : Found t now at e) → all ≡ now → n ≡ e.size - 1 →
-      m ≡ estimate_by e.node.kind (forest_of (take n (drop (at + 1) all))) →
-      e ≡ get_or all at e → x ≡ get_or now at x → Measuring t (set now at (record x { node = record x.node { estimate = m } })) at
-  Found-next t now all at n e x m f same less is_estimate is_e is_x =
+  -- the node x at the place, changed as the node that was found there is by being measured
+  pub Found-next : (t : Forest RenderNode) (now all : List (Entry RenderNode)) (at n : ℕ) (e x : Entry RenderNode)
+      (change : RenderNode → RenderNode) (f : Found t now at e) → all ≡ now → n ≡ e.size - 1 →
+      change e.node ≡ measured_by e.node (forest_of (take n (drop (at + 1) all))) →
+      e ≡ get_or all at e → x ≡ get_or now at x → Measuring t (set now at (record x { node = change x.node })) at
+  Found-next t now all at n e x change f same less is_measured is_e is_x =
       let there : e ≡ x =
       is_e ∙ ap (λ l. get_or l at e) same ∙ get_or_default now at e x (omega (arith, f.end, f.size)) ∙ sym is_x in
-      subst (λ (y : Entry RenderNode). Measuring t (set now at (record y { node = record y.node { estimate = m } })) at) there
-      (f.next m (is_estimate
-      ∙ ap (estimate_by e.node.kind) (Found-part t now all at n e f same less).is))
+      subst (λ (y : Entry RenderNode). Measuring t (set now at (record y { node = change y.node })) at) there
+      (f.next (change e.node) (is_measured ∙ ap (measured_by e.node) (Found-part t now all at n e f same less).is))

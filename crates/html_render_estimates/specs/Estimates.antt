@@ -1,11 +1,13 @@
 -- What each node of a forest measures, from its kind and what its children measure.
-use Rattle.std.specs.Prelude.{ℕ, pos, ◌+◌, ◌-◌, ◌*◌, ◌/◌, ◌+ℤ◌, ◌-ℤ◌, max, min, ℤ, List, sum_by, if◌then◌else◌}
+use Rattle.std.specs.Prelude.{ℕ, pos, ◌+◌, ◌-◌, ◌*◌, ◌/◌, ◌+ℤ◌, ◌-ℤ◌, max, min, ℤ, List, [], sum_by}
 use Rattle.std.specs.Int.{saturate_signed, w64}
 use Rattle.std.specs.Str.{chars}
 use Rattle.html_render_values.specs.Forest.{Forest, none, node}
 use Rattle.html_render_parts.specs.Decoration.{Decoration}
 use Rattle.html_render_parts.specs.declared.widths.needs.CellNeed.{CellNeed}
-use Rattle.html_render_parts.specs.Needs.{column_needs, cells_stand}
+use Rattle.html_render_parts.specs.declared.widths.shares.ColumnNeed.{ColumnNeed}
+use Rattle.html_render_parts.specs.Needs.{column_needs}
+use Rattle.html_render_parts.specs.TableCells.{columns_of}
 use Rattle.html_render_lines.specs.TaggedText.{text_columns}
 use Rattle.html_render_nodes.specs.declared.tree.Estimate.{Estimate}
 use Rattle.html_render_nodes.specs.declared.tree.NodeKind.{NodeKind}
@@ -39,12 +41,19 @@ table_size columns cells = saturated (sum_by (λ c. c.size / c.count * c.count) 
 abbrev pub table_least : (columns : ℕ) → List CellNeed → ℕ
 table_least columns cells = saturated (sum_by (λ n. n.least) (column_needs columns cells) + (columns - 1))
 
--- the estimate of a table over so many children: 0 columns where its cells don't stand on its columns, as no document has it
 abbrev pub table_estimate : (columns : ℕ) → List CellNeed → (children : ℕ) → Estimate
 table_estimate columns cells children =
-    if cells_stand columns cells
-    then record { least = table_least columns cells; size = table_size columns cells; prefix = 0; children = children }
-    else record { least = 0; size = 0; prefix = 0; children = children }
+    record { least = table_least columns cells; size = table_size columns cells; prefix = 0; children = children }
+
+-- WHAT THE COLUMNS of a table NEED for its measured cells; no other node has columns
+abbrev pub needs_of : NodeKind → (children : Forest RenderNode) → List ColumnNeed
+needs_of (Table grid) children = column_needs (columns_of grid.cells) (cell_needs grid.cells.rows children)
+needs_of kind children = []
+
+-- it is kept in the table's node, for the layout
+abbrev pub with_needs : List ColumnNeed → NodeKind → NodeKind
+with_needs needs (Table grid) = Table (record grid { needs = needs })
+with_needs needs kind = kind
 
 -- the size of a text, and the columns of a prefix, in UTF-8
 abbrev pub text_size : List ℕ → ℕ
@@ -87,7 +96,7 @@ module _ {D A : Type 0} (decoration : Decoration D A) (decorator : D) where
     estimate_of (FragmentStart name) children = record { least = 0; size = 0; prefix = 0; children = 0 }
     estimate_of (Link target) children =
         record { least = max (greatest_least children) 5; size = saturated (total_size children + 5); prefix = 0; children = trees children }
-    estimate_of (Table grid) children = table_estimate grid.columns (cell_needs children) (trees children)
+    estimate_of (Table grid) children = table_estimate (columns_of grid.cells) (cell_needs grid.cells.rows children) (trees children)
     estimate_of kind children =
         let prefix = prefix_of kind (trees children) in
         record {
@@ -97,8 +106,11 @@ module _ {D A : Type 0} (decoration : Decoration D A) (decorator : D) where
           children = trees children;
         }
 
+    -- a node over its measured children
+    abbrev pub measured_node : RenderNode → (children : Forest RenderNode) → RenderNode
+    measured_node n children = record n { kind = with_needs (needs_of n.kind children) n.kind; estimate = estimate_of n.kind children }
+
     -- THE MEASURED TREES: each node with its estimate
     abbrev pub measured : Forest RenderNode → Forest RenderNode
     measured none = none
-    measured (node n children beside) =
-        let below = measured children in node (record n { estimate = estimate_of n.kind below }) below (measured beside)
+    measured (node n children beside) = let below = measured children in node (measured_node n below) below (measured beside)

@@ -6,10 +6,10 @@
 ghost use Rattle.std.specs.Prelude.{◌≡◌, max, min, true, false, IfOk, IfErr, OnOk, MatchBool};
 ghost use Rattle.html_render_nodes.specs.Preorder.{flatten, forest_of};
 ghost use Rattle.html_render_estimates.specs.Estimates.{trees, greatest_least, image_size, prefix_of, last_number};
-ghost use Rattle.html_render_estimates.specs.Estimates.{estimate_of, measured};
+ghost use Rattle.html_render_estimates.specs.Estimates.{needs_of, with_needs, estimate_of, measured};
 ghost use Rattle.html_render_estimates.specs.Passes.{is_table, has_table, without_size, without_sizes, with_needed_sizes, MeasuresAs};
 
-use crate::sized::{table_estimate, total_size};
+use crate::sized::{Measure, measure_table, total_size};
 use crate::text::{columns, size_within};
 use html_render_nodes::tree::{Entry, Estimate, Flat, NodeKind, RenderNode};
 use html_render_parts::decorate::TextDecorator;
@@ -108,7 +108,7 @@ fn prefix_of<D: TextDecorator>(
         | NodeKind::Svg(_)
         | NodeKind::FragmentStart(_)
         | NodeKind::Table(_)
-        | NodeKind::TableRow(_)
+        | NodeKind::TableRow
         | NodeKind::TableCell
         | NodeKind::Part(_) => Ok(0),
     }
@@ -187,7 +187,7 @@ fn estimate_of<D: TextDecorator>(
     }
 }
 
-/// The estimate of a node over measured ones that have their sizes.
+/// The estimate of a node that isn't a table over measured ones that have their sizes.
 fn sized_estimate_of<D: TextDecorator>(
     alloc: Global,
     decorator: &D,
@@ -196,12 +196,10 @@ fn sized_estimate_of<D: TextDecorator>(
     below: &[Entry<RenderNode>],
 ) -> Result<Estimate, Error>
     requires { flatten (forest_of below.now) ≡ below.now }
-    ensures ok { IfOk result (λ e. e ≡ estimate_of D.decoration decorator.now min_wrap_width kind.now (forest_of below.now)) }
+    ensures ok { IfOk result (λ e. is_table kind.now ≡ false →
+        e ≡ estimate_of D.decoration decorator.now min_wrap_width kind.now (forest_of below.now)) }
     ensures err { IfErr result (λ e. e ≡ Error.OutOfMemory) }
 {
-    if let NodeKind::Table(grid) = kind {
-        return table_estimate(alloc, grid.columns(), below);
-    }
     let estimate = estimate_of(alloc, decorator, min_wrap_width, kind, below)?;
     let size = match kind {
         NodeKind::Text(text) | NodeKind::Svg(text) => size_within(text.as_str(), usize::MAX),
@@ -212,6 +210,39 @@ fn sized_estimate_of<D: TextDecorator>(
         _ => total_size(below).saturating_add(estimate.prefix),
     };
     Ok(Estimate { size, ..estimate })
+}
+
+/// What is found out of a node over measured ones that have their sizes.
+fn measure_of<D: TextDecorator>(
+    alloc: Global,
+    decorator: &D,
+    min_wrap_width: usize,
+    kind: &NodeKind,
+    below: &[Entry<RenderNode>],
+) -> Result<Measure, Error>
+    requires { flatten (forest_of below.now) ≡ below.now }
+    ensures estimate { IfOk result (λ m. m.estimate ≡ estimate_of D.decoration decorator.now min_wrap_width kind.now (forest_of below.now)) }
+    ensures needs { IfOk result (λ m. m.needs.items ≡ needs_of kind.now (forest_of below.now)) }
+    ensures err { IfErr result (λ e. e ≡ Error.OutOfMemory) }
+{
+    if let NodeKind::Table(grid) = kind {
+        return measure_table(alloc, grid.cells(), below);
+    }
+    let estimate = sized_estimate_of(alloc, decorator, min_wrap_width, kind, below)?;
+    Ok(Measure {
+        estimate,
+        needs: Vec::new(alloc),
+    })
+}
+
+/// Keeps what was found out of a node.
+fn note(node: &mut RenderNode, measure: Measure)
+    ensures { node.new ≡ record node.old { kind = with_needs measure.needs.items node.old.kind; estimate = measure.estimate } }
+{
+    node.estimate = measure.estimate;
+    if let NodeKind::Table(grid) = &mut node.kind {
+        grid.set_needs(measure.needs);
+    }
 }
 
 /// Whether a node is a table.
@@ -270,14 +301,8 @@ fn measure_with_sizes<D: TextDecorator>(
         let all = entries.as_slice();
         let entry = &all[at];
         let below = &all[at + 1..at + entry.size];
-        let estimate = sized_estimate_of(
-            alloc,
-            decorator,
-            min_wrap_width,
-            &entry.node.kind,
-            below,
-        )?;
-        entries[at].node.estimate = estimate;
+        let measure = measure_of(alloc, decorator, min_wrap_width, &entry.node.kind, below)?;
+        note(&mut entries[at].node, measure);
     }
     Ok(())
 }

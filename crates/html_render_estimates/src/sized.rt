@@ -1,7 +1,8 @@
 //! The sizes of trees, and the estimates of tables, which stand on them.
 
 ghost use Rattle.std.specs.Prelude.{◌≡◌, ◌*◌, ◌/◌, sum_by, IfOk, IfErr};
-ghost use Rattle.html_render_parts.specs.Needs.{AreSome};
+ghost use Rattle.html_render_parts.specs.Needs.{AreSome, column_needs};
+ghost use Rattle.html_render_parts.specs.TableCells.{columns_of};
 ghost use Rattle.html_render_nodes.specs.Preorder.{flatten, forest_of};
 ghost use Rattle.html_render_estimates.specs.TextSize.{saturated};
 ghost use Rattle.html_render_estimates.specs.Cells.{cell_needs};
@@ -11,7 +12,8 @@ use crate::cells::cell_needs;
 use crate::estimate::children_of;
 use crate::trees::first_tree;
 use html_render_nodes::tree::{Entry, Estimate, RenderNode};
-use html_render_parts::widths::{CellNeed, ColumnNeed, are_cells, column_needs};
+use html_render_parts::table::cells::TableCells;
+use html_render_parts::widths::{CellNeed, ColumnNeed, column_needs};
 use html_render_values::Error;
 use std::alloc::Global;
 
@@ -52,32 +54,37 @@ fn least_of_columns(needs: &[ColumnNeed]) -> usize
     least
 }
 
-/// The estimate of a table of so many columns over its measured rows.
-pub fn table_estimate(
+/// What is found out of a node as it is measured.
+#[derive(Drop)]
+pub struct Measure {
+    /// Its estimate.
+    pub estimate: Estimate,
+    /// What its columns need, if it is a table.
+    pub needs: Vec<ColumnNeed>,
+}
+
+/// What is found out of a table on this grid over its measured rows.
+pub fn measure_table(
     alloc: Global,
-    columns: usize,
+    grid: &TableCells,
     rows: &[Entry<RenderNode>],
-) -> Result<Estimate, Error>
+) -> Result<Measure, Error>
     requires { flatten (forest_of rows.now) ≡ rows.now }
-    ensures ok { IfOk result (λ e. e ≡ table_estimate columns (cell_needs (forest_of rows.now)) (trees (forest_of rows.now))) }
+    ensures estimate { IfOk result (λ m. m.estimate
+        ≡ table_estimate (columns_of grid.now) (cell_needs grid.now.rows (forest_of rows.now)) (trees (forest_of rows.now))) }
+    ensures needs { IfOk result (λ m. m.needs.items ≡ column_needs (columns_of grid.now) (cell_needs grid.now.rows (forest_of rows.now))) }
     ensures err { IfErr result (λ e. e ≡ Error.OutOfMemory) }
 {
     let children = children_of(rows).count;
-    let cells = cell_needs(alloc, rows)?;
-    if !are_cells(columns, cells.as_slice()) {
-        return Ok(Estimate {
-            least: 0,
-            size: 0,
-            prefix: 0,
-            children,
-        });
-    }
+    let columns = grid.columns();
+    let cells = cell_needs(alloc, grid, rows)?;
     let needs = column_needs(alloc, columns, cells.as_slice())?;
     let between = columns.saturating_sub(1);
-    Ok(Estimate {
+    let estimate = Estimate {
         least: least_of_columns(needs.as_slice()).saturating_add(between),
         size: size_of_cells(cells.as_slice()).saturating_add(between),
         prefix: 0,
         children,
-    })
+    };
+    Ok(Measure { estimate, needs })
 }

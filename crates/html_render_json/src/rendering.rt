@@ -2,7 +2,7 @@
 
 ghost use Rattle.std.specs.Prelude.{◌≡◌, Some, IfOk, IfErr, option_and_then, option_map, string_bytes};
 ghost use Rattle.html_render_tree.specs.Refusal.{Fails};
-ghost use Rattle.html_render_tree.specs.RenderTree.{render_tree_of};
+ghost use Rattle.html_render_tree.specs.Results.{render_tree_of};
 ghost use Rattle.html_render_tree.specs.Dump.{dump};
 ghost use Rattle.html_render_tree.specs.Rendering.{rendered_lines, rendered_strings};
 ghost use Rattle.html_render_tree.specs.Grouping.{lines_of};

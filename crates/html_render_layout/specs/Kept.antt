@@ -68,7 +68,7 @@ node_characters (Image i) = []
 node_characters (Svg title) = []
 node_characters (FragmentStart name) = []
 node_characters (Table grid) = []
-node_characters (TableRow slots) = []
+node_characters TableRow = []
 node_characters TableCell = []
 node_characters (Part part) = []
 

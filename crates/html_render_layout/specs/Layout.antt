@@ -12,7 +12,7 @@ use Rattle.html_render_values.specs.declared.white_space.WhiteSpace.{WhiteSpace}
 use Rattle.html_render_values.specs.declared.white_space.WhiteSpace.TheVariants.{Normal, Pre, PreWrap}
 use Rattle.html_render_values.specs.declared.colours.Colour.{Colour}
 use Rattle.html_render_parts.specs.Decoration.{Decoration, Round, link}
-use Rattle.html_render_parts.specs.declared.widths.needs.CellNeed.{CellNeed}
+use Rattle.html_render_parts.specs.declared.widths.shares.ColumnNeed.{ColumnNeed}
 use Rattle.html_render_lines.specs.Character.{is_collapsible}
 use Rattle.html_render_lines.specs.declared.character.TextStyle.{TextStyle}
 use Rattle.html_render_lines.specs.Line.{Line}
@@ -27,14 +27,12 @@ use Rattle.html_render_nodes.specs.declared.tree.NodeKind.TheVariants.{TableCell
 use Rattle.html_render_nodes.specs.declared.tree.NodeStyle.{NodeStyle}
 use Rattle.html_render_nodes.specs.declared.tree.Estimate.{Estimate}
 use Rattle.html_render_nodes.specs.declared.tree.RenderNode.{RenderNode}
-use Rattle.html_render_nodes.specs.declared.tree.Slot.{Slot}
-use Rattle.html_render_nodes.specs.Grids.{GridRows}
+use Rattle.html_render_parts.specs.TableCells.{CellGrid}
 use Rattle.html_render_nodes.specs.Pass.{Steps, Inside, run}
 use Rattle.html_render_blocks.specs.declared.block.BlockSetting.{BlockSetting}
 use Rattle.html_render_blocks.specs.Operations.{Operations, Ending}
 use Rattle.html_render_blocks.specs.Block as definition
 use Rattle.html_render_blocks.specs.Block.{DefinedBlock}
-use Rattle.html_render_estimates.specs.Cells.{cell_needs}
 use Rattle.html_render_estimates.specs.Estimates.{prefix_columns, prefix_of, measured}
 use Rattle.html_render_layout.specs.declared.layout.state.Around.{Around}
 use Rattle.html_render_layout.specs.declared.layout.state.Around.TheVariants.{Plain, Bullets, Numbers, Cells}
@@ -206,20 +204,20 @@ abbrev pub fenced : {S K T B : Type 0} → Operations B T → LayoutState S K T 
 fenced o s = if s.settings.fence_tables && not s.in_table then with_fence o s else Some s
 
 -- a table begins on this grid, as a block; its cells need so much. They stand one below another in raw mode
-abbrev pub table_begun : {S K T B : Type 0} → Operations B T → GridRows → List CellNeed → LayoutState S K T B → Option (LayoutState S K T B)
-table_begun o grid cells s = do
+abbrev pub table_begun : {S K T B : Type 0} → Operations B T → CellGrid → List ColumnNeed → LayoutState S K T B → Option (LayoutState S K T B)
+table_begun o grid needs s = do
   p ← on_block o.start_block s
   q ← fenced o p
-  r ← on_block (λ b. o.begin_table b s.blank s.settings.table_borders s.settings.raw_mode grid cells) q
+  r ← on_block (λ b. o.begin_table b s.blank s.settings.table_borders s.settings.raw_mode grid needs) q
   Some (record r { in_table = true })
 
 -- a table is over, where it stood in another one or didn't
 abbrev pub table_ended : {S K T B : Type 0} → Operations B T → (in_table : Bool) → LayoutState S K T B → Option (LayoutState S K T B)
 table_ended o in_table r = fenced o (record r { block = o.end_table r.block; in_table = in_table })
 
--- a row begins, in which this stands
-abbrev pub row_begun : {S K T B : Type 0} → Operations B T → List Slot → LayoutState S K T B → LayoutState S K T B
-row_begun o slots s = record s { block = o.begin_row s.block slots }
+-- the next row begins
+abbrev pub row_begun : {S K T B : Type 0} → Operations B T → LayoutState S K T B → LayoutState S K T B
+row_begun o s = record s { block = o.begin_row s.block }
 
 -- ---- images and superscripts
 
@@ -380,11 +378,11 @@ module _ {S A K T B : Type 0} (d : Decoration S A) (push : K → T → A → K �
   kind_steps (Svg title) e trees children s = image [] title s
   kind_steps (FragmentStart name) e trees children s = Some (marked o name s)
   kind_steps (Table grid) e trees children s = do
-    q ← table_begun o grid (cell_needs trees) s
+    q ← table_begun o grid.cells grid.needs s
     r ← children q
     table_ended o s.in_table r
-  kind_steps (TableRow slots) e trees children s = do
-    r ← among Cells children (row_begun o slots s)
+  kind_steps TableRow e trees children s = do
+    r ← among Cells children (row_begun o s)
     on_block o.end_row r
   kind_steps TableCell e trees children s = children s
   kind_steps (Part part) e trees children s = children s
@@ -426,8 +424,8 @@ module _ {S A K T B : Type 0} (d : Decoration S A) (push : K → T → A → K �
   kind_inside (Image i) e trees s = None
   kind_inside (Svg title) e trees s = None
   kind_inside (FragmentStart name) e trees s = None
-  kind_inside (Table grid) e trees s = table_begun o grid (cell_needs trees) s
-  kind_inside (TableRow slots) e trees s = Some (record (row_begun o slots s) { around = Cells })
+  kind_inside (Table grid) e trees s = table_begun o grid.cells grid.needs s
+  kind_inside TableRow e trees s = Some (record (row_begun o s) { around = Cells })
   kind_inside TableCell e trees s = Some s
   kind_inside (Part part) e trees s = Some s
 

@@ -4,8 +4,7 @@ use Rattle.std.specs.Str.{chars}
 use Rattle.html_render_values.specs.Forest.{Forest}
 use Rattle.html_render_values.specs.Outcome.{◌>>=◌}
 use Rattle.html_render_parts.specs.Decoration.{Decoration, link}
-use Rattle.html_render_parts.specs.declared.widths.needs.CellNeed.{CellNeed}
-use Rattle.html_render_estimates.specs.Cells.{cell_needs}
+use Rattle.html_render_parts.specs.declared.widths.shares.ColumnNeed.{ColumnNeed}
 use Rattle.html_render_estimates.specs.Estimates.{prefix_columns}
 use Rattle.html_render_nodes.specs.declared.tree.Emphasis.TheVariants.{Em}
 use Rattle.html_render_nodes.specs.declared.tree.Estimate.{Estimate}
@@ -15,8 +14,7 @@ use Rattle.html_render_nodes.specs.declared.tree.NodeKind.TheVariants.{Header, B
 use Rattle.html_render_nodes.specs.declared.tree.NodeKind.TheVariants.{Strikeout, Superscript, Link, Image, Svg, FragmentStart, Table, TableRow}
 use Rattle.html_render_nodes.specs.declared.tree.NodeKind.TheVariants.{TableCell, Part}
 use Rattle.html_render_nodes.specs.declared.tree.RenderNode.{RenderNode}
-use Rattle.html_render_nodes.specs.declared.tree.Slot.{Slot}
-use Rattle.html_render_nodes.specs.Grids.{GridRows}
+use Rattle.html_render_parts.specs.TableCells.{CellGrid}
 use Rattle.html_render_nodes.specs.Pass.{Way, Into, Past, past}
 use Rattle.html_render_blocks.specs.Operations.{Operations}
 use Rattle.html_render_layout.specs.declared.layout.items.Place.{Place}
@@ -150,13 +148,13 @@ module _ {S A K T B : Type 0} (d : Decoration S A) (push : K → T → A → K �
     Some (Into q (EndLink s.text (length s.targets + 1)))
 
   -- a table, and a row of one
-  abbrev pub table_opened : GridRows → List CellNeed → LayoutState S K T B → Option (Way (LayoutState S K T B) (KindClosing S T B))
-  table_opened grid cells s = do
-    q ← table_begun o grid cells s
+  abbrev pub table_opened : CellGrid → List ColumnNeed → LayoutState S K T B → Option (Way (LayoutState S K T B) (KindClosing S T B))
+  table_opened grid needs s = do
+    q ← table_begun o grid needs s
     Some (Into q (EndTable s.in_table))
 
-  abbrev pub row_opened : List Slot → LayoutState S K T B → Option (Way (LayoutState S K T B) (KindClosing S T B))
-  row_opened slots s = Some (Into (record (row_begun o slots s) { around = Cells }) EndRow)
+  abbrev pub row_opened : LayoutState S K T B → Option (Way (LayoutState S K T B) (KindClosing S T B))
+  row_opened s = Some (Into (record (row_begun o s) { around = Cells }) EndRow)
 
   -- a superscript, which is passed where it is of digits
   abbrev pub superscript_opened : (digits : Option (List ℕ)) → LayoutState S K T B → Option (Way (LayoutState S K T B) (KindClosing S T B))
@@ -198,8 +196,8 @@ module _ {S A K T B : Type 0} (d : Decoration S A) (push : K → T → A → K �
   kind_opened (Image i) e trees s = past (image d push o i.source i.title s)
   kind_opened (Svg title) e trees s = past (image d push o [] title s)
   kind_opened (FragmentStart name) e trees s = past (Some (marked o name s))
-  kind_opened (Table grid) e trees s = table_opened grid (cell_needs trees) s
-  kind_opened (TableRow slots) e trees s = row_opened slots s
+  kind_opened (Table grid) e trees s = table_opened grid.cells grid.needs s
+  kind_opened TableRow e trees s = row_opened s
   kind_opened TableCell e trees s = Some (Into s Nothing)
   kind_opened (Part part) e trees s = Some (Into s Nothing)
 

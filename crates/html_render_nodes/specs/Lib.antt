@@ -1,7 +1,7 @@
 -- the texts of nodes
 pub mod Texts
 -- the tree: its nodes in one vector, and where it is parted
-pub mod Grids
+pub mod Tables
 pub mod RenderNodes
 pub mod Preorder
 pub mod Splits

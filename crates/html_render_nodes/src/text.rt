@@ -4,9 +4,6 @@
 //! `NodeText::from_str(alloc, "a")?.as_str()` is `a`. A clone is the same value as its source.
 
 ghost use Rattle.std.specs.Prelude.{◌≡◌, List, ℕ, IfOk, string_bytes};
-ghost use Rattle.std.specs.Str.{bytes_eq};
-ghost use Rattle.std.specs.Cmp.{partial_equiv_from_equiv};
-ghost use Rattle.std.specs.Cmp.Lexicographic.{nat_list_eq_equiv};
 ghost use Rattle.html_render_nodes.specs.Texts.{bytes_in};
 
 use arrayvec::ArrayString;
@@ -17,7 +14,7 @@ use std::marker::Model;
 const SHORT: usize = 24;
 
 /// The bytes of a text.
-#[derive(Debug, Drop)]
+#[derive(Drop)]
 enum Bytes {
     /// Few of them, in the node itself.
     Short(ArrayString<SHORT>),
@@ -26,7 +23,7 @@ enum Bytes {
 }
 
 /// A text of a node, which a clause sees as its bytes.
-#[derive(Debug, Drop)]
+#[derive(Drop)]
 pub struct NodeText {
     bytes: Bytes,
 }
@@ -47,20 +44,6 @@ impl Clone for NodeText {
         };
         Ok(NodeText { bytes })
     }
-}
-
-impl PartialEq for NodeText {
-    ghost eq = { bytes_eq };
-
-    ghost laws = { partial_equiv_from_equiv nat_list_eq_equiv };
-
-    fn eq(&self, other: &NodeText) -> bool {
-        self.as_str() == other.as_str()
-    }
-}
-
-impl Eq for NodeText {
-    ghost laws = { nat_list_eq_equiv };
 }
 
 impl From<String> for NodeText {

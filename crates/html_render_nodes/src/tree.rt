@@ -8,9 +8,11 @@ ghost use Rattle.html_render_values.specs.Forest as forest;
 ghost use Rattle.html_render_values.specs.Forest.{none, count};
 ghost use Rattle.html_render_nodes.specs.Preorder.{flatten, forest_of};
 ghost use Rattle.html_render_nodes.specs.Splits.{SplitAt, Reversed, FirstTree};
+ghost use Rattle.html_render_nodes.specs.Tables.{unmeasured_table};
 
 use crate::text::NodeText;
-use html_render_parts::table::CellKind;
+use html_render_parts::table::cells::TableCells;
+use html_render_parts::widths::ColumnNeed;
 use html_render_values::Error;
 use html_render_values::colours::Colour;
 use html_render_values::white_space::WhiteSpace;
@@ -258,10 +260,10 @@ pub enum NodeKind {
     Svg(NodeText),
     /// The place that this name stands for. It is shown as nothing.
     FragmentStart(NodeText),
-    /// A table, over its rows: how many columns it has, and what stands below its last row.
+    /// A table, over its rows: where their cells stand on its columns.
     Table(Grid),
-    /// A row of a table, over its cells: what stands in it, placeholders and gaps too.
-    TableRow(Slots),
+    /// A row of a table, over its cells.
+    TableRow,
     /// A cell of a row.
     TableCell,
     /// A part of a table that isn't in its place yet. A tree that is ready to be laid out has none.
@@ -294,95 +296,63 @@ pub struct CellSpan {
     pub rowspan: usize,
 }
 
-/// A cell, a placeholder or a gap in a row of a table. It begins where the one before ends.
-#[derive(Clone, Copy, Debug, PartialEq, Eq)]
-pub struct Slot {
-    /// What stands there.
-    pub kind: CellKind,
-    /// How many of the table's columns it has.
-    pub columns: usize,
-}
-
-/// What stands in a row of a table, from the first column on.
-#[derive(Drop)]
-pub struct Slots {
-    slots: Vec<Slot>,
-}
-
-impl Model for Slots {
-    ghost use Rattle.std.specs.Prelude.{List};
-    ghost use Rattle.html_render_nodes.specs.declared.tree.Slot.{Slot};
-
-    ghost Value = { List Slot };
-
-    ghost view = { λ s. s.slots.items };
-}
-
-impl Slots {
-    /// Slots in this order.
-    pub fn new(slots: Vec<Slot>) -> Slots
-        ensures { result ≡ slots.items }
-    {
-        Slots { slots }
-    }
-
-    /// The slots.
-    pub fn as_slice(&self) -> &[Slot]
-        ensures { result.now ≡ self.now }
-    {
-        self.slots.as_slice()
-    }
-}
-
-/// Rows of a table, placed on its columns, and how many columns it has.
+/// The cells of a table on the columns of its grid, and what these columns need.
 #[derive(Drop)]
 pub struct GridParts {
-    /// How many columns the table has.
-    pub columns: usize,
-    /// What stands in each row.
-    pub rows: Vec<Slots>,
+    /// The cells.
+    pub cells: TableCells,
+    /// What each column needs for the cells over it, once the node is measured.
+    pub needs: Vec<ColumnNeed>,
 }
 
-/// Rows of a table on its columns, held so that a node is moved in few bytes.
+/// What the node of a table holds, in few bytes so that it is moved cheaply.
 #[derive(Drop)]
 pub struct Grid {
     parts: Box<GridParts>,
 }
 
 impl Model for Grid {
-    ghost use Rattle.html_render_nodes.specs.Grids.{GridRows};
+    ghost use Rattle.html_render_nodes.specs.Tables.{TableParts};
 
-    ghost Value = { GridRows };
+    ghost Value = { TableParts };
 
-    ghost view = { λ g. record { columns = g.parts.value.columns; rows = g.parts.value.rows.items } };
+    ghost view = { λ g. record { cells = g.parts.value.cells; needs = g.parts.value.needs.items } };
 }
 
 impl Grid {
-    /// A grid of so many columns, with these rows.
+    /// The grid of these cells, not measured.
     ///
     /// # Errors
     ///
     /// `OutOfMemory`.
-    pub fn new(alloc: Global, columns: usize, rows: Vec<Slots>) -> Result<Grid, Error>
-        ensures ok { IfOk result (λ g. g ≡ record { columns = columns; rows = rows.items }) }
+    pub fn new(alloc: Global, cells: TableCells) -> Result<Grid, Error>
+        ensures ok { IfOk result (λ g. g ≡ unmeasured_table cells) }
         ensures err { IfErr result (λ e. e ≡ Error.OutOfMemory) }
     {
-        let parts = Box::new(alloc, GridParts { columns, rows })?;
+        let needs = Vec::new(alloc);
+        let parts = Box::new(alloc, GridParts { cells, needs })?;
         Ok(Grid { parts })
     }
 
-    /// How many columns the table has.
-    pub fn columns(&self) -> usize
-        ensures { result ≡ self.now.columns }
+    /// The cells, row by row.
+    pub fn cells(&self) -> &TableCells
+        ensures { result.now ≡ self.now.cells }
     {
-        self.parts.columns
+        &self.parts.cells
     }
 
-    /// What stands in each row.
-    pub fn rows(&self) -> &[Slots]
-        ensures { result.now ≡ self.now.rows }
+    /// What each column needs for the cells over it; none of a node that isn't measured.
+    pub fn needs(&self) -> &[ColumnNeed]
+        ensures { result.now ≡ self.now.needs }
     {
-        self.parts.rows.as_slice()
+        self.parts.needs.as_slice()
+    }
+
+    /// The columns need this.
+    pub fn set_needs(&mut self, needs: Vec<ColumnNeed>)
+        ensures { self.new ≡ record self.old { needs = needs.items } }
+    {
+        self.parts.needs = needs;
     }
 }
 

@@ -1,10 +1,12 @@
 -- The edges, sorted and without repeats, and the numbers that they get.
-use Rattle.std.proofs.Common.{◌≡◌, ℕ, ◌+◌, ◌<◌, ◌≤◌, true, false, cond, List, [], ◌∷◌, length, get_or, All, Contains, nat_lt, refl, sym, subst}
+use Rattle.std.proofs.Common.{◌≡◌, ℕ, ◌+◌, ◌-◌, ◌<◌, ◌≤◌, true, false, cond, List, [], ◌∷◌, ◌++◌, length, get_or, All, Contains, nat_lt, refl, sym, subst}
 use Rattle.std.proofs.Common.{arith, inl, inr, ◌⊎◌, suc, zero}
 use Rattle.std.specs.List.{AllPairs, AllWithin}
 use Rattle.std.specs.List.Sorted.{IsNonDecreasingBy, IsStrictlyIncreasing}
 use Rattle.std.proofs.lemmas.Bool.{cases_lt}
-use Rattle.std.proofs.lemmas.List.Elements.{All-nil, All-cons, All-head, All-tail, All-weaker, All-contains}
+use Rattle.std.proofs.lemmas.List.{get_or_default}
+use Rattle.std.proofs.lemmas.List.Elements.{All-nil, All-cons, All-head, All-tail, All-weaker, All-contains, Contains-append_cases, Contains-append_left}
+use Rattle.std.proofs.lemmas.List.Elements.{Contains-append_right}
 use Rattle.std.proofs.lemmas.List.Kept.{AllPairs-cons, AllPairs-from_increasing}
 use Rattle.std.proofs.lemmas.List.Sums.{sum_by-cons}
 use Rattle.html_render_parts.specs.Placement.{rising, rising_with}
@@ -141,6 +143,32 @@ rising-only xs ns h f g =
     same-rise xs (rising ns) (AllPairs-from_increasing xs h) (Rise-rising ns) (λ n a. Contains-rising n ns (f n a))
     (λ n a. g n (Contains-from_rising n ns a))
 
+-- lists with the same numbers are one in rising order
+pub rising-same : (ms ns : List ℕ) → ((n : ℕ) → Contains ms n → Contains ns n) → ((n : ℕ) → Contains ns n → Contains ms n) →
+    rising ms ≡ rising ns
+rising-same ms ns f g =
+    same-rise (rising ms) (rising ns) (Rise-rising ms) (Rise-rising ns)
+    (λ n a. Contains-rising n ns (f n (Contains-from_rising n ms a)))
+    (λ n a. Contains-rising n ms (g n (Contains-from_rising n ns a)))
+
+pub rising-rising : (ns : List ℕ) → rising (rising ns) ≡ rising ns
+rising-rising ns = rising-same (rising ns) ns (λ n a. Contains-from_rising n ns a) (λ n a. Contains-rising n ns a)
+
+-- numbers that were put in order, and more
+pub rising-more : (ms ns : List ℕ) → rising (rising ms ++ ns) ≡ rising (ms ++ ns)
+rising-more ms ns = rising-same (rising ms ++ ns) (ms ++ ns)
+    (λ n a. elim (Contains-append_cases (rising ms) ns n a) [
+      | inl b ↦ Contains-append_left ms ns n (Contains-from_rising n ms b)
+      | inr b ↦ Contains-append_right ms ns n b
+    ])
+    (λ n a. elim (Contains-append_cases ms ns n a) [
+      | inl b ↦ Contains-append_left (rising ms) ns n (Contains-rising n ms b)
+      | inr b ↦ Contains-append_right (rising ms) ns n b
+    ])
+
+pub IsStrictlyIncreasing-rising : (ns : List ℕ) → IsStrictlyIncreasing (rising ns)
+IsStrictlyIncreasing-rising ns = λ k inside. Rise-rising ns k (k + 1) 0 (omega arith) inside
+
 -- ---- ranks
 
 rank-cons : (x : ℕ) (xs : List ℕ) (t : ℕ) → rank (x ∷ xs) t ≡ cond (nat_lt x t) 1 0 + rank xs t
@@ -229,8 +257,42 @@ rank-split (x ∷ xs) t (suc i) le f g =
     (λ k d a b. g (suc k) d (omega arith) (omega arith)) in
     rw (rank-cons x xs t, here) (omega arith)
 
+-- at an edge's number stands the edge
+pub rank-gets : (xs : List ℕ) (e : ℕ) → IsStrictlyIncreasing xs → Contains xs e → get_or xs (rank xs e) 0 ≡ e
+rank-gets xs e h has = by xs (AllPairs-from_increasing xs h) has
+  where
+    by : (xs : List ℕ) → Rise xs → Contains xs e → get_or xs (rank xs e) 0 ≡ e
+    by [] p in_e = absurd (Contains-nil e in_e)
+    by (x ∷ xs) p in_e = elim (Contains-cons x e xs in_e) [
+      | inl f ↦
+          let none : rank xs e ≡ 0 = rank-none xs e (subst (λ y. All (λ z. y < z) xs) f (Rise-head x xs p)) in
+          elim (ltb-tells x e) [ inl u ↦ absurd (omega arith) | inr u ↦ rw (rank-cons x xs e, u.0, none) f ]
+      | inr g ↦
+          let less : x < e = All-contains (λ m. x < m) xs e (Rise-head x xs p) g in
+          let ih = by xs (Rise-tail x xs p) g in
+          elim (ltb-tells x e) [
+            | inl u ↦ let next : rank (x ∷ xs) e ≡ suc (rank xs e) = rw (rank-cons x xs e, u.0) (omega arith) in rw next ih
+            | inr u ↦ absurd (omega arith)
+          ]
+    ]
+
 pub IsNonDecreasing-rising : (xs : List ℕ) → IsStrictlyIncreasing xs → IsNonDecreasingBy (λ x. x) xs
 IsNonDecreasing-rising xs h = λ i j d le inside. elim (cases_lt i j) [
   | inl less ↦ let t = AllPairs-from_increasing xs h i j d less inside in omega arith
   | inr ge ↦ let e : i ≡ j = omega arith in rw e (omega arith)
 ]
+
+-- a position behind an edge, and not behind the next one
+pub rank-between : (xs : List ℕ) (t i : ℕ) → IsStrictlyIncreasing xs → 0 < i → i < length xs → get_or xs (i - 1) 0 < t → t ≤ get_or xs i 0 →
+    rank xs t ≡ i
+rank-between xs t i h some inside before behind =
+    let rises = IsNonDecreasing-rising xs h in
+    rank-split xs t i (omega arith)
+    (λ k d a b.
+    let le : get_or xs k 0 ≤ get_or xs (i - 1) 0 = rises k (i - 1) 0 (omega arith) (omega arith) in
+    let same : get_or xs k d ≡ get_or xs k 0 = get_or_default xs k d 0 (omega arith) in
+    rw same (elim (ltb-tells (get_or xs k 0) t) [ inl u ↦ u.0 | inr u ↦ absurd (omega arith) ]))
+    (λ k d a b.
+    let le : get_or xs i 0 ≤ get_or xs k 0 = rises i k 0 a b in
+    let same : get_or xs k d ≡ get_or xs k 0 = get_or_default xs k d 0 b in
+    rw same (elim (ltb-tells (get_or xs k 0) t) [ inl u ↦ absurd (omega arith) | inr u ↦ u.0 ]))

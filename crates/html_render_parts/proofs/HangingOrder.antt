@@ -1,10 +1,12 @@
 -- The cells that a row keeps, in the order in which it placed them, are the cells so far in order of own column.
-use Rattle.std.proofs.Common.{◌≡◌, ℕ, ◌+◌, ◌<◌, ◌≤◌, Bool, true, false, cond, List, [], ◌∷◌, ◌++◌, filter, nat_le, refl, sym, ap, ◌∙◌, arith, inl, inr, suc}
-use Rattle.std.proofs.lemmas.Bool.{cases_Bool, false≢true}
+use Rattle.std.proofs.Common.{All, ◌≡◌, ℕ, ◌+◌, ◌<◌, ◌≤◌, Bool, true, false, cond, List, [], ◌∷◌, ◌++◌, filter, nat_le, refl, sym, ap, ◌∙◌, arith, inl, inr}
+use Rattle.std.proofs.lemmas.Bool.{cases_Bool}
 use Rattle.std.proofs.lemmas.Bool.Decides.{leb_tells}
+use Rattle.std.proofs.lemmas.List.Elements.{All-cons, All-head, All-tail, All-filter}
 use Rattle.html_render_parts.specs.declared.table.Span.{Span}
 use Rattle.html_render_parts.specs.declared.table.placement.Standing.{Standing}
-use Rattle.html_render_parts.specs.Placement.{by_column_with, by_column, end_of, hangs_into, hanging, due_end, not_due, own_from}
+use Rattle.html_render_parts.specs.Placement.{by_column_with, by_column, hangs_into, hanging, due_end, not_due, own_from}
+use Rattle.html_render_parts.specs.PlacementSteps.{AllFrom, IsByColumn}
 
 -- ---- two lists in one, by own column: of equal ones the first list's comes first
 
@@ -66,14 +68,6 @@ by_column-append (x ∷ xs) os e = ap (by_column_with x) (by_column-append xs os
 
 -- ---- order
 
-abbrev AllFrom : ℕ → List Standing → Type 0
-AllFrom n [] = Unit {0}
-AllFrom n (c ∷ cs) = (n ≤ c.column) × AllFrom n cs
-
-abbrev IsByColumn : List Standing → Type 0
-IsByColumn [] = Unit {0}
-IsByColumn (c ∷ cs) = AllFrom c.column cs × IsByColumn cs
-
 AllFrom-less : (m n : ℕ) (cs : List Standing) → m ≤ n → AllFrom n cs → AllFrom m cs
 AllFrom-less m n [] le h = tt
 AllFrom-less m n (c ∷ cs) le h = (let k = h.0 in omega arith, AllFrom-less m n cs le h.1)
@@ -96,42 +90,59 @@ IsByColumn-by_column : (xs : List Standing) → IsByColumn (by_column xs)
 IsByColumn-by_column [] = tt
 IsByColumn-by_column (x ∷ xs) = IsByColumn-with x (by_column xs) (IsByColumn-by_column xs)
 
--- ---- what is left out before the two lists are put together is left out after
-
-merged-later : (n : ℕ) (ss : List Standing) (o : Standing) (os : List Standing) → AllFrom n ss → o.column < n →
-    merged ss (o ∷ os) ≡ o ∷ merged ss os
-merged-later n [] o os h less = refl
-merged-later n (s ∷ ss) o os h less = elim (leb_tells s.column o.column) [
-  | inl t ↦ absurd (let k = h.0 in omega arith)
-  | inr t ↦ rw t.0 refl
+by_column_with-front : (a : Standing) (cs : List Standing) → AllFrom a.column cs → by_column_with a cs ≡ a ∷ cs
+by_column_with-front a [] h = refl
+by_column_with-front a (c ∷ cs) h = elim (leb_tells a.column c.column) [
+  | inl t ↦ rw t.0 refl
+  | inr t ↦ absurd (let k = h.0 in omega arith)
 ]
 
--- a cell that is left out needs no place
-left-out : (p : Standing → Bool) (s : Standing) (ss : List Standing) → p s ≡ false → AllFrom s.column ss → (os : List Standing) →
-    filter p (merged ss os) ≡ filter p (merged (s ∷ ss) os)
-left-out p s ss e h [] = rw e refl
-left-out p s ss e h (o ∷ os) = elim (leb_tells s.column o.column) [
-  | inl t ↦ rw (t.0, e) refl
-  | inr t ↦ rw (t.0, merged-later s.column ss o os h t.1) (ap (λ r. cond (p o) (o ∷ r) r) (left-out p s ss e h os))
+-- cells in order stay as they are
+by_column-same : (cs : List Standing) → IsByColumn cs → by_column cs ≡ cs
+by_column-same [] h = refl
+by_column-same (c ∷ cs) h = ap (by_column_with c) (by_column-same cs h.1) ∙ by_column_with-front c cs h.0
+
+AllFrom-filter : (p : Standing → Bool) (n : ℕ) (cs : List Standing) → AllFrom n cs → AllFrom n (filter p cs)
+AllFrom-filter p n [] h = tt
+AllFrom-filter p n (c ∷ cs) h = elim (cases_Bool (p c)) [
+  | inl e ↦ rw e (h.0, AllFrom-filter p n cs h.1)
+  | inr e ↦ rw e (AllFrom-filter p n cs h.1)
 ]
 
--- a cell that stays does so in both
-kept : (p : Standing → Bool) (s : Standing) (ss ts : List Standing) →
-    ((os : List Standing) → filter p (merged ts os) ≡ filter p (merged ss os)) → (os : List Standing) →
-    filter p (merged (s ∷ ts) os) ≡ filter p (merged (s ∷ ss) os)
-kept p s ss ts ih [] = ap (λ r. cond (p s) (s ∷ r) r) (ih [])
-kept p s ss ts ih (o ∷ os) = elim (leb_tells s.column o.column) [
-  | inl t ↦ rw t.0 (ap (λ r. cond (p s) (s ∷ r) r) (ih (o ∷ os)))
-  | inr t ↦ rw t.0 (ap (λ r. cond (p o) (o ∷ r) r) (kept p s ss ts ih os))
+-- those that are left of cells in order are in order
+pub IsByColumn-filter : (p : Standing → Bool) (cs : List Standing) → IsByColumn cs → IsByColumn (filter p cs)
+IsByColumn-filter p [] h = tt
+IsByColumn-filter p (c ∷ cs) h = elim (cases_Bool (p c)) [
+  | inl e ↦ rw e (AllFrom-filter p c.column cs h.0, IsByColumn-filter p cs h.1)
+  | inr e ↦ rw e (IsByColumn-filter p cs h.1)
 ]
 
-filter-merged : (p q : Standing → Bool) → ((c : Standing) → q c ≡ false → p c ≡ false) → (ss : List Standing) → IsByColumn ss →
-    (os : List Standing) → filter p (merged (filter q ss) os) ≡ filter p (merged ss os)
-filter-merged p q weaker [] h os = refl
-filter-merged p q weaker (s ∷ ss) h os = elim (cases_Bool (q s)) [
-  | inl e ↦ rw e (kept p s ss (filter q ss) (filter-merged p q weaker ss h.1) os)
-  | inr e ↦ rw e (filter-merged p q weaker ss h.1 os ∙ left-out p s ss (weaker s e) h.0 os)
+-- cells that hang into a row are in order
+pub IsByColumn-hanging : (row : ℕ) (cs : List Standing) → IsByColumn (hanging row cs)
+IsByColumn-hanging row cs = IsByColumn-filter (hangs_into row) (by_column cs) (IsByColumn-by_column cs)
+
+-- ---- what holds of all cells holds of those that wait, and of those that hang on
+
+pub All-not_due : (P : Standing → Type 0) (cursor : ℕ) (hs : List Standing) → All P hs → All P (not_due cursor hs)
+All-not_due P cursor [] w = w
+All-not_due P cursor (h ∷ hs) w = elim (leb_tells h.column cursor) [
+  | inl t ↦ rw t.0 (All-not_due P (cursor + h.span.colspan) hs (All-tail P h hs w))
+  | inr t ↦ rw t.0 w
 ]
+
+All-by_column_with : (P : Standing → Type 0) (c : Standing) (cs : List Standing) → P c → All P cs → All P (by_column_with c cs)
+All-by_column_with P c [] w h = All-cons P c [] w h
+All-by_column_with P c (d ∷ ds) w h = elim (leb_tells c.column d.column) [
+  | inl t ↦ rw t.0 (All-cons P c (d ∷ ds) w h)
+  | inr t ↦ rw t.0 (All-cons P d (by_column_with c ds) (All-head P d ds h) (All-by_column_with P c ds w (All-tail P d ds h)))
+]
+
+All-by_column : (P : Standing → Type 0) (cs : List Standing) → All P cs → All P (by_column cs)
+All-by_column P [] h = h
+All-by_column P (c ∷ cs) h = All-by_column_with P c (by_column cs) (All-head P c cs h) (All-by_column P cs (All-tail P c cs h))
+
+pub All-hanging : (P : Standing → Type 0) (row : ℕ) (cs : List Standing) → All P cs → All P (hanging row cs)
+All-hanging P row cs h = All-filter (hangs_into row) P (by_column cs) (All-by_column P cs h)
 
 -- ---- one row
 
@@ -183,13 +194,6 @@ in_row-merged row cursor hs (s ∷ ss) =
 
 -- ---- a row's own cells stand in order
 
-by_column_with-front : (a : Standing) (cs : List Standing) → AllFrom a.column cs → by_column_with a cs ≡ a ∷ cs
-by_column_with-front a [] h = refl
-by_column_with-front a (c ∷ cs) h = elim (leb_tells a.column c.column) [
-  | inl t ↦ rw t.0 refl
-  | inr t ↦ absurd (let k = h.0 in omega arith)
-]
-
 own-from : (row cursor : ℕ) (hs : List Standing) (ss : List Span) → AllFrom cursor (own_from row cursor hs ss)
 own-from row cursor hs [] = tt
 own-from row cursor hs (s ∷ ss) =
@@ -211,21 +215,11 @@ by_column-own row cursor hs (s ∷ ss) =
 
 -- ---- from row to row
 
-stops : (row : ℕ) (c : Standing) → hangs_into row c ≡ false → hangs_into (row + 1) c ≡ false
-stops row c e = elim (leb_tells (suc (row + 1)) (end_of c)) [
-  | inl t ↦ elim (leb_tells (suc row) (end_of c)) [
-    | inl u ↦ absurd (false≢true (sym e ∙ u.0))
-    | inr u ↦ absurd (omega arith)
-  ]
-  | inr t ↦ t.0
-]
-
--- what a row leaves to the next one is what hangs into that one of all cells so far
-pub hanging-next : (row : ℕ) (above : List Standing) (ss : List Span) →
-    filter (hangs_into (row + 1)) (in_row row 0 (hanging row above) ss) ≡ hanging (row + 1) (above ++ own_from row 0 (hanging row above) ss)
-hanging-next row above ss =
-    let hs = hanging row above in
-    let own = own_from row 0 hs ss in
-    ap (filter (hangs_into (row + 1))) (in_row-merged row 0 hs ss)
-    ∙ filter-merged (hangs_into (row + 1)) (hangs_into row) (stops row) (by_column above) (IsByColumn-by_column above) own
-    ∙ ap (filter (hangs_into (row + 1))) (sym (by_column-append above own (by_column-own row 0 hs ss)))
+-- what a row leaves to the next one is what hangs into that one of the cells that hung into it and its own
+pub hanging-next : (row : ℕ) (hung : List Standing) (ss : List Span) → IsByColumn hung →
+    filter (hangs_into (row + 1)) (in_row row 0 hung ss) ≡ hanging (row + 1) (hung ++ own_from row 0 hung ss)
+hanging-next row hung ss ordered =
+    let own = own_from row 0 hung ss in
+    let joined : by_column (hung ++ own) ≡ merged hung own = by_column-append hung own (by_column-own row 0 hung ss)
+    ∙ ap (λ hs. merged hs own) (by_column-same hung ordered) in
+    ap (filter (hangs_into (row + 1))) (in_row-merged row 0 hung ss ∙ sym joined)

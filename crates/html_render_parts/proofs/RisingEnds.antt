@@ -1,20 +1,22 @@
 -- The rows below the last one, one after another: the cells that end first, and then those that end later.
-use Rattle.std.proofs.Common.{◌≡◌, ℕ, ◌<◌, ◌≤◌, cond, List, [], ◌∷◌, ◌++◌, Option, Some, None, length, get_or, filter, map, All, Contains, nat_lt}
+use Rattle.std.proofs.Common.{◌≡◌, ℕ, ◌<◌, ◌≤◌, cond, List, [], ◌∷◌, Some, length, get_or, filter, map, All, Contains, nat_lt}
 use Rattle.std.proofs.Common.{nat_le, refl, sym, ap, ◌∙◌, arith, inl, inr, ◌⊎◌, suc, zero}
-use Rattle.std.specs.Option.{option_and_then}
 use Rattle.std.proofs.lemmas.Bool.Decides.{leb_tells}
 use Rattle.std.proofs.lemmas.List.Elements.{All-nil, All-cons, All-head, All-tail, All-contains}
 use Rattle.html_render_parts.specs.declared.table.placement.Standing.{Standing}
-use Rattle.html_render_parts.specs.declared.table.placement.Place.{Place}
-use Rattle.html_render_parts.specs.Placement.{end_of, reaching, rising, rising_with}
-use Rattle.html_render_parts.specs.PlacementSteps.{RowSoFar, empty_row, with_rest, with_bottoms, bottoms_with}
+use Rattle.html_render_values.specs.declared.errors.Error.{Error}
+use Rattle.html_render_values.specs.declared.errors.Error.TheVariants.{TooNarrow, Fail, OutOfMemory}
+use Rattle.html_render_parts.specs.Placement.{bottom_rows, end_of, reaching, rest_from, rising, rising_with}
+use Rattle.html_render_parts.specs.PlacementSteps.{IsNextBottom, Placing, RowSoFar, empty_row, fitting, with_rest}
+use Rattle.html_render_parts.specs.Refusal.{Fails}
 use Rattle.html_render_parts.proofs.NumberTests.{ltb-tells}
+use Rattle.html_render_parts.proofs.PlacingRows.{bottom-made, bottom-past}
 
 -- the cells that end after n
-abbrev pub later : ℕ → List Standing → List Standing
+abbrev later : ℕ → List Standing → List Standing
 later n cells = filter (λ c. nat_lt n (end_of c)) cells
 
-pub later-all : (n : ℕ) (cs : List Standing) → All (λ c. n < end_of c) cs → later n cs ≡ cs
+later-all : (n : ℕ) (cs : List Standing) → All (λ c. n < end_of c) cs → later n cs ≡ cs
 later-all n [] h = refl
 later-all n (c ∷ cs) h =
     let P : Standing → Type 0 = λ d. n < end_of d in
@@ -108,30 +110,22 @@ least-is first cs has h = elim (least-first (end_of first) cs h) [
 
 -- ---- one row below the last one
 
-same-then : {X Y : Type 0} (o : Option X) (f g : X → Option Y) → ((x : X) → f x ≡ g x) → option_and_then f o ≡ option_and_then g o
-same-then None f g h = refl
-same-then (Some x) f g h = h x
-
-with_bottoms-later : (n : ℕ) (ms : List ℕ) → All (λ m. n < m) ms → (hung : List Standing) (done : List (List Place)) →
-    with_bottoms ms (later n hung) done ≡ with_bottoms ms hung done
-with_bottoms-later n [] h hung done = refl
-with_bottoms-later n (m ∷ ms) h hung done =
+bottoms-later : (n : ℕ) (ms : List ℕ) → All (λ m. n < m) ms → (hung : List Standing) →
+    map (λ m. rest_from 0 (reaching m (later n hung))) ms ≡ map (λ m. rest_from 0 (reaching m hung)) ms
+bottoms-later n [] h hung = refl
+bottoms-later n (m ∷ ms) h hung =
     let P : ℕ → Type 0 = λ k. n < k in
     let here : n < m = All-head P m ms h in
-    rw (reaching-later m n here hung)
-    (same-then (with_rest (reaching m hung) empty_row) _ _
-    (λ l. with_bottoms-later n ms (All-tail P m ms h) hung (done ++ l.places ∷ [])))
+    let ih = bottoms-later n ms (All-tail P m ms h) hung in
+    rw (reaching-later m n here hung, ih) refl
 
-pub bottoms_with-step : (hung : List Standing) (done : List (List Place)) (first : Standing) → Contains hung first →
-    All (λ c. end_of first ≤ end_of c) hung
-    → bottoms_with hung done ≡ option_and_then (λ l. bottoms_with (later (end_of first) hung) (done ++ l.places ∷ []))
-    (with_rest hung empty_row)
-bottoms_with-step hung done first has h =
+bottoms-next : (hung : List Standing) (first : Standing) → Contains hung first → All (λ c. end_of first ≤ end_of c) hung →
+    bottom_rows hung ≡ rest_from 0 hung ∷ bottom_rows (later (end_of first) hung)
+bottoms-next hung first has h =
     let n = end_of first in
     let ms = rising (map end_of (later n hung)) in
     let above : All (λ m. n < m) ms = All-rising-map (λ m. n < m) (later n hung) (later-above n hung) in
-    rw (least-is first hung has h, reaching-all n hung h)
-    (same-then (with_rest hung empty_row) _ _ (λ l. sym (with_bottoms-later n ms above hung (done ++ l.places ∷ []))))
+    rw (least-is first hung has h, reaching-all n hung h) (ap (λ r. rest_from 0 hung ∷ r) (sym (bottoms-later n ms above hung)))
   where
     later-above : (n : ℕ) (cs : List Standing) → All (λ c. n < end_of c) (later n cs)
     later-above n [] = All-nil (λ (c : Standing). n < end_of c)
@@ -141,7 +135,7 @@ bottoms_with-step hung done first has h =
     ]
 
 -- the cell that ends first is none of those that end later
-pub later-shorter : (hung : List Standing) (first : Standing) → Contains hung first → length (later (end_of first) hung) < length hung
+later-shorter : (hung : List Standing) (first : Standing) → Contains hung first → length (later (end_of first) hung) < length hung
 later-shorter hung first has = shorter hung has.0 has.1 has.2
   where
     short : (cs : List Standing) → length (later (end_of first) cs) ≤ length cs
@@ -162,11 +156,29 @@ later-shorter hung first has = shorter hung has.0 has.1 has.2
         let more = shorter cs k (omega arith) at in
         elim (ltb-tells (end_of first) (end_of c)) [ inl t ↦ rw t.0 (omega arith) | inr t ↦ rw t.0 (omega arith) ]
 
--- a row's places go behind those that stand, and the cells that end later stay
-pub bottoms-next : (hung hung' : List Standing) (done : List (List Place)) (first : Standing) (built : RowSoFar) → Contains hung first →
+-- a row that was put together below the last one is the next one there
+pub next-bottom : (done next : Placing) (hung : List Standing) (first : Standing) (l : RowSoFar) → done.hanging ≡ hung →
+    Contains hung first → All (λ c. end_of first ≤ end_of c) hung
+    → with_rest hung empty_row ≡ Some l → next.places ≡ l.places → next.told ≡ l.told → next.hanging ≡ later (end_of first) hung →
+    IsNextBottom done next
+next-bottom done next hung first l same has h made places told hangs =
+    let is = bottom-made hung l made in
+    let row : rest_from 0 hung ≡ next.places = sym is.0 ∙ sym places in
+    record {
+      row_end = end_of first;
+      rows = ap bottom_rows same ∙ bottoms-next hung first has h ∙ ap (λ r. r ∷ bottom_rows (later (end_of first) hung)) row
+          ∙ ap (λ hs. next.places ∷ bottom_rows hs) (sym hangs);
+      places = sym row ∙ ap (rest_from 0) (sym same);
+      fits = rw places is.2;
+      told = rw same (told ∙ is.1);
+      hangs_on = rw same hangs;
+      fewer = rw (hangs, same) (later-shorter hung first has);
+    }
+
+-- and a refusal of it is one of all that are left
+pub bottoms-refused : (e : Error) (hung : List Standing) (first : Standing) → Contains hung first →
     All (λ c. end_of first ≤ end_of c) hung
-    → with_rest hung empty_row ≡ Some built → hung' ≡ later (end_of first) hung →
-    bottoms_with hung' (done ++ built.places ∷ []) ≡ bottoms_with hung done
-bottoms-next hung hung' done first built has h e f =
-    rw f (sym (bottoms_with-step hung done first has h
-    ∙ ap (option_and_then (λ l. bottoms_with (later (end_of first) hung) (done ++ l.places ∷ []))) e))
+    → Fails e (with_rest hung empty_row) → Fails e (fitting (bottom_rows hung))
+bottoms-refused TooNarrow hung first has h fails = fails
+bottoms-refused OutOfMemory hung first has h fails = tt
+bottoms-refused Fail hung first has h fails = rw (bottoms-next hung first has h, bottom-past hung fails) refl

@@ -10,10 +10,11 @@ use Rattle.html_render_parts.specs.declared.table.CellKind.TheVariants.{Cell, Pl
 use Rattle.html_render_parts.specs.declared.table.PlacedCell.{PlacedCell}
 use Rattle.html_render_parts.specs.declared.table.placement.Place.{Place}
 use Rattle.html_render_parts.specs.declared.table.placement.Standing.{Standing}
-use Rattle.html_render_parts.specs.Placement.{by_column_with, by_column, end_of, hangs_into, hanging, place, due_places, due_end, not_due, gap_to}
+use Rattle.html_render_parts.specs.Placement.{end_of, hanging, place, due_places, due_end, not_due, gap_to}
 use Rattle.html_render_parts.specs.Placement.{rest_from, row_from, own_from, reaching, rising, rows_from, placed_rows}
 use Rattle.html_render_parts.specs.Grid.{AreSideBySide, AreValid, ends, edges_of, rank, numbered}
 use Rattle.html_render_parts.proofs.EdgeRanks.{Contains-here, Contains-rising, Contains-there, rank-below, rank-less, rank-mono}
+use Rattle.html_render_parts.proofs.HangingOrder.{All-hanging, All-not_due}
 use Rattle.html_render_parts.proofs.NumberTests.{ltb-tells}
 
 -- places side by side from one position to another
@@ -27,31 +28,13 @@ Between-append b c d (p ∷ ps) qs h k = (h.0, h.1, Between-append p.end c d ps 
 
 -- ---- cells that span a column
 
-abbrev Wide : Standing → Type 0
+abbrev pub Wide : Standing → Type 0
 Wide c = 1 ≤ c.span.colspan
 
 abbrev Valid : Span → Type 0
 Valid s = (1 ≤ s.colspan) × (1 ≤ s.rowspan)
 
-Wide-by_column_with : (c : Standing) (cs : List Standing) → Wide c → All Wide cs → All Wide (by_column_with c cs)
-Wide-by_column_with c [] w h = All-cons Wide c [] w h
-Wide-by_column_with c (d ∷ ds) w h = elim (leb_tells c.column d.column) [
-  | inl t ↦ rw t.0 (All-cons Wide c (d ∷ ds) w h)
-  | inr t ↦ rw t.0 (All-cons Wide d (by_column_with c ds) (All-head Wide d ds h) (Wide-by_column_with c ds w (All-tail Wide d ds h)))
-]
-
-Wide-by_column : (cs : List Standing) → All Wide cs → All Wide (by_column cs)
-Wide-by_column [] h = h
-Wide-by_column (c ∷ cs) h = Wide-by_column_with c (by_column cs) (All-head Wide c cs h) (Wide-by_column cs (All-tail Wide c cs h))
-
-Wide-not_due : (cursor : ℕ) (hs : List Standing) → All Wide hs → All Wide (not_due cursor hs)
-Wide-not_due cursor [] w = w
-Wide-not_due cursor (h ∷ hs) w = elim (leb_tells h.column cursor) [
-  | inl t ↦ rw t.0 (Wide-not_due (cursor + h.span.colspan) hs (All-tail Wide h hs w))
-  | inr t ↦ rw t.0 w
-]
-
-Wide-own_from : (row cursor : ℕ) (hs : List Standing) (ss : List Span) → All Valid ss → All Wide (own_from row cursor hs ss)
+pub Wide-own_from : (row cursor : ℕ) (hs : List Standing) (ss : List Span) → All Valid ss → All Wide (own_from row cursor hs ss)
 Wide-own_from row cursor hs [] v = All-nil Wide
 Wide-own_from row cursor hs (s ∷ ss) v =
     let column = due_end cursor hs in
@@ -99,7 +82,7 @@ Ends-row cursor hs [] w v = Ends-rest cursor hs w
 Ends-row cursor hs (s ∷ ss) w v =
     let column = due_end cursor hs in
     let valid = All-head Valid s ss v in
-    let rest = Ends-row (column + s.colspan) (not_due cursor hs) ss (Wide-not_due cursor hs w) (All-tail Valid s ss v) in (
+    let rest = Ends-row (column + s.colspan) (not_due cursor hs) ss (All-not_due Wide cursor hs w) (All-tail Valid s ss v) in (
       rest.0,
       Between-append cursor column rest.0 (due_places cursor hs)
           (place Cell column s.colspan ∷ row_from (column + s.colspan) (not_due cursor hs) ss) (Between-due cursor hs w)
@@ -114,18 +97,15 @@ Ends-bottoms hung w (n ∷ ns) =
     All-cons (Ends 0) (rest_from 0 (reaching n hung)) (map (λ m. rest_from 0 (reaching m hung)) ns)
     (Ends-rest 0 (reaching n hung) (All-filter (λ c. nat_le n (end_of c)) Wide hung w)) (Ends-bottoms hung w ns)
 
-Wide-hanging : (row : ℕ) (above : List Standing) → All Wide above → All Wide (hanging row above)
-Wide-hanging row above w = All-filter (hangs_into row) Wide (by_column above) (Wide-by_column above w)
-
-Ends-rows : (row : ℕ) (above : List Standing) (rows : List (List Span)) → All Wide above → AreValid rows →
-    All (Ends 0) (rows_from row above rows)
-Ends-rows row above [] w v = Ends-bottoms (hanging row above) (Wide-hanging row above w) (rising (map end_of (hanging row above)))
-Ends-rows row above (ss ∷ rows) w v =
-    let hung = hanging row above in
-    let all = above ++ own_from row 0 hung ss in
+Ends-rows : (row : ℕ) (hung : List Standing) (rows : List (List Span)) → All Wide hung → AreValid rows →
+    All (Ends 0) (rows_from row hung rows)
+Ends-rows row hung [] w v = Ends-bottoms hung w (rising (map end_of hung))
+Ends-rows row hung (ss ∷ rows) w v =
+    let own = own_from row 0 hung ss in
+    let next = hanging (row + 1) (hung ++ own) in
     let here : All Valid ss = All-head (All Valid) ss rows v in
-    All-cons (Ends 0) (row_from 0 hung ss) (rows_from (row + 1) all rows) (Ends-row 0 hung ss (Wide-hanging row above w) here)
-    (Ends-rows (row + 1) all rows (All-append Wide above (own_from row 0 hung ss) w (Wide-own_from row 0 hung ss here))
+    All-cons (Ends 0) (row_from 0 hung ss) (rows_from (row + 1) next rows) (Ends-row 0 hung ss w here)
+    (Ends-rows (row + 1) next rows (All-hanging Wide (row + 1) (hung ++ own) (All-append Wide hung own w (Wide-own_from row 0 hung ss here)))
     (All-tail (All Valid) ss rows v))
 
 -- ---- each start is an edge, below its end

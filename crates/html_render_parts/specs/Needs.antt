@@ -1,6 +1,6 @@
 -- What the columns of a table need for its cells.
-use Rattle.std.specs.Prelude.{ℕ, ◌+◌, ◌-◌, ◌/◌, ◌≤◌, ◌<◌, Bool, ◌&&◌, nat_le, nat_lt, List, All, map, sum, slice_range, Option, None, if◌then◌else◌}
-use Rattle.std.specs.List.{list_all, range_with_len}
+use Rattle.std.specs.Prelude.{ℕ, ◌+◌, ◌-◌, ◌/◌, ◌≤◌, ◌<◌, List, All, map, sum, slice_range, Option}
+use Rattle.std.specs.List.{range_with_len}
 use Rattle.html_render_parts.specs.declared.widths.needs.CellNeed.{CellNeed}
 use Rattle.html_render_parts.specs.declared.widths.shares.ColumnNeed.{ColumnNeed}
 use Rattle.html_render_parts.specs.declared.widths.spans.Span.{Span}
@@ -34,11 +34,10 @@ no_need = record { size = 0; least = 0 }
 abbrev pub AreSome : List CellNeed → Type 0
 AreSome cells = All (λ c. 0 < c.count) cells
 
--- cells of these columns, each over one or more, that need no more at least than their size
+-- cells of these columns, each over one or more
 pub record IsCell (columns : ℕ) (c : CellNeed) : Type 0 where
   pub over : c.start + c.count ≤ columns
   pub some : 0 < c.count
-  pub least : c.least ≤ c.size
 
 abbrev pub AreCells : (columns : ℕ) → List CellNeed → Type 0
 AreCells columns cells = All (IsCell columns) cells
@@ -46,15 +45,3 @@ AreCells columns cells = All (IsCell columns) cells
 -- a cell has its least width over its columns, with the separators between them
 abbrev pub HasRoom : (widths : List ℕ) → CellNeed → Type 0
 HasRoom widths c = c.least ≤ sum (slice_range widths c.start (c.start + c.count)) + (c.count - 1)
-
--- cells of these columns as a test
-abbrev pub cell_stands : (columns : ℕ) → CellNeed → Bool
-cell_stands columns c = nat_le (c.start + c.count) columns && (nat_lt 0 c.count && nat_le c.least c.size)
-
-abbrev pub cells_stand : (columns : ℕ) → List CellNeed → Bool
-cells_stand columns cells = list_all (cell_stands columns) cells
-
--- the widths of a table's columns side by side, whatever its cells are: none where one doesn't stand over its columns, or needs
--- more than its size
-abbrev pub standing_widths : (columns : ℕ) → List CellNeed → (width : ℕ) → Option (List ℕ)
-standing_widths columns cells width = if cells_stand columns cells then table_widths columns cells width else None

@@ -105,13 +105,18 @@ rising (n ∷ ns) = rising_with n (rising ns)
 abbrev pub bottom_rows : List Standing → List (List Place)
 bottom_rows hung = map (λ n. rest_from 0 (reaching n hung)) (rising (map end_of hung))
 
--- the rows from one on, below all the cells above it, and the rows below the last one
-abbrev pub rows_from : ℕ → List Standing → List (List Span) → List (List Place)
-rows_from row above [] = bottom_rows (hanging row above)
-rows_from row above (cells ∷ more) =
-    let hung = hanging row above in
-    row_from 0 hung cells ∷ rows_from (row + 1) (above ++ own_from row 0 hung cells) more
+-- the rows from one on, into which these cells of the rows above hang, in order of own column, and the rows below the last one
+abbrev pub rows_from : ℕ → (hung : List Standing) → List (List Span) → List (List Place)
+rows_from row hung [] = bottom_rows hung
+rows_from row hung (cells ∷ more) =
+    row_from 0 hung cells ∷ rows_from (row + 1) (hanging (row + 1) (hung ++ own_from row 0 hung cells)) more
 
 -- the rows of a table as they are placed
 abbrev pub placed_rows : List (List Span) → List (List Place)
 placed_rows rows = rows_from 0 [] rows
+
+-- the cells of each row, at their own columns
+abbrev pub own_rows_from : ℕ → (hung : List Standing) → List (List Span) → List (List Standing)
+own_rows_from row hung [] = []
+own_rows_from row hung (cells ∷ more) =
+    let own = own_from row 0 hung cells in own ∷ own_rows_from (row + 1) (hanging (row + 1) (hung ++ own)) more

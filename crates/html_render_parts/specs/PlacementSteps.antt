@@ -1,22 +1,29 @@
--- Rows of a table as they are put together from the left: each step has no result where a place would end past the
--- last position.
-use Rattle.std.specs.Prelude.{ℕ, ◌+◌, ◌^◌, List, [], ◌∷◌, ◌++◌, Option, Some, None, map, filter, nat_lt, nat_le, if◌then◌else◌}
+-- Rows of a table as they are put together from the left, and one after another: a step has no result where a place would end
+-- past the last position.
+use Rattle.std.specs.Prelude.{◌≡◌, ℕ, ◌+◌, ◌^◌, ◌<◌, ◌≤◌, Bool, true, List, [], ◌∷◌, ◌++◌, Option, Some, None, All, length, max, map, drop, filter, nat_lt, nat_le, if◌then◌else◌}
+use Rattle.std.specs.List.{list_all}
 use Rattle.html_render_values.specs.Outcome.{◌>>=◌}
 use Rattle.html_render_parts.specs.declared.table.Span.{Span}
+use Rattle.html_render_parts.specs.declared.table.PlacedCell.{PlacedCell}
 use Rattle.html_render_parts.specs.declared.table.CellKind.{CellKind}
 use Rattle.html_render_parts.specs.declared.table.CellKind.TheVariants.{Cell, Placeholder, Gap}
 use Rattle.html_render_parts.specs.declared.table.placement.Place.{Place}
 use Rattle.html_render_parts.specs.declared.table.placement.Standing.{Standing}
-use Rattle.html_render_parts.specs.Placement.{end_of, hangs_into, not_due, rising, reaching}
+use Rattle.html_render_parts.specs.Placement.{hangs_into, hanging, due_end, not_due, rest_from, row_from, own_from, bottom_rows, rows_from}
+use Rattle.html_render_parts.specs.Grid.{numbered, positions_fit}
+use Rattle.html_render_parts.specs.TableCells.{CellGrid, spans_on}
 
--- a row on its way: its places, its cells and those that hang into it, in order, and where the next place begins
+-- a row on its way: its places, its own cells, the ends that it tells, the cells that hang into the next row, and where the next
+-- place begins
 pub record RowSoFar : Type 0 where
   pub places : List Place
-  pub standing : List Standing
+  pub own : List Standing
+  pub told : List ℕ
+  pub kept : List Standing
   pub cursor : ℕ
 
 abbrev pub empty_row : RowSoFar
-empty_row = record { places = []; standing = []; cursor = 0 }
+empty_row = record { places = []; own = []; told = []; kept = []; cursor = 0 }
 
 -- one place more, up to an end
 abbrev pub put_to : CellKind → ℕ → RowSoFar → Option RowSoFar
@@ -28,21 +35,34 @@ put_to kind end built =
 abbrev pub put : CellKind → ℕ → RowSoFar → Option RowSoFar
 put kind columns built = put_to kind (built.cursor + columns) built
 
--- a cell more that may hang into later rows
-abbrev pub keeping : Standing → RowSoFar → RowSoFar
-keeping c built = record built { standing = built.standing ++ c ∷ [] }
+-- the end of the last place told
+abbrev pub telling_end : RowSoFar → RowSoFar
+telling_end built = record built { told = built.told ++ built.cursor ∷ [] }
 
+-- a cell of the row's own
+abbrev pub owning : Standing → RowSoFar → RowSoFar
+owning c built = record built { own = built.own ++ c ∷ [] }
+
+-- those of these cells of a row that hang into the next one
+abbrev pub keeping : ℕ → List Standing → RowSoFar → RowSoFar
+keeping row cs built = record built { kept = built.kept ++ filter (hangs_into (row + 1)) cs }
+
+-- a placeholder, which tells its end where it's displaced
 abbrev pub with_hanging : Standing → RowSoFar → Option RowSoFar
-with_hanging h built = put Placeholder h.span.colspan built >>= λ l. Some (keeping h l)
+with_hanging h built =
+    put Placeholder h.span.colspan built >>= λ l. Some (if nat_lt h.column built.cursor then telling_end l else l)
 
 -- the hanging cells that are due
-abbrev pub with_due : List Standing → RowSoFar → Option RowSoFar
-with_due [] built = Some built
-with_due (h ∷ hs) built = if nat_le h.column built.cursor then (with_hanging h built >>= λ l. with_due hs l) else Some built
+abbrev pub with_due : ℕ → List Standing → RowSoFar → Option RowSoFar
+with_due row [] built = Some built
+with_due row (h ∷ hs) built =
+    if nat_le h.column built.cursor then (with_hanging h built >>= λ l. with_due row hs (keeping row (h ∷ []) l)) else Some built
 
 -- a cell of the row
 abbrev pub with_own : ℕ → Span → RowSoFar → Option RowSoFar
-with_own row s built = put Cell s.colspan built >>= λ l. Some (keeping (record { row = row; column = built.cursor; span = s }) l)
+with_own row s built =
+    let c : Standing = record { row = row; column = built.cursor; span = s } in
+    put Cell s.colspan built >>= λ l. Some (keeping row (c ∷ []) (owning c (telling_end l)))
 
 abbrev pub with_gap : ℕ → RowSoFar → Option RowSoFar
 with_gap column built = if nat_lt built.cursor column then put_to Gap column built else Some built
@@ -53,19 +73,89 @@ with_rest [] built = Some built
 with_rest (h ∷ hs) built = with_gap h.column built >>= λ l. with_hanging h l >>= λ m. with_rest hs m
 
 abbrev pub with_row : ℕ → List Span → List Standing → RowSoFar → Option RowSoFar
-with_row row [] hs built = with_rest hs built
-with_row row (s ∷ ss) hs built = with_due hs built >>= λ l. with_own row s l >>= λ m. with_row row ss (not_due built.cursor hs) m
+with_row row [] hs built = with_rest hs built >>= λ l. Some (keeping row hs l)
+with_row row (s ∷ ss) hs built = with_due row hs built >>= λ l. with_own row s l >>= λ m. with_row row ss (not_due built.cursor hs) m
 
--- the rows below the last one, behind those that stand already
-abbrev pub with_bottoms : List ℕ → List Standing → List (List Place) → Option (List (List Place))
-with_bottoms [] hung done = Some done
-with_bottoms (n ∷ ns) hung done = with_rest (reaching n hung) empty_row >>= λ l. with_bottoms ns hung (done ++ l.places ∷ [])
+-- ---- the ends that a row tells: those of its own cells and of displaced placeholders
 
-abbrev pub bottoms_with : List Standing → List (List Place) → Option (List (List Place))
-bottoms_with hung done = with_bottoms (rising (map end_of hung)) hung done
+abbrev pub displaced_end : ℕ → Standing → List ℕ
+displaced_end start h = if nat_lt h.column start then (start + h.span.colspan) ∷ [] else []
 
--- the rows from one on, behind those that stand already
-abbrev pub rows_with : ℕ → List (List Span) → List Standing → List (List Place) → Option (List (List Place))
-rows_with row [] hung done = bottoms_with hung done
-rows_with row (cells ∷ more) hung done =
-    with_row row cells hung empty_row >>= λ l. rows_with (row + 1) more (filter (hangs_into (row + 1)) l.standing) (done ++ l.places ∷ [])
+abbrev pub due_told : ℕ → List Standing → List ℕ
+due_told cursor [] = []
+due_told cursor (h ∷ hs) =
+    if nat_le h.column cursor then displaced_end cursor h ++ due_told (cursor + h.span.colspan) hs else []
+
+abbrev pub rest_told : ℕ → List Standing → List ℕ
+rest_told cursor [] = []
+rest_told cursor (h ∷ hs) =
+    let column = max cursor h.column in displaced_end column h ++ rest_told (column + h.span.colspan) hs
+
+abbrev pub row_told : ℕ → List Standing → List Span → List ℕ
+row_told cursor hs [] = rest_told cursor hs
+row_told cursor hs (s ∷ ss) =
+    let next = due_end cursor hs + s.colspan in due_told cursor hs ++ next ∷ row_told next (not_due cursor hs) ss
+
+-- ---- one row after another
+
+-- cells in order of own column
+abbrev pub AllFrom : ℕ → List Standing → Type 0
+AllFrom n [] = Unit {0}
+AllFrom n (c ∷ cs) = (n ≤ c.column) × AllFrom n cs
+
+abbrev pub IsByColumn : List Standing → Type 0
+IsByColumn [] = Unit {0}
+IsByColumn (c ∷ cs) = AllFrom c.column cs × IsByColumn cs
+
+-- the row that was placed last, and the cells that hang into the next one
+pub record Placing : Type 0 where
+  pub places : List Place
+  pub own : List Standing
+  pub told : List ℕ
+  pub hanging : List Standing
+
+abbrev pub nothing_placed : Placing
+nothing_placed = record { places = []; own = []; told = []; hanging = [] }
+
+abbrev pub row_fits : List Place → Bool
+row_fits places = list_all (λ p. nat_lt p.end (2 ^ 128)) places
+
+-- the next row of these cells
+abbrev pub with_next : ℕ → List Span → Placing → Option Placing
+with_next row cells done =
+    let hung = done.hanging in
+    let own = own_from row 0 hung cells in
+    if row_fits (row_from 0 hung cells) then Some (record {
+      places = row_from 0 hung cells;
+      own = own;
+      told = row_told 0 hung cells;
+      hanging = hanging (row + 1) (hung ++ own);
+    }) else None
+
+-- the next row below the last one: the cells that hang there, without those that end first, hang into the one below it
+pub record IsNextBottom (done next : Placing) : Type 0 where
+  pub row_end : ℕ
+  pub rows : bottom_rows done.hanging ≡ next.places ∷ bottom_rows next.hanging
+  pub places : next.places ≡ rest_from 0 done.hanging
+  pub fits : row_fits next.places ≡ true
+  pub told : next.told ≡ rest_told 0 done.hanging
+  pub hangs_on : next.hanging ≡ filter (hangs_into row_end) done.hanging
+  pub fewer : length next.hanging < length done.hanging
+
+-- rows, where they fit
+abbrev pub fitting : List (List Place) → Option (List (List Place))
+fitting rows = if positions_fit rows then Some rows else None
+
+-- ---- the rows of a table that are ahead: those from one on, into which these cells hang
+
+abbrev pub places_ahead : CellGrid → ℕ → List Standing → List (List Place)
+places_ahead g row hung = rows_from row hung (drop row (spans_on g))
+
+abbrev pub rows_ahead : CellGrid → ℕ → List Standing → List (List PlacedCell)
+rows_ahead g row hung = map (map (numbered g.edges)) (places_ahead g row hung)
+
+-- they fit, and no place begins behind its end
+pub record AreAhead (g : CellGrid) (row : ℕ) (hung : List Standing) : Type 0 where
+  pub within : row ≤ length g.rows
+  pub fits : positions_fit (places_ahead g row hung) ≡ true
+  pub ordered : All (All (λ p. p.start ≤ p.end)) (places_ahead g row hung)

@@ -1,6 +1,6 @@
 -- How wide the columns of a table are where they stand side by side in a block.
-use Rattle.std.specs.Prelude.{ℕ, ◌+◌, ◌-◌, ◌*◌, ◌/◌, ◌≤◌, ◌==◌, Bool, not, ◌&&◌, nat_le}
-use Rattle.std.specs.Prelude.{List, All, length, map, sum, sum_by, min, max, Option, Some, None, if◌then◌else◌}
+use Rattle.std.specs.Prelude.{ℕ, ◌+◌, ◌-◌, ◌*◌, ◌/◌, ◌==◌, Bool, not, ◌&&◌, nat_le}
+use Rattle.std.specs.Prelude.{List, length, map, sum, sum_by, min, max, Option, Some, None, if◌then◌else◌}
 use Rattle.html_render_parts.specs.declared.widths.shares.ColumnNeed.{ColumnNeed}
 use Rattle.html_render_parts.specs.Cuts.{cut_by_units}
 
@@ -12,10 +12,10 @@ least_widths needs = map (λ n. n.least) needs
 abbrev pub total_size : List ColumnNeed → ℕ
 total_size needs = sum_by (λ n. n.size) needs
 
--- the share of a column in a width: nothing, where its content has no size; else as much of the width as its size is of all sizes,
--- but no less than its least width, and no more than its size
+-- the share of a column in a width: as much of it as its size is of all sizes, but no more than its size, and no less than its
+-- least width
 abbrev pub share : (width total : ℕ) → ColumnNeed → ℕ
-share width total need = if need.size == 0 then 0 else min need.size (max (need.size * width / total) need.least)
+share width total need = max need.least (min need.size (need.size * width / total))
 
 abbrev pub shares : (width : ℕ) → List ColumnNeed → List ℕ
 shares width needs = map (share width (total_size needs)) needs
@@ -29,7 +29,3 @@ stand_side_by_side width needs = not (width == 0) && nat_le (sum (least_widths n
 abbrev pub widths_across : (width : ℕ) → List ColumnNeed → Option (List ℕ)
 widths_across width needs =
     if stand_side_by_side width needs then Some (cut_by_units (least_widths needs) (shares width needs) width) else None
-
--- no column needs more than its content has
-abbrev pub AreNeeds : List ColumnNeed → Type 0
-AreNeeds needs = All (λ n. n.least ≤ n.size) needs

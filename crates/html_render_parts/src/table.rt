@@ -10,6 +10,8 @@ ghost use Rattle.html_render_parts.specs.Placement.{lists};
 ghost use Rattle.html_render_parts.specs.Grid.{AreSideBySide, AreValid, IsLeastNumbering, IsNumbering, grid_of, rank, shown};
 ghost use Rattle.html_render_parts.specs.Refusal.{Fails};
 
+pub mod cells;
+mod gathering;
 mod numbering;
 mod placement;
 

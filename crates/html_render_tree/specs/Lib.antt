@@ -2,19 +2,16 @@
 pub mod Texts
 pub mod Decorations
 pub mod Rendering
--- the render tree of a document
-pub mod RenderTree
 -- the exit status of the program
 pub mod Program
 -- laws of the definitions
 pub mod laws
 -- what the calls of the program's scripts make of a document
 pub use Rattle.html_render_scripts.specs.Scripts
--- which nodes a document becomes, and how the parts of tables come into their places
-pub use Rattle.html_render_conversion.specs.Insertion
+-- which render tree a document becomes
 pub use Rattle.html_render_conversion.specs.Tables
 pub use Rattle.html_render_conversion.specs.Conversion
-pub use Rattle.html_render_arrangement.specs.Arrangement
+pub use Rattle.html_render_conversion.specs.Results
 -- what an error says of a definition
 pub use Rattle.html_render_parts.specs.Refusal
 -- tagged lines, their strings, and their text under a colour map

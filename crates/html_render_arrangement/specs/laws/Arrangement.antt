@@ -47,13 +47,13 @@ settled_kind-stays : (kind : NodeKind) → stays kind ≡ true → settled_kind 
 settled_kind-stays (Part part) e = cc
 settled_kind-stays kind e = refl
 
-arranged-stays : (t : Nodes) → AllStay t → arranged t ≡ t
+pub arranged-stays : (t : Nodes) → AllStay t → arranged t ≡ t
 arranged-stays none h = refl
 arranged-stays (node n children beside) h =
     ap (λ t. followed_by t (arranged beside)) (tree_of-stays n.kind n.style n.estimate (arranged children) h.0)
     ∙ ap (λ t. node n t (arranged beside)) (arranged-stays children h.1) ∙ ap (node n children) (arranged-stays beside h.2)
 
-finished-stays : (t : Nodes) → AllStay t → finished t ≡ Some t
+pub finished-stays : (t : Nodes) → AllStay t → finished t ≡ Some t
 finished-stays none h = refl
 finished-stays (node n children beside) h =
     ap (λ (o : Option NodeKind). do

@@ -19,10 +19,10 @@ use Rattle.html_render_blocks.specs.declared.block.tables.OpenTable.TheVariants.
 use Rattle.html_render_blocks.specs.OpenRows.{with_cell}
 use Rattle.html_render_blocks.specs.Tables.{Rows, defined_pictures, rule, stacked_border, with_row_open, next_cell_width, skipped, picture_of}
 use Rattle.html_render_blocks.specs.laws.TableFed.{drawing_of, table_of, with_row_open-of, next_cell_width-of, skipped-of, with_open-of, picture_of-of}
-use Rattle.html_render_parts.specs.declared.widths.needs.CellNeed.{CellNeed}
-use Rattle.html_render_parts.specs.Needs.{standing_widths}
-use Rattle.html_render_nodes.specs.declared.tree.Slot.{Slot}
-use Rattle.html_render_nodes.specs.Grids.{GridRows}
+use Rattle.html_render_parts.specs.declared.widths.shares.ColumnNeed.{ColumnNeed}
+use Rattle.html_render_parts.specs.Shares.{widths_across}
+use Rattle.html_render_parts.specs.declared.table.PlacedCell.{PlacedCell}
+use Rattle.html_render_parts.specs.TableCells.{CellGrid, rows_on}
 use Rattle.html_render_pictures.specs.Drawing.{Drawing}
 use Rattle.html_render_pictures.specs.Picture.{is_empty}
 use Rattle.html_render_blocks.specs.BlockMachine as machine
@@ -183,9 +183,9 @@ with_picture-block d p = add_marks-block (record d { lines = d.lines ++ p.0; tab
 end_open-block : {T M : Type 0} (d : DefinedBlock T M) (o : Option (OpenTable (Rows T M) T M)) →
     machine.end_open (block_of d) (option_map table_of o) ≡ block_of (definition.end_open d o)
 end_open-block d None = refl
-end_open-block d (Some (Across p widths below row)) =
-    ap (machine.with_picture (block_of d)) (picture_of-of p widths below row)
-    ∙ with_picture-block d (picture_of defined_pictures p widths below row)
+end_open-block d (Some (Across p widths ahead row)) =
+    ap (machine.with_picture (block_of d)) (picture_of-of p widths ahead row)
+    ∙ with_picture-block d (picture_of defined_pictures p widths ahead row)
 end_open-block d (Some (Stacked border has_lines)) = refl
 
 pub end_table-block : {T M : Type 0} (d : DefinedBlock T M) → machine.end_table (block_of d) ≡ block_of (definition.end_table d)
@@ -201,23 +201,23 @@ stacked_begun-block : {T M : Type 0} (d : DefinedBlock T M) (border : Option T) 
 stacked_begun-block {T} {M} d border none =
     ap (λ (b : MachineBlock T M). record b { table = Some (Stacked border false) }) (add_border-block d border 0x2500 none)
 
-table_begun-block : {T M : Type 0} (d : DefinedBlock T M) (tag : T) (borders : Bool) (below : List (List Slot)) (o : Option (List ℕ)) →
-    d.fed ≡ [] → machine.table_begun (block_of d) tag borders below o ≡ block_of (definition.table_begun d tag borders below o)
-table_begun-block d tag borders below None none = stacked_begun-block d (stacked_border tag borders d.setting.width) none
-table_begun-block d tag borders below (Some widths) none =
-    ap (λ xs. machine.table_begun (block_of (record d { fed = xs })) tag borders below (Some widths)) none
-    ∙ ap (λ xs. block_of (record (definition.table_begun d tag borders below (Some widths)) { fed = xs })) (sym none)
+table_begun-block : {T M : Type 0} (d : DefinedBlock T M) (tag : T) (borders : Bool) (ahead : List (List PlacedCell)) (o : Option (List ℕ)) →
+    d.fed ≡ [] → machine.table_begun (block_of d) tag borders ahead o ≡ block_of (definition.table_begun d tag borders ahead o)
+table_begun-block d tag borders ahead None none = stacked_begun-block d (stacked_border tag borders d.setting.width) none
+table_begun-block d tag borders ahead (Some widths) none =
+    ap (λ xs. machine.table_begun (block_of (record d { fed = xs })) tag borders ahead (Some widths)) none
+    ∙ ap (λ xs. block_of (record (definition.table_begun d tag borders ahead (Some widths)) { fed = xs })) (sym none)
 
-begin_table-block : {T M : Type 0} (d : DefinedBlock T M) (tag : T) (borders stacked : Bool) (grid : GridRows) (cells : List CellNeed) →
-    machine.begin_table (block_of d) tag borders stacked grid cells
-    ≡ option_map block_of (definition.begin_table d tag borders stacked grid cells)
-begin_table-block {T} {M} d tag borders stacked grid cells =
-    ap (λ b. option_map (λ (c : MachineBlock T M). machine.table_begun c tag borders grid.rows
-    (cond stacked None (standing_widths grid.columns cells c.setting.width))) (machine.flush b)) (end_table-block d)
+begin_table-block : {T M : Type 0} (d : DefinedBlock T M) (tag : T) (borders stacked : Bool) (grid : CellGrid) (needs : List ColumnNeed) →
+    machine.begin_table (block_of d) tag borders stacked grid needs
+    ≡ option_map block_of (definition.begin_table d tag borders stacked grid needs)
+begin_table-block {T} {M} d tag borders stacked grid needs =
+    ap (λ b. option_map (λ (c : MachineBlock T M). machine.table_begun c tag borders (rows_on grid)
+    (cond stacked None (widths_across c.setting.width needs))) (machine.flush b)) (end_table-block d)
     ∙ after_flush (definition.end_table d)
-    (λ (e : DefinedBlock T M). definition.table_begun e tag borders grid.rows (cond stacked None (standing_widths grid.columns cells e.setting.width)))
-    (λ (c : MachineBlock T M). machine.table_begun c tag borders grid.rows (cond stacked None (standing_widths grid.columns cells c.setting.width)))
-    (λ e none. table_begun-block e tag borders grid.rows (cond stacked None (standing_widths grid.columns cells e.setting.width)) none)
+    (λ (e : DefinedBlock T M). definition.table_begun e tag borders (rows_on grid) (cond stacked None (widths_across e.setting.width needs)))
+    (λ (c : MachineBlock T M). machine.table_begun c tag borders (rows_on grid) (cond stacked None (widths_across c.setting.width needs)))
+    (λ e none. table_begun-block e tag borders (rows_on grid) (cond stacked None (widths_across e.setting.width needs)) none)
 
 on_table : {T M : Type 0} (d : DefinedBlock T M) (k : OpenTable (Rows T M) T M → OpenTable (Rows T M) T M)
     (l : OpenTable (Drawing T M) T M → OpenTable (Drawing T M) T M) → ((t : OpenTable (Rows T M) T M) → l (table_of t) ≡ table_of (k t)) →
@@ -275,11 +275,11 @@ cell_added-block : {T M : Type 0} (d : DefinedBlock T M) (o : Option (OpenTable 
     machine.cell_added (block_of d) (option_map table_of o) (block_of c) ≡ option_map block_of (definition.cell_added d o c)
 cell_added-block {T} {M} d None c empty =
     after_flush d (λ e. definition.put_below e c) (λ b. machine.put_below b (block_of c)) (λ e none. put_below-block e c none empty)
-cell_added-block {T} {M} d (Some (Across p widths below None)) c empty =
+cell_added-block {T} {M} d (Some (Across p widths ahead None)) c empty =
     after_flush d (λ e. definition.put_below e c) (λ b. machine.put_below b (block_of c)) (λ e none. put_below-block e c none empty)
-cell_added-block {T} {M} d (Some (Across p widths below (Some row))) c empty =
+cell_added-block {T} {M} d (Some (Across p widths ahead (Some row))) c empty =
     ap (λ ms. Some (record (block_of d) {
-      table = Some (Across (drawing_of p) widths below
+      table = Some (Across (drawing_of p) widths ahead
           (Some (with_cell row (record { width = c.setting.width; lines = c.lines; marks = ms } ∷ []))));
     })) (waiting-block c empty)
 cell_added-block {T} {M} d (Some (Stacked border has_lines)) c empty =
@@ -297,8 +297,8 @@ add_cell-block {T} {M} d c =
 row_ended-block : {T M : Type 0} (d : DefinedBlock T M) (o : Option (OpenTable (Rows T M) T M)) →
     machine.row_ended (block_of d) (option_map table_of o) ≡ option_map block_of (definition.row_ended d o)
 row_ended-block d None = refl
-row_ended-block d (Some (Across p widths below row)) =
-    ap (λ q. Some (record (block_of d) { table = Some (Across q widths below None) })) (with_open-of p row)
+row_ended-block d (Some (Across p widths ahead row)) =
+    ap (λ q. Some (record (block_of d) { table = Some (Across q widths ahead None) })) (with_open-of p row)
 row_ended-block {T} {M} d (Some (Stacked border true)) =
     after_flush d (λ (e : DefinedBlock T M). record (definition.add_border e border 0x2500) { table = Some (Stacked border false) })
     (λ (c : MachineBlock T M). record (machine.add_border c border 0x2500) { table = Some (Stacked border false) })
@@ -333,7 +333,7 @@ block_of-commutes = record {
   sub_block = sub_block-block;
   append = append-block;
   begin_table = begin_table-block;
-  begin_row = λ d slots. on_table d (with_row_open slots) (with_row_open slots) (with_row_open-of slots);
+  begin_row = λ d. on_table d with_row_open with_row_open with_row_open-of;
   cell_block = cell_block-block;
   add_cell = add_cell-block;
   skip_cell = λ d. on_table d skipped skipped skipped-of;

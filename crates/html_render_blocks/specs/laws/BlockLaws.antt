@@ -28,17 +28,17 @@ use Rattle.html_render_blocks.specs.Block.{end_open, end_table, add_lines, add_b
 use Rattle.html_render_blocks.specs.Block.{kept_cell, put_below, put_stacked, cell_added, cell_block, add_cell, row_ended}
 use Rattle.html_render_blocks.specs.declared.block.tables.OpenTable.{OpenTable}
 use Rattle.html_render_blocks.specs.declared.block.tables.OpenTable.TheVariants.{Across, Stacked}
-use Rattle.html_render_blocks.specs.Tables.{Rows, defined_pictures, rule, stacked_border, with_row_open, next_cell_width, skipped, with_open, with_below}
+use Rattle.html_render_blocks.specs.Tables.{Rows, defined_pictures, rule, stacked_border, with_row_open, next_cell_width, skipped, with_open, with_ahead}
 use Rattle.html_render_blocks.specs.laws.TableWithin.{TableWithin, place_room, cell-within, picture_rows, picture_frame, with_row_open-within}
-use Rattle.html_render_blocks.specs.laws.TableWithin.{below_rows, below_frame, skipped-within, table_width_within, columns_room-within}
+use Rattle.html_render_blocks.specs.laws.TableWithin.{with_ahead-within, with_ahead-frame, skipped-within, table_width_within, columns_room-within}
 use Rattle.html_render_lines.specs.Character.{width_of}
 use Rattle.html_render_lines.specs.declared.line.Element.{Element}
 use Rattle.html_render_lines.specs.declared.line.Element.TheVariants.{Character}
-use Rattle.html_render_nodes.specs.declared.tree.Slot.{Slot}
-use Rattle.html_render_nodes.specs.Grids.{GridRows}
-use Rattle.html_render_parts.specs.declared.widths.needs.CellNeed.{CellNeed}
-use Rattle.html_render_parts.specs.Needs.{standing_widths}
-use Rattle.html_render_parts.specs.laws.Needs.{standing_within}
+use Rattle.html_render_parts.specs.declared.table.PlacedCell.{PlacedCell}
+use Rattle.html_render_parts.specs.TableCells.{CellGrid, rows_on}
+use Rattle.html_render_parts.specs.declared.widths.shares.ColumnNeed.{ColumnNeed}
+use Rattle.html_render_parts.specs.Shares.{widths_across}
+use Rattle.html_render_parts.specs.laws.Needs.{across_within}
 use Rattle.html_render_pictures.specs.declared.picture.Frame.{Frame}
 use Rattle.html_render_pictures.specs.Marked.{marked_before, marked_behind}
 use Rattle.html_render_pictures.specs.Picture.{KeptCell, is_empty, picture_lines}
@@ -185,13 +185,13 @@ add_lines_within {T} {M} w d ls h k = with_lines w d (add_lines d ls) h refl h.t
 end_open_within : {T M : Type 0} (w : ℕ) (d : DefinedBlock T M) (o : Option (OpenTable (Rows T M) T M)) → IsWithin w d → TableWithin w o →
     IsWithin w (end_open d o)
 end_open_within w d None h k = h
-end_open_within {T} {M} w d (Some (Across p widths below row)) h k =
+end_open_within {T} {M} w d (Some (Across p widths ahead row)) h k =
     let own : Rows T M = with_open defined_pictures p row in
-    let q : Rows T M = with_below defined_pictures widths below own in
+    let q : Rows T M = with_ahead defined_pictures widths ahead own in
     with_lines w d _ h refl tt (All-append (λ (l : Line T M). columns l ≤ w) d.lines (picture_lines q.frame q.waiting q.rows) h.lines
     (picture_within q.frame w q.waiting q.rows
-    (subst (λ (f : Frame T). f.width ≤ w) (sym (below_frame own widths below ∙ picture_frame p row)) k.0.0)
-    (below_rows w own widths below k.1.0 (picture_rows w p row k.0.1 k.1.1))))
+    (subst (λ (f : Frame T). f.width ≤ w) (sym (with_ahead-frame own widths ahead ∙ picture_frame p row)) k.0.0)
+    (with_ahead-within w own widths ahead k.1.0 (picture_rows w p row k.0.1 k.1.1))))
 end_open_within w d (Some (Stacked border has_lines)) h k = with_lines w d _ h refl tt h.lines
 
 pub end_table_within : {T M : Type 0} (w : ℕ) (d : DefinedBlock T M) → IsWithin w d → IsWithin w (end_table d)
@@ -222,35 +222,35 @@ with_table : {T M : Type 0} (w : ℕ) (d : DefinedBlock T M) (o : Option (OpenTa
     IsWithin w (record d { table = o })
 with_table w d o h k = with_lines w d (record d { table = o }) h refl k h.lines
 
-table_begun_within : {T M : Type 0} (w : ℕ) (d : DefinedBlock T M) (tag : T) (borders : Bool) (below : List (List Slot)) (o : Option (List ℕ)) →
-    IsWithin w d → IfSome o (λ ws. sum ws + (length ws - 1) ≤ w) → IsWithin w (table_begun d tag borders below o)
-table_begun_within w d tag borders below None h k =
+table_begun_within : {T M : Type 0} (w : ℕ) (d : DefinedBlock T M) (tag : T) (borders : Bool) (ahead : List (List PlacedCell)) (o : Option (List ℕ)) →
+    IsWithin w d → IfSome o (λ ws. sum ws + (length ws - 1) ≤ w) → IsWithin w (table_begun d tag borders ahead o)
+table_begun_within w d tag borders ahead None h k =
     with_table w (add_border d (stacked_border tag borders d.setting.width) 0x2500) _
     (add_border_within w d (stacked_border tag borders d.setting.width) 0x2500 border_width h) tt
-table_begun_within {T} {M} w d tag borders below (Some ws) h k =
+table_begun_within {T} {M} w d tag borders ahead (Some ws) h k =
     with_lines w d _ h refl
     (((let t = table_width_within ws in omega (arith, t, k)), All-nil (RowWithin {T = T} {M = M} w)), (columns_room-within w ws k, tt)) h.lines
 
-widths_within : {T M : Type 0} (w : ℕ) (d : DefinedBlock T M) (stacked : Bool) (columns : ℕ) (cells : List CellNeed) → IsWithin w d →
-    IfSome (cond stacked None (standing_widths columns cells d.setting.width)) (λ ws. sum ws + (length ws - 1) ≤ w)
-widths_within w d true columns cells h = tt
-widths_within w d false columns cells h =
-    subst (λ v. IfSome (standing_widths columns cells d.setting.width) (λ ws. sum ws + (length ws - 1) ≤ v)) h.width
-    (standing_within columns cells d.setting.width)
+widths_within : {T M : Type 0} (w : ℕ) (d : DefinedBlock T M) (stacked : Bool) (needs : List ColumnNeed) → IsWithin w d →
+    IfSome (cond stacked None (widths_across d.setting.width needs)) (λ ws. sum ws + (length ws - 1) ≤ w)
+widths_within w d true needs h = tt
+widths_within w d false needs h =
+    subst (λ v. IfSome (widths_across d.setting.width needs) (λ ws. sum ws + (length ws - 1) ≤ v)) h.width
+    (across_within d.setting.width needs)
 
-begin_table_within : {T M : Type 0} (w : ℕ) (d : DefinedBlock T M) (tag : T) (borders stacked : Bool) (grid : GridRows)
-    (cells : List CellNeed) → IsWithin w d → IfSome (begin_table d tag borders stacked grid cells) (IsWithin w)
-begin_table_within w d tag borders stacked grid cells h =
+begin_table_within : {T M : Type 0} (w : ℕ) (d : DefinedBlock T M) (tag : T) (borders stacked : Bool) (grid : CellGrid)
+    (needs : List ColumnNeed) → IsWithin w d → IfSome (begin_table d tag borders stacked grid needs) (IsWithin w)
+begin_table_within w d tag borders stacked grid needs h =
     map_if (IsWithin w) (IsWithin w) _ (flush (end_table d)) (flush_within w (end_table d) (end_table_within w d h))
-    (λ e k. table_begun_within w e tag borders grid.rows (cond stacked None (standing_widths grid.columns cells e.setting.width)) k
-    (widths_within w e stacked grid.columns cells k))
+    (λ e k. table_begun_within w e tag borders (rows_on grid) (cond stacked None (widths_across e.setting.width needs)) k
+    (widths_within w e stacked needs k))
 
-begin_row_within : {T M : Type 0} (w : ℕ) (d : DefinedBlock T M) (slots : List Slot) → IsWithin w d → IsWithin w (begin_row d slots)
-begin_row_within {T} {M} w d slots h = with_table w d (option_map (with_row_open slots) d.table) h (by d.table h.table)
+begin_row_within : {T M : Type 0} (w : ℕ) (d : DefinedBlock T M) → IsWithin w d → IsWithin w (begin_row d)
+begin_row_within {T} {M} w d h = with_table w d (option_map with_row_open d.table) h (by d.table h.table)
   where
-    by : (o : Option (OpenTable (Rows T M) T M)) → TableWithin w o → TableWithin w (option_map (with_row_open slots) o)
+    by : (o : Option (OpenTable (Rows T M) T M)) → TableWithin w o → TableWithin w (option_map with_row_open o)
     by None k = tt
-    by (Some t) k = with_row_open-within w slots t k
+    by (Some t) k = with_row_open-within w t k
 
 skip_cell_within : {T M : Type 0} (w : ℕ) (d : DefinedBlock T M) → IsWithin w d → IsWithin w (skip_cell d)
 skip_cell_within {T} {M} w d h = with_table w d (option_map skipped d.table) h (by d.table h.table)
@@ -291,9 +291,9 @@ cell_added_within : {T M : Type 0} (w v : ℕ) (d : DefinedBlock T M) (o : Optio
     IsWithin w d → TableWithin w o → next_cell_width d.setting.width o ≡ Some v → IsWithin v c → IfSome (cell_added d o c) (IsWithin w)
 cell_added_within w v d None c h k e n =
     flushed_within w d _ h (λ b p. put_lines_within w b c.lines c.marks p (whole_within w v d c h e n))
-cell_added_within w v d (Some (Across p widths below None)) c h k e n =
+cell_added_within w v d (Some (Across p widths ahead None)) c h k e n =
     flushed_within w d _ h (λ b p. put_lines_within w b c.lines c.marks p (whole_within w v d c h e n))
-cell_added_within {T} {M} w v d (Some (Across p widths below (Some row))) c h k e n =
+cell_added_within {T} {M} w v d (Some (Across p widths ahead (Some row))) c h k e n =
     with_table w d _ h (
       k.0,
       (
@@ -327,7 +327,7 @@ cell_within {T} {M} w d h = by (next_cell_width d.setting.width d.table) refl
 row_ended_within : {T M : Type 0} (w : ℕ) (d : DefinedBlock T M) (o : Option (OpenTable (Rows T M) T M)) → IsWithin w d → TableWithin w o →
     IfSome (row_ended d o) (IsWithin w)
 row_ended_within w d None h k = h
-row_ended_within w d (Some (Across p widths below row)) h k =
+row_ended_within w d (Some (Across p widths ahead row)) h k =
     with_table w d _ h
     ((subst (λ f. f.width ≤ w) (sym (picture_frame p row)) k.0.0, picture_rows w p row k.0.1 k.1.1), (k.1.0, tt))
 row_ended_within w d (Some (Stacked border true)) h k =
@@ -432,7 +432,7 @@ append_lines_succeeds {T} {M} w d p q (l ∷ ls) ms h =
 end_open_succeeds : {T M : Type 0} (w : ℕ) (d : DefinedBlock T M) (o : Option (OpenTable (Rows T M) T M)) → Overflows w d →
     Overflows w (end_open d o)
 end_open_succeeds w d None h = h
-end_open_succeeds w d (Some (Across p widths below row)) h = record { width = h.width; overflow = h.overflow }
+end_open_succeeds w d (Some (Across p widths ahead row)) h = record { width = h.width; overflow = h.overflow }
 end_open_succeeds w d (Some (Stacked border has_lines)) h = record { width = h.width; overflow = h.overflow }
 
 pub end_table_succeeds : {T M : Type 0} (w : ℕ) (d : DefinedBlock T M) → Overflows w d → Overflows w (end_table d)
@@ -447,18 +447,18 @@ table_succeeds : {T M : Type 0} (w : ℕ) (d : DefinedBlock T M) (o : Option (Op
     Overflows w (record d { table = o })
 table_succeeds w d o h = record { width = h.width; overflow = h.overflow }
 
-table_begun_succeeds : {T M : Type 0} (w : ℕ) (d : DefinedBlock T M) (tag : T) (borders : Bool) (below : List (List Slot)) (o : Option (List ℕ)) →
-    Overflows w d → Overflows w (table_begun d tag borders below o)
-table_begun_succeeds w d tag borders below None h =
+table_begun_succeeds : {T M : Type 0} (w : ℕ) (d : DefinedBlock T M) (tag : T) (borders : Bool) (ahead : List (List PlacedCell)) (o : Option (List ℕ)) →
+    Overflows w d → Overflows w (table_begun d tag borders ahead o)
+table_begun_succeeds w d tag borders ahead None h =
     table_succeeds w (add_border d (stacked_border tag borders d.setting.width) 0x2500) _
     (border_succeeds w d (stacked_border tag borders d.setting.width) 0x2500 h)
-table_begun_succeeds w d tag borders below (Some ws) h = record { width = h.width; overflow = h.overflow }
+table_begun_succeeds w d tag borders ahead (Some ws) h = record { width = h.width; overflow = h.overflow }
 
-begin_table_succeeds : {T M : Type 0} (w : ℕ) (d : DefinedBlock T M) (tag : T) (borders stacked : Bool) (grid : GridRows)
-    (cells : List CellNeed) → Overflows w d → IsSomeAnd (begin_table d tag borders stacked grid cells) (Overflows w)
-begin_table_succeeds w d tag borders stacked grid cells h =
+begin_table_succeeds : {T M : Type 0} (w : ℕ) (d : DefinedBlock T M) (tag : T) (borders stacked : Bool) (grid : CellGrid)
+    (needs : List ColumnNeed) → Overflows w d → IsSomeAnd (begin_table d tag borders stacked grid needs) (Overflows w)
+begin_table_succeeds w d tag borders stacked grid needs h =
     map_and (Overflows w) (Overflows w) _ (flush (end_table d)) (flush_succeeds w (end_table d) (end_table_succeeds w d h))
-    (λ e k. table_begun_succeeds w e tag borders grid.rows (cond stacked None (standing_widths grid.columns cells e.setting.width)) k)
+    (λ e k. table_begun_succeeds w e tag borders (rows_on grid) (cond stacked None (widths_across e.setting.width needs)) k)
 
 put_lines_succeeds : {T M : Type 0} (w : ℕ) (d : DefinedBlock T M) (ls : List (Line T M)) (ms : List M) → Overflows w d →
     Overflows w (put_lines d ls ms)
@@ -480,8 +480,8 @@ flushed_succeeds w d f h next = map_and (Overflows w) (Overflows w) f (flush d) 
 cell_added_succeeds : {T M : Type 0} (w : ℕ) (d : DefinedBlock T M) (o : Option (OpenTable (Rows T M) T M)) (c : DefinedBlock T M) →
     Overflows w d → IsSomeAnd (cell_added d o c) (Overflows w)
 cell_added_succeeds w d None c h = flushed_succeeds w d _ h (λ b p. put_lines_succeeds w b c.lines c.marks p)
-cell_added_succeeds w d (Some (Across p widths below None)) c h = flushed_succeeds w d _ h (λ b p. put_lines_succeeds w b c.lines c.marks p)
-cell_added_succeeds w d (Some (Across p widths below (Some row))) c h = table_succeeds w d _ h
+cell_added_succeeds w d (Some (Across p widths ahead None)) c h = flushed_succeeds w d _ h (λ b p. put_lines_succeeds w b c.lines c.marks p)
+cell_added_succeeds w d (Some (Across p widths ahead (Some row))) c h = table_succeeds w d _ h
 cell_added_succeeds w d (Some (Stacked border has_lines)) c h =
     flushed_succeeds w d _ h (λ b p. put_stacked_succeeds w b c border has_lines (not (is_empty c.lines)) p)
 
@@ -506,7 +506,7 @@ cell_succeeds {T} {M} w d h = by (next_cell_width d.setting.width d.table)
 row_ended_succeeds : {T M : Type 0} (w : ℕ) (d : DefinedBlock T M) (o : Option (OpenTable (Rows T M) T M)) → Overflows w d →
     IsSomeAnd (row_ended d o) (Overflows w)
 row_ended_succeeds w d None h = h
-row_ended_succeeds w d (Some (Across p widths below row)) h = table_succeeds w d _ h
+row_ended_succeeds w d (Some (Across p widths ahead row)) h = table_succeeds w d _ h
 row_ended_succeeds w d (Some (Stacked border true)) h =
     map_and (Overflows w) (Overflows w) _ (flush d) (flush_succeeds w d h)
     (λ e n. table_succeeds w (add_border e border 0x2500) _ (border_succeeds w e border 0x2500 n))
@@ -532,7 +532,7 @@ operations_succeed = record {
   sub_block = sub_block_succeeds;
   append = append_succeeds;
   begin_table = begin_table_succeeds;
-  begin_row = λ w d slots h. table_succeeds w d _ h;
+  begin_row = λ w d h. table_succeeds w d _ h;
   cell = cell_succeeds;
   skip_cell = λ w d h. table_succeeds w d _ h;
   end_row = λ w d h. row_ended_succeeds w d d.table h;

@@ -19,10 +19,10 @@ use Rattle.html_render_blocks.specs.Block.{cell_added, add_cell, row_ended}
 use Rattle.html_render_blocks.specs.declared.block.tables.OpenTable.{OpenTable}
 use Rattle.html_render_blocks.specs.declared.block.tables.OpenTable.TheVariants.{Across, Stacked}
 use Rattle.html_render_blocks.specs.Tables.{Rows, stacked_border, next_cell_width}
-use Rattle.html_render_parts.specs.declared.widths.needs.CellNeed.{CellNeed}
-use Rattle.html_render_parts.specs.Needs.{standing_widths}
-use Rattle.html_render_nodes.specs.declared.tree.Slot.{Slot}
-use Rattle.html_render_nodes.specs.Grids.{GridRows}
+use Rattle.html_render_parts.specs.declared.widths.shares.ColumnNeed.{ColumnNeed}
+use Rattle.html_render_parts.specs.Shares.{widths_across}
+use Rattle.html_render_parts.specs.declared.table.PlacedCell.{PlacedCell}
+use Rattle.html_render_parts.specs.TableCells.{CellGrid, rows_on}
 use Rattle.html_render_pictures.specs.Picture.{is_empty}
 
 -- the same block with overflow on
@@ -92,7 +92,7 @@ append_lines_stays {T} {M} d p q (l ∷ ls) ms =
 end_open_overflowing : {T M : Type 0} (d : DefinedBlock T M) (o : Option (OpenTable (Rows T M) T M)) →
     end_open (overflowing d) o ≡ overflowing (end_open d o)
 end_open_overflowing d None = refl
-end_open_overflowing d (Some (Across p widths below row)) = refl
+end_open_overflowing d (Some (Across p widths ahead row)) = refl
 end_open_overflowing d (Some (Stacked border has_lines)) = refl
 
 pub end_table_overflowing : {T M : Type 0} (d : DefinedBlock T M) → end_table (overflowing d) ≡ overflowing (end_table d)
@@ -106,21 +106,21 @@ border_overflowing : {T M : Type 0} (d : DefinedBlock T M) (border : Option T) (
 border_overflowing d None character = refl
 border_overflowing d (Some tag) character = refl
 
-table_begun_overflowing : {T M : Type 0} (d : DefinedBlock T M) (tag : T) (borders : Bool) (below : List (List Slot)) (o : Option (List ℕ)) →
-    table_begun (overflowing d) tag borders below o ≡ overflowing (table_begun d tag borders below o)
-table_begun_overflowing {T} {M} d tag borders below None =
+table_begun_overflowing : {T M : Type 0} (d : DefinedBlock T M) (tag : T) (borders : Bool) (ahead : List (List PlacedCell)) (o : Option (List ℕ)) →
+    table_begun (overflowing d) tag borders ahead o ≡ overflowing (table_begun d tag borders ahead o)
+table_begun_overflowing {T} {M} d tag borders ahead None =
     ap (λ (e : DefinedBlock T M). record e { table = Some (Stacked (stacked_border tag borders d.setting.width) false) })
     (border_overflowing d (stacked_border tag borders d.setting.width) 0x2500)
-table_begun_overflowing d tag borders below (Some ws) = refl
+table_begun_overflowing d tag borders ahead (Some ws) = refl
 
-begin_table_stays : {T M : Type 0} (d : DefinedBlock T M) (tag : T) (borders stacked : Bool) (grid : GridRows) (cells : List CellNeed) →
-    Stays overflowing (begin_table d tag borders stacked grid cells) (begin_table (overflowing d) tag borders stacked grid cells)
-begin_table_stays {T} {M} d tag borders stacked grid cells =
+begin_table_stays : {T M : Type 0} (d : DefinedBlock T M) (tag : T) (borders stacked : Bool) (grid : CellGrid) (needs : List ColumnNeed) →
+    Stays overflowing (begin_table d tag borders stacked grid needs) (begin_table (overflowing d) tag borders stacked grid needs)
+begin_table_stays {T} {M} d tag borders stacked grid needs =
     map_stays overflowing overflowing
-    (λ (e : DefinedBlock T M). table_begun e tag borders grid.rows (cond stacked None (standing_widths grid.columns cells e.setting.width)))
-    (λ (e : DefinedBlock T M). table_begun e tag borders grid.rows (cond stacked None (standing_widths grid.columns cells e.setting.width)))
+    (λ (e : DefinedBlock T M). table_begun e tag borders (rows_on grid) (cond stacked None (widths_across e.setting.width needs)))
+    (λ (e : DefinedBlock T M). table_begun e tag borders (rows_on grid) (cond stacked None (widths_across e.setting.width needs)))
     (flush (end_table d)) (flush (end_table (overflowing d))) (flush_ended_stays d)
-    (λ e. table_begun_overflowing e tag borders grid.rows (cond stacked None (standing_widths grid.columns cells e.setting.width)))
+    (λ e. table_begun_overflowing e tag borders (rows_on grid) (cond stacked None (widths_across e.setting.width needs)))
 
 cell_block_overflowing : {T M : Type 0} (d : DefinedBlock T M) → cell_block (overflowing d) ≡ option_map overflowing (cell_block d)
 cell_block_overflowing {T} {M} d = by (next_cell_width d.setting.width d.table)
@@ -154,10 +154,10 @@ cell_added_stays : {T M : Type 0} (d : DefinedBlock T M) (o : Option (OpenTable 
 cell_added_stays {T} {M} d None c = map_stays overflowing overflowing (λ (e : DefinedBlock T M). put_below e c)
     (λ (e : DefinedBlock T M). put_below e (overflowing c)) (flush d) (flush (overflowing d)) (flush_stays d)
     (λ e. put_lines_overflowing e c.lines c.marks)
-cell_added_stays {T} {M} d (Some (Across p widths below None)) c = map_stays overflowing overflowing (λ (e : DefinedBlock T M). put_below e c)
+cell_added_stays {T} {M} d (Some (Across p widths ahead None)) c = map_stays overflowing overflowing (λ (e : DefinedBlock T M). put_below e c)
     (λ (e : DefinedBlock T M). put_below e (overflowing c)) (flush d) (flush (overflowing d)) (flush_stays d)
     (λ e. put_lines_overflowing e c.lines c.marks)
-cell_added_stays d (Some (Across p widths below (Some row))) c = refl
+cell_added_stays d (Some (Across p widths ahead (Some row))) c = refl
 cell_added_stays {T} {M} d (Some (Stacked border has_lines)) c =
     map_stays overflowing overflowing (λ (e : DefinedBlock T M). put_stacked e border has_lines (not (is_empty c.lines)) c)
     (λ (e : DefinedBlock T M). put_stacked e border has_lines (not (is_empty c.lines)) (overflowing c)) (flush d) (flush (overflowing d))
@@ -171,7 +171,7 @@ add_cell_stays d c =
 row_ended_stays : {T M : Type 0} (d : DefinedBlock T M) (o : Option (OpenTable (Rows T M) T M)) →
     Stays overflowing (row_ended d o) (row_ended (overflowing d) o)
 row_ended_stays d None = refl
-row_ended_stays d (Some (Across p widths below row)) = refl
+row_ended_stays d (Some (Across p widths ahead row)) = refl
 row_ended_stays {T} {M} d (Some (Stacked border true)) =
     map_stays overflowing overflowing
     (λ (e : DefinedBlock T M). record (add_border e border 0x2500) { table = Some (Stacked border false) })
@@ -200,7 +200,7 @@ operations_refine = record {
   sub_block = sub_block_stays;
   append = append_stays;
   begin_table = begin_table_stays;
-  begin_row = λ d slots. refl;
+  begin_row = λ d. refl;
   cell_block = cell_block_overflowing;
   add_cell = add_cell_stays;
   skip_cell = λ d. refl;

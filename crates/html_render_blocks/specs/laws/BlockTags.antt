@@ -32,10 +32,10 @@ use Rattle.html_render_blocks.specs.OpenRows.{with_cell}
 use Rattle.html_render_blocks.specs.Tables.{drawn_pictures, frame_of, rule, stacked_border, with_row_open, next_cell_width, skipped, picture_of}
 use Rattle.html_render_blocks.specs.laws.TableTags.{open_row_with, table_with, with_row_open-with, next_cell_width-with, with_cell-with, with_open-with}
 use Rattle.html_render_blocks.specs.laws.TableTags.{picture_of-with, skipped-with, rule-with, stacked_border-with}
-use Rattle.html_render_nodes.specs.declared.tree.Slot.{Slot}
-use Rattle.html_render_nodes.specs.Grids.{GridRows}
-use Rattle.html_render_parts.specs.declared.widths.needs.CellNeed.{CellNeed}
-use Rattle.html_render_parts.specs.Needs.{standing_widths}
+use Rattle.html_render_parts.specs.declared.table.PlacedCell.{PlacedCell}
+use Rattle.html_render_parts.specs.TableCells.{CellGrid, rows_on}
+use Rattle.html_render_parts.specs.declared.widths.shares.ColumnNeed.{ColumnNeed}
+use Rattle.html_render_parts.specs.Shares.{widths_across}
 use Rattle.html_render_pictures.specs.declared.picture.Frame.{Frame}
 use Rattle.html_render_pictures.specs.Drawing.{Drawing}
 use Rattle.html_render_pictures.specs.Picture.{is_empty}
@@ -230,9 +230,9 @@ module _ {T U M : Type 0} (f : T → U) where
   end_open-with : (b : MachineBlock T M) (o : Option (OpenTable (Drawing T M) T M)) →
       end_open (block_with b) (option_map (table_with f) o) ≡ block_with (end_open b o)
   end_open-with b None = refl
-  end_open-with b (Some (Across d widths below row)) =
-      ap (with_picture (block_with b)) (picture_of-with f d widths below row)
-      ∙ with_picture-with b (picture_of drawn_pictures d widths below row)
+  end_open-with b (Some (Across d widths ahead row)) =
+      ap (with_picture (block_with b)) (picture_of-with f d widths ahead row)
+      ∙ with_picture-with b (picture_of drawn_pictures d widths ahead row)
   end_open-with b (Some (Stacked border has_lines)) = refl
 
   pub end_table-with : (b : MachineBlock T M) → end_table (block_with b) ≡ block_with (end_table b)
@@ -253,39 +253,39 @@ module _ {T U M : Type 0} (f : T → U) where
   stacked_begun-with b border =
       ap (λ (c : MachineBlock U M). record c { table = Some (Stacked (option_map f border) false) }) (add_border-with b border 0x2500)
 
-  table_begun-with : (b : MachineBlock T M) (tag : T) (borders : Bool) (below : List (List Slot)) (o : Option (List ℕ)) →
-      table_begun (block_with b) (f tag) borders below o ≡ block_with (table_begun b tag borders below o)
-  table_begun-with b tag borders below None =
+  table_begun-with : (b : MachineBlock T M) (tag : T) (borders : Bool) (ahead : List (List PlacedCell)) (o : Option (List ℕ)) →
+      table_begun (block_with b) (f tag) borders ahead o ≡ block_with (table_begun b tag borders ahead o)
+  table_begun-with b tag borders ahead None =
       ap (stacked_begun (block_with b)) (stacked_border-with f tag borders b.setting.width)
       ∙ stacked_begun-with b (stacked_border tag borders b.setting.width)
-  table_begun-with b tag borders below (Some widths) =
+  table_begun-with b tag borders ahead (Some widths) =
       let frame : Frame T = frame_of tag borders widths in
       ap (λ ms. record (block_with b) {
         paragraph = take_waiting (option_map (state_with f) b.paragraph);
-        table = Some (Across (drawn_pictures.begun (frame_of (f tag) borders widths) ms) widths below None);
+        table = Some (Across (drawn_pictures.begun (frame_of (f tag) borders widths) ms) widths ahead None);
       }) (waiting-with b.paragraph)
       ∙ ap (λ d. record (block_with b) {
         paragraph = take_waiting (option_map (state_with f) b.paragraph);
-        table = Some (Across d widths below None);
+        table = Some (Across d widths ahead None);
       }) (begun-with f frame (waiting b.paragraph))
-      ∙ ap (λ o. record (block_with (table_begun b tag borders below (Some widths))) { paragraph = o }) (take_waiting-with b.paragraph)
+      ∙ ap (λ o. record (block_with (table_begun b tag borders ahead (Some widths))) { paragraph = o }) (take_waiting-with b.paragraph)
 
-  begin_table-with : (b : MachineBlock T M) (tag : T) (borders stacked : Bool) (grid : GridRows) (cells : List CellNeed) →
-      begin_table (block_with b) (f tag) borders stacked grid cells ≡ option_map block_with (begin_table b tag borders stacked grid cells)
-  begin_table-with b tag borders stacked grid cells =
+  begin_table-with : (b : MachineBlock T M) (tag : T) (borders stacked : Bool) (grid : CellGrid) (needs : List ColumnNeed) →
+      begin_table (block_with b) (f tag) borders stacked grid needs ≡ option_map block_with (begin_table b tag borders stacked grid needs)
+  begin_table-with b tag borders stacked grid needs =
       map_with block_with block_with
-      (λ e. table_begun e tag borders grid.rows (cond stacked None (standing_widths grid.columns cells e.setting.width)))
-      (λ e. table_begun e (f tag) borders grid.rows (cond stacked None (standing_widths grid.columns cells e.setting.width)))
+      (λ e. table_begun e tag borders (rows_on grid) (cond stacked None (widths_across e.setting.width needs)))
+      (λ e. table_begun e (f tag) borders (rows_on grid) (cond stacked None (widths_across e.setting.width needs)))
       (flush (end_table b)) _ (flush_ended-with b)
-      (λ e. table_begun-with e tag borders grid.rows (cond stacked None (standing_widths grid.columns cells e.setting.width)))
+      (λ e. table_begun-with e tag borders (rows_on grid) (cond stacked None (widths_across e.setting.width needs)))
 
-  begin_row-with : (b : MachineBlock T M) (slots : List Slot) → begin_row (block_with b) slots ≡ block_with (begin_row b slots)
-  begin_row-with b slots = ap (λ o. record (block_with b) { table = o }) (by b.table)
+  begin_row-with : (b : MachineBlock T M) → begin_row (block_with b) ≡ block_with (begin_row b)
+  begin_row-with b = ap (λ o. record (block_with b) { table = o }) (by b.table)
     where
       by : (o : Option (OpenTable (Drawing T M) T M)) →
-          option_map (with_row_open slots) (option_map (table_with f) o) ≡ option_map (table_with f) (option_map (with_row_open slots) o)
+          option_map with_row_open (option_map (table_with f) o) ≡ option_map (table_with f) (option_map with_row_open o)
       by None = refl
-      by (Some t) = ap Some (with_row_open-with f slots t)
+      by (Some t) = ap Some (with_row_open-with f t)
 
   skip_cell-with : (b : MachineBlock T M) → skip_cell (block_with b) ≡ block_with (skip_cell b)
   skip_cell-with b = ap (λ o. record (block_with b) { table = o }) (by b.table)
@@ -324,10 +324,10 @@ module _ {T U M : Type 0} (f : T → U) where
   cell_added-with : (b : MachineBlock T M) (o : Option (OpenTable (Drawing T M) T M)) (c : MachineBlock T M) →
       cell_added (block_with b) (option_map (table_with f) o) (block_with c) ≡ option_map block_with (cell_added b o c)
   cell_added-with b None c = map_with block_with block_with _ _ (flush b) _ (flush-with b) (λ e. put_below-with e c)
-  cell_added-with b (Some (Across d widths below None)) c =
+  cell_added-with b (Some (Across d widths ahead None)) c =
       map_with block_with block_with _ _ (flush b) _ (flush-with b) (λ e. put_below-with e c)
-  cell_added-with b (Some (Across d widths below (Some row))) c =
-      ap (λ q. Some (record (block_with b) { table = Some (Across (drawing_with f d) widths below (Some q)) }))
+  cell_added-with b (Some (Across d widths ahead (Some row))) c =
+      ap (λ q. Some (record (block_with b) { table = Some (Across (drawing_with f d) widths ahead (Some q)) }))
       (ap (λ ms. with_cell (open_row_with f row) (record { width = c.setting.width; lines = lines_with f c.lines; marks = ms } ∷ []))
       (waiting-with c.paragraph)
       ∙ with_cell-with f row (kept_cell c ∷ []))
@@ -345,8 +345,8 @@ module _ {T U M : Type 0} (f : T → U) where
   row_ended-with : (b : MachineBlock T M) (o : Option (OpenTable (Drawing T M) T M)) →
       row_ended (block_with b) (option_map (table_with f) o) ≡ option_map block_with (row_ended b o)
   row_ended-with b None = refl
-  row_ended-with b (Some (Across d widths below row)) =
-      ap (λ e. Some (record (block_with b) { table = Some (Across e widths below None) })) (with_open-with f d row)
+  row_ended-with b (Some (Across d widths ahead row)) =
+      ap (λ e. Some (record (block_with b) { table = Some (Across e widths ahead None) })) (with_open-with f d row)
   row_ended-with b (Some (Stacked border true)) =
       map_with block_with block_with (λ e. record (add_border e border 0x2500) { table = Some (Stacked border false) })
       (λ e. record (add_border e (option_map f border) 0x2500) { table = Some (Stacked (option_map f border) false) }) (flush b) _ (flush-with b)

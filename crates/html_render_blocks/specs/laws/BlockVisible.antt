@@ -35,11 +35,11 @@ use Rattle.html_render_blocks.specs.declared.block.tables.OpenTable.{OpenTable}
 use Rattle.html_render_blocks.specs.declared.block.tables.OpenTable.TheVariants.{Across, Stacked}
 use Rattle.html_render_blocks.specs.declared.block.rows.RowPlace.{RowPlace}
 use Rattle.html_render_blocks.specs.OpenRows.{OpenRow, open_row, empty_cell, empty_cells, before_cell, with_cell, whole_row}
-use Rattle.html_render_blocks.specs.Tables.{Rows, defined_pictures, rule, stacked_border, with_row_open, next_cell_width, skipped, with_open, with_below}
-use Rattle.html_render_nodes.specs.declared.tree.Slot.{Slot}
-use Rattle.html_render_nodes.specs.Grids.{GridRows}
-use Rattle.html_render_parts.specs.declared.widths.needs.CellNeed.{CellNeed}
-use Rattle.html_render_parts.specs.Needs.{standing_widths}
+use Rattle.html_render_blocks.specs.Tables.{Rows, defined_pictures, rule, stacked_border, with_row_open, next_cell_width, skipped, with_open, with_ahead}
+use Rattle.html_render_parts.specs.declared.table.PlacedCell.{PlacedCell}
+use Rattle.html_render_parts.specs.TableCells.{CellGrid, rows_on}
+use Rattle.html_render_parts.specs.declared.widths.shares.ColumnNeed.{ColumnNeed}
+use Rattle.html_render_parts.specs.Shares.{widths_across}
 use Rattle.html_render_pictures.specs.Picture.{KeptCell, TableRow, is_empty, picture_lines}
 use Rattle.html_render_pictures.specs.laws.Visible.{picture_times}
 use Rattle.html_render_blocks.specs.Visible.{visible_in_text, visible_in_block, text_count, row_count, table_count, visible_count}
@@ -300,13 +300,13 @@ with_open_count {T} {M} c p (Some row) =
     )
 
 -- the rows below have nothing
-with_below_count : {T M : Type 0} (c : ℕ) (p : Rows T M) (widths : List ℕ) (below : List (List Slot)) →
-    count c (visible_in_rows (with_below defined_pictures widths below p).rows) ≡ count c (visible_in_rows p.rows)
-with_below_count c p widths [] = refl
-with_below_count {T} {M} c p widths (slots ∷ rest) =
-    let row : OpenRow T M = open_row widths slots in
+with_ahead_count : {T M : Type 0} (c : ℕ) (p : Rows T M) (widths : List ℕ) (ahead : List (List PlacedCell)) →
+    count c (visible_in_rows (with_ahead defined_pictures widths ahead p).rows) ≡ count c (visible_in_rows p.rows)
+with_ahead_count c p widths [] = refl
+with_ahead_count {T} {M} c p widths (cells ∷ rest) =
+    let row : OpenRow T M = open_row widths cells in
     let one = with_open_count c p (Some row) in
-    let later = with_below_count c (with_open defined_pictures p (Some row)) widths rest in
+    let later = with_ahead_count c (with_open defined_pictures p (Some row)) widths rest in
     omega (arith, one, later)
 
 -- a picture behind the lines
@@ -328,15 +328,15 @@ with_picture_count {T} {M} c d ls ms =
 end_open_count : {T M : Type 0} (c : ℕ) (d : DefinedBlock T M) (o : Option (OpenTable (Rows T M) T M)) →
     d.table ≡ o → visible_count c d ≤ visible_count c (end_open d o)
 end_open_count c d None e = omega arith
-end_open_count {T} {M} c d (Some (Across p widths below row)) e =
+end_open_count {T} {M} c d (Some (Across p widths ahead row)) e =
     let own : Rows T M = with_open defined_pictures p row in
-    let q : Rows T M = with_below defined_pictures widths below own in
+    let q : Rows T M = with_ahead defined_pictures widths ahead own in
     let all = picture_times c q.frame q.waiting q.rows in
     omega (
       arith,
       ap (table_count c) e,
       with_open_count c p row,
-      with_below_count c own widths below,
+      with_ahead_count c own widths ahead,
       all,
       with_picture_count c d (picture_lines q.frame q.waiting q.rows) (defined_pictures.finished q).1,
     )
@@ -350,7 +350,7 @@ ended_none {T} {M} d = by d.table refl
   where
     by : (o : Option (OpenTable (Rows T M) T M)) → d.table ≡ o → (end_open d o).table ≡ None
     by None e = e
-    by (Some (Across p widths below row)) e = refl
+    by (Some (Across p widths ahead row)) e = refl
     by (Some (Stacked border has_lines)) e = refl
 
 -- a flushed block, without its table: the lines have all
@@ -434,36 +434,36 @@ border_table : {T M : Type 0} (d : DefinedBlock T M) (border : Option T) (charac
 border_table d None character = refl
 border_table d (Some tag) character = refl
 
-table_begun_count : {T M : Type 0} (c : ℕ) (d : DefinedBlock T M) (tag : T) (borders : Bool) (below : List (List Slot)) (o : Option (List ℕ)) →
-    d.table ≡ None → visible_count c d ≤ visible_count c (table_begun d tag borders below o)
-table_begun_count c d tag borders below None none =
+table_begun_count : {T M : Type 0} (c : ℕ) (d : DefinedBlock T M) (tag : T) (borders : Bool) (ahead : List (List PlacedCell)) (o : Option (List ℕ)) →
+    d.table ≡ None → visible_count c d ≤ visible_count c (table_begun d tag borders ahead o)
+table_begun_count c d tag borders ahead None none =
     let border = stacked_border tag borders d.setting.width in
     let table = ap (table_count c) (border_table d border 0x2500) in
     let own = ap (table_count c) none in
     omega (arith, table, own, add_border_count c d border 0x2500)
-table_begun_count c d tag borders below (Some ws) none = let own = ap (table_count c) none in omega (arith, own)
+table_begun_count c d tag borders ahead (Some ws) none = let own = ap (table_count c) none in omega (arith, own)
 
-begin_table_count : {T M : Type 0} (c : ℕ) (d : DefinedBlock T M) (tag : T) (borders stacked : Bool) (grid : GridRows)
-    (cells : List CellNeed) → IfSome (begin_table d tag borders stacked grid cells) (λ e. visible_count c d ≤ visible_count c e)
-begin_table_count {T} {M} c d tag borders stacked grid cells =
+begin_table_count : {T M : Type 0} (c : ℕ) (d : DefinedBlock T M) (tag : T) (borders stacked : Bool) (grid : CellGrid)
+    (needs : List ColumnNeed) → IfSome (begin_table d tag borders stacked grid needs) (λ e. visible_count c d ≤ visible_count c e)
+begin_table_count {T} {M} c d tag borders stacked grid needs =
     map_if (Same (end_table d)) (λ (e : DefinedBlock T M). visible_count c d ≤ visible_count c e) _ (flush (end_table d)) (flush_same (end_table d))
     (λ e h.
     let block = ap (count c) h.0 in
     let table = ap (table_count c) h.1 in
-    let begun = table_begun_count c e tag borders grid.rows (cond stacked None (standing_widths grid.columns cells e.setting.width)) (h.1 ∙ ended_none d) in
+    let begun = table_begun_count c e tag borders (rows_on grid) (cond stacked None (widths_across e.setting.width needs)) (h.1 ∙ ended_none d) in
     omega (arith, block, table, begun, end_table_count c d))
 
-begin_row_count : {T M : Type 0} (c : ℕ) (slots : List Slot) (o : Option (OpenTable (Rows T M) T M)) →
-    table_count c (option_map (with_row_open slots) o) ≡ table_count c o
-begin_row_count c slots None = refl
-begin_row_count c slots (Some (Across p widths below None)) = refl
-begin_row_count c slots (Some (Across p widths below (Some row))) = refl
-begin_row_count c slots (Some (Stacked border has_lines)) = refl
+begin_row_count : {T M : Type 0} (c : ℕ) (o : Option (OpenTable (Rows T M) T M)) →
+    table_count c (option_map with_row_open o) ≡ table_count c o
+begin_row_count c None = refl
+begin_row_count c (Some (Across p widths ahead None)) = refl
+begin_row_count c (Some (Across p widths ahead (Some row))) = refl
+begin_row_count c (Some (Stacked border has_lines)) = refl
 
 skip_cell_count : {T M : Type 0} (c : ℕ) (o : Option (OpenTable (Rows T M) T M)) → table_count c (option_map skipped o) ≡ table_count c o
 skip_cell_count c None = refl
-skip_cell_count c (Some (Across p widths below None)) = refl
-skip_cell_count c (Some (Across p widths below (Some row))) = omega (arith, with_cell_count c row [])
+skip_cell_count c (Some (Across p widths ahead None)) = refl
+skip_cell_count c (Some (Across p widths ahead (Some row))) = omega (arith, with_cell_count c row [])
 skip_cell_count c (Some (Stacked border has_lines)) = refl
 
 cell_block_count : {T M : Type 0} (c : ℕ) (d : DefinedBlock T M) → IfSome (cell_block d) (λ e. visible_count c e ≡ 0)
@@ -530,9 +530,9 @@ cell_added_count : {T M : Type 0} (c : ℕ) (d : DefinedBlock T M) (o : Option (
     d.table ≡ o → IfSome (cell_added d o cell) (Gains c (count c (visible_in_lines cell.lines)) d)
 cell_added_count c d None cell e =
     flushed_gains c (count c (visible_in_lines cell.lines)) d (λ b. put_below b cell) (λ b _. put_lines_count c b cell.lines cell.marks)
-cell_added_count c d (Some (Across p widths below None)) cell e =
+cell_added_count c d (Some (Across p widths ahead None)) cell e =
     flushed_gains c (count c (visible_in_lines cell.lines)) d (λ b. put_below b cell) (λ b _. put_lines_count c b cell.lines cell.marks)
-cell_added_count c d (Some (Across p widths below (Some row))) cell e =
+cell_added_count c d (Some (Across p widths ahead (Some row))) cell e =
     omega (
       arith,
       ap (table_count c) e,
@@ -554,7 +554,7 @@ add_cell_count {T} {M} c d cell =
 row_ended_count : {T M : Type 0} (c : ℕ) (d : DefinedBlock T M) (o : Option (OpenTable (Rows T M) T M)) → d.table ≡ o →
     IfSome (row_ended d o) (λ e. visible_count c d ≤ visible_count c e)
 row_ended_count c d None e = omega arith
-row_ended_count c d (Some (Across p widths below row)) e = omega (arith, ap (table_count c) e, with_open_count c p row)
+row_ended_count c d (Some (Across p widths ahead row)) e = omega (arith, ap (table_count c) e, with_open_count c p row)
 row_ended_count {T} {M} c d (Some (Stacked border true)) e =
     map_if (Same d) (λ (f : DefinedBlock T M). visible_count c d ≤ visible_count c f) _ (flush d) (flush_same d)
     (λ f h.
@@ -577,7 +577,7 @@ operations_keep_visible c = record {
   sub_block = sub_block_count c;
   append = append_count c;
   begin_table = begin_table_count c;
-  begin_row = λ d slots. ap (λ n. count c (visible_in_block d) + n) (begin_row_count c slots d.table);
+  begin_row = λ d. ap (λ n. count c (visible_in_block d) + n) (begin_row_count c d.table);
   cell_block = cell_block_count c;
   add_cell = add_cell_count c;
   skip_cell = λ d. ap (λ n. count c (visible_in_block d) + n) (skip_cell_count c d.table);

@@ -1,11 +1,11 @@
 -- What is said of all operations on blocks.
 use Rattle.std.specs.Prelude.{◌≡◌, ℕ, ◌+◌, ◌≤◌, Bool, List, Option, Some, None, option_map, IfSome, IsSomeAnd}
 use Rattle.std.proofs.Common.{refl, ap, ◌∙◌}
-use Rattle.html_render_parts.specs.declared.widths.needs.CellNeed.{CellNeed}
+use Rattle.html_render_parts.specs.declared.widths.shares.ColumnNeed.{ColumnNeed}
 use Rattle.html_render_lines.specs.declared.character.TextStyle.{TextStyle}
 use Rattle.html_render_paragraphs.specs.laws.Tags.{style_with}
-use Rattle.html_render_nodes.specs.declared.tree.Slot.{Slot}
-use Rattle.html_render_nodes.specs.Grids.{GridRows}
+use Rattle.html_render_parts.specs.declared.table.PlacedCell.{PlacedCell}
+use Rattle.html_render_parts.specs.TableCells.{CellGrid}
 use Rattle.html_render_blocks.specs.Operations.{Operations}
 
 -- each operation keeps what P i says of a block, where it has an answer; a block inside it has an i of its own
@@ -18,9 +18,9 @@ pub record Keeps {B T I : Type 0} (o : Operations B T) (P : I → B → Type 0) 
   pub end_block : (i : I) (b : B) → P i b → P i (o.end_block b)
   pub sub_block : (i : I) (b : B) (prefix inner : ℕ) → P i b → IfSome (o.sub_block b prefix inner) (λ c. (j : I) × P j c)
   pub append : (i j : I) (b c : B) (t : T) (first later : List ℕ) → P i b → P j c → IfSome (o.append b c t first later) (P i)
-  pub begin_table : (i : I) (b : B) (t : T) (borders stacked : Bool) (grid : GridRows) (cells : List CellNeed) → P i b →
-      IfSome (o.begin_table b t borders stacked grid cells) (P i)
-  pub begin_row : (i : I) (b : B) (slots : List Slot) → P i b → P i (o.begin_row b slots)
+  pub begin_table : (i : I) (b : B) (t : T) (borders stacked : Bool) (grid : CellGrid) (needs : List ColumnNeed) → P i b →
+      IfSome (o.begin_table b t borders stacked grid needs) (P i)
+  pub begin_row : (i : I) (b : B) → P i b → P i (o.begin_row b)
   pub cell : (i : I) (b : B) → P i b →
       IfSome (o.cell_block b) (λ c. (j : I) × (P j c × ((e : B) → P j e → IfSome (o.add_cell b e) (P i))))
   pub skip_cell : (i : I) (b : B) → P i b → P i (o.skip_cell b)
@@ -37,9 +37,9 @@ pub record Succeeds {B T I : Type 0} (o : Operations B T) (P : I → B → Type 
   pub end_block : (i : I) (b : B) → P i b → P i (o.end_block b)
   pub sub_block : (i : I) (b : B) (prefix inner : ℕ) → P i b → IsSomeAnd (o.sub_block b prefix inner) (λ c. (j : I) × P j c)
   pub append : (i j : I) (b c : B) (t : T) (first later : List ℕ) → P i b → P j c → IsSomeAnd (o.append b c t first later) (P i)
-  pub begin_table : (i : I) (b : B) (t : T) (borders stacked : Bool) (grid : GridRows) (cells : List CellNeed) → P i b →
-      IsSomeAnd (o.begin_table b t borders stacked grid cells) (P i)
-  pub begin_row : (i : I) (b : B) (slots : List Slot) → P i b → P i (o.begin_row b slots)
+  pub begin_table : (i : I) (b : B) (t : T) (borders stacked : Bool) (grid : CellGrid) (needs : List ColumnNeed) → P i b →
+      IsSomeAnd (o.begin_table b t borders stacked grid needs) (P i)
+  pub begin_row : (i : I) (b : B) → P i b → P i (o.begin_row b)
   pub cell : (i : I) (b : B) → P i b →
       IfSome (o.cell_block b) (λ c. (j : I) × (P j c × ((e : B) → P j e → IsSomeAnd (o.add_cell b e) (P i))))
   pub skip_cell : (i : I) (b : B) → P i b → P i (o.skip_cell b)
@@ -58,9 +58,9 @@ pub record Commutes {A B T U : Type 0} (f : A → B) (g : T → U) (o : Operatio
   pub sub_block : (a : A) (prefix inner : ℕ) → p.sub_block (f a) prefix inner ≡ option_map f (o.sub_block a prefix inner)
   pub append : (a b : A) (t : T) (first later : List ℕ) →
       p.append (f a) (f b) (g t) first later ≡ option_map f (o.append a b t first later)
-  pub begin_table : (a : A) (t : T) (borders stacked : Bool) (grid : GridRows) (cells : List CellNeed) →
-      p.begin_table (f a) (g t) borders stacked grid cells ≡ option_map f (o.begin_table a t borders stacked grid cells)
-  pub begin_row : (a : A) (slots : List Slot) → p.begin_row (f a) slots ≡ f (o.begin_row a slots)
+  pub begin_table : (a : A) (t : T) (borders stacked : Bool) (grid : CellGrid) (needs : List ColumnNeed) →
+      p.begin_table (f a) (g t) borders stacked grid needs ≡ option_map f (o.begin_table a t borders stacked grid needs)
+  pub begin_row : (a : A) → p.begin_row (f a) ≡ f (o.begin_row a)
   pub cell_block : (a : A) → p.cell_block (f a) ≡ option_map f (o.cell_block a)
   pub add_cell : (a b : A) → p.add_cell (f a) (f b) ≡ option_map f (o.add_cell a b)
   pub skip_cell : (a : A) → p.skip_cell (f a) ≡ f (o.skip_cell a)
@@ -79,9 +79,9 @@ pub record Refines {B T : Type 0} (f : B → B) (o : Operations B T) : Type 0 wh
   pub sub_block : (b : B) (prefix inner : ℕ) → IfSome (o.sub_block b prefix inner) (λ c. o.sub_block (f b) prefix inner ≡ Some (f c))
   pub append : (b c : B) (t : T) (first later : List ℕ) →
       IfSome (o.append b c t first later) (λ d. o.append (f b) (f c) t first later ≡ Some (f d))
-  pub begin_table : (b : B) (t : T) (borders stacked : Bool) (grid : GridRows) (cells : List CellNeed) →
-      IfSome (o.begin_table b t borders stacked grid cells) (λ c. o.begin_table (f b) t borders stacked grid cells ≡ Some (f c))
-  pub begin_row : (b : B) (slots : List Slot) → o.begin_row (f b) slots ≡ f (o.begin_row b slots)
+  pub begin_table : (b : B) (t : T) (borders stacked : Bool) (grid : CellGrid) (needs : List ColumnNeed) →
+      IfSome (o.begin_table b t borders stacked grid needs) (λ c. o.begin_table (f b) t borders stacked grid needs ≡ Some (f c))
+  pub begin_row : (b : B) → o.begin_row (f b) ≡ f (o.begin_row b)
   pub cell_block : (b : B) → o.cell_block (f b) ≡ option_map f (o.cell_block b)
   pub add_cell : (b c : B) → IfSome (o.add_cell b c) (λ d. o.add_cell (f b) (f c) ≡ Some (f d))
   pub skip_cell : (b : B) → o.skip_cell (f b) ≡ f (o.skip_cell b)
@@ -98,9 +98,9 @@ pub record Counts {B T : Type 0} (v : B → ℕ) (w : List ℕ → ℕ) (o : Ope
   pub end_block : (b : B) → v (o.end_block b) ≡ v b
   pub sub_block : (b : B) (prefix inner : ℕ) → IfSome (o.sub_block b prefix inner) (λ c. v c ≡ 0)
   pub append : (b c : B) (t : T) (first later : List ℕ) → IfSome (o.append b c t first later) (λ d. v b + v c ≤ v d)
-  pub begin_table : (b : B) (t : T) (borders stacked : Bool) (grid : GridRows) (cells : List CellNeed) →
-      IfSome (o.begin_table b t borders stacked grid cells) (λ c. v b ≤ v c)
-  pub begin_row : (b : B) (slots : List Slot) → v (o.begin_row b slots) ≡ v b
+  pub begin_table : (b : B) (t : T) (borders stacked : Bool) (grid : CellGrid) (needs : List ColumnNeed) →
+      IfSome (o.begin_table b t borders stacked grid needs) (λ c. v b ≤ v c)
+  pub begin_row : (b : B) → v (o.begin_row b) ≡ v b
   pub cell_block : (b : B) → IfSome (o.cell_block b) (λ c. v c ≡ 0)
   pub add_cell : (b c : B) → IfSome (o.add_cell b c) (λ d. v b + v c ≤ v d)
   pub skip_cell : (b : B) → v (o.skip_cell b) ≡ v b
@@ -127,9 +127,9 @@ Commutes-then f g h k o p q c d = record {
   sub_block = λ a n k. d.sub_block (f a) n k ∙ ap (option_map h) (c.sub_block a n k) ∙ map_map f h (o.sub_block a n k);
   append = λ a b t cs ds. d.append (f a) (f b) (g t) cs ds ∙ ap (option_map h) (c.append a b t cs ds)
       ∙ map_map f h (o.append a b t cs ds);
-  begin_table = λ a t borders stacked grid cells. d.begin_table (f a) (g t) borders stacked grid cells
-      ∙ ap (option_map h) (c.begin_table a t borders stacked grid cells) ∙ map_map f h (o.begin_table a t borders stacked grid cells);
-  begin_row = λ a slots. d.begin_row (f a) slots ∙ ap h (c.begin_row a slots);
+  begin_table = λ a t borders stacked grid needs. d.begin_table (f a) (g t) borders stacked grid needs
+      ∙ ap (option_map h) (c.begin_table a t borders stacked grid needs) ∙ map_map f h (o.begin_table a t borders stacked grid needs);
+  begin_row = λ a. d.begin_row (f a) ∙ ap h (c.begin_row a);
   cell_block = λ a. d.cell_block (f a) ∙ ap (option_map h) (c.cell_block a) ∙ map_map f h (o.cell_block a);
   add_cell = λ a b. d.add_cell (f a) (f b) ∙ ap (option_map h) (c.add_cell a b) ∙ map_map f h (o.add_cell a b);
   skip_cell = λ a. d.skip_cell (f a) ∙ ap h (c.skip_cell a);

@@ -1,6 +1,6 @@
 -- A table that is drawn row by row stands for the list of all of its rows, through each operation.
 use Rattle.std.proofs.Common.{◌≡◌, ℕ, List, [], ◌∷◌, ◌++◌, Option, Some, None, option_map, refl, ap, ◌∙◌}
-use Rattle.html_render_nodes.specs.declared.tree.Slot.{Slot}
+use Rattle.html_render_parts.specs.declared.table.PlacedCell.{PlacedCell}
 use Rattle.html_render_pictures.specs.Drawing.{Drawing, begun, with_row, with_rows}
 use Rattle.html_render_pictures.specs.Picture.{TableRow}
 use Rattle.html_render_pictures.specs.laws.Rows.{drawn_is}
@@ -8,7 +8,7 @@ use Rattle.html_render_blocks.specs.declared.block.tables.OpenTable.{OpenTable}
 use Rattle.html_render_blocks.specs.declared.block.tables.OpenTable.TheVariants.{Across, Stacked}
 use Rattle.html_render_blocks.specs.OpenRows.{OpenRow, open_row, whole_row}
 use Rattle.html_render_blocks.specs.Tables.{Rows, drawn_pictures, defined_pictures, with_row_open, next_cell_width, skipped, with_open}
-use Rattle.html_render_blocks.specs.Tables.{with_below, picture_of}
+use Rattle.html_render_blocks.specs.Tables.{with_ahead, picture_of}
 
 module _ {T M : Type 0} where
   -- all rows, drawn
@@ -16,24 +16,24 @@ module _ {T M : Type 0} where
   drawing_of p = with_rows (begun p.frame p.waiting) p.rows
 
   abbrev pub table_of : OpenTable (Rows T M) T M → OpenTable (Drawing T M) T M
-  table_of (Across p widths below row) = Across (drawing_of p) widths below row
+  table_of (Across p widths ahead row) = Across (drawing_of p) widths ahead row
   table_of (Stacked border has_lines) = Stacked border has_lines
 
-  pub with_row_open-of : (slots : List Slot) (t : OpenTable (Rows T M) T M) → with_row_open slots (table_of t) ≡ table_of (with_row_open slots t)
-  with_row_open-of slots (Across p widths below None) = refl
-  with_row_open-of slots (Across p widths below (Some row)) = refl
-  with_row_open-of slots (Stacked border has_lines) = refl
+  pub with_row_open-of : (t : OpenTable (Rows T M) T M) → with_row_open (table_of t) ≡ table_of (with_row_open t)
+  with_row_open-of (Across p widths ahead None) = refl
+  with_row_open-of (Across p widths ahead (Some row)) = refl
+  with_row_open-of (Stacked border has_lines) = refl
 
   pub next_cell_width-of : (width : ℕ) (o : Option (OpenTable (Rows T M) T M)) →
       next_cell_width width (option_map table_of o) ≡ next_cell_width width o
   next_cell_width-of width None = refl
-  next_cell_width-of width (Some (Across p widths below None)) = refl
-  next_cell_width-of width (Some (Across p widths below (Some row))) = refl
+  next_cell_width-of width (Some (Across p widths ahead None)) = refl
+  next_cell_width-of width (Some (Across p widths ahead (Some row))) = refl
   next_cell_width-of width (Some (Stacked border has_lines)) = refl
 
   pub skipped-of : (t : OpenTable (Rows T M) T M) → skipped (table_of t) ≡ table_of (skipped t)
-  skipped-of (Across p widths below None) = refl
-  skipped-of (Across p widths below (Some row)) = refl
+  skipped-of (Across p widths ahead None) = refl
+  skipped-of (Across p widths ahead (Some row)) = refl
   skipped-of (Stacked border has_lines) = refl
 
   with_rows-push : (d : Drawing T M) (rows : List (TableRow T M)) (r : TableRow T M) →
@@ -49,17 +49,17 @@ module _ {T M : Type 0} where
   finished-of : (p : Rows T M) → drawn_pictures.finished (drawing_of p) ≡ defined_pictures.finished p
   finished-of p = drawn_is p.frame p.waiting p.rows
 
-  with_below-of : (p : Rows T M) (widths : List ℕ) (below : List (List Slot)) →
-      with_below drawn_pictures widths below (drawing_of p) ≡ drawing_of (with_below defined_pictures widths below p)
-  with_below-of p widths [] = refl
-  with_below-of p widths (slots ∷ rest) =
-      let row : TableRow T M = whole_row (open_row widths slots) in
-      ap (with_below drawn_pictures widths rest) (with_rows-push (begun p.frame p.waiting) p.rows row)
-      ∙ with_below-of (defined_pictures.with_row p row) widths rest
+  with_ahead-of : (p : Rows T M) (widths : List ℕ) (ahead : List (List PlacedCell)) →
+      with_ahead drawn_pictures widths ahead (drawing_of p) ≡ drawing_of (with_ahead defined_pictures widths ahead p)
+  with_ahead-of p widths [] = refl
+  with_ahead-of p widths (cells ∷ rest) =
+      let row : TableRow T M = whole_row (open_row widths cells) in
+      ap (with_ahead drawn_pictures widths rest) (with_rows-push (begun p.frame p.waiting) p.rows row)
+      ∙ with_ahead-of (defined_pictures.with_row p row) widths rest
 
-  pub picture_of-of : (p : Rows T M) (widths : List ℕ) (below : List (List Slot)) (row : Option (OpenRow T M)) →
-      picture_of drawn_pictures (drawing_of p) widths below row ≡ picture_of defined_pictures p widths below row
-  picture_of-of p widths below row =
-      ap (λ q. drawn_pictures.finished (with_below drawn_pictures widths below q)) (with_open-of p row)
-      ∙ ap drawn_pictures.finished (with_below-of (with_open defined_pictures p row) widths below)
-      ∙ finished-of (with_below defined_pictures widths below (with_open defined_pictures p row))
+  pub picture_of-of : (p : Rows T M) (widths : List ℕ) (ahead : List (List PlacedCell)) (row : Option (OpenRow T M)) →
+      picture_of drawn_pictures (drawing_of p) widths ahead row ≡ picture_of defined_pictures p widths ahead row
+  picture_of-of p widths ahead row =
+      ap (λ q. drawn_pictures.finished (with_ahead drawn_pictures widths ahead q)) (with_open-of p row)
+      ∙ ap drawn_pictures.finished (with_ahead-of (with_open defined_pictures p row) widths ahead)
+      ∙ finished-of (with_ahead defined_pictures widths ahead (with_open defined_pictures p row))

@@ -4,7 +4,7 @@ use Rattle.std.proofs.lemmas.List.{map-append}
 use Rattle.html_render_lines.specs.declared.line.Element.TheVariants.{Character}
 use Rattle.html_render_lines.specs.Tags.{line_with}
 use Rattle.html_render_lines.specs.laws.Tags.{if_with}
-use Rattle.html_render_nodes.specs.declared.tree.Slot.{Slot}
+use Rattle.html_render_parts.specs.declared.table.PlacedCell.{PlacedCell}
 use Rattle.html_render_pictures.specs.Drawing.{Drawing, with_row}
 use Rattle.html_render_pictures.specs.Picture.{KeptCell}
 use Rattle.html_render_pictures.specs.Tags.{cell_with, row_with, drawing_with, drawn_with}
@@ -14,27 +14,26 @@ use Rattle.html_render_blocks.specs.declared.block.tables.OpenTable.TheVariants.
 use Rattle.html_render_blocks.specs.declared.block.rows.RowPlace.{RowPlace}
 use Rattle.html_render_blocks.specs.OpenRows.{OpenRow, open_row, empty_cell, empty_cells, before_cell, with_cell, whole_row}
 use Rattle.html_render_blocks.specs.Tables.{drawn_pictures, rule, stacked_border, with_row_open, next_cell_width, skipped, with_open}
-use Rattle.html_render_blocks.specs.Tables.{with_below, picture_of}
+use Rattle.html_render_blocks.specs.Tables.{with_ahead, picture_of}
 
 module _ {T U M : Type 0} (f : T → U) where
   abbrev pub open_row_with : OpenRow T M → OpenRow U M
   open_row_with r = record { ahead = r.ahead; cells = map (cell_with f) r.cells; placeholder = r.placeholder }
 
   abbrev pub table_with : OpenTable (Drawing T M) T M → OpenTable (Drawing U M) U M
-  table_with (Across d widths below row) = Across (drawing_with f d) widths below (option_map open_row_with row)
+  table_with (Across d widths ahead row) = Across (drawing_with f d) widths ahead (option_map open_row_with row)
   table_with (Stacked border has_lines) = Stacked (option_map f border) has_lines
 
-  pub with_row_open-with : (slots : List Slot) (t : OpenTable (Drawing T M) T M) →
-      with_row_open slots (table_with t) ≡ table_with (with_row_open slots t)
-  with_row_open-with slots (Across d widths below None) = refl
-  with_row_open-with slots (Across d widths below (Some row)) = refl
-  with_row_open-with slots (Stacked border has_lines) = refl
+  pub with_row_open-with : (t : OpenTable (Drawing T M) T M) → with_row_open (table_with t) ≡ table_with (with_row_open t)
+  with_row_open-with (Across d widths ahead None) = refl
+  with_row_open-with (Across d widths ahead (Some row)) = refl
+  with_row_open-with (Stacked border has_lines) = refl
 
   pub next_cell_width-with : (width : ℕ) (o : Option (OpenTable (Drawing T M) T M)) →
       next_cell_width width (option_map table_with o) ≡ next_cell_width width o
   next_cell_width-with width None = refl
-  next_cell_width-with width (Some (Across d widths below None)) = refl
-  next_cell_width-with width (Some (Across d widths below (Some row))) = refl
+  next_cell_width-with width (Some (Across d widths ahead None)) = refl
+  next_cell_width-with width (Some (Across d widths ahead (Some row))) = refl
   next_cell_width-with width (Some (Stacked border has_lines)) = refl
 
   empty_cell-with : (width : Option ℕ) → map (cell_with f) (empty_cell {M = M} width) ≡ empty_cell width
@@ -66,25 +65,25 @@ module _ {T U M : Type 0} (f : T → U) where
   with_open-with d None = refl
   with_open-with d (Some r) = ap (with_row (drawing_with f d)) (whole_row-with r) ∙ with_row-with f d (whole_row r)
 
-  with_below-with : (d : Drawing T M) (widths : List ℕ) (below : List (List Slot)) →
-      with_below drawn_pictures widths below (drawing_with f d) ≡ drawing_with f (with_below drawn_pictures widths below d)
-  with_below-with d widths [] = refl
-  with_below-with d widths (slots ∷ rest) =
-      let row : OpenRow T M = open_row widths slots in
-      ap (with_below drawn_pictures widths rest) (ap (with_row (drawing_with f d)) (whole_row-with row) ∙ with_row-with f d (whole_row row))
-      ∙ with_below-with (with_row d (whole_row row)) widths rest
+  with_ahead-with : (d : Drawing T M) (widths : List ℕ) (ahead : List (List PlacedCell)) →
+      with_ahead drawn_pictures widths ahead (drawing_with f d) ≡ drawing_with f (with_ahead drawn_pictures widths ahead d)
+  with_ahead-with d widths [] = refl
+  with_ahead-with d widths (cells ∷ rest) =
+      let row : OpenRow T M = open_row widths cells in
+      ap (with_ahead drawn_pictures widths rest) (ap (with_row (drawing_with f d)) (whole_row-with row) ∙ with_row-with f d (whole_row row))
+      ∙ with_ahead-with (with_row d (whole_row row)) widths rest
 
-  pub picture_of-with : (d : Drawing T M) (widths : List ℕ) (below : List (List Slot)) (row : Option (OpenRow T M)) →
-      picture_of drawn_pictures (drawing_with f d) widths below (option_map open_row_with row)
-      ≡ drawn_with f (picture_of drawn_pictures d widths below row)
-  picture_of-with d widths below row =
-      ap (λ e. drawn_pictures.finished (with_below drawn_pictures widths below e)) (with_open-with d row)
-      ∙ ap drawn_pictures.finished (with_below-with (with_open drawn_pictures d row) widths below)
-      ∙ picture-with f (with_below drawn_pictures widths below (with_open drawn_pictures d row))
+  pub picture_of-with : (d : Drawing T M) (widths : List ℕ) (ahead : List (List PlacedCell)) (row : Option (OpenRow T M)) →
+      picture_of drawn_pictures (drawing_with f d) widths ahead (option_map open_row_with row)
+      ≡ drawn_with f (picture_of drawn_pictures d widths ahead row)
+  picture_of-with d widths ahead row =
+      ap (λ e. drawn_pictures.finished (with_ahead drawn_pictures widths ahead e)) (with_open-with d row)
+      ∙ ap drawn_pictures.finished (with_ahead-with (with_open drawn_pictures d row) widths ahead)
+      ∙ picture-with f (with_ahead drawn_pictures widths ahead (with_open drawn_pictures d row))
 
   pub skipped-with : (t : OpenTable (Drawing T M) T M) → skipped (table_with t) ≡ table_with (skipped t)
-  skipped-with (Across d widths below None) = refl
-  skipped-with (Across d widths below (Some r)) = ap (λ q. Across (drawing_with f d) widths below (Some q)) (with_cell-with r [])
+  skipped-with (Across d widths ahead None) = refl
+  skipped-with (Across d widths ahead (Some r)) = ap (λ q. Across (drawing_with f d) widths ahead (Some q)) (with_cell-with r [])
   skipped-with (Stacked border has_lines) = refl
 
   pub rule-with : (tag : T) (character width : ℕ) → line_with f (rule {M = M} tag character width) ≡ rule (f tag) character width

@@ -1,11 +1,11 @@
 -- The rows of a table whose cells stand side by side keep to its block's width.
 use Rattle.std.proofs.Common.{◌≡◌, ℕ, ◌+◌, ◌-◌, ◌≤◌, ◌==◌, Bool, true, false, not, cond, List, [], ◌∷◌, ◌++◌, length, sum, take, drop, Option, Some, None}
-use Rattle.std.proofs.Common.{refl, ap, arith, All, sum_by, length-append}
+use Rattle.std.proofs.Common.{refl, ap, arith, All, slice_index_or, sum_by, length-append}
 use Rattle.std.proofs.lemmas.List.{take-append-drop}
 use Rattle.std.proofs.lemmas.List.Elements.{All-nil, All-cons, All-append, All-push}
 use Rattle.std.proofs.lemmas.List.Sums.{sum_by-cons, sum_by-append, count_by-le-length}
 use Rattle.html_render_lines.specs.Line.{Line, columns}
-use Rattle.html_render_nodes.specs.declared.tree.Slot.{Slot}
+use Rattle.html_render_parts.specs.declared.table.PlacedCell.{PlacedCell}
 use Rattle.html_render_pictures.specs.Picture.{KeptCell}
 use Rattle.html_render_pictures.specs.Widths.{row_width, KeepsToWidth, RowWithin}
 use Rattle.html_render_blocks.specs.declared.block.tables.OpenTable.{OpenTable}
@@ -13,7 +13,7 @@ use Rattle.html_render_blocks.specs.declared.block.tables.OpenTable.TheVariants.
 use Rattle.html_render_blocks.specs.declared.block.rows.RowPlace.{RowPlace}
 use Rattle.html_render_blocks.specs.OpenRows.{OpenRow, cell_width, places, next_width, behind_cell, empty_cell, empty_cells, before_cell}
 use Rattle.html_render_blocks.specs.OpenRows.{open_row, with_cell, whole_row}
-use Rattle.html_render_blocks.specs.Tables.{Rows, defined_pictures, table_width, with_row_open, skipped, with_open, with_below}
+use Rattle.html_render_blocks.specs.Tables.{Rows, defined_pictures, table_width, with_row_open, skipped, with_open, with_ahead}
 
 -- the columns of cells, each with a separator
 abbrev pub cells_room : {T M : Type 0} → List (KeptCell T M) → ℕ
@@ -42,7 +42,7 @@ RowOpenWithin w (Some row) = OpenWithin w row
 -- a table is
 abbrev pub TableWithin : {T M : Type 0} → ℕ → Option (OpenTable (Rows T M) T M) → Type 0
 TableWithin w None = Unit {0}
-TableWithin w (Some (Across p widths below row)) =
+TableWithin w (Some (Across p widths ahead row)) =
     ((p.frame.width ≤ w) × All (RowWithin w) p.rows) × ((columns_room widths ≤ w + 1) × RowOpenWithin w row)
 TableWithin w (Some (Stacked border has_lines)) = Unit {0}
 
@@ -67,7 +67,7 @@ cell-room (w ∷ ws) = by (sum (w ∷ ws) == 0)
     by true = omega arith
     by false = omega arith
 
-places-within : (ws : List ℕ) (slots : List Slot) → places_room (places ws slots) ≤ columns_room ws
+places-within : (ws : List ℕ) (cells : List PlacedCell) → places_room (places ws cells) ≤ columns_room ws
 places-within ws [] = omega arith
 places-within ws (s ∷ ss) =
     let front = cell-room (take s.columns ws) in
@@ -118,8 +118,8 @@ module _ {T M : Type 0} where
   row-within w (c ∷ cs) h = omega (arith, h, sum_by-cons (λ (c : KeptCell T M). 1 + c.width) c cs)
 
   -- a row that begins
-  open-within : (w : ℕ) (ws : List ℕ) (slots : List Slot) → columns_room ws ≤ w + 1 → OpenWithin w (open_row {T = T} {M = M} ws slots)
-  open-within w ws slots h = (All-nil KeepsToWidth, omega (arith, h, places-within ws slots))
+  open-within : (w : ℕ) (ws : List ℕ) (cells : List PlacedCell) → columns_room ws ≤ w + 1 → OpenWithin w (open_row {T = T} {M = M} ws cells)
+  open-within w ws cells h = (All-nil KeepsToWidth, omega (arith, h, places-within ws cells))
 
   -- a row with a cell that keeps to its place
   pub cell-within : (w : ℕ) (r : OpenRow T M) (cell : List (KeptCell T M)) → OpenWithin w r → All KeepsToWidth cell →
@@ -158,27 +158,26 @@ module _ {T M : Type 0} where
   picture_frame p None = refl
   picture_frame p (Some row) = refl
 
-  pub below_rows : (w : ℕ) (p : Rows T M) (widths : List ℕ) (below : List (List Slot)) → columns_room widths ≤ w + 1 →
-      All (RowWithin w) p.rows → All (RowWithin w) (with_below defined_pictures widths below p).rows
-  below_rows w p widths [] room h = h
-  below_rows w p widths (slots ∷ rest) room h =
-      let row : OpenRow T M = open_row widths slots in
-      below_rows w (defined_pictures.with_row p (whole_row row)) widths rest room
-      (All-push (RowWithin w) p.rows (whole_row row) h (whole-within w row (open-within w widths slots room)))
+  pub with_ahead-within : (w : ℕ) (p : Rows T M) (widths : List ℕ) (ahead : List (List PlacedCell)) → columns_room widths ≤ w + 1 →
+      All (RowWithin w) p.rows → All (RowWithin w) (with_ahead defined_pictures widths ahead p).rows
+  with_ahead-within w p widths [] room h = h
+  with_ahead-within w p widths (cells ∷ rest) room h =
+      let row : OpenRow T M = open_row widths cells in
+      with_ahead-within w (defined_pictures.with_row p (whole_row row)) widths rest room
+      (All-push (RowWithin w) p.rows (whole_row row) h (whole-within w row (open-within w widths cells room)))
 
-  pub below_frame : (p : Rows T M) (widths : List ℕ) (below : List (List Slot)) → (with_below defined_pictures widths below p).frame ≡ p.frame
-  below_frame p widths [] = refl
-  below_frame p widths (slots ∷ rest) = below_frame (defined_pictures.with_row p (whole_row (open_row widths slots))) widths rest
+  pub with_ahead-frame : (p : Rows T M) (widths : List ℕ) (ahead : List (List PlacedCell)) → (with_ahead defined_pictures widths ahead p).frame ≡ p.frame
+  with_ahead-frame p widths [] = refl
+  with_ahead-frame p widths (cells ∷ rest) = with_ahead-frame (defined_pictures.with_row p (whole_row (open_row widths cells))) widths rest
 
-  pub with_row_open-within : (w : ℕ) (slots : List Slot) (t : OpenTable (Rows T M) T M) → TableWithin w (Some t) →
-      TableWithin w (Some (with_row_open slots t))
-  with_row_open-within w slots (Across p widths below None) h = (h.0, (h.1.0, open-within w widths slots h.1.0))
-  with_row_open-within w slots (Across p widths below (Some row)) h = h
-  with_row_open-within w slots (Stacked border has_lines) h = tt
+  pub with_row_open-within : (w : ℕ) (t : OpenTable (Rows T M) T M) → TableWithin w (Some t) → TableWithin w (Some (with_row_open t))
+  with_row_open-within w (Across p widths ahead None) h = (h.0, (h.1.0, open-within w widths (slice_index_or ahead 0 []) h.1.0))
+  with_row_open-within w (Across p widths ahead (Some row)) h = h
+  with_row_open-within w (Stacked border has_lines) h = tt
 
   pub skipped-within : (w : ℕ) (t : OpenTable (Rows T M) T M) → TableWithin w (Some t) → TableWithin w (Some (skipped t))
-  skipped-within w (Across p widths below None) h = h
-  skipped-within w (Across p widths below (Some row)) h =
+  skipped-within w (Across p widths ahead None) h = h
+  skipped-within w (Across p widths ahead (Some row)) h =
       (h.0, (h.1.0, cell-within w row [] h.1.1 (All-nil KeepsToWidth) (omega arith)))
   skipped-within w (Stacked border has_lines) h = tt
 

@@ -1,16 +1,17 @@
 //! The rows and the cells of the table that is open in a block.
 
-ghost use Rattle.std.specs.Prelude.{◌≡◌, ◌==◌, Some, OnOk, IfErr, not, option_map};
+ghost use Rattle.std.specs.Prelude.{◌≡◌, ◌==◌, [], Some, OnOk, IfOk, IfErr, drop, not, option_map, slice_index_or};
 ghost use Rattle.html_render_values.specs.Outcome.{Refuses};
 ghost use Rattle.html_render_pictures.specs.Picture.{is_empty};
+ghost use Rattle.html_render_blocks.specs.OpenRows.{open_row};
 ghost use Rattle.html_render_blocks.specs.Tables.{drawn_pictures, with_row_open, next_cell_width, skipped, with_next, with_row_over, cell_place};
 ghost use Rattle.html_render_blocks.specs.BlockMachine as machine;
 
-use super::rows::OpenRow;
+use super::rows::{OpenRow, Widths};
 use super::tables::OpenTable;
 use super::{Block, BlockSetting};
 use html_render_lines::tag::Tag;
-use html_render_nodes::tree::Slot;
+use html_render_parts::table::cells::RowsAhead;
 use html_render_pictures::fillers::Filler;
 use html_render_pictures::lines::Lines;
 use html_render_pictures::picture::{Cell, Picture};
@@ -33,15 +34,38 @@ pub enum CellPlace<T> {
     },
 }
 
+/// Opens the next of the rows that are ahead.
+fn next_row<T: Tag, M: Copy>(
+    alloc: Global,
+    widths: &Widths,
+    ahead: &mut RowsAhead,
+) -> Result<OpenRow<T, M>, Error>
+    ensures row { IfOk result (λ row. row ≡ open_row widths.now (slice_index_or ahead.old 0 [])) }
+    ensures ahead { OnOk result (ahead.new ≡ drop 1 ahead.old) }
+    ensures err { IfErr result (λ e. e ≡ Error.OutOfMemory) }
+{
+    let row = match ahead.next(alloc)? {
+        Some(cells) => OpenRow::new(alloc, widths, cells.as_slice())?,
+        None => OpenRow::new(alloc, widths, &[])?,
+    };
+    Ok(row)
+}
+
 impl<T: Tag, M: Copy> OpenTable<Picture<T, M>, T, M> {
-    /// Begins a row, in which this stands; a row that is open goes on.
-    fn begin_row(&mut self, alloc: Global, slots: &[Slot]) -> Result<(), AllocError>
-        ensures { OnOk result (self.new ≡ with_row_open slots.now self.old) }
+    /// Begins the next row; a row that is open goes on.
+    fn begin_row(&mut self, alloc: Global) -> Result<(), Error>
+        ensures ok { OnOk result (self.new ≡ with_row_open self.old) }
+        ensures err { IfErr result (λ e. e ≡ Error.OutOfMemory) }
     {
         match self {
-            OpenTable::Across { widths, row, .. } => {
+            OpenTable::Across {
+                widths,
+                ahead,
+                row,
+                ..
+            } => {
                 if row.is_none() {
-                    *row = Some(OpenRow::new(alloc, widths, slots)?);
+                    *row = Some(next_row(alloc, widths, ahead)?);
                 }
             }
             OpenTable::Stacked { has_lines, .. } => *has_lines = false,
@@ -112,19 +136,18 @@ impl<T: Tag, M: Copy> OpenTable<Picture<T, M>, T, M> {
 }
 
 impl<T: Tag, M: Copy> Block<T, M> {
-    /// Begins a row of the table that is open, in which this stands: a slot for each of its cells, and for what stands between
-    /// them. A row that is open goes on. Without a table nothing is done.
+    /// Begins the next row of the table that is open. A row that is open goes on. Without a table nothing is done.
     ///
     /// # Errors
     ///
     /// `OutOfMemory`.
-    pub fn begin_row(&mut self, slots: &[Slot]) -> Result<(), Error>
-        ensures ok { OnOk result (self.new ≡ machine.begin_row self.old slots.now) }
+    pub fn begin_row(&mut self) -> Result<(), Error>
+        ensures ok { OnOk result (self.new ≡ machine.begin_row self.old) }
         ensures err { IfErr result (λ e. e ≡ Error.OutOfMemory) }
     {
         let alloc = self.alloc;
         if let Some(table) = &mut self.table {
-            table.begin_row(alloc, slots)?;
+            table.begin_row(alloc)?;
         }
         Ok(())
     }

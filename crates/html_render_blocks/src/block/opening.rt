@@ -3,7 +3,8 @@
 
 ghost use Rattle.std.specs.Prelude.{◌≡◌, cond, Some, None, OnOk, IfOk, IfErr};
 ghost use Rattle.html_render_values.specs.Outcome.{Refuses};
-ghost use Rattle.html_render_parts.specs.Needs.{standing_widths};
+ghost use Rattle.html_render_parts.specs.Shares.{widths_across};
+ghost use Rattle.html_render_parts.specs.TableCells.{rows_on};
 ghost use Rattle.html_render_blocks.specs.declared.block.tables.OpenTable.TheVariants.{Stacked};
 ghost use Rattle.html_render_blocks.specs.Tables.{frame_of, rule, stacked_border};
 ghost use Rattle.html_render_blocks.specs.BlockMachine as machine;
@@ -11,11 +12,11 @@ ghost use Rattle.html_render_pictures.specs.Padding.{character_of};
 
 use super::Block;
 use super::rows::Widths;
-use super::tables::{OpenTable, RowsBelow};
+use super::tables::OpenTable;
 use html_render_lines::line::Line;
 use html_render_lines::tag::Tag;
-use html_render_nodes::tree::{Grid, Slots};
-use html_render_parts::widths::{CellNeed, standing_widths};
+use html_render_parts::table::cells::{RowsAhead, TableCells};
+use html_render_parts::widths::{ColumnNeed, widths_across};
 use html_render_pictures::fillers::{Filler, push_fillers};
 use html_render_pictures::finished::put_marks_front;
 use html_render_pictures::picture::{Frame, Picture};
@@ -23,24 +24,32 @@ use html_render_values::Error;
 use std::alloc::{AllocError, Global};
 
 /// The widths of a table's columns side by side in so many columns; none where they can't stand so, or aren't to.
-#[tactic(auto, using(html_render_parts::specs::laws::Needs::standing_within))]
-fn widths_across(
+#[tactic(auto, using(html_render_parts::specs::laws::Needs::across_within))]
+fn column_widths(
     alloc: Global,
     width: usize,
     stacked: bool,
-    columns: usize,
-    cells: &[CellNeed],
+    needs: &[ColumnNeed],
 ) -> Result<Option<Widths>, Error>
-    ensures ok { IfOk result (λ widths. widths ≡ cond stacked None (standing_widths columns cells.now width)) }
+    ensures ok { IfOk result (λ widths. widths ≡ cond stacked None (widths_across width needs.now)) }
     ensures err { IfErr result (λ e. e ≡ Error.OutOfMemory) }
 {
     if stacked {
         return Ok(None);
     }
-    match standing_widths(alloc, columns, cells, width)? {
+    match widths_across(alloc, needs, width)? {
         Some(widths) => Ok(Some(Widths::new(widths))),
         None => Ok(None),
     }
+}
+
+/// What stands in the rows of a table, to be asked for row by row.
+fn rows_of(alloc: Global, grid: &TableCells) -> Result<RowsAhead, Error>
+    ensures ok { IfOk result (λ rows. rows ≡ rows_on grid.now) }
+    ensures err { IfErr result (λ e. e ≡ Error.OutOfMemory) }
+{
+    let cells = grid.try_clone(alloc)?;
+    Ok(cells.into_rows(alloc))
 }
 
 /// How a table is framed.
@@ -122,20 +131,20 @@ impl<T: Tag, M: Copy> Block<T, M> {
         &mut self,
         tag: T,
         borders: bool,
-        below: &[Slots],
+        grid: &TableCells,
         widths: Widths,
     ) -> Result<(), Error>
-        ensures ok { OnOk result (self.new ≡ machine.table_begun self.old tag borders below.now (Some widths)) }
+        ensures ok { OnOk result (self.new ≡ machine.table_begun self.old tag borders (rows_on grid.now) (Some widths)) }
         ensures err { IfErr result (λ e. e ≡ Error.OutOfMemory) }
     {
-        let below = RowsBelow::new(self.alloc, below)?;
+        let ahead = rows_of(self.alloc, grid)?;
         let frame = frame_of(tag, borders, &widths);
         let waiting = self.take_waiting();
         let picture = Picture::new(self.alloc, frame, waiting)?;
         let table = OpenTable::Across {
             picture,
             widths,
-            below,
+            ahead,
             row: None,
         };
         self.table = Some(Box::new(self.alloc, table)?);
@@ -147,14 +156,14 @@ impl<T: Tag, M: Copy> Block<T, M> {
         &mut self,
         tag: T,
         borders: bool,
-        below: &[Slots],
+        grid: &TableCells,
         widths: Option<Widths>,
     ) -> Result<(), Error>
-        ensures ok { OnOk result (self.new ≡ machine.table_begun self.old tag borders below.now widths) }
+        ensures ok { OnOk result (self.new ≡ machine.table_begun self.old tag borders (rows_on grid.now) widths) }
         ensures err { IfErr result (λ e. e ≡ Error.OutOfMemory) }
     {
         match widths {
-            Some(widths) => self.begin_across(tag, borders, below, widths),
+            Some(widths) => self.begin_across(tag, borders, grid, widths),
             None => {
                 self.begin_stacked(stacked_border(tag, borders, self.setting.width))?;
                 Ok(())
@@ -163,9 +172,8 @@ impl<T: Tag, M: Copy> Block<T, M> {
     }
 
     /// Begins a table, whose borders stand under this tag, if there are any; a table that is open is over, and the block is
-    /// flushed. Its cells need so much over the columns of the grid. They stand side by side where the columns have room in
-    /// this block, and one below another where they haven't, or where they are to stand so (`stacked`). The rows of the
-    /// grid are those below the table's own, in which no cell begins: they are drawn at its end.
+    /// flushed. Its columns need so much. Its cells stand side by side where the columns have room in
+    /// this block, and one below another where they haven't, or where they are to stand so (`stacked`).
     ///
     /// # Errors
     ///
@@ -176,20 +184,14 @@ impl<T: Tag, M: Copy> Block<T, M> {
         tag: T,
         borders: bool,
         stacked: bool,
-        grid: &Grid,
-        cells: &[CellNeed],
+        grid: &TableCells,
+        needs: &[ColumnNeed],
     ) -> Result<(), Error>
-        ensures ok { OnOk result (machine.begin_table self.old tag borders stacked grid.now cells.now ≡ Some self.new) }
-        ensures err { IfErr result (λ e. Refuses e (machine.begin_table self.old tag borders stacked grid.now cells.now)) }
+        ensures ok { OnOk result (machine.begin_table self.old tag borders stacked grid.now needs.now ≡ Some self.new) }
+        ensures err { IfErr result (λ e. Refuses e (machine.begin_table self.old tag borders stacked grid.now needs.now)) }
     {
         self.flush_whole()?;
-        let widths = widths_across(
-            self.alloc,
-            self.setting.width,
-            stacked,
-            grid.columns(),
-            cells,
-        )?;
-        self.open_table(tag, borders, grid.rows(), widths)
+        let widths = column_widths(self.alloc, self.setting.width, stacked, needs)?;
+        self.open_table(tag, borders, grid, widths)
     }
 }

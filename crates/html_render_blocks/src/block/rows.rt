@@ -5,8 +5,7 @@ ghost use Rattle.html_render_blocks.specs.OpenRows as rows;
 ghost use Rattle.html_render_blocks.specs.Tables.{table_width};
 
 use html_render_lines::tag::Tag;
-use html_render_nodes::tree::Slot;
-use html_render_parts::table::CellKind;
+use html_render_parts::table::{CellKind, PlacedCell};
 use html_render_pictures::lines::Lines;
 use html_render_pictures::picture::{Cell, Row};
 use std::alloc::{AllocError, Global};
@@ -52,25 +51,25 @@ impl Model for Widths {
     ghost view = { λ w. w.widths.items };
 }
 
-/// Whether a cell of the row itself stands in a slot.
+/// Whether it is a cell of the row itself that stands in a place.
 fn is_cell(kind: CellKind) -> bool
     ensures { result ≡ rows.is_cell kind }
 {
     matches!(kind, CellKind::Cell)
 }
 
-/// Whether a cell of a row above stands in a slot.
+/// Whether it is a cell of a row above.
 fn is_placeholder(kind: CellKind) -> bool
     ensures { result ≡ rows.is_placeholder kind }
 {
     matches!(kind, CellKind::Placeholder)
 }
 
-/// Whether a cell of a row above them is among slots.
-fn has_placeholder(slots: &[Slot]) -> bool
-    ensures { result ≡ rows.has_placeholder slots.now }
+/// Whether a cell of a row above is among those of a row.
+fn has_placeholder(cells: &[PlacedCell]) -> bool
+    ensures { result ≡ rows.has_placeholder cells.now }
 {
-    slots.iter().any(|slot| is_placeholder(slot.kind))
+    cells.iter().any(|cell| is_placeholder(cell.kind))
 }
 
 /// The sum of widths.
@@ -109,16 +108,20 @@ fn columns_at(widths: &[usize], columns: usize) -> (&[usize], &[usize])
 
 /// The places of a row over columns of these widths.
 #[tactic(auto, using(crate::proofs::Places::own_fits, crate::proofs::Places::behind_fits))]
-fn places_of(alloc: Global, widths: &[usize], slots: &[Slot]) -> Result<Vec<RowPlace>, AllocError>
+fn places_of(
+    alloc: Global,
+    widths: &[usize],
+    cells: &[PlacedCell],
+) -> Result<Vec<RowPlace>, AllocError>
     requires { sum widths.now + (length widths.now - 1) < 2 ^ 64 }
-    ensures { IfOk result (λ v. v.items ≡ rows.places widths.now slots.now) }
+    ensures { IfOk result (λ v. v.items ≡ rows.places widths.now cells.now) }
 {
-    let mut row = Vec::with_capacity(alloc, slots.len())?;
+    let mut row = Vec::with_capacity(alloc, cells.len())?;
     let mut rest = widths;
-    for slot in slots {
-        let (own, behind) = columns_at(rest, slot.columns);
+    for cell in cells {
+        let (own, behind) = columns_at(rest, cell.columns);
         row.push(RowPlace {
-            is_cell: is_cell(slot.kind),
+            is_cell: is_cell(cell.kind),
             width: cell_width(own),
         })?;
         rest = behind;
@@ -218,15 +221,19 @@ impl Widths {
 
 impl<T: Tag, M: Copy> OpenRow<T, M> {
     /// A row that begins, in which this stands, over columns of these widths.
-    pub fn new(alloc: Global, widths: &Widths, slots: &[Slot]) -> Result<OpenRow<T, M>, AllocError>
-        ensures { IfOk result (λ row. row ≡ rows.open_row widths.now slots.now) }
+    pub fn new(
+        alloc: Global,
+        widths: &Widths,
+        cells: &[PlacedCell],
+    ) -> Result<OpenRow<T, M>, AllocError>
+        ensures { IfOk result (λ row. row ≡ rows.open_row widths.now cells.now) }
     {
-        let mut ahead = places_of(alloc, widths.widths.as_slice(), slots)?;
+        let mut ahead = places_of(alloc, widths.widths.as_slice(), cells)?;
         ahead.reverse();
         Ok(OpenRow {
             ahead,
             cells: Vec::new(alloc),
-            placeholder: has_placeholder(slots),
+            placeholder: has_placeholder(cells),
         })
     }
 

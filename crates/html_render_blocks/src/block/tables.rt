@@ -3,47 +3,17 @@
 ghost use Rattle.std.specs.Prelude.{◌≡◌, ◌++◌, Some, OnOk, IfOk, IfErr, option_map};
 ghost use Rattle.html_render_values.specs.Outcome.{Refuses};
 ghost use Rattle.html_render_pictures.specs.Picture.{TableRow};
-ghost use Rattle.html_render_blocks.specs.Tables.{drawn_pictures, with_open, with_below, picture_of};
+ghost use Rattle.html_render_blocks.specs.Tables.{drawn_pictures, with_open, with_ahead, picture_of};
 ghost use Rattle.html_render_blocks.specs.BlockMachine as machine;
 
 use super::Block;
 use super::rows::{OpenRow, Widths};
 use html_render_lines::tag::Tag;
-use html_render_nodes::tree::Slots;
+use html_render_parts::table::cells::RowsAhead;
 use html_render_pictures::picture::{Drawn, Picture};
 use html_render_values::Error;
 use std::alloc::{AllocError, Global};
 use std::marker::Model;
-
-/// What stands in the rows below those of a table, in which no cell begins.
-#[derive(Drop)]
-pub struct RowsBelow {
-    rows: Vec<Slots>,
-}
-
-impl Model for RowsBelow {
-    ghost use Rattle.std.specs.Prelude.{List};
-    ghost use Rattle.html_render_nodes.specs.declared.tree.Slot.{Slot};
-
-    ghost Value = { List (List Slot) };
-
-    ghost view = { λ r. r.rows.items };
-}
-
-impl RowsBelow {
-    /// A copy of rows.
-    pub fn new(alloc: Global, rows: &[Slots]) -> Result<RowsBelow, Error>
-        ensures ok { IfOk result (λ below. below ≡ rows.now) }
-        ensures err { IfErr result (λ e. e ≡ Error.OutOfMemory) }
-    {
-        let mut copies = Vec::with_capacity(alloc, rows.len())?;
-        for slots in rows {
-            let copy = slots.try_clone(alloc)?;
-            copies.push(copy)?;
-        }
-        Ok(RowsBelow { rows: copies })
-    }
-}
 
 /// An open table.
 #[derive(Drop)]
@@ -54,8 +24,8 @@ pub enum OpenTable<P, T, M> {
         picture: P,
         /// The widths of its columns.
         widths: Widths,
-        /// What stands in the rows below its own.
-        below: RowsBelow,
+        /// What stands in the rows ahead, its own and those below.
+        ahead: RowsAhead,
         /// The row that is open, if one is.
         row: Option<OpenRow<T, M>>,
     },
@@ -85,19 +55,20 @@ fn with_open<T: Tag, M: Copy>(
     Ok(picture)
 }
 
-/// A picture with the rows below the table's own.
-fn with_below<T: Tag, M: Copy>(
+/// A picture with the rows that are ahead, in which no cell begins: those below the table's own.
+fn with_ahead<T: Tag, M: Copy>(
     alloc: Global,
     picture: Picture<T, M>,
     widths: &Widths,
-    below: &[Slots],
+    ahead: RowsAhead,
 ) -> Result<Picture<T, M>, Error>
-    ensures ok { IfOk result (λ p. p ≡ with_below drawn_pictures widths.now below.now picture) }
+    ensures ok { IfOk result (λ p. p ≡ with_ahead drawn_pictures widths.now ahead picture) }
     ensures err { IfErr result (λ e. e ≡ Error.OutOfMemory) }
 {
     let mut picture = picture;
-    for slots in below {
-        let row = OpenRow::new(alloc, widths, slots.as_slice())?;
+    let mut ahead = ahead;
+    while let Some(cells) = ahead.next(alloc)? {
+        let row = OpenRow::new(alloc, widths, cells.as_slice())?;
         let row = row.finish(alloc)?;
         picture.add_row(row)?;
     }
@@ -109,14 +80,14 @@ fn picture_of<T: Tag, M: Copy>(
     alloc: Global,
     picture: Picture<T, M>,
     widths: &Widths,
-    below: &RowsBelow,
+    ahead: RowsAhead,
     row: Option<OpenRow<T, M>>,
 ) -> Result<Drawn<T, M>, Error>
-    ensures ok { IfOk result (λ d. (d.lines, d.waiting.items) ≡ picture_of drawn_pictures picture widths.now below.now row) }
+    ensures ok { IfOk result (λ d. (d.lines, d.waiting.items) ≡ picture_of drawn_pictures picture widths.now ahead row) }
     ensures err { IfErr result (λ e. e ≡ Error.OutOfMemory) }
 {
     let picture = with_open(alloc, picture, row)?;
-    let picture = with_below(alloc, picture, widths, below.rows.as_slice())?;
+    let picture = with_ahead(alloc, picture, widths, ahead)?;
     picture.finish()
 }
 
@@ -148,10 +119,10 @@ impl<T: Tag, M: Copy> Block<T, M> {
             OpenTable::Across {
                 picture,
                 widths,
-                below,
+                ahead,
                 row,
             } => {
-                let drawn = picture_of(self.alloc, picture, &widths, &below, row)?;
+                let drawn = picture_of(self.alloc, picture, &widths, ahead, row)?;
                 self.add_drawn(drawn)
             }
             OpenTable::Stacked { .. } => Ok(()),

@@ -1,19 +1,17 @@
 -- A table's least width doesn't pass its size.
-use Rattle.std.proofs.Common.{◌≡◌, Bool, true, false, ltb, leb, cond, ◌&&◌, ℕ, ◌+◌, ◌-◌, ◌^◌, ◌*◌, ◌/◌, ◌≤◌, max, List, [], ◌∷◌, map, zero, suc}
+use Rattle.std.proofs.Common.{◌≡◌, Bool, true, false, ltb, leb, cond, ℕ, ◌+◌, ◌-◌, ◌^◌, ◌*◌, ◌/◌, ◌≤◌, max, List, [], ◌∷◌, map, zero, suc}
 use Rattle.std.proofs.Common.{refl, sym, ap, ◌∙◌, subst, arith}
 use Rattle.std.specs.List.{range_with_len}
 use Rattle.std.specs.Prelude.{sum_by}
 use Rattle.std.proofs.Math.Nat.{div-mul-le_self, le-div_iff_mul-le, mul-le-mul_left}
-use Rattle.std.proofs.lemmas.Bool.{and_parts, cond_both, leb-true, ltb-true}
+use Rattle.std.proofs.lemmas.Bool.{and_parts, leb-true, ltb-true}
 use Rattle.std.proofs.lemmas.List.Sums.{sum_by-cons}
 use Rattle.html_render_parts.specs.declared.widths.needs.CellNeed.{CellNeed}
 use Rattle.html_render_parts.specs.declared.widths.shares.ColumnNeed.{ColumnNeed}
 use Rattle.html_render_parts.specs.declared.widths.spans.Span.{Span}
 use Rattle.html_render_parts.specs.Spans.{covers, given, greatest_at}
 use Rattle.html_render_parts.specs.Needs.{least_part, need_at, column_needs}
-use Rattle.html_render_nodes.specs.declared.tree.Estimate.{Estimate}
-use Rattle.html_render_parts.specs.Needs.{cell_stands, cells_stand}
-use Rattle.html_render_estimates.specs.Estimates.{table_size, table_least, table_estimate}
+use Rattle.html_render_estimates.specs.Estimates.{table_estimate}
 
 -- ---- sums
 
@@ -63,55 +61,52 @@ sum-given s at (suc n) =
 abbrev part_of : CellNeed → ℕ
 part_of c = c.size / c.count * c.count
 
-cell-le : (columns : ℕ) (c : CellNeed) → cell_stands columns c ≡ true →
-    sum_by (given (least_part c)) (range_with_len 0 columns) ≤ part_of c
+-- its columns' parts of its least width are at most those of its size, where it needs no more at least than that
+parts-le : (n least size : ℕ) → least ≤ size → n * (least / n) ≤ size / n * n
+parts-le zero least size h = omega arith
+parts-le (suc n) least size h =
+    let part = div-mul-le_self least (suc n) in
+    let less : least / suc n ≤ size / suc n =
+    (le-div_iff_mul-le {k = suc n} {x = least / suc n} {y = size} (omega arith)).1 (omega (arith, part, h)) in
+    omega (arith, mul-le-mul_left (suc n) less)
+
+cell-le : (columns : ℕ) (c : CellNeed) → c.least ≤ c.size → sum_by (given (least_part c)) (range_with_len 0 columns) ≤ part_of c
 cell-le columns c h =
-    let over = and_parts (leb (c.start + c.count) columns) (ltb 0 c.count && leb c.least c.size) h in
-    let needs = and_parts (ltb 0 c.count) (leb c.least c.size) over.1 in
-    let some = ltb-true 0 c.count needs.0 in
-    let least = leb-true c.least c.size needs.1 in
-    let part = div-mul-le_self c.least c.count in
-    let less : c.least / c.count ≤ c.size / c.count =
-    (le-div_iff_mul-le {k = c.count} {x = c.least / c.count} {y = c.size} some).1 (omega (arith, part, least)) in
     let all : columns_from (least_part c) 0 ≡ c.count = omega arith in
     let sum : sum_by (given (least_part c)) (range_with_len 0 columns) ≤ c.count * (c.least / c.count) =
     subst (λ n. sum_by (given (least_part c)) (range_with_len 0 columns) ≤ n * (c.least / c.count)) all (sum-given (least_part c) 0 columns) in
-    omega (arith, sum, mul-le-mul_left c.count less)
+    omega (arith, sum, parts-le c.count c.least c.size h)
 
 -- ---- all cells
 
 abbrev needed_by : List CellNeed → (column : ℕ) → ℕ
 needed_by cells k = greatest_at (map least_part cells) k
 
-sum-le : (columns : ℕ) (cells : List CellNeed) → cells_stand columns cells ≡ true →
+-- cells that need no more at least than their sizes
+abbrev pub AreWithin : List CellNeed → Type 0
+AreWithin [] = Unit {0}
+AreWithin (c ∷ cs) = (c.least ≤ c.size) × AreWithin cs
+
+sum-le : (columns : ℕ) (cells : List CellNeed) → AreWithin cells →
     sum_by (needed_by cells) (range_with_len 0 columns) ≤ sum_by part_of cells
 sum-le columns [] h = omega (arith, sum_by-zero (range_with_len 0 columns))
 sum-le columns (c ∷ cs) h =
-    let each = and_parts (cell_stands columns c) (cells_stand columns cs) h in
     omega (
       arith,
       sum_by-parts (needed_by (c ∷ cs)) (given (least_part c)) (needed_by cs) (range_with_len 0 columns) (λ k. omega arith),
-      cell-le columns c each.0,
-      sum-le columns cs each.1,
+      cell-le columns c h.0,
+      sum-le columns cs h.1,
       sum_by-cons part_of c cs,
     )
 
-least-le : (columns : ℕ) (cells : List CellNeed) → cells_stand columns cells ≡ true → table_least columns cells ≤ table_size columns cells
-least-le columns cells h =
+-- ---- a table
+
+pub table_within : (columns : ℕ) (cells : List CellNeed) (children : ℕ) → AreWithin cells →
+    (table_estimate columns cells children).least ≤ (table_estimate columns cells children).size
+table_within columns cells children h =
     let needs : sum_by (λ (n : ColumnNeed). n.least) (column_needs columns cells) ≡ sum_by (needed_by cells) (range_with_len 0 columns) =
     sum_by-map (λ (n : ColumnNeed). n.least) (need_at cells) (range_with_len 0 columns) in
     omega (arith, needs, sum-le columns cells h)
 
--- ---- a table
-
-pub table_within : (columns : ℕ) (cells : List CellNeed) (children : ℕ) →
-    (table_estimate columns cells children).least ≤ (table_estimate columns cells children).size
-table_within columns cells children =
-    cond_both (cells_stand columns cells) (record { least = table_least columns cells; size = table_size columns cells; prefix = 0; children = children })
-    (record { least = 0; size = 0; prefix = 0; children = children }) (λ (e : Estimate). e.least ≤ e.size) (least-le columns cells) (λ plain. omega arith)
-
 pub table_bounded : (columns : ℕ) (cells : List CellNeed) (children : ℕ) → (table_estimate columns cells children).size ≤ 2 ^ 64 - 1
-table_bounded columns cells children =
-    cond_both (cells_stand columns cells) (record { least = table_least columns cells; size = table_size columns cells; prefix = 0; children = children })
-    (record { least = 0; size = 0; prefix = 0; children = children }) (λ (e : Estimate). e.size ≤ 2 ^ 64 - 1) (λ stand. omega arith)
-    (λ plain. omega arith)
+table_bounded columns cells children = omega arith

@@ -7,7 +7,7 @@ use Rattle.std.specs.Prelude.{map}
 use Rattle.std.specs.Str.{chars}
 use Rattle.html_render_values.specs.Forest.{Forest, none, node}
 use Rattle.html_render_parts.specs.Decoration.{Decoration, Round, link}
-use Rattle.html_render_parts.specs.declared.widths.needs.CellNeed.{CellNeed}
+use Rattle.html_render_parts.specs.declared.widths.shares.ColumnNeed.{ColumnNeed}
 use Rattle.html_render_lines.specs.declared.character.TextStyle.{TextStyle}
 use Rattle.html_render_nodes.specs.declared.tree.Estimate.{Estimate}
 use Rattle.html_render_nodes.specs.declared.tree.NodeKind.{NodeKind}
@@ -16,11 +16,9 @@ use Rattle.html_render_nodes.specs.declared.tree.NodeKind.TheVariants.{Header, B
 use Rattle.html_render_nodes.specs.declared.tree.NodeKind.TheVariants.{Strikeout, Superscript, Link, Image, Svg, FragmentStart, Table, TableRow}
 use Rattle.html_render_nodes.specs.declared.tree.NodeKind.TheVariants.{TableCell, Part}
 use Rattle.html_render_nodes.specs.declared.tree.RenderNode.{RenderNode}
-use Rattle.html_render_nodes.specs.declared.tree.Slot.{Slot}
-use Rattle.html_render_nodes.specs.Grids.{GridRows}
+use Rattle.html_render_parts.specs.TableCells.{CellGrid}
 use Rattle.html_render_nodes.specs.Pass.{run}
 use Rattle.html_render_nodes.specs.laws.Runs.{MatchOption-then, IfSome-then, IfSome-weaken, NodesKeep, run-keeps}
-use Rattle.html_render_estimates.specs.Cells.{cell_needs}
 use Rattle.html_render_estimates.specs.Estimates.{prefix_columns}
 use Rattle.html_render_blocks.specs.Operations.{Operations}
 use Rattle.html_render_blocks.specs.laws.Operations.{Keeps, Succeeds}
@@ -47,9 +45,9 @@ record Each {B T I : Type 0} (o : Operations B T) (N : Type 0) (P : I → B → 
   pub end_block : (i : I) (b : B) → P i b → P i (o.end_block b)
   pub sub_block : (i : I) (b : B) (prefix inner : ℕ) → P i b → MatchOption (o.sub_block b prefix inner) N (λ c. (j : I) × P j c)
   pub append : (i j : I) (b c : B) (t : T) (first later : List ℕ) → P i b → P j c → MatchOption (o.append b c t first later) N (P i)
-  pub begin_table : (i : I) (b : B) (t : T) (borders stacked : Bool) (grid : GridRows) (cells : List CellNeed) → P i b →
-      MatchOption (o.begin_table b t borders stacked grid cells) N (P i)
-  pub begin_row : (i : I) (b : B) (slots : List Slot) → P i b → P i (o.begin_row b slots)
+  pub begin_table : (i : I) (b : B) (t : T) (borders stacked : Bool) (grid : CellGrid) (needs : List ColumnNeed) → P i b →
+      MatchOption (o.begin_table b t borders stacked grid needs) N (P i)
+  pub begin_row : (i : I) (b : B) → P i b → P i (o.begin_row b)
   pub cell : (i : I) (b : B) → P i b →
       IfSome (o.cell_block b) (λ c. (j : I) × (P j c × ((e : B) → P j e → MatchOption (o.add_cell b e) N (P i))))
   pub skip_cell : (i : I) (b : B) → P i b → P i (o.skip_cell b)
@@ -155,14 +153,14 @@ module _ {S A K T B : Type 0} (d : Decoration S A) (push : K → T → A → K �
             (on_block-keeps fence i s (h.add_inline_text i s.block (fence_style s.blank) (codes "```") p)) (λ q a. new_line-keeps i q a)
         by false = p
 
-    table_begun-keeps : (grid : GridRows) (cells : List CellNeed) (i : I) (s : State) → OfState i s →
-        MatchOption (table_begun o grid cells s) N (OfState i)
-    table_begun-keeps grid cells i s p =
+    table_begun-keeps : (grid : CellGrid) (needs : List ColumnNeed) (i : I) (s : State) → OfState i s →
+        MatchOption (table_begun o grid needs s) N (OfState i)
+    table_begun-keeps grid needs i s p =
         then_keeps i (on_block o.start_block s) _ (start_block-keeps i s p) (λ q a.
         then_keeps i (fenced o q) _ (fenced-keeps i q a) (λ r b.
-        then_keeps i (on_block (λ c. o.begin_table c s.blank s.settings.table_borders s.settings.raw_mode grid cells) r) _
-        (on_block-keeps (λ c. o.begin_table c s.blank s.settings.table_borders s.settings.raw_mode grid cells) i r
-        (h.begin_table i r.block s.blank s.settings.table_borders s.settings.raw_mode grid cells b)) (λ t k. k)))
+        then_keeps i (on_block (λ c. o.begin_table c s.blank s.settings.table_borders s.settings.raw_mode grid needs) r) _
+        (on_block-keeps (λ c. o.begin_table c s.blank s.settings.table_borders s.settings.raw_mode grid needs) i r
+        (h.begin_table i r.block s.blank s.settings.table_borders s.settings.raw_mode grid needs b)) (λ t k. k)))
 
     table_ended-keeps : (in_table : Bool) (i : I) (s : State) → OfState i s → MatchOption (table_ended o in_table s) N (OfState i)
     table_ended-keeps in_table i s p =
@@ -219,18 +217,18 @@ module _ {S A K T B : Type 0} (d : Decoration S A) (push : K → T → A → K �
           MatchOption-then N (OfState k.0) (OfState i) (layout (in_cell d c s)) _ (below k.0 (in_cell d c s) k.1.0) (λ r b.
           MatchOption-then N (P i) (OfState i) (o.add_cell s.block r.block) _ (k.1.1 r.block b) (λ e m. m))
 
-      table-keeps : (grid : GridRows) (cells : List CellNeed) (i : I) (s : State) → OfState i s →
+      table-keeps : (grid : CellGrid) (needs : List ColumnNeed) (i : I) (s : State) → OfState i s →
           MatchOption (option_and_then (λ (q : State). option_and_then (λ (r : State). table_ended o s.in_table r) (layout q))
-          (table_begun o grid cells s)) N (OfState i)
-      table-keeps grid cells i s p =
-          then_keeps i (table_begun o grid cells s) _ (table_begun-keeps grid cells i s p) (λ q a.
+          (table_begun o grid needs s)) N (OfState i)
+      table-keeps grid needs i s p =
+          then_keeps i (table_begun o grid needs s) _ (table_begun-keeps grid needs i s p) (λ q a.
           then_keeps i (layout q) _ (below i q a) (λ r b. table_ended-keeps s.in_table i r b))
 
-      row-keeps : (slots : List Slot) (i : I) (s : State) → OfState i s →
-          MatchOption (option_and_then (λ (r : State). on_block o.end_row r) (among Cells layout (row_begun o slots s))) N (OfState i)
-      row-keeps slots i s p =
-          then_keeps i (among Cells layout (row_begun o slots s)) _
-          (among-keeps Cells i (row_begun o slots s) (h.begin_row i s.block slots p)) (λ r b.
+      row-keeps : (i : I) (s : State) → OfState i s →
+          MatchOption (option_and_then (λ (r : State). on_block o.end_row r) (among Cells layout (row_begun o s))) N (OfState i)
+      row-keeps i s p =
+          then_keeps i (among Cells layout (row_begun o s)) _
+          (among-keeps Cells i (row_begun o s) (h.begin_row i s.block p)) (λ r b.
           on_block-keeps o.end_row i r (h.end_row i r.block b))
 
       struck_out-keeps : (i : I) (s : State) → OfState i s → MatchOption (struck_out d push o layout s) N (OfState i)
@@ -275,8 +273,8 @@ module _ {S A K T B : Type 0} (d : Decoration S A) (push : K → T → A → K �
       kind-keeps (Image m) e trees i s p = image-keeps m.source m.title i s p
       kind-keeps (Svg title) e trees i s p = image-keeps [] title i s p
       kind-keeps (FragmentStart name) e trees i s p = h.add_mark i s.block (length s.names) p
-      kind-keeps (Table grid) e trees i s p = table-keeps grid (cell_needs trees) i s p
-      kind-keeps (TableRow slots) e trees i s p = row-keeps slots i s p
+      kind-keeps (Table grid) e trees i s p = table-keeps grid.cells grid.needs i s p
+      kind-keeps TableRow e trees i s p = row-keeps i s p
       kind-keeps TableCell e trees i s p = below i s p
       kind-keeps (Part part) e trees i s p = below i s p
 
@@ -324,8 +322,8 @@ module _ {S A K T B : Type 0} (d : Decoration S A) (push : K → T → A → K �
       end_block = h.end_block;
       sub_block = λ i b n m k. if_match Inner (o.sub_block b n m) (h.sub_block i b n m k);
       append = λ i j b c x cs ds k l. if_match (P i) (o.append b c x cs ds) (h.append i j b c x cs ds k l);
-      begin_table = λ i b t borders stacked grid cells k.
-          if_match (P i) (o.begin_table b t borders stacked grid cells) (h.begin_table i b t borders stacked grid cells k);
+      begin_table = λ i b t borders stacked grid needs k.
+          if_match (P i) (o.begin_table b t borders stacked grid needs) (h.begin_table i b t borders stacked grid needs k);
       begin_row = h.begin_row;
       cell = λ i b k. IfSome-weaken (Cell (λ a Q. IfSome a Q) i b) (Cell (λ a Q. MatchOption a (Unit {0}) Q) i b) (o.cell_block b) (h.cell i b k) (λ c m.
           (m.0, (m.1.0, λ e n. if_match (P i) (o.add_cell b e) (m.1.1 e n))));
@@ -346,8 +344,8 @@ module _ {S A K T B : Type 0} (d : Decoration S A) (push : K → T → A → K �
       end_block = h.end_block;
       sub_block = λ i b n m k. and_match Inner (o.sub_block b n m) (h.sub_block i b n m k);
       append = λ i j b c x cs ds k l. and_match (P i) (o.append b c x cs ds) (h.append i j b c x cs ds k l);
-      begin_table = λ i b t borders stacked grid cells k.
-          and_match (P i) (o.begin_table b t borders stacked grid cells) (h.begin_table i b t borders stacked grid cells k);
+      begin_table = λ i b t borders stacked grid needs k.
+          and_match (P i) (o.begin_table b t borders stacked grid needs) (h.begin_table i b t borders stacked grid needs k);
       begin_row = h.begin_row;
       cell = λ i b k. IfSome-weaken (Cell (λ a Q. IsSomeAnd a Q) i b) (Cell (λ a Q. MatchOption a ⊥ Q) i b) (o.cell_block b) (h.cell i b k) (λ c m.
           (m.0, (m.1.0, λ e n. and_match (P i) (o.add_cell b e) (m.1.1 e n))));
@@ -416,12 +414,12 @@ module _ {S A K T B : Type 0} (d : Decoration S A) (push : K → T → A → K �
       by true = then_same s (on_block fence s) _ (on_block-same fence s) (λ q. on_block-same o.new_line q)
       by false = (refl, λ e. e)
 
-  table_begun-same : (grid : GridRows) (cells : List CellNeed) (s : State) → IfSome (table_begun o grid cells s) (SamePlace s)
-  table_begun-same grid cells s =
+  table_begun-same : (grid : CellGrid) (needs : List ColumnNeed) (s : State) → IfSome (table_begun o grid needs s) (SamePlace s)
+  table_begun-same grid needs s =
       then_same s (on_block o.start_block s) _ (on_block-same o.start_block s) (λ q.
       then_same q (fenced o q) _ (fenced-same q) (λ r.
-      then_same r (on_block (λ b. o.begin_table b s.blank s.settings.table_borders s.settings.raw_mode grid cells) r) _
-      (on_block-same (λ b. o.begin_table b s.blank s.settings.table_borders s.settings.raw_mode grid cells) r) (λ t. (refl, λ e. e))))
+      then_same r (on_block (λ b. o.begin_table b s.blank s.settings.table_borders s.settings.raw_mode grid needs) r) _
+      (on_block-same (λ b. o.begin_table b s.blank s.settings.table_borders s.settings.raw_mode grid needs) r) (λ t. (refl, λ e. e))))
 
   table_ended-same : (in_table : Bool) (s : State) → IfSome (table_ended o in_table s) (SamePlace s)
   table_ended-same in_table s = fenced-same (record s { block = o.end_table s.block; in_table = in_table })
@@ -476,17 +474,17 @@ module _ {S A K T B : Type 0} (d : Decoration S A) (push : K → T → A → K �
         let u : State = record s { around = around } in
         IfSome-then (SamePlace u) (SamePlace s) (children u) _ (below-same u) (λ r a. (a.0, λ e. e))
 
-    table-same : (grid : GridRows) (cells : List CellNeed) (s : State) →
+    table-same : (grid : CellGrid) (needs : List ColumnNeed) (s : State) →
         IfSome (option_and_then (λ (q : State). option_and_then (λ (r : State). table_ended o s.in_table r) (children q))
-        (table_begun o grid cells s)) (SamePlace s)
-    table-same grid cells s =
-        then_same s (table_begun o grid cells s) _ (table_begun-same grid cells s) (λ q.
+        (table_begun o grid needs s)) (SamePlace s)
+    table-same grid needs s =
+        then_same s (table_begun o grid needs s) _ (table_begun-same grid needs s) (λ q.
         then_same q (children q) _ (below-same q) (λ r. table_ended-same s.in_table r))
 
-    row-same : (slots : List Slot) (s : State) →
-        IfSome (option_and_then (λ (r : State). on_block o.end_row r) (among Cells children (row_begun o slots s))) (SamePlace s)
-    row-same slots s =
-        then_same s (among Cells children (row_begun o slots s)) _ (among-same Cells (row_begun o slots s)) (λ r.
+    row-same : (s : State) →
+        IfSome (option_and_then (λ (r : State). on_block o.end_row r) (among Cells children (row_begun o s))) (SamePlace s)
+    row-same s =
+        then_same s (among Cells children (row_begun o s)) _ (among-same Cells (row_begun o s)) (λ r.
         on_block-same o.end_row r)
 
     struck_out-same : (s : State) → IfSome (struck_out d push o children s) (SamePlace s)
@@ -532,8 +530,8 @@ module _ {S A K T B : Type 0} (d : Decoration S A) (push : K → T → A → K �
     kind-same (Image m) e trees s = image-same m.source m.title s
     kind-same (Svg title) e trees s = image-same [] title s
     kind-same (FragmentStart name) e trees s = (refl, λ e. e)
-    kind-same (Table grid) e trees s = table-same grid (cell_needs trees) s
-    kind-same (TableRow slots) e trees s = row-same slots s
+    kind-same (Table grid) e trees s = table-same grid.cells grid.needs s
+    kind-same TableRow e trees s = row-same s
     kind-same TableCell e trees s = below-same s
     kind-same (Part part) e trees s = below-same s
 

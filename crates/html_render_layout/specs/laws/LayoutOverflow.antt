@@ -8,7 +8,7 @@ use Rattle.std.proofs.lemmas.Option.{same_Some}
 use Rattle.html_render_values.specs.Forest.{Forest}
 use Rattle.html_render_values.specs.declared.colours.Colour.{Colour}
 use Rattle.html_render_parts.specs.Decoration.{Decoration, Round, link}
-use Rattle.html_render_parts.specs.declared.widths.needs.CellNeed.{CellNeed}
+use Rattle.html_render_parts.specs.declared.widths.shares.ColumnNeed.{ColumnNeed}
 use Rattle.html_render_lines.specs.Line.{Line}
 use Rattle.html_render_nodes.specs.declared.tree.Estimate.{Estimate}
 use Rattle.html_render_nodes.specs.declared.tree.NodeKind.{NodeKind}
@@ -18,8 +18,7 @@ use Rattle.html_render_nodes.specs.declared.tree.NodeKind.TheVariants.{Strikeout
 use Rattle.html_render_nodes.specs.declared.tree.NodeKind.TheVariants.{TableRow, TableCell, Part}
 use Rattle.html_render_nodes.specs.declared.tree.NodeStyle.{NodeStyle}
 use Rattle.html_render_nodes.specs.declared.tree.RenderNode.{RenderNode}
-use Rattle.html_render_nodes.specs.declared.tree.Slot.{Slot}
-use Rattle.html_render_nodes.specs.Grids.{GridRows}
+use Rattle.html_render_parts.specs.TableCells.{CellGrid}
 use Rattle.html_render_nodes.specs.Pass.{run}
 use Rattle.html_render_nodes.specs.laws.Images.{Image, image-then, NodesImage, run-image}
 use Rattle.html_render_blocks.specs.Operations.{Operations, Ending}
@@ -27,7 +26,6 @@ use Rattle.html_render_blocks.specs.Block as definition
 use Rattle.html_render_blocks.specs.laws.Operations.{Refines}
 use Rattle.html_render_blocks.specs.laws.BlockOverflow.{overflowing, operations_refine}
 use Rattle.html_render_blocks.specs.laws.Closing.{finish_stays, add_closing_lines_stays}
-use Rattle.html_render_estimates.specs.Cells.{cell_needs}
 use Rattle.html_render_estimates.specs.Estimates.{prefix_columns}
 use Rattle.html_render_layout.specs.declared.layout.state.Around.{Around}
 use Rattle.html_render_layout.specs.declared.layout.state.Around.TheVariants.{Plain, Bullets, Numbers, Cells}
@@ -126,21 +124,21 @@ module _ {S A K T B : Type 0} (d : Decoration S A) (push : K → T → A → K �
   fenced-stays : Stays (fenced o) (fenced o)
   fenced-stays s = fence-stays (s.settings.fence_tables && not s.in_table) s
 
-  table_begun-stays : (grid : GridRows) (cells : List CellNeed) → Stays (table_begun o grid cells) (table_begun o grid cells)
-  table_begun-stays grid cells s =
-      let begin : B → Option B = λ b. o.begin_table b s.blank s.settings.table_borders s.settings.raw_mode grid cells in
+  table_begun-stays : (grid : CellGrid) (needs : List ColumnNeed) → Stays (table_begun o grid needs) (table_begun o grid needs)
+  table_begun-stays grid needs s =
+      let begin : B → Option B = λ b. o.begin_table b s.blank s.settings.table_borders s.settings.raw_mode grid needs in
       both (on_block o.start_block s) (on_block o.start_block (mapped s)) _ _ (on_block-stays o.start_block s (h.start_block s.block)) (λ p.
       both (fenced o p) (fenced o (mapped p)) _ _ (fenced-stays p) (λ q.
       both (on_block begin q) (on_block begin (mapped q)) (λ r. Some (record r { in_table = true })) (λ r. Some (record r { in_table = true }))
-      (on_block-stays begin q (h.begin_table q.block s.blank s.settings.table_borders s.settings.raw_mode grid cells)) (λ r. refl)))
+      (on_block-stays begin q (h.begin_table q.block s.blank s.settings.table_borders s.settings.raw_mode grid needs)) (λ r. refl)))
 
   table_ended-stays : (in_table : Bool) → Stays (table_ended o in_table) (table_ended o in_table)
   table_ended-stays in_table r =
       let q : State = record r { block = o.end_table r.block; in_table = in_table } in
       subst (λ e. Image mapped (fenced o q) (fenced o (record q { block = e }))) (sym (h.end_table r.block)) (fenced-stays q)
 
-  row_begun-stays : (slots : List Slot) (s : State) → row_begun o slots (mapped s) ≡ mapped (row_begun o slots s)
-  row_begun-stays slots s = ap (λ b. record s { block = b }) (h.begin_row s.block slots)
+  row_begun-stays : (s : State) → row_begun o (mapped s) ≡ mapped (row_begun o s)
+  row_begun-stays s = ap (λ b. record s { block = b }) (h.begin_row s.block)
 
   -- the style of a node doesn't touch the block
   annotated-stays : (a : Option A) (s : State) → annotated push a (mapped s) ≡ mapped (annotated push a s)
@@ -215,12 +213,12 @@ module _ {S A K T B : Type 0} (d : Decoration S A) (push : K → T → A → K �
         _ _ (decorated-stays (link d target) (with_target target s)) (λ r. link_number-stays s.text (length s.targets + 1) r)
 
     -- a row of a table
-    row-stays : (slots : List Slot) → Stays (λ s. option_and_then (λ r. on_block o.end_row r) (among Cells l (row_begun o slots s)))
-        (λ s. option_and_then (λ r. on_block o.end_row r) (among Cells m (row_begun o slots s)))
-    row-stays slots s =
-        both (among Cells l (row_begun o slots s)) (among Cells m (row_begun o slots (mapped s))) _ _
-        (subst (λ q. Image mapped (among Cells l (row_begun o slots s)) (among Cells m q)) (sym (row_begun-stays slots s))
-        (among-stays Cells (row_begun o slots s))) (λ r. on_block-stays o.end_row r (h.end_row r.block))
+    row-stays : Stays (λ s. option_and_then (λ r. on_block o.end_row r) (among Cells l (row_begun o s)))
+        (λ s. option_and_then (λ r. on_block o.end_row r) (among Cells m (row_begun o s)))
+    row-stays s =
+        both (among Cells l (row_begun o s)) (among Cells m (row_begun o (mapped s))) _ _
+        (subst (λ q. Image mapped (among Cells l (row_begun o s)) (among Cells m q)) (sym (row_begun-stays s))
+        (among-stays Cells (row_begun o s))) (λ r. on_block-stays o.end_row r (h.end_row r.block))
 
     -- a cell of it, in its block or skipped
     as_cell-stays : (s : State) (cell : Option B) → Image mapped (as_cell d o l s cell) (as_cell d o m (mapped s) (option_map f cell))
@@ -270,10 +268,10 @@ module _ {S A K T B : Type 0} (d : Decoration S A) (push : K → T → A → K �
     kind-stays (FragmentStart name) e trees s =
         ap (λ b. Some (record (marked o name s) { block = b })) (h.add_mark s.block (length s.names))
     kind-stays (Table grid) e trees s =
-        both (table_begun o grid (cell_needs trees) s) (table_begun o grid (cell_needs trees) (mapped s)) _ _
-        (table_begun-stays grid (cell_needs trees) s) (λ q.
+        both (table_begun o grid.cells grid.needs s) (table_begun o grid.cells grid.needs (mapped s)) _ _
+        (table_begun-stays grid.cells grid.needs s) (λ q.
         both (l q) (m (mapped q)) (table_ended o s.in_table) (table_ended o s.in_table) (below q) (table_ended-stays s.in_table))
-    kind-stays (TableRow slots) e trees s = row-stays slots s
+    kind-stays TableRow e trees s = row-stays s
     kind-stays TableCell e trees s = below s
     kind-stays (Part part) e trees s = below s
 

@@ -8,7 +8,7 @@ use Rattle.std.specs.Prelude.{map, sum_by, not, ◌&&◌, if◌then◌else◌}
 use Rattle.std.proofs.lemmas.List.Sums.{sum_by-cons, sum_by-append}
 use Rattle.html_render_values.specs.Forest.{Forest, none, node}
 use Rattle.html_render_parts.specs.Decoration.{Decoration, Round, link}
-use Rattle.html_render_parts.specs.declared.widths.needs.CellNeed.{CellNeed}
+use Rattle.html_render_parts.specs.declared.widths.shares.ColumnNeed.{ColumnNeed}
 use Rattle.html_render_lines.specs.Character.{is_collapsible}
 use Rattle.html_render_lines.specs.Line.{Line}
 use Rattle.html_render_lines.specs.Visible.{if_visible, visible_in_lines}
@@ -19,8 +19,7 @@ use Rattle.html_render_nodes.specs.declared.tree.NodeKind.TheVariants.{Header, B
 use Rattle.html_render_nodes.specs.declared.tree.NodeKind.TheVariants.{Strikeout, Superscript, Link, Image, Svg, FragmentStart, Table, TableRow}
 use Rattle.html_render_nodes.specs.declared.tree.NodeKind.TheVariants.{TableCell, Part}
 use Rattle.html_render_nodes.specs.declared.tree.RenderNode.{RenderNode}
-use Rattle.html_render_nodes.specs.declared.tree.Slot.{Slot}
-use Rattle.html_render_nodes.specs.Grids.{GridRows}
+use Rattle.html_render_parts.specs.TableCells.{CellGrid}
 use Rattle.html_render_nodes.specs.Pass.{Steps, Inside, run, from, count_from}
 use Rattle.html_render_nodes.specs.laws.Runs.{IfSome-then, IfSome-weaken}
 use Rattle.html_render_blocks.specs.Operations.{Operations}
@@ -31,7 +30,6 @@ use Rattle.html_render_pictures.specs.Visible.{count}
 use Rattle.html_render_blocks.specs.laws.Operations.{Counts}
 use Rattle.html_render_blocks.specs.laws.BlockVisible.{operations_keep_visible}
 use Rattle.html_render_blocks.specs.laws.Closing.{IsClear, finish_count, closed_count}
-use Rattle.html_render_estimates.specs.Cells.{cell_needs}
 use Rattle.html_render_estimates.specs.Estimates.{prefix_columns}
 use Rattle.html_render_layout.specs.declared.layout.state.Around.{Around}
 use Rattle.html_render_layout.specs.declared.layout.state.Around.TheVariants.{Plain, Bullets, Numbers, Cells}
@@ -179,14 +177,14 @@ module _ {S A K T B : Type 0} (d : Decoration S A) (push : K → T → A → K �
   fenced-counts : (s : State) → IfSome (fenced o s) (AtLeast (counted s))
   fenced-counts s = fence-counts (s.settings.fence_tables && not s.in_table) s
 
-  table_begun-counts : (grid : GridRows) (cells : List CellNeed) (s : State) → IfSome (table_begun o grid cells s) (AtLeast (counted s))
-  table_begun-counts grid cells s =
+  table_begun-counts : (grid : CellGrid) (needs : List ColumnNeed) (s : State) → IfSome (table_begun o grid needs s) (AtLeast (counted s))
+  table_begun-counts grid needs s =
       let n = counted s in
-      let begin : B → Option B = λ b. o.begin_table b s.blank s.settings.table_borders s.settings.raw_mode grid cells in
+      let begin : B → Option B = λ b. o.begin_table b s.blank s.settings.table_borders s.settings.raw_mode grid needs in
       IfSome-then (AtLeast n) (AtLeast n) (on_block o.start_block s) _ (keeps-counts o.start_block s (h.start_block s.block)) (λ p a.
       IfSome-then (AtLeast (counted p)) (AtLeast n) (fenced o p) _ (fenced-counts p) (λ q b.
       IfSome-then (AtLeast (counted q)) (AtLeast n) (on_block begin q) _
-      (on_block-counts (counted q) begin q (h.begin_table q.block s.blank s.settings.table_borders s.settings.raw_mode grid cells))
+      (on_block-counts (counted q) begin q (h.begin_table q.block s.blank s.settings.table_borders s.settings.raw_mode grid needs))
       (λ r c. omega arith)))
 
   table_ended-counts : (in_table : Bool) (r : State) → IfSome (table_ended o in_table r) (AtLeast (counted r))
@@ -267,15 +265,15 @@ module _ {S A K T B : Type 0} (d : Decoration S A) (push : K → T → A → K �
         let n = counted s + added (record s { around = around }) in
         IfSome-then (AtLeast n) (AtLeast n) (children (record s { around = around })) _ (below (record s { around = around })) (λ r a. a)
 
-    row-counts : (slots : List Slot) (s : State) →
-        IfSome (option_and_then (λ r. on_block o.end_row r) (among Cells children (row_begun o slots s)))
-        (AtLeast (counted s + added (record (row_begun o slots s) { around = Cells })))
-    row-counts slots s =
-        let q : State = row_begun o slots s in
+    row-counts : (s : State) →
+        IfSome (option_and_then (λ r. on_block o.end_row r) (among Cells children (row_begun o s)))
+        (AtLeast (counted s + added (record (row_begun o s) { around = Cells })))
+    row-counts s =
+        let q : State = row_begun o s in
         let more = added (record q { around = Cells }) in
         IfSome-then (AtLeast (counted q + more)) (AtLeast (counted s + more)) (among Cells children q) _ (among-counts Cells q) (λ r a.
         on_block-counts (counted s + more) o.end_row r (IfSome-weaken (λ b. counted r ≤ v b) (λ b. counted s + more ≤ v b)
-        (o.end_row r.block) (h.end_row r.block) (λ b e. let same = h.begin_row s.block slots in omega arith)))
+        (o.end_row r.block) (h.end_row r.block) (λ b e. let same = h.begin_row s.block in omega arith)))
 
     -- what a kind without a text adds
     abbrev Adds : NodeKind → Estimate → Forest RenderNode → State → Type 0
@@ -380,9 +378,9 @@ module _ {S A K T B : Type 0} (d : Decoration S A) (push : K → T → A → K �
     kind-counts (FragmentStart name) e trees s =
         lone (FragmentStart name) e trees s refl refl (omega (arith, h.add_mark s.block (length s.names)))
     kind-counts (Table grid) e trees s =
-        grows (Table grid) e trees s refl (between-counts (counted s) (table_begun o grid (cell_needs trees) s) (table_ended o s.in_table)
-        (table_begun-counts grid (cell_needs trees) s) (table_ended-counts s.in_table))
-    kind-counts (TableRow slots) e trees s = grows (TableRow slots) e trees s refl (row-counts slots s)
+        grows (Table grid) e trees s refl (between-counts (counted s) (table_begun o grid.cells grid.needs s) (table_ended o s.in_table)
+        (table_begun-counts grid.cells grid.needs s) (table_ended-counts s.in_table))
+    kind-counts TableRow e trees s = grows TableRow e trees s refl (row-counts s)
     kind-counts TableCell e trees s = grows TableCell e trees s refl (below s)
     kind-counts (Part part) e trees s = grows (Part part) e trees s refl (below s)
 

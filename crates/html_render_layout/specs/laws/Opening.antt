@@ -3,7 +3,6 @@ use Rattle.std.specs.Prelude.{◌≡◌, ℕ, List, [], map, Option, Some, None,
 use Rattle.std.proofs.Common.{ap, ◌∙◌, sym}
 use Rattle.html_render_values.specs.Forest.{Forest}
 use Rattle.html_render_parts.specs.Decoration.{Decoration, link}
-use Rattle.html_render_estimates.specs.Cells.{cell_needs}
 use Rattle.html_render_estimates.specs.Estimates.{prefix_columns}
 use Rattle.html_render_nodes.specs.declared.tree.Estimate.{Estimate}
 use Rattle.html_render_nodes.specs.declared.tree.NodeKind.{NodeKind}
@@ -122,8 +121,8 @@ module _ {S A K T B : Type 0} (d : Decoration S A) (push : K → T → A → K �
   kind-told (Image i) e trees children s plain = past-told (kind_closed d push o) children (image d push o i.source i.title s)
   kind-told (Svg title) e trees children s plain = past-told (kind_closed d push o) children (image d push o [] title s)
   kind-told (FragmentStart name) e trees children s plain = past-told (kind_closed d push o) children (Some (marked o name s))
-  kind-told (Table grid) e trees children s plain = and_then_assoc (table_begun o grid (cell_needs trees) s) _ _
-  kind-told (TableRow slots) e trees children s plain = row-told (row_begun o slots s) children plain
+  kind-told (Table grid) e trees children s plain = and_then_assoc (table_begun o grid.cells grid.needs s) _ _
+  kind-told TableRow e trees children s plain = row-told (row_begun o s) children plain
   kind-told TableCell e trees children s plain = and_then_some (children s)
   kind-told (Part part) e trees children s plain = and_then_some (children s)
 
@@ -233,8 +232,8 @@ module _ {S A K T B : Type 0} (d : Decoration S A) (push : K → T → A → K �
   kind-inside (Image i) e trees s = past-inside (KindClosing S T B) (image d push o i.source i.title s)
   kind-inside (Svg title) e trees s = past-inside (KindClosing S T B) (image d push o [] title s)
   kind-inside (FragmentStart name) e trees s = refl
-  kind-inside (Table grid) e trees s = into-inside (KindClosing S T B) (table_begun o grid (cell_needs trees) s) _
-  kind-inside (TableRow slots) e trees s = refl
+  kind-inside (Table grid) e trees s = into-inside (KindClosing S T B) (table_begun o grid.cells grid.needs s) _
+  kind-inside TableRow e trees s = refl
   kind-inside TableCell e trees s = refl
   kind-inside (Part part) e trees s = refl
 

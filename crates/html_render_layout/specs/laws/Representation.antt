@@ -9,7 +9,7 @@ use Rattle.html_render_values.specs.declared.white_space.WhiteSpace.{WhiteSpace}
 use Rattle.html_render_values.specs.declared.white_space.WhiteSpace.TheVariants.{Normal, Pre, PreWrap}
 use Rattle.html_render_values.specs.declared.colours.Colour.{Colour}
 use Rattle.html_render_parts.specs.Decoration.{Decoration, Round, Start, link}
-use Rattle.html_render_parts.specs.declared.widths.needs.CellNeed.{CellNeed}
+use Rattle.html_render_parts.specs.declared.widths.shares.ColumnNeed.{ColumnNeed}
 use Rattle.html_render_lines.specs.declared.character.TextStyle.{TextStyle}
 use Rattle.html_render_lines.specs.Line.{Line}
 use Rattle.html_render_lines.specs.Tags.{lines_with}
@@ -22,9 +22,7 @@ use Rattle.html_render_nodes.specs.declared.tree.NodeKind.TheVariants.{Strikeout
 use Rattle.html_render_nodes.specs.declared.tree.NodeKind.TheVariants.{TableCell, Part}
 use Rattle.html_render_nodes.specs.declared.tree.NodeStyle.{NodeStyle}
 use Rattle.html_render_nodes.specs.declared.tree.RenderNode.{RenderNode}
-use Rattle.html_render_nodes.specs.declared.tree.Slot.{Slot}
-use Rattle.html_render_nodes.specs.Grids.{GridRows}
-use Rattle.html_render_estimates.specs.Cells.{cell_needs}
+use Rattle.html_render_parts.specs.TableCells.{CellGrid}
 use Rattle.html_render_estimates.specs.Estimates.{prefix_columns}
 use Rattle.html_render_nodes.specs.laws.Agree.{Agree, Agree-then, Agree-weaken, Agree-along, mapped-Agree, run-agree, visited-agree, most_open-agree}
 use Rattle.html_render_nodes.specs.laws.Visits.{visited-same, most_open-same}
@@ -159,24 +157,24 @@ module _ {I T A V : Type 0} (f : I → T → V) (seen : List A → V) (now : I) 
       ∙ seen-commutes.append e g y first later)
 
   -- tables, their rows and cells
-  begin_table-shows : (x : T) (y : List A) → ((i : I) → f i x ≡ seen y) → (borders stacked : Bool) (grid : GridRows) (cells : List CellNeed)
+  begin_table-shows : (x : T) (y : List A) → ((i : I) → f i x ≡ seen y) → (borders stacked : Bool) (grid : CellGrid) (needs : List ColumnNeed)
       (b : MachineBlock T ℕ) (e : DefinedBlock (List A) ℕ) → Shows b e →
-      Agree Shows (machine.operations.begin_table b x borders stacked grid cells)
-      (definition.operations.begin_table e y borders stacked grid cells)
-  begin_table-shows x y t borders stacked grid cells b e h =
-      Agree-along (λ i. block_with (f i)) seen_block now (machine.operations.begin_table b x borders stacked grid cells)
-      (definition.operations.begin_table e y borders stacked grid cells) (λ i.
-      sym ((block_with-commutes (f i)).begin_table b x borders stacked grid cells)
-      ∙ ap (λ z. machine.operations.begin_table (block_with (f i) b) z borders stacked grid cells) (t i)
-      ∙ ap (λ z. machine.operations.begin_table z (seen y) borders stacked grid cells) (h i)
-      ∙ seen-commutes.begin_table e y borders stacked grid cells)
+      Agree Shows (machine.operations.begin_table b x borders stacked grid needs)
+      (definition.operations.begin_table e y borders stacked grid needs)
+  begin_table-shows x y t borders stacked grid needs b e h =
+      Agree-along (λ i. block_with (f i)) seen_block now (machine.operations.begin_table b x borders stacked grid needs)
+      (definition.operations.begin_table e y borders stacked grid needs) (λ i.
+      sym ((block_with-commutes (f i)).begin_table b x borders stacked grid needs)
+      ∙ ap (λ z. machine.operations.begin_table (block_with (f i) b) z borders stacked grid needs) (t i)
+      ∙ ap (λ z. machine.operations.begin_table z (seen y) borders stacked grid needs) (h i)
+      ∙ seen-commutes.begin_table e y borders stacked grid needs)
 
-  begin_row-shows : (slots : List Slot) (b : MachineBlock T ℕ) (e : DefinedBlock (List A) ℕ) → Shows b e →
-      Shows (machine.operations.begin_row b slots) (definition.operations.begin_row e slots)
-  begin_row-shows slots b e h = λ i.
-      sym ((block_with-commutes (f i)).begin_row b slots)
-      ∙ ap (λ c. machine.operations.begin_row c slots) (h i)
-      ∙ seen-commutes.begin_row e slots
+  begin_row-shows : (b : MachineBlock T ℕ) (e : DefinedBlock (List A) ℕ) → Shows b e →
+      Shows (machine.operations.begin_row b) (definition.operations.begin_row e)
+  begin_row-shows b e h = λ i.
+      sym ((block_with-commutes (f i)).begin_row b)
+      ∙ ap (λ c. machine.operations.begin_row c) (h i)
+      ∙ seen-commutes.begin_row e
 
   cell_block-shows : (b : MachineBlock T ℕ) (e : DefinedBlock (List A) ℕ) → Shows b e →
       Agree Shows (machine.operations.cell_block b) (definition.operations.cell_block e)
@@ -653,31 +651,31 @@ module _ {S A K T V : Type 0} (d : Decoration S A) (push : K → T → A → K �
   }
 
   -- a table begins in q as s says
-  begin_table-represents : (grid : GridRows) (cells : List CellNeed) (s q : Worked) (e v : Defined S A) → Represents s e →
+  begin_table-represents : (grid : CellGrid) (needs : List ColumnNeed) (s q : Worked) (e v : Defined S A) → Represents s e →
       Represents q v → Grows s q →
       Agree (Reached q)
-      (on_block (λ b. machine.operations.begin_table b s.blank s.settings.table_borders s.settings.raw_mode grid cells) q)
-      (on_block (λ c. definition.operations.begin_table c e.blank e.settings.table_borders e.settings.raw_mode grid cells) v)
-  begin_table-represents grid cells s q e v h k grown =
+      (on_block (λ b. machine.operations.begin_table b s.blank s.settings.table_borders s.settings.raw_mode grid needs) q)
+      (on_block (λ c. definition.operations.begin_table c e.blank e.settings.table_borders e.settings.raw_mode grid needs) v)
+  begin_table-represents grid needs s q e v h k grown =
       subst (λ (x : LayoutSettings). Agree (Reached q)
-      (on_block (λ b. machine.operations.begin_table b s.blank s.settings.table_borders s.settings.raw_mode grid cells) q)
-      (on_block (λ c. definition.operations.begin_table c e.blank x.table_borders x.raw_mode grid cells) v)) h.settings
+      (on_block (λ b. machine.operations.begin_table b s.blank s.settings.table_borders s.settings.raw_mode grid needs) q)
+      (on_block (λ c. definition.operations.begin_table c e.blank x.table_borders x.raw_mode grid needs) v)) h.settings
       (on_block-represents
-      (λ b. machine.operations.begin_table b s.blank s.settings.table_borders s.settings.raw_mode grid cells)
-      (λ c. definition.operations.begin_table c e.blank s.settings.table_borders s.settings.raw_mode grid cells) q v k
+      (λ b. machine.operations.begin_table b s.blank s.settings.table_borders s.settings.raw_mode grid needs)
+      (λ c. definition.operations.begin_table c e.blank s.settings.table_borders s.settings.raw_mode grid needs) q v k
       (begin_table-shows (seen_since q.stacks) seen (now q.stacks) s.blank e.blank
-      (tag-later s.stacks q.stacks s.blank e.blank h.blank grown) s.settings.table_borders s.settings.raw_mode grid cells
+      (tag-later s.stacks q.stacks s.blank e.blank h.blank grown) s.settings.table_borders s.settings.raw_mode grid needs
       q.block v.block k.block))
 
-  table_begun-represents : (grid : GridRows) (cells : List CellNeed) (s : Worked) (e : Defined S A) → Represents s e →
-      Agree (Reached s) (table_begun machine.operations grid cells s) (table_begun definition.operations grid cells e)
-  table_begun-represents grid cells s e h =
+  table_begun-represents : (grid : CellGrid) (needs : List ColumnNeed) (s : Worked) (e : Defined S A) → Represents s e →
+      Agree (Reached s) (table_begun machine.operations grid needs s) (table_begun definition.operations grid needs e)
+  table_begun-represents grid needs s e h =
       Agree-then (Reached s) (Reached s) _ _ (on_block machine.operations.start_block s)
       (on_block definition.operations.start_block e) (start_block-represents s e h) (λ p u a.
       Agree-then (Reached p) (Reached s) _ _ (fenced machine.operations p) (fenced definition.operations u)
       (fenced-represents p u a.0) (λ q v b.
       let grown : Grows s q = goes s.stacks p.stacks q.stacks a.1 b.1 in
-      Agree-then (Reached q) (Reached s) _ _ _ _ (begin_table-represents grid cells s q e v h b.0 grown) (λ r w c.
+      Agree-then (Reached q) (Reached s) _ _ _ _ (begin_table-represents grid needs s q e v h b.0 grown) (λ r w c.
       (with_in_table r w true true refl c.0, goes s.stacks q.stacks r.stacks grown c.1))))
 
   table_ended-represents : (x y : Bool) (s : Worked) (e : Defined S A) → x ≡ y → Represents s e →
@@ -689,10 +687,10 @@ module _ {S A K T V : Type 0} (d : Decoration S A) (push : K → T → A → K �
       (with_in_table (record s { block = b }) (record e { block = c }) x y same
       (with_block s e b c h (end_table-shows (seen_since s.stacks) seen (now s.stacks) s.block e.block h.block)))
 
-  row_begun-represents : (slots : List Slot) (s : Worked) (e : Defined S A) → Represents s e →
-      Represents (row_begun machine.operations slots s) (row_begun definition.operations slots e)
-  row_begun-represents slots s e h =
-      with_block s e _ _ h (begin_row-shows (seen_since s.stacks) seen (now s.stacks) slots s.block e.block h.block)
+  row_begun-represents : (s : Worked) (e : Defined S A) → Represents s e →
+      Represents (row_begun machine.operations s) (row_begun definition.operations e)
+  row_begun-represents s e h =
+      with_block s e _ _ h (begin_row-shows (seen_since s.stacks) seen (now s.stacks) s.block e.block h.block)
 
   end_row-represents : (s : Worked) (e : Defined S A) → Represents s e →
       Agree (Reached s) (on_block machine.operations.end_row s) (on_block definition.operations.end_row e)
@@ -915,13 +913,13 @@ module _ {S A K T V : Type 0} (d : Decoration S A) (push : K → T → A → K �
     kind-represents (Svg title) m trees s e h = image-represents [] title s e h
     kind-represents (FragmentStart name) m trees s e h = (marked-represents name s e h, stays s.stacks)
     kind-represents (Table grid) m trees s e h =
-        then-represents s _ _ _ _ (table_begun-represents grid (cell_needs trees) s e h) (λ q u a.
+        then-represents s _ _ _ _ (table_begun-represents grid.cells grid.needs s e h) (λ q u a.
         then-represents q (f q) (g u) _ _ (below q u a) (λ r v k.
         table_ended-represents s.in_table e.in_table r v h.in_table k))
-    kind-represents (TableRow slots) m trees s e h =
+    kind-represents TableRow m trees s e h =
         then-represents s _ _ _ _
-        (among-represents Cells Cells (row_begun machine.operations slots s) (row_begun definition.operations slots e) refl
-        (row_begun-represents slots s e h)) end_row-represents
+        (among-represents Cells Cells (row_begun machine.operations s) (row_begun definition.operations e) refl
+        (row_begun-represents s e h)) end_row-represents
     kind-represents TableCell m trees s e h = below s e h
     kind-represents (Part part) m trees s e h = below s e h
 
@@ -1019,10 +1017,10 @@ module _ {S A K T V : Type 0} (d : Decoration S A) (push : K → T → A → K �
   kind_inside-represents (Svg title) m trees s e h = tt
   kind_inside-represents (FragmentStart name) m trees s e h = tt
   kind_inside-represents (Table grid) m trees s e h =
-      reached-represents s _ _ (table_begun-represents grid (cell_needs trees) s e h)
-  kind_inside-represents (TableRow slots) m trees s e h =
-      with_around (row_begun machine.operations slots s) (row_begun definition.operations slots e) Cells Cells refl
-      (row_begun-represents slots s e h)
+      reached-represents s _ _ (table_begun-represents grid.cells grid.needs s e h)
+  kind_inside-represents TableRow m trees s e h =
+      with_around (row_begun machine.operations s) (row_begun definition.operations e) Cells Cells refl
+      (row_begun-represents s e h)
   kind_inside-represents TableCell m trees s e h = h
   kind_inside-represents (Part part) m trees s e h = h
 

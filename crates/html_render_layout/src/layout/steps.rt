@@ -5,7 +5,6 @@ ghost use Rattle.html_render_values.specs.Outcome.{Refuses};
 ghost use Rattle.html_render_blocks.specs.BlockMachine as machine;
 ghost use Rattle.html_render_nodes.specs.Pass.{way};
 ghost use Rattle.html_render_nodes.specs.Preorder.{flatten, forest_of};
-ghost use Rattle.html_render_estimates.specs.Cells.{cell_needs};
 ghost use Rattle.html_render_layout.specs.Layout.{inner_least, numbers, digits_of};
 ghost use Rattle.html_render_layout.specs.Opening.{place_of, item_begun, item_kept, item_closed, quote_opened};
 ghost use Rattle.html_render_layout.specs.Opening.{term_opened, description_opened, strikeout_opened, superscript_opened, link_opened};
@@ -26,7 +25,7 @@ use crate::tagging::Tagging;
 use html_render_blocks::block::Block;
 use html_render_estimates::estimate::number_columns;
 use html_render_estimates::text::columns;
-use html_render_nodes::tree::{Emphasis, Entry, Estimate, Grid, NodeKind, RenderNode, Slot};
+use html_render_nodes::tree::{Emphasis, Entry, Estimate, Grid, NodeKind, RenderNode};
 use html_render_parts::decorate::TextDecorator;
 use html_render_values::Error;
 use html_render_values::text::Text;
@@ -170,31 +169,27 @@ fn open_link<D: TextDecorator, G: Tagging<D::Annotation>>(
 #[inline(never)]
 #[tactic(auto, using(html_render_values::specs::laws::Outcome::refusals))]
 fn open_table<D: TextDecorator, G: Tagging<D::Annotation>>(
-    alloc: Global,
     grid: &Grid,
-    rows: &[Entry<RenderNode>],
     state: &mut LayoutState<D, G, G::Tag, Block<G::Tag, usize>>,
 ) -> Result<Option<KindClosing<D, G::Tag, Block<G::Tag, usize>>>, Error>
-    requires { flatten (forest_of rows.now) ≡ rows.now }
-    ensures ok { IfOk result (λ c. table_opened D.decoration G.annotated machine.operations grid.now (cell_needs (forest_of rows.now)) state.old
+    ensures ok { IfOk result (λ c. table_opened D.decoration G.annotated machine.operations grid.now.cells grid.now.needs state.old
         ≡ Some (way state.new c)) }
-    ensures err { IfErr result (λ e. Refuses e (table_opened D.decoration G.annotated machine.operations grid.now (cell_needs (forest_of rows.now))
+    ensures err { IfErr result (λ e. Refuses e (table_opened D.decoration G.annotated machine.operations grid.now.cells grid.now.needs
         state.old)) }
 {
     let in_table = state.in_table;
-    begin_table(alloc, grid, rows, state)?;
+    begin_table(grid, state)?;
     Ok(Some(KindClosing::EndTable(in_table)))
 }
 
-/// A row of a table begins.
+/// The next row of a table begins.
 fn open_row<D: TextDecorator, G: Tagging<D::Annotation>>(
-    slots: &[Slot],
     state: &mut LayoutState<D, G, G::Tag, Block<G::Tag, usize>>,
 ) -> Result<Option<KindClosing<D, G::Tag, Block<G::Tag, usize>>>, Error>
-    ensures ok { IfOk result (λ c. row_opened D.decoration G.annotated machine.operations slots.now state.old ≡ Some (way state.new c)) }
+    ensures ok { IfOk result (λ c. row_opened D.decoration G.annotated machine.operations state.old ≡ Some (way state.new c)) }
     ensures err { IfErr result (λ e. e ≡ Error.OutOfMemory) }
 {
-    state.block.begin_row(slots)?;
+    state.block.begin_row()?;
     state.around = Around::Cells;
     Ok(Some(KindClosing::EndRow))
 }
@@ -222,8 +217,8 @@ fn open_kind<D: TextDecorator, G: Tagging<D::Annotation>>(
         NodeKind::Container | NodeKind::TableCell | NodeKind::Part(_) => {
             Ok(Some(KindClosing::Nothing))
         }
-        NodeKind::Table(grid) => open_table(alloc, grid, children, state),
-        NodeKind::TableRow(slots) => open_row(slots.as_slice(), state),
+        NodeKind::Table(grid) => open_table(grid, state),
+        NodeKind::TableRow => open_row(state),
         NodeKind::Break => {
             state.block.new_line_hard()?;
             Ok(None)

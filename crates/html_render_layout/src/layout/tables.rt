@@ -4,17 +4,14 @@ ghost use Rattle.std.specs.Prelude.{◌≡◌, Some, OnOk, IfOk, IfErr, codes};
 ghost use Rattle.std.specs.Str.{chars};
 ghost use Rattle.html_render_values.specs.Outcome.{Refuses};
 ghost use Rattle.html_render_blocks.specs.BlockMachine as machine;
-ghost use Rattle.html_render_estimates.specs.Cells.{cell_needs};
-ghost use Rattle.html_render_nodes.specs.Preorder.{flatten, forest_of};
 ghost use Rattle.html_render_layout.specs.Layout.{fence_style, with_fence, fenced, table_begun, table_ended, in_cell};
 ghost use Rattle.html_render_layout.specs.Opening.{cell_closed};
 
 use super::state::{Around, InterruptedTable, LayoutState, OuterTable};
 use crate::tagging::Tagging;
 use html_render_blocks::block::Block;
-use html_render_estimates::cells::cell_needs;
 use html_render_lines::character::TextStyle;
-use html_render_nodes::tree::{Entry, Grid, RenderNode};
+use html_render_nodes::tree::Grid;
 use html_render_parts::decorate::TextDecorator;
 use html_render_values::Error;
 use html_render_values::white_space::WhiteSpace;
@@ -71,23 +68,19 @@ fn add_fence<D: TextDecorator, G: Tagging<D::Annotation>>(
     write_fence(state)
 }
 
-/// A table begins on a grid, with these rows.
+/// A table begins on a grid.
 ///
 /// # Errors
 ///
 /// `TooNarrow`, where a block is flushed for which a character is too wide. `OutOfMemory`.
 #[tactic(auto, using(html_render_values::specs::laws::Outcome::refusals))]
 pub fn begin_table<D: TextDecorator, G: Tagging<D::Annotation>>(
-    alloc: Global,
     grid: &Grid,
-    rows: &[Entry<RenderNode>],
     state: &mut LayoutState<D, G, G::Tag, Block<G::Tag, usize>>,
 ) -> Result<(), Error>
-    requires { flatten (forest_of rows.now) ≡ rows.now }
-    ensures ok { OnOk result (table_begun machine.operations grid.now (cell_needs (forest_of rows.now)) state.old ≡ Some state.new) }
-    ensures err { IfErr result (λ e. Refuses e (table_begun machine.operations grid.now (cell_needs (forest_of rows.now)) state.old)) }
+    ensures ok { OnOk result (table_begun machine.operations grid.now.cells grid.now.needs state.old ≡ Some state.new) }
+    ensures err { IfErr result (λ e. Refuses e (table_begun machine.operations grid.now.cells grid.now.needs state.old)) }
 {
-    let cells = cell_needs(alloc, rows)?;
     let blank = state.blank;
     let borders = state.settings.table_borders;
     let stacked = state.settings.raw_mode;
@@ -95,7 +88,7 @@ pub fn begin_table<D: TextDecorator, G: Tagging<D::Annotation>>(
     add_fence(state)?;
     state
         .block
-        .begin_table(blank, borders, stacked, grid, cells.as_slice())?;
+        .begin_table(blank, borders, stacked, grid.cells(), grid.needs())?;
     state.in_table = true;
     Ok(())
 }

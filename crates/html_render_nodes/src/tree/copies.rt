@@ -2,7 +2,7 @@
 
 ghost use Rattle.std.specs.Prelude.{◌≡◌, IfOk, IfErr};
 
-use super::{Entry, Flat, Grid, Image, NodeKind, RenderNode, RenderTree, Slots};
+use super::{Entry, Flat, Grid, Image, NodeKind, RenderNode, RenderTree};
 use html_render_values::Error;
 use std::alloc::Global;
 
@@ -18,34 +18,17 @@ impl Image {
     }
 }
 
-impl Slots {
-    /// Equal slots.
-    ///
-    /// # Errors
-    ///
-    /// `OutOfMemory`.
-    pub fn try_clone(&self, alloc: Global) -> Result<Slots, Error>
-        ensures ok { IfOk result (λ slots. slots ≡ self.now) }
-        ensures err { IfErr result (λ e. e ≡ Error.OutOfMemory) }
-    {
-        let mut slots = Vec::new(alloc);
-        slots.extend_from_slice(self.as_slice())?;
-        Ok(Slots::new(slots))
-    }
-}
-
 impl Grid {
     /// An equal grid.
     fn try_clone(&self, alloc: Global) -> Result<Grid, Error>
         ensures ok { IfOk result (λ grid. grid ≡ self.now) }
         ensures err { IfErr result (λ e. e ≡ Error.OutOfMemory) }
     {
-        let mut rows = Vec::with_capacity(alloc, self.rows().len())?;
-        for slots in self.rows() {
-            let copy = slots.try_clone(alloc)?;
-            rows.push(copy)?;
-        }
-        Grid::new(alloc, self.columns(), rows)
+        let cells = self.cells().try_clone(alloc)?;
+        let needs = Vec::from_slice(alloc, self.needs())?;
+        let mut grid = Grid::new(alloc, cells)?;
+        grid.set_needs(needs);
+        Ok(grid)
     }
 }
 
@@ -81,7 +64,7 @@ impl NodeKind {
             NodeKind::Svg(title) => NodeKind::Svg(title.clone()?),
             NodeKind::FragmentStart(name) => NodeKind::FragmentStart(name.clone()?),
             NodeKind::Table(grid) => NodeKind::Table(grid.try_clone(alloc)?),
-            NodeKind::TableRow(slots) => NodeKind::TableRow(slots.try_clone(alloc)?),
+            NodeKind::TableRow => NodeKind::TableRow,
             NodeKind::TableCell => NodeKind::TableCell,
             NodeKind::Part(part) => NodeKind::Part(*part),
         })

@@ -56,7 +56,7 @@ impl NodeKind {
             NodeKind::FragmentStart(_) => "FragStart",
             NodeKind::Table(_) | NodeKind::Part(Part::Table) => "Table",
             NodeKind::Part(Part::Body | Part::Foot) => "TableBody",
-            NodeKind::TableRow(_) | NodeKind::Part(Part::Row) => "TableRow",
+            NodeKind::TableRow | NodeKind::Part(Part::Row) => "TableRow",
             NodeKind::TableCell | NodeKind::Part(Part::Cell(_)) => "TableCell",
             NodeKind::Part(Part::Caption) => "Container",
         }

@@ -1,34 +1,26 @@
 -- The shares of columns that can stand side by side can be cut to the width, and keep to it but for their least widths.
 use Rattle.std.proofs.Common.{◌≡◌, ℕ, ◌+◌, ◌-◌, ◌*◌, ◌/◌, ◌<◌, ◌≤◌, ◌==◌, Bool, true, false, not}
-use Rattle.std.proofs.Common.{zero, suc, cond, ◌&&◌, leb, List, [], ◌∷◌, length, sum, map, min, max, get_or, refl, ap, sym, ◌∙◌, arith, IfSome, Some, None}
+use Rattle.std.proofs.Common.{zero, suc, cond, ◌&&◌, leb, List, [], ◌∷◌, length, sum, map, min, max, refl, ap, sym, ◌∙◌, arith, IfSome, Some, None}
 use Rattle.std.proofs.Math.Nat.{add-mul, div-zero, div-mul-le_self, div-le_of_le-mul, le-div_iff_mul-le}
 use Rattle.std.proofs.lemmas.Bool.{leb-true, eqb-true}
 use Rattle.std.proofs.lemmas.List.{get_or-map, length-map}
 use Rattle.std.proofs.lemmas.List.Sums.{sum_by-cons}
-use Rattle.std.proofs.lemmas.List.Elements.{All-get_or}
 use Rattle.html_render_parts.specs.declared.widths.shares.ColumnNeed.{ColumnNeed}
 use Rattle.html_render_parts.specs.Cuts.{cut_by_units, units_taken, CutFits}
-use Rattle.html_render_parts.specs.Shares.{least_widths, total_size, share, shares, stand_side_by_side, widths_across, AreNeeds}
+use Rattle.html_render_parts.specs.Shares.{least_widths, total_size, share, shares, stand_side_by_side, widths_across}
 use Rattle.html_render_parts.specs.laws.Cuts.{few-units}
 use Rattle.html_render_parts.specs.laws.UnitCut.{cut_by_units-fairest}
 
 no_need : ColumnNeed
 no_need = record { size = 0; least = 0 }
 
-least-share : (w t : ℕ) (n : ColumnNeed) → n.least ≤ n.size → n.least ≤ share w t n
-least-share w t n h = by (n.size == 0) refl
-  where
-    by : (b : Bool) → (n.size == 0) ≡ b → n.least ≤ cond b 0 (min n.size (max (n.size * w / t) n.least))
-    by true e = let zero = eqb-true n.size 0 e in omega arith
-    by false e = omega arith
-
 and_true : (a b : Bool) → (a && b) ≡ true → b ≡ true
 and_true true b e = e
 and_true false b e = cc
 
-pub shares_fit : (w : ℕ) (needs : List ColumnNeed) → AreNeeds needs → stand_side_by_side w needs ≡ true →
+pub shares_fit : (w : ℕ) (needs : List ColumnNeed) → stand_side_by_side w needs ≡ true →
     CutFits (least_widths needs) (shares w needs) w
-shares_fit w needs h stand =
+shares_fit w needs stand =
     let same : length (least_widths needs) ≡ length needs = length-map needs (λ n. n.least) in
     let room = leb-true (sum (least_widths needs) + (length needs - 1)) w
     (and_true (not (w == 0)) (leb (sum (least_widths needs) + (length needs - 1)) w) stand) in
@@ -37,7 +29,7 @@ shares_fit w needs h stand =
       each = λ k inside.
           let k_in : k < length needs = omega (arith, inside, same) in
           rw (get_or-map (λ n. n.least) needs k no_need 0 k_in, get_or-map (share w (total_size needs)) needs k no_need 0 k_in)
-          (least-share w (total_size needs) (get_or needs k no_need) (All-get_or (λ n. n.least ≤ n.size) needs k no_need k_in h));
+          (omega arith);
       room = omega (arith, room, same);
     }
 
@@ -51,11 +43,7 @@ div-both a b (suc t) =
     (omega (arith, add-mul (a / suc t) (b / suc t) (suc t), div-mul-le_self a (suc t), div-mul-le_self b (suc t)))
 
 share-most : (w t : ℕ) (n : ColumnNeed) → share w t n ≤ n.least + n.size * w / t
-share-most w t n = by (n.size == 0)
-  where
-    by : (b : Bool) → cond b 0 (min n.size (max (n.size * w / t) n.least)) ≤ n.least + n.size * w / t
-    by true = omega arith
-    by false = omega arith
+share-most w t n = omega arith
 
 shares-most : (w t : ℕ) (needs : List ColumnNeed) → sum (map (share w t) needs) ≤ sum (least_widths needs) + total_size needs * w / t
 shares-most w t [] = omega arith
@@ -80,14 +68,23 @@ shares_keep w needs =
     omega (arith, most, whole)
 
 -- so a cut of them takes few units
-pub few_units_across : (w : ℕ) (needs : List ColumnNeed) → AreNeeds needs →
+pub few_units_across : (w : ℕ) (needs : List ColumnNeed) →
     IfSome (widths_across w needs) (λ ws. units_taken (shares w needs) ws ≤ w)
-few_units_across w needs h = by (stand_side_by_side w needs) refl
+few_units_across w needs = by (stand_side_by_side w needs) refl
   where
     by : (b : Bool) → stand_side_by_side w needs ≡ b →
         IfSome (cond b (Some (cut_by_units (least_widths needs) (shares w needs) w)) None) (λ ws. units_taken (shares w needs) ws ≤ w)
     by true e =
-        let fits = shares_fit w needs h e in
+        let fits = shares_fit w needs e in
         let best = cut_by_units-fairest (least_widths needs) (shares w needs) w fits in
         few-units (least_widths needs) (shares w needs) w (cut_by_units (least_widths needs) (shares w needs) w) fits best.is_cut (shares_keep w needs)
     by false e = tt
+
+-- where no column needs more at least than its size, a share is no more than the size: it is nothing where that is
+pub share_is : (w t : ℕ) (n : ColumnNeed) → n.least ≤ n.size →
+    share w t n ≡ cond (n.size == 0) 0 (min n.size (max (n.size * w / t) n.least))
+share_is w t n h = by (n.size == 0) refl
+  where
+    by : (b : Bool) → (n.size == 0) ≡ b → share w t n ≡ cond b 0 (min n.size (max (n.size * w / t) n.least))
+    by true e = let zero = eqb-true n.size 0 e in omega arith
+    by false e = omega arith

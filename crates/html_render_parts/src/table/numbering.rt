@@ -2,7 +2,7 @@
 
 ghost use Rattle.std.specs.Prelude.{◌≡◌, ◌≤◌, ◌∷◌, ◌++◌, All, map, IfOk, OnOk};
 ghost use Rattle.std.specs.List.Sorted.{IsStrictlyIncreasing};
-ghost use Rattle.html_render_parts.specs.Placement.{lists};
+ghost use Rattle.html_render_parts.specs.Placement.{lists, rising};
 ghost use Rattle.html_render_parts.specs.Grid.{ends, edges_of, numbered, rank};
 
 use crate::table::PlacedCell;
@@ -31,27 +31,49 @@ fn zero_and_ends(alloc: Global, placed: &[Vec<Place>]) -> Result<Vec<u128>, Allo
     Ok(positions)
 }
 
+/// Puts positions in rising order, each once.
+pub(crate) fn make_rising(positions: &mut Vec<u128>) -> Result<(), AllocError>
+    ensures { OnOk result (positions.new.items ≡ rising positions.old.items) }
+{
+    positions.sort()?;
+    positions.dedup();
+    Ok(())
+}
+
 /// The edges of a grid, rising: 0 and the ends of all places, each once.
 pub(crate) fn edges_of(alloc: Global, placed: &[Vec<Place>]) -> Result<Vec<u128>, AllocError>
     ensures edges { IfOk result (λ v. v.items ≡ edges_of (lists placed.now)) }
     ensures rising { IfOk result (λ v. IsStrictlyIncreasing v.items) }
 {
     let mut edges = zero_and_ends(alloc, placed)?;
-    edges.sort()?;
-    edges.dedup();
+    make_rising(&mut edges)?;
     Ok(edges)
 }
 
 /// How many edges are below a position.
-fn rank(edges: &[u128], position: u128) -> usize
+pub(crate) fn rank(edges: &[u128], position: u128) -> usize
     requires { IsStrictlyIncreasing edges.now }
     ensures { result ≡ rank edges.now position }
 {
     edges.partition_point(|edge| *edge < position)
 }
 
+/// How many edges are below a position. They are searched only where a guess is wrong.
+fn rank_near(edges: &[u128], position: u128, guess: usize) -> usize
+    requires { IsStrictlyIncreasing edges.now }
+    ensures { result ≡ rank edges.now position }
+{
+    if guess == 0 || guess >= edges.len() {
+        return rank(edges, position);
+    }
+    if edges[guess - 1] < position && position <= edges[guess] {
+        return guess;
+    }
+    rank(edges, position)
+}
+
 /// A row's places with their columns counted.
-fn numbered_row(
+pub(crate) fn numbered_row(
     alloc: Global,
     edges: &[u128],
     places: &[Place],
@@ -61,12 +83,15 @@ fn numbered_row(
     ensures { IfOk result (λ v. v.items ≡ map (numbered edges.now) places.now) }
 {
     let mut cells = Vec::with_capacity(alloc, places.len())?;
+    let mut behind = 0;
     for place in places {
+        let first = rank_near(edges, place.start, behind);
+        behind = rank_near(edges, place.end, first.saturating_add(1));
         cells.push(PlacedCell {
             kind: place.kind,
             start: place.start,
             end: place.end,
-            columns: rank(edges, place.end) - rank(edges, place.start),
+            columns: behind - first,
         })?;
     }
     Ok(cells)

@@ -1,15 +1,16 @@
 //! Where the cells of a table stand, before its edges have numbers.
 
-ghost use Rattle.std.specs.Prelude.{◌≡◌, ◌≤◌, nat_lt, [], Some, filter, IfOk, OnOk, IfErr, MatchOption, Contains, All};
-ghost use Rattle.html_render_parts.specs.Placement.{end_of, hangs_into, lists, not_due};
-ghost use Rattle.html_render_parts.specs.PlacementSteps.{empty_row, put, put_to, keeping, with_hanging, with_due, with_own, with_gap, with_rest};
-ghost use Rattle.html_render_parts.specs.PlacementSteps.{with_row, bottoms_with, rows_with};
+ghost use Rattle.std.specs.Prelude.{◌≡◌, ◌≤◌, ◌∷◌, nat_lt, [], Some, filter, IfOk, OnOk, IfErr, MatchBool, MatchOption, Contains, All};
+ghost use Rattle.html_render_parts.specs.Placement.{bottom_rows, end_of, hangs_into, lists, not_due, placed_rows};
+ghost use Rattle.html_render_parts.specs.PlacementSteps.{empty_row, put, put_to, telling_end, owning, keeping, with_hanging, with_due, with_own};
+ghost use Rattle.html_render_parts.specs.PlacementSteps.{with_gap, with_rest, with_row, nothing_placed, with_next, IsNextBottom, fitting};
 ghost use Rattle.html_render_parts.specs.Refusal.{Fails};
 
 use crate::table::{CellKind, Span};
 use html_render_values::Error;
 use std::alloc::Global;
 use std::marker::Model;
+use std::mem;
 
 /// A cell at its own column of its own row.
 #[derive(Clone, Copy)]
@@ -17,9 +18,9 @@ pub(crate) struct Standing {
     /// The row, counted from 0.
     row: usize,
     /// The position at which the cell begins in its own row.
-    column: u128,
+    pub column: u128,
     /// How many columns and rows it asks for.
-    span: Span,
+    pub span: Span,
 }
 
 /// A part of a row that is taken: by a cell, a placeholder or a gap.
@@ -35,10 +36,11 @@ pub(crate) struct Place {
 
 impl Standing {
     /// Whether the cell reaches into a row.
-    fn hangs_into(&self, row: usize) -> bool
+    fn hangs_into(&self, row: u128) -> bool
         ensures { result ≡ hangs_into row self.now }
     {
-        row < self.row || ((row - self.row) as u128) < self.span.rowspan
+        let own = self.row as u128;
+        row < own || row - own < self.span.rowspan
     }
 
     /// Whether the cell's last row is before another's.
@@ -55,13 +57,17 @@ impl Standing {
     }
 }
 
-/// A row that is being placed: its places so far, and its own and hanging cells in the order in which they stand.
+/// A row that is being placed.
 #[derive(Drop)]
 struct RowBuilder {
     /// The places so far.
     places: Vec<Place>,
-    /// The cells that were placed, the row's own and those that hang into it.
-    standing: Vec<Standing>,
+    /// The row's own cells so far.
+    own: Vec<Standing>,
+    /// The ends so far, but for those of placeholders at their cell's own column, where the cell ends, and of gaps.
+    told: Vec<u128>,
+    /// Those of the cells so far that hang into the next row, in the order in which they were placed.
+    kept: Vec<Standing>,
     /// Where the next place begins.
     cursor: u128,
 }
@@ -73,7 +79,9 @@ impl Model for RowBuilder {
 
     ghost view = { λ l. record {
       places = l.places.items;
-      standing = l.standing.items;
+      own = l.own.items;
+      told = l.told.items;
+      kept = l.kept.items;
       cursor = l.cursor;
     } };
 }
@@ -85,9 +93,22 @@ impl RowBuilder {
     {
         RowBuilder {
             places: Vec::new(alloc),
-            standing: Vec::new(alloc),
+            own: Vec::new(alloc),
+            told: Vec::new(alloc),
+            kept: Vec::new(alloc),
             cursor: 0,
         }
+    }
+
+    /// Begins a new row.
+    fn clear(&mut self)
+        ensures { self.new ≡ empty_row }
+    {
+        self.places.clear();
+        self.own.clear();
+        self.told.clear();
+        self.kept.clear();
+        self.cursor = 0;
     }
 
     /// Where the next place begins.
@@ -95,6 +116,27 @@ impl RowBuilder {
         ensures { result ≡ self.now.cursor }
     {
         self.cursor
+    }
+
+    /// The places so far.
+    fn places(&self) -> &[Place]
+        ensures { result.now ≡ self.now.places }
+    {
+        &self.places
+    }
+
+    /// The row's own cells so far.
+    fn own(&self) -> &[Standing]
+        ensures { result.now ≡ self.now.own }
+    {
+        &self.own
+    }
+
+    /// The ends that were told so far.
+    fn told(&self) -> &[u128]
+        ensures { result.now ≡ self.now.told }
+    {
+        &self.told
     }
 
     /// Takes what stands up to an end.
@@ -119,12 +161,44 @@ impl RowBuilder {
         }
     }
 
-    /// Keeps a cell that may hang into later rows.
-    fn keep(&mut self, cell: Standing) -> Result<(), Error>
-        ensures ok { OnOk result (self.new ≡ keeping cell self.old) }
+    /// Tells the end of the last place.
+    fn tell_end(&mut self) -> Result<(), Error>
+        ensures ok { OnOk result (self.new ≡ telling_end self.old) }
         ensures err { IfErr result (λ e. e ≡ Error.OutOfMemory) }
     {
-        self.standing.push(cell)?;
+        let end = self.cursor;
+        self.told.push(end)?;
+        Ok(())
+    }
+
+    /// Keeps a cell of a row where it hangs into the next one.
+    fn keep(&mut self, row: usize, cell: Standing) -> Result<(), Error>
+        ensures ok { OnOk result (self.new ≡ keeping row (cell ∷ []) self.old) }
+        ensures err { IfErr result (λ e. e ≡ Error.OutOfMemory) }
+    {
+        if cell.hangs_into(row as u128 + 1) {
+            self.kept.push(cell)?;
+        }
+        Ok(())
+    }
+
+    /// Keeps those cells of a row that hang into the next one.
+    fn keep_all(&mut self, row: usize, cells: &[Standing]) -> Result<(), Error>
+        ensures ok { OnOk result (self.new ≡ keeping row cells.now self.old) }
+        ensures err { IfErr result (λ e. e ≡ Error.OutOfMemory) }
+    {
+        for cell in cells {
+            self.keep(row, *cell)?;
+        }
+        Ok(())
+    }
+
+    /// Takes a cell among the row's own.
+    fn take_own(&mut self, cell: Standing) -> Result<(), Error>
+        ensures ok { OnOk result (self.new ≡ owning cell self.old) }
+        ensures err { IfErr result (λ e. e ≡ Error.OutOfMemory) }
+    {
+        self.own.push(cell)?;
         Ok(())
     }
 
@@ -133,8 +207,12 @@ impl RowBuilder {
         ensures ok { OnOk result (with_hanging cell self.old ≡ Some self.new) }
         ensures err { IfErr result (λ e. Fails e (with_hanging cell self.old)) }
     {
+        let displaced = cell.column < self.cursor();
         self.put(CellKind::Placeholder, cell.span.colspan)?;
-        self.keep(cell)
+        if displaced {
+            self.tell_end()?;
+        }
+        Ok(())
     }
 
     /// Places a cell of the row at the cursor.
@@ -143,8 +221,11 @@ impl RowBuilder {
         ensures err { IfErr result (λ e. Fails e (with_own row span self.old)) }
     {
         let column = self.cursor();
+        let cell = Standing { row, column, span };
         self.put(CellKind::Cell, span.colspan)?;
-        self.keep(Standing { row, column, span })
+        self.tell_end()?;
+        self.take_own(cell)?;
+        self.keep(row, cell)
     }
 
     /// Fills the room up to a column.
@@ -159,16 +240,17 @@ impl RowBuilder {
     }
 
     /// Places the hanging cells that are due at the cursor, and answers the others.
-    fn put_due<'a>(&mut self, hanging: &'a [Standing]) -> Result<&'a [Standing], Error>
-        ensures ok { OnOk result (with_due hanging.now self.old ≡ Some self.new) }
+    fn put_due<'a>(&mut self, row: usize, hanging: &'a [Standing]) -> Result<&'a [Standing], Error>
+        ensures ok { OnOk result (with_due row hanging.now self.old ≡ Some self.new) }
         ensures rest { IfOk result (λ rest. rest.now ≡ not_due self.old.cursor hanging.now) }
-        ensures err { IfErr result (λ e. Fails e (with_due hanging.now self.old)) }
+        ensures err { IfErr result (λ e. Fails e (with_due row hanging.now self.old)) }
     {
         for (i, cell) in hanging.iter().enumerate() {
             if self.cursor() < cell.column {
                 return Ok(&hanging[i..]);
             }
             self.put_hanging(*cell)?;
+            self.keep(row, *cell)?;
         }
         Ok(&hanging[hanging.len()..])
     }
@@ -193,18 +275,19 @@ impl RowBuilder {
     {
         let mut rest = hanging;
         for span in cells {
-            rest = self.put_due(rest)?;
+            rest = self.put_due(row, rest)?;
             self.put_own(row, *span)?;
         }
-        self.put_rest(rest)
+        self.put_rest(rest)?;
+        self.keep_all(row, rest)
     }
 
-    /// The places, and the cells in the order in which they were placed.
-    fn into_parts(self) -> (Vec<Place>, Vec<Standing>)
-        ensures places { result.0.items ≡ self.places }
-        ensures standing { result.1.items ≡ self.standing }
+    /// Hands out the cells that were kept, for others.
+    fn swap_kept(&mut self, cells: &mut Vec<Standing>)
+        ensures kept { self.new ≡ record self.old { kept = cells.old.items } }
+        ensures cells { cells.new.items ≡ self.old.kept }
     {
-        (self.places, self.standing)
+        mem::swap(&mut self.kept, cells);
     }
 }
 
@@ -221,13 +304,6 @@ fn first_to_end(hanging: &[Standing]) -> Option<Standing>
     Some(first)
 }
 
-/// Leaves the cells that hang into a row.
-fn keep_hanging(cells: &mut Vec<Standing>, row: usize)
-    ensures { cells.new.items ≡ filter (hangs_into row) cells.old.items }
-{
-    cells.retain(|cell| cell.hangs_into(row));
-}
-
 /// Leaves the cells that end after another.
 fn keep_later(cells: &mut Vec<Standing>, first: Standing)
     ensures { cells.new.items ≡ filter (λ c. nat_lt (end_of first) (end_of c)) cells.old.items }
@@ -235,41 +311,105 @@ fn keep_later(cells: &mut Vec<Standing>, first: Standing)
     cells.retain(|cell| first.ends_before(cell));
 }
 
-/// Places the rows below the last one, one for each end of the cells that hang there.
-#[tactic(auto, using(crate::specs::laws::Refusal::refusals))]
-fn place_bottom_rows(
-    alloc: Global,
-    mut hanging: Vec<Standing>,
-    mut placed: Vec<Vec<Place>>,
-) -> Result<Vec<Vec<Place>>, Error>
-    ensures ok { IfOk result (λ all. bottoms_with hanging.items (lists placed.items) ≡ Some (lists all.items)) }
-    ensures err { IfErr result (λ e. Fails e (bottoms_with hanging.items (lists placed.items))) }
-{
-    while let Some(first) = first_to_end(&hanging) {
-        let mut builder = RowBuilder::new(alloc);
-        builder.put_rest(&hanging)?;
-        let (places, _standing) = builder.into_parts();
-        placed.push(places)?;
-        keep_later(&mut hanging, first);
+/// Places the rows of a table one after another, in memory that it takes once: the row that was placed last, and the cells that
+/// hang into the next one.
+#[derive(Drop)]
+pub(crate) struct RowPlacer {
+    /// The row that was placed last.
+    last: RowBuilder,
+    /// The cells that hang into the next row, in order of own column.
+    hanging: Vec<Standing>,
+}
+
+impl Model for RowPlacer {
+    ghost use Rattle.html_render_parts.specs.PlacementSteps.{IsByColumn, Placing};
+
+    ghost Value = { Placing };
+
+    ghost view = { λ p. record {
+      places = p.last.places;
+      own = p.last.own;
+      told = p.last.told;
+      hanging = p.hanging.items;
+    } };
+
+    ghost invariant = { λ p. IsByColumn p.hanging.items };
+}
+
+impl RowPlacer {
+    /// No row yet.
+    pub(crate) fn new(alloc: Global) -> RowPlacer
+        ensures { result ≡ nothing_placed }
+    {
+        RowPlacer {
+            last: RowBuilder::new(alloc),
+            hanging: Vec::new(alloc),
+        }
     }
-    Ok(placed)
+
+    /// The places of the last row.
+    pub(crate) fn places(&self) -> &[Place]
+        ensures { result.now ≡ self.now.places }
+    {
+        self.last.places()
+    }
+
+    /// The cells of the last row, without those that hang into it.
+    pub(crate) fn own(&self) -> &[Standing]
+        ensures { result.now ≡ self.now.own }
+    {
+        self.last.own()
+    }
+
+    /// The ends in the last row, but for those of placeholders at their cell's own column, where the cell ends, and of gaps.
+    pub(crate) fn told(&self) -> &[u128]
+        ensures { result.now ≡ self.now.told }
+    {
+        self.last.told()
+    }
+
+    /// Places the next row. Where it is refused, the cells that hang into it stay.
+    pub(crate) fn place_row(&mut self, row: usize, cells: &[Span]) -> Result<(), Error>
+        ensures ok { OnOk result (with_next row cells.now self.old ≡ Some self.new) }
+        ensures err { IfErr result (λ e. Fails e (with_next row cells.now self.old)) }
+        ensures hanging { IfErr result (λ e. self.new.hanging ≡ self.old.hanging) }
+    {
+        self.last.clear();
+        self.last.put_row(row, cells, &self.hanging)?;
+        self.last.swap_kept(&mut self.hanging);
+        Ok(())
+    }
+
+    /// Places the next row below the last one, and answers whether there is one. Where it is refused, the cells that hang into
+    /// it stay.
+    pub(crate) fn place_bottom_row(&mut self) -> Result<bool, Error>
+        ensures ok { IfOk result (λ placed. MatchBool placed (IsNextBottom self.old self.new) ((self.old.hanging ≡ []) × (self.new ≡ self.old))) }
+        ensures err { IfErr result (λ e. Fails e (fitting (bottom_rows self.old.hanging))) }
+        ensures hanging { IfErr result (λ e. self.new.hanging ≡ self.old.hanging) }
+    {
+        let Some(first) = first_to_end(&self.hanging) else {
+            return Ok(false);
+        };
+        self.last.clear();
+        self.last.put_rest(&self.hanging)?;
+        keep_later(&mut self.hanging, first);
+        Ok(true)
+    }
 }
 
 /// Places all rows of a table, and those below the last one.
-#[tactic(auto, using(crate::specs::laws::Refusal::refusals))]
 pub(crate) fn place_rows(alloc: Global, rows: &[Vec<Span>]) -> Result<Vec<Vec<Place>>, Error>
-    ensures ok { IfOk result (λ all. rows_with 0 (lists rows.now) [] [] ≡ Some (lists all.items)) }
-    ensures err { IfErr result (λ e. Fails e (rows_with 0 (lists rows.now) [] [])) }
+    ensures ok { IfOk result (λ all. fitting (placed_rows (lists rows.now)) ≡ Some (lists all.items)) }
+    ensures err { IfErr result (λ e. Fails e (fitting (placed_rows (lists rows.now)))) }
 {
     let mut placed = Vec::new(alloc);
-    let mut hanging = Vec::new(alloc);
+    let mut placer = RowPlacer::new(alloc);
     for (row, cells) in rows.iter().enumerate() {
-        let mut builder = RowBuilder::new(alloc);
-        builder.put_row(row, cells, &hanging)?;
-        let (places, standing) = builder.into_parts();
-        placed.push(places)?;
-        hanging = standing;
-        keep_hanging(&mut hanging, row + 1);
+        placer.place_row(row, cells)?;
+        placed.push(Vec::from_slice(alloc, placer.places())?)?;
     }
-    place_bottom_rows(alloc, hanging, placed)
+    'bottom: while placer.place_bottom_row()? {
+        placed.push(Vec::from_slice(alloc, placer.places())?)?;
+    }
+    Ok(placed)
 }

@@ -1,9 +1,9 @@
 //! Laws of cuts and of the meter, each the contract of a function that does nothing.
 
-ghost use Rattle.std.specs.Prelude.{◌≡◌, ◌≢◌, ℕ, ◌+◌, ◌≤◌, ◌↔◌, ◌⊎◌, List, All, sum, IfSome};
+ghost use Rattle.std.specs.Prelude.{◌≡◌, ◌≢◌, ◌==◌, ℕ, ◌+◌, ◌*◌, ◌/◌, ◌≤◌, ◌↔◌, ◌⊎◌, List, All, max, min, sum, if◌then◌else◌, IfSome};
 ghost use Rattle.html_render_parts.specs.Cuts.{cut_by_units, units_taken, CutFits, GivesBefore, IsFairestCut, IsLevelForm};
 ghost use Rattle.html_render_parts.specs.Needs.{column_needs, table_widths, AreCells, HasRoom};
-ghost use Rattle.html_render_parts.specs.Shares.{least_widths, shares};
+ghost use Rattle.html_render_parts.specs.Shares.{least_widths, share, shares};
 
 use super::Meter;
 use super::needs::CellNeed;
@@ -38,10 +38,12 @@ fn level_forms_are_one()
 
 /// The shares of columns are together at most their least widths and the width, so that columns side by side take at most as
 /// many units from them as the width has columns. Each cell has at least its least width over its columns, with the separators
-/// between them.
+/// between them. The share of a column that needs no more at least than its size is no more than that, and none of none.
 fn columns_side_by_side()
     ensures shares { (width : ℕ) (needs : List ColumnNeed) → sum (shares width needs) ≤ sum (least_widths needs) + width }
-    ensures taken { (columns : ℕ) (cells : List CellNeed) (width : ℕ) → AreCells columns cells
+    ensures share { (width total : ℕ) (need : ColumnNeed) → need.least ≤ need.size
+        → share width total need ≡ (if need.size == 0 then 0 else min need.size (max (need.size * width / total) need.least)) }
+    ensures taken { (columns : ℕ) (cells : List CellNeed) (width : ℕ)
         → IfSome (table_widths columns cells width) (λ widths. units_taken (shares width (column_needs columns cells)) widths ≤ width) }
     ensures room { (columns : ℕ) (cells : List CellNeed) (width : ℕ) → AreCells columns cells
         → IfSome (table_widths columns cells width) (λ widths. All (HasRoom widths) cells) }

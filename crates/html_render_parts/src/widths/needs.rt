@@ -2,7 +2,6 @@
 
 ghost use Rattle.std.specs.Prelude.{◌≡◌, ◌<◌, ◌↔◌, ℕ, length, map, option_map, slice_index, slice_index_or, IfOk, IfErr, IsTrue};
 ghost use Rattle.html_render_parts.specs.Needs.{no_need, size_part, least_part, column_needs, table_widths, AreSome, AreCells};
-ghost use Rattle.html_render_parts.specs.Needs.{cell_stands, cells_stand, standing_widths};
 
 use super::shares::{ColumnNeed, widths_across};
 use super::spans::{Span, greatest_values};
@@ -100,7 +99,6 @@ pub fn column_needs(
 /// # Errors
 ///
 /// `OutOfMemory`.
-#[tactic(auto, using(crate::specs::laws::Needs::are_needs))]
 pub fn table_widths(
     alloc: Global,
     columns: usize,
@@ -113,46 +111,4 @@ pub fn table_widths(
 {
     let needs = column_needs(alloc, columns, cells)?;
     widths_across(alloc, needs.as_slice(), width)
-}
-
-/// Whether a cell is over one or more of these columns, and needs no more at least than its size.
-fn cell_stands(columns: usize, cell: CellNeed) -> bool
-    ensures { result ≡ cell_stands columns cell }
-{
-    cell.start <= columns
-        && cell.count <= columns - cell.start
-        && cell.count > 0
-        && cell.least <= cell.size
-}
-
-/// Whether all cells are over one or more of these columns, and need no more at least than their sizes, as [`column_needs`] and
-/// [`table_widths`] ask.
-pub fn are_cells(columns: usize, cells: &[CellNeed]) -> bool
-    ensures stand { result ≡ cells_stand columns cells.now }
-    ensures cells { IsTrue result ↔ AreCells columns cells.now }
-{
-    cells.iter().all(|cell| cell_stands(columns, *cell))
-}
-
-/// The widths of a table's columns where they stand side by side in `width`, as [`table_widths`] answers them; none also where
-/// a cell doesn't stand over the table's columns, or needs more than its size.
-///
-/// # Errors
-///
-/// `OutOfMemory`.
-#[tactic(auto, using(crate::specs::laws::Needs::cells_are))]
-pub fn standing_widths(
-    alloc: Global,
-    columns: usize,
-    cells: &[CellNeed],
-    width: usize,
-) -> Result<Option<Vec<usize>>, Error>
-    ensures ok { IfOk result (λ widths. option_map (λ all. all.items) widths ≡ standing_widths columns cells.now width) }
-    ensures err { IfErr result (λ e. e ≡ Error.OutOfMemory) }
-{
-    if are_cells(columns, cells) {
-        table_widths(alloc, columns, cells, width)
-    } else {
-        Ok(None)
-    }
 }

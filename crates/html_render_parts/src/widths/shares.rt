@@ -3,7 +3,7 @@
 //! `widths_across(alloc, &[ColumnNeed { size: 9, least: 3 }, ColumnNeed { size: 3, least: 3 }], 8)` is 4 and 3.
 
 ghost use Rattle.std.specs.Prelude.{◌≡◌, ◌≤◌, option_map, IfOk, IfErr};
-ghost use Rattle.html_render_parts.specs.Shares.{least_widths, total_size, share, shares, stand_side_by_side, widths_across, AreNeeds};
+ghost use Rattle.html_render_parts.specs.Shares.{least_widths, total_size, share, shares, stand_side_by_side, widths_across};
 
 use super::cut::column_widths;
 use html_render_values::Error;
@@ -35,11 +35,10 @@ fn share(need: ColumnNeed, width: usize, total: u128) -> usize
     ensures { result ≡ share width total need }
 {
     if need.size == 0 {
-        return 0;
+        return need.least;
     }
     let part = need.size as u128 * width as u128 / total;
-    let wanted = part.max(need.least as u128);
-    wanted.min(need.size as u128) as usize
+    part.min(need.size as u128).max(need.least as u128) as usize
 }
 
 /// The shares of columns in a width.
@@ -79,7 +78,7 @@ pub fn stand_side_by_side(needs: &[ColumnNeed], width: usize) -> bool
 }
 
 /// The widths of a table's columns where they stand side by side in `width`; none where they can't. A column's share is as
-/// much of the width as its size is of all sizes, but no less than its least width and no more than its size; the widths
+/// much of the width as its size is of all sizes, but no more than its size and no less than its least width; the widths
 /// are the fairest cut of the shares, as [`column_widths`] answers it.
 ///
 /// # Errors
@@ -91,7 +90,6 @@ pub fn widths_across(
     needs: &[ColumnNeed],
     width: usize,
 ) -> Result<Option<Vec<usize>>, Error>
-    requires { AreNeeds needs.now }
     ensures ok { IfOk result (λ widths. option_map (λ all. all.items) widths ≡ widths_across width needs.now) }
     ensures err { IfErr result (λ e. e ≡ Error.OutOfMemory) }
 {

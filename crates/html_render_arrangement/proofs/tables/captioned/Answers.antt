@@ -20,7 +20,7 @@ push_table_below-requires-clause-trees c =
 
 pub returns-clause-ok : goal.returns-clause-ok
 returns-clause-ok c =
-    with-back c.args.store.now c.change_kinds.new.store c.push_table_below.new.store c.args.grid.now c.args.rows.now
+    with-back c.args.store.now c.change_kinds.new.store c.push_table_below.new.store c.args.grid c.args.rows.now
     c.args.ends.now.back.items c.extend_from_slice.new.self.items c.push_table_below.new.trees.items c.extend_from_slice-2.new.self.items
     (planted c.args.store.now c.args.ends.now.front.items) (as_kind Block (planted c.args.store.now c.args.captions.now))
     c.requires.rows c.requires.back

@@ -38,9 +38,9 @@ returns-then-is_empty-clause-ok c =
     let captions = c.in_ok-captions.captions.items in
     let none_there : length captions ≡ 0 = search rules in
     Becomes-is s c.push_table_over.new.store _ _ _
-    (ap (λ v. table_of c.args.style c.args.estimate c.args.grid.now v trees)
-    (no_captions c.args.style c.args.estimate c.args.grid.now trees s captions none_there ∙ c.in_ok-captions.ensures.ok.is))
-    (then-made (table_over c.args.style c.args.estimate c.args.grid.now) s u c.push_table_over.new.store
+    (ap (λ v. table_of c.args.style c.args.estimate c.args.grid v trees)
+    (no_captions c.args.style c.args.estimate c.args.grid trees s captions none_there ∙ c.in_ok-captions.ensures.ok.is))
+    (then-made (table_over c.args.style c.args.estimate c.args.grid) s u c.push_table_over.new.store
     c.insert_into_first_row.new.rows.items c.as_slice.result.now _ _
     (inserted into_first_row s t u ends.front.items ends.back.items c.in_ok-rows.rows.items c.insert_into_first_row.new.rows.items _ _ _
     c.in_ok-ends.ensures.front c.in_ok-ends.ensures.back c.in_ok-rows.ensures.ok c.in_ok-insert_into_first_row.ensures.ok)
@@ -60,7 +60,7 @@ returns-clause-ok c =
     let u = c.captioned.new.store in
     let ends = c.in_ok-ends.ends in
     let captions = c.in_ok-captions.captions.items in
-    let grid = c.args.grid.now in
+    let grid = c.args.grid in
     let some : 0 < length captions = search rules in
     Becomes-is s c.push.new.self _ _ _
     (table_of-captions c.args.style c.args.estimate grid trees s captions c.in_ok-captions.ensures.ok.within some

@@ -18,9 +18,9 @@ returns-in_ok-push-clause-ok c =
     let estimate : c.default-then-not-is_empty.result ≡ unmeasured = first_of (search rules, cc) in
     rw c.in_ok-push.ensures.items (Becomes-append s s t trees _ (planted s trees) _ (Becomes-same s trees (planted s trees)
     (Plants-at s trees c.requires.trees)) (Becomes-is s t _ _ _
-    (ap (λ y. table_over y c.default-then-not-is_empty.result c.args.grid.now (planted s c.args.rows.now)) style
-    ∙ ap (λ y. table_over no_style y c.args.grid.now (planted s c.args.rows.now)) estimate
-    ∙ table_below-some s c.args.grid.now c.args.rows.now c.requires.rows some) c.in_ok-table.ensures.ok))
+    (ap (λ y. table_over y c.default-then-not-is_empty.result c.args.grid (planted s c.args.rows.now)) style
+    ∙ ap (λ y. table_over no_style y c.args.grid (planted s c.args.rows.now)) estimate
+    ∙ table_below-some s c.args.grid c.args.rows.now c.requires.rows some) c.in_ok-table.ensures.ok))
 
 pub returns-else-not-is_empty-clause-ok : goal.returns-else-not-is_empty-clause-ok
 returns-else-not-is_empty-clause-ok c =
@@ -28,5 +28,5 @@ returns-else-not-is_empty-clause-ok c =
     let trees = c.args.trees.now.items in
     let none_there : length c.args.rows.now ≡ 0 = search rules in
     Becomes-is s s trees _ _ (sym (followed_by-none (planted s trees))
-    ∙ ap (followed_by (planted s trees)) (table_below-none s c.args.grid.now c.args.rows.now none_there))
+    ∙ ap (followed_by (planted s trees)) (table_below-none s c.args.grid c.args.rows.now none_there))
     (Becomes-same s trees (planted s trees) (Plants-at s trees c.requires.trees))

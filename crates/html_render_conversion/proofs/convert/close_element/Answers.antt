@@ -13,7 +13,7 @@ pub returns-then-vanishes-clause-ok : goal.returns-then-vanishes-clause-ok
 returns-then-vanishes-clause-ok c =
     on_ok_weaker c.vanish.result
     (close-vanishes c.args.element _ c.args.elements.now.items _ (sym c.vanishes.ensures ∙ c.if-vanishes.true))
-    c.vanish.ensures.ok
+    (rw c.released.ensures at c.vanish.ensures.ok)
 
 pub returns-then-not-receive_element-clause-ok : goal.returns-then-not-receive_element-clause-ok
 returns-then-not-receive_element-clause-ok c =
@@ -25,4 +25,4 @@ returns-clause-ok c =
     on_ok_weaker c.build_element.result
     (close-built c.args.element _ c.args.elements.now.items _ _ _ (search rules) (sym c.vanishes.ensures ∙ c.if-vanishes.false)
     c.receive_element.ensures.received (sym c.receive_element.ensures.kept ∙ c.if-not-receive_element.false))
-    c.build_element.ensures.ok
+    (rw (c.released-2.ensures, c.released-3.ensures, c.from.ensures) at c.build_element.ensures.ok)

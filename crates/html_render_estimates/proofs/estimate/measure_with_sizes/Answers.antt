@@ -1,6 +1,7 @@
 use Rattle.std.proofs.Common.{sym, ap, ◌∙◌, arith}
 use Rattle.html_render_nodes.specs.Preorder.{flatten, forest_of}
-use Rattle.html_render_estimates.proofs.Again.{sized, after_sized}
+use Rattle.html_render_estimates.specs.Estimates.{with_needs}
+use Rattle.html_render_estimates.proofs.Again.{sized, noted, after_sized}
 use Rattle.html_render_estimates.proofs.Measuring.{Measuring-start, Measuring-at, Measuring-done, Found-part, Found-next}
 use Rattle.html_render_estimates.proofs.estimate.measure_with_sizes.Goals as goal
 
@@ -29,8 +30,8 @@ slice_bounds-below-end g c =
     let f = Measuring-at _ _ _ _ _ _ c.loop-at.invariant c.loop-at-test.true c.as_slice-all.ensures.value c.index-all-at.is in
     omega (arith, f.end, c.as_slice-all.ensures.len, c.loop-at.entries.ok.0)
 
-pub sized_estimate_of-requires : goal.sized_estimate_of-requires
-sized_estimate_of-requires g c =
+pub measure_of-requires : goal.measure_of-requires
+measure_of-requires g c =
     let f = Measuring-at _ _ _ _ _ _ c.loop-at.invariant c.loop-at-test.true c.as_slice-all.ensures.value c.index-all-at.is in
     (Found-part _ _ _ _ _ _ _ f c.as_slice-all.ensures.value (omega arith)).kept
 
@@ -38,8 +39,13 @@ pub loop-at-preserved : goal.loop-at-preserved
 loop-at-preserved g c =
     let e = c.index-all-at.result in
     let f = Measuring-at _ _ _ _ _ _ c.loop-at.invariant c.loop-at-test.true c.as_slice-all.ensures.value c.index-all-at.is in
-    Found-next _ _ _ _ _ _ e c.index_mut.result.now c.in_ok-estimate.estimate f c.as_slice-all.ensures.value (omega arith)
-    c.in_ok-estimate.ensures.ok c.index-all-at.is c.index_mut.ensures.value
+    let m = c.in_ok-measure.measure in
+    rw c.note.ensures
+    (Found-next _ _ _ _ _ _ e c.index_mut.result.now (λ n. record n { kind = with_needs m.needs.items n.kind; estimate = m.estimate }) f
+    c.as_slice-all.ensures.value (omega arith)
+    (noted g.D.TextDecorator.decoration c.args.decorator.now c.args.min_wrap_width e.node m.needs.items m.estimate _
+    c.in_ok-measure.ensures.needs c.in_ok-measure.ensures.estimate)
+    c.index-all-at.is c.index_mut.ensures.value)
 
 pub returns-clause-ok : goal.returns-clause-ok
 returns-clause-ok g c =

@@ -1,4 +1,4 @@
-use Rattle.std.proofs.Common.{sym, ◌∙◌, arith}
+use Rattle.std.proofs.Common.{sym, ap, ◌∙◌, arith}
 use Rattle.html_render_nodes.specs.Preorder.{forest_of}
 use Rattle.html_render_estimates.proofs.Again.{unsized, plain_start, plain_next, stopped, stopped_at_table, all_plain}
 use Rattle.html_render_estimates.proofs.Measuring.{Measuring-start, Measuring-at, Found-part, Found-next}
@@ -42,8 +42,10 @@ loop-at-preserved g c =
     let e = c.index-all-at.result in
     let f = Measuring-at _ _ _ _ _ _ c.loop-at.invariant.measured c.loop-at-test.true c.as_slice-all.ensures.value c.index-all-at.is in
     record {
-      measured = Found-next _ _ _ _ _ _ e c.index_mut.result.now c.in_ok-estimate.estimate f c.as_slice-all.ensures.value (omega arith)
-          (c.in_ok-estimate.ensures.ok (sym c.is_table.ensures ∙ c.if-is_table.false)) c.index-all-at.is c.index_mut.ensures.value;
+      measured = Found-next _ _ _ _ _ _ e c.index_mut.result.now (λ n. record n { estimate = c.in_ok-estimate.estimate }) f
+          c.as_slice-all.ensures.value (omega arith)
+          (ap (λ m. record e.node { estimate = m }) (c.in_ok-estimate.ensures.ok (sym c.is_table.ensures ∙ c.if-is_table.false)))
+          c.index-all-at.is c.index_mut.ensures.value;
       plain = plain_next c.loop-at.entries.items _ c.loop-at.at e c.index_mut.result.now c.in_ok-estimate.estimate c.loop-at-test.true
           (omega (arith, f.end, f.size, c.loop-at-test.true)) c.as_slice-all.ensures.value c.index-all-at.is
           c.index_mut.ensures.value (sym c.is_table.ensures ∙ c.if-is_table.false)

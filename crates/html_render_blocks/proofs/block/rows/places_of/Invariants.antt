@@ -2,9 +2,9 @@ use Rattle.std.proofs.Common.{◌≡◌, ◌+◌, ◌-◌, ◌<◌, ◌++◌, le
 use Rattle.html_render_blocks.specs.OpenRows.{places}
 use Rattle.html_render_blocks.proofs.block.rows.places_of.Given as goal
 
--- the places so far, before those of the slots that are left over the columns that are left
-abbrev pub invariant-loop-slot : goal.invariant-loop-slot
-invariant-loop-slot l = record {
-  all : places l.initial.rest l.slots ≡ l.row.items ++ places l.rest (drop l.slot-index l.slots);
+-- the places so far, before those of the cells that are left over the columns that are left
+abbrev pub invariant-loop-cell : goal.invariant-loop-cell
+invariant-loop-cell l = record {
+  all : places l.initial.rest l.cells ≡ l.row.items ++ places l.rest (drop l.cell-index l.cells);
   fit : sum l.rest + (length l.rest - 1) < 18446744073709551616;
 }

@@ -1,21 +1,10 @@
-use Rattle.std.proofs.Common.{◌∙◌, ap}
-use Rattle.std.proofs.lemmas.List.Filters.{dedup_is}
-use Rattle.std.proofs.lemmas.List.Kept.{Contains-dedup_nat, Contains-from_dedup}
-use Rattle.std.proofs.lemmas.List.Sorted.{Contains-permutation, IsPermutation-sym}
-use Rattle.std.proofs.lemmas.Map.Keys.{IsStrictlyIncreasing-dedup}
+use Rattle.std.proofs.Common.{ap, ◌∙◌}
 use Rattle.html_render_parts.specs.Placement.{rising}
-use Rattle.html_render_parts.proofs.EdgeRanks.{rising-only}
+use Rattle.html_render_parts.proofs.EdgeRanks.{IsStrictlyIncreasing-rising}
 use Rattle.html_render_parts.proofs.table.numbering.edges_of.Goals as goal
 
 pub returns-clause-edges : goal.returns-clause-edges
-returns-clause-edges c =
-    let is = dedup_is _ _ _ c.dedup.ensures.filtered in
-    let moved = c.in_ok-sort.ensures.permutation in
-    let only = rising-only _ c.in_ok-edges.edges.items (rw is (IsStrictlyIncreasing-dedup _ c.in_ok-sort.ensures.sorted))
-    (λ n h. Contains-permutation _ _ n (IsPermutation-sym _ _ moved) (Contains-from_dedup _ _ n (rw is at h)))
-    (λ n h. rw is (Contains-dedup_nat _ n (Contains-permutation _ _ n moved h))) in
-    only ∙ ap rising c.in_ok-edges.ensures
+returns-clause-edges c = c.in_ok-make_rising.ensures ∙ ap rising c.in_ok-edges.ensures
 
 pub returns-clause-rising : goal.returns-clause-rising
-returns-clause-rising c =
-    rw (dedup_is _ _ _ c.dedup.ensures.filtered) (IsStrictlyIncreasing-dedup _ c.in_ok-sort.ensures.sorted)
+returns-clause-rising c = rw c.in_ok-make_rising.ensures (IsStrictlyIncreasing-rising c.in_ok-edges.edges.items)

@@ -1,8 +1,21 @@
-use Rattle.std.proofs.Common.{◌≡◌, drop, []}
-use Rattle.html_render_parts.specs.Placement.{lists}
-use Rattle.html_render_parts.specs.PlacementSteps.{rows_with}
+use Rattle.std.proofs.Common.{◌≡◌, ◌++◌, drop, length}
+use Rattle.html_render_parts.specs.Placement.{bottom_rows, lists, placed_rows, rows_from}
+use Rattle.html_render_parts.specs.Grid.{positions_fit}
 use Rattle.html_render_parts.proofs.table.placement.place_rows.Given as goal
 
 abbrev pub invariant-loop-row : goal.invariant-loop-row
 invariant-loop-row l =
-    rows_with l.row (lists (drop l.row l.rows)) l.hanging.items (lists l.placed.items) ≡ rows_with 0 (lists l.rows) [] []
+    let ahead = rows_from l.row l.placer.hanging (lists (drop l.row l.rows)) in record {
+      all_rows : lists l.placed.items ++ ahead ≡ placed_rows (lists l.rows);
+      fits : positions_fit (placed_rows (lists l.rows)) ≡ positions_fit ahead;
+    }
+
+abbrev pub invariant-bottom : goal.invariant-bottom
+invariant-bottom l =
+    let ahead = bottom_rows l.placer.hanging in record {
+      all_rows : lists l.placed.items ++ ahead ≡ placed_rows (lists l.fn.rows);
+      fits : positions_fit (placed_rows (lists l.fn.rows)) ≡ positions_fit ahead;
+    }
+
+abbrev pub decreases-bottom : goal.decreases-bottom
+decreases-bottom l = length l.placer.hanging

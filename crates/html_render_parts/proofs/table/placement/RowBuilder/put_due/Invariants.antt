@@ -5,5 +5,5 @@ use Rattle.html_render_parts.proofs.table.placement.RowBuilder.put_due.Given as 
 
 abbrev pub invariant-loop-i : goal.invariant-loop-i
 invariant-loop-i l =
-    (with_due (drop l.i l.hanging) l.self ≡ with_due l.hanging l.initial.self) ×
+    (with_due l.row (drop l.i l.hanging) l.self ≡ with_due l.row l.hanging l.initial.self) ×
     (not_due l.self.cursor (drop l.i l.hanging) ≡ not_due l.initial.self.cursor l.hanging)

@@ -1,0 +1,199 @@
+-- The cells of a table on the columns of its grid lead back to what they span.
+use Rattle.std.proofs.Common.{◌≡◌, ℕ, ◌+◌, ◌-◌, ◌^◌, ◌<◌, ◌≤◌, true, List, [], ◌∷◌, ◌++◌, Some, length, get_or, map, All, Contains, refl, sym, ap}
+use Rattle.std.proofs.Common.{subst, arith, inl, inr}
+use Rattle.std.specs.List.Sorted.{IsStrictlyIncreasing}
+use Rattle.std.proofs.lemmas.Bool.{cases_Bool}
+use Rattle.std.proofs.lemmas.List.Elements.{All-nil, All-cons, All-head, All-tail, All-weaker, Contains-append_left, Contains-append_right}
+use Rattle.html_render_parts.specs.declared.table.Span.{Span}
+use Rattle.html_render_parts.specs.declared.table.cells.GridCell.{GridCell}
+use Rattle.html_render_parts.specs.declared.table.placement.Place.{Place}
+use Rattle.html_render_parts.specs.declared.table.placement.Standing.{Standing}
+use Rattle.html_render_parts.specs.Placement.{due_end, hanging, not_due, own_from, own_rows_from, placed_rows, row_from, rows_from}
+use Rattle.html_render_parts.specs.PlacementSteps.{row_fits}
+use Rattle.html_render_parts.specs.Grid.{AreValid, edges_of, ends, positions_fit, rank}
+use Rattle.html_render_parts.specs.TableCells.{CellGrid, IsCellGrid, cell_grid_of, columns_of, on_columns, span_on, spans_on}
+use Rattle.html_render_parts.proofs.EdgeRanks.{Contains-here, Contains-rising, Contains-there, IsStrictlyIncreasing-rising, rank-below, rank-gets}
+use Rattle.html_render_parts.proofs.EdgeRanks.{rank-less, rank-mono}
+use Rattle.html_render_parts.proofs.GatheringEnds.{Between, EndsIn, own-between}
+use Rattle.html_render_parts.proofs.NumberTests.{ltb-tells}
+use Rattle.html_render_parts.proofs.SideBySide.{Wide, Wide-own_from}
+
+-- ---- where the table's own cells stand
+
+own_rows-between : (I : ℕ → Type 0) (row : ℕ) (hung : List Standing) (rows : List (List Span)) → I 0 →
+    All (All (EndsIn I)) (rows_from row hung rows)
+    → All (All (Between I)) (own_rows_from row hung rows)
+own_rows-between I row hung [] zero h = All-nil (All (Between I))
+own_rows-between I row hung (cells ∷ more) zero h =
+    let own = own_from row 0 hung cells in
+    let next = hanging (row + 1) (hung ++ own) in
+    All-cons (All (Between I)) own (own_rows_from (row + 1) next more)
+    (own-between I row 0 hung cells zero (All-head (All (EndsIn I)) (row_from 0 hung cells) (rows_from (row + 1) next more) h))
+    (own_rows-between I (row + 1) next more zero (All-tail (All (EndsIn I)) (row_from 0 hung cells) (rows_from (row + 1) next more) h))
+
+row-ends_in : (I : ℕ → Type 0) (ps : List Place) → ((n : ℕ) → Contains (map (λ p. p.end) ps) n → I n) → All (EndsIn I) ps
+row-ends_in I [] f = All-nil (EndsIn I)
+row-ends_in I (p ∷ ps) f =
+    All-cons (EndsIn I) p ps (f p.end (Contains-here p.end (map (λ q. q.end) ps)))
+    (row-ends_in I ps (λ n h. f n (Contains-there p.end n (map (λ q. q.end) ps) h)))
+
+all-ends_in : (I : ℕ → Type 0) (rows : List (List Place)) → ((n : ℕ) → Contains (ends rows) n → I n) → All (All (EndsIn I)) rows
+all-ends_in I [] f = All-nil (All (EndsIn I))
+all-ends_in I (r ∷ rows) f =
+    All-cons (All (EndsIn I)) r rows (row-ends_in I r (λ n h. f n (Contains-append_left (map (λ p. p.end) r) (ends rows) n h)))
+    (all-ends_in I rows (λ n h. f n (Contains-append_right (map (λ p. p.end) r) (ends rows) n h)))
+
+-- each stands between edges
+own-in_edges : (rows : List (List Span)) → All (All (Between (Contains (edges_of (placed_rows rows))))) (own_rows_from 0 [] rows)
+own-in_edges rows =
+    let placed = placed_rows rows in
+    let I = Contains (edges_of placed) in
+    own_rows-between I 0 [] rows (Contains-rising 0 (0 ∷ ends placed) (Contains-here 0 (ends placed)))
+    (all-ends_in I placed (λ n h. Contains-rising n (0 ∷ ends placed) (Contains-there 0 n (ends placed) h)))
+
+-- ---- positions that fit
+
+row-within : (ps : List Place) → row_fits ps ≡ true → All (EndsIn (λ n. n < 2 ^ 128)) ps
+row-within [] e = All-nil (EndsIn (λ n. n < 2 ^ 128))
+row-within (p ∷ ps) e = elim (ltb-tells p.end (2 ^ 128)) [
+  | inl t ↦ let rest = rw t.0 at e in All-cons (EndsIn (λ n. n < 2 ^ 128)) p ps t.1 (row-within ps rest)
+  | inr t ↦ let no = rw t.0 at e in cc
+]
+
+rows-within : (rows : List (List Place)) → positions_fit rows ≡ true → All (All (EndsIn (λ n. n < 2 ^ 128))) rows
+rows-within [] e = All-nil (All (EndsIn (λ n. n < 2 ^ 128)))
+rows-within (r ∷ rows) e = elim (cases_Bool (row_fits r)) [
+  | inl t ↦ let rest = rw t at e in All-cons (All (EndsIn (λ n. n < 2 ^ 128))) r rows (row-within r t) (rows-within rows rest)
+  | inr t ↦ let no = rw t at e in cc
+]
+
+pub own-within : (rows : List (List Span)) → positions_fit (placed_rows rows) ≡ true →
+    All (All (λ c. c.column + c.span.colspan < 2 ^ 128)) (own_rows_from 0 [] rows)
+own-within rows e =
+    let I : ℕ → Type 0 = λ n. n < 2 ^ 128 in
+    let P : Standing → Type 0 = λ c. c.column + c.span.colspan < 2 ^ 128 in
+    All-weaker (All (Between I)) (All P) (λ cs h. All-weaker (Between I) P (λ c b. b.1) cs h) (own_rows_from 0 [] rows)
+    (own_rows-between I 0 [] rows (omega arith) (rows-within (placed_rows rows) e))
+
+-- ---- one cell
+
+edge_behind : (es : List ℕ) (c : Standing) → (on_columns es c).first + (on_columns es c).columns ≡ rank es (c.column + c.span.colspan)
+edge_behind es c = let mono = rank-mono es c.column (c.column + c.span.colspan) (omega arith) in omega arith
+
+span-back : (es : List ℕ) (c : Standing) → IsStrictlyIncreasing es → Between (Contains es) c → span_on es (on_columns es c) ≡ c.span
+span-back es c rising b =
+    let start = rank-gets es c.column rising b.0 in
+    let end = rank-gets es (c.column + c.span.colspan) rising b.1 in
+    let many : get_or es ((on_columns es c).first + (on_columns es c).columns) 0 - get_or es (on_columns es c).first 0 ≡ c.span.colspan =
+    rw (edge_behind es c, start, end) (omega arith) in
+    let at : ℕ → Span = λ n. record { colspan = n; rowspan = c.span.rowspan } in
+    ap at many
+
+-- ---- all cells
+
+row-back : (es : List ℕ) → IsStrictlyIncreasing es → (row cursor : ℕ) (hs : List Standing) (ss : List Span) →
+    All (Between (Contains es)) (own_from row cursor hs ss)
+    → map (span_on es) (map (on_columns es) (own_from row cursor hs ss)) ≡ ss
+row-back es rising row cursor hs [] b = refl
+row-back es rising row cursor hs (s ∷ ss) b =
+    let column = due_end cursor hs in
+    let c : Standing = record { row = row; column = column; span = s } in
+    let rest = own_from row (column + s.colspan) (not_due cursor hs) ss in
+    let here = span-back es c rising (All-head (Between (Contains es)) c rest b) in
+    let ih = row-back es rising row (column + s.colspan) (not_due cursor hs) ss (All-tail (Between (Contains es)) c rest b) in
+    rw (here, ih) refl
+
+rows-back : (es : List ℕ) → IsStrictlyIncreasing es → (row : ℕ) (hung : List Standing) (rows : List (List Span)) →
+    All (All (Between (Contains es))) (own_rows_from row hung rows)
+    → map (map (span_on es)) (map (map (on_columns es)) (own_rows_from row hung rows)) ≡ rows
+rows-back es rising row hung [] b = refl
+rows-back es rising row hung (cells ∷ more) b =
+    let own = own_from row 0 hung cells in
+    let next = hanging (row + 1) (hung ++ own) in
+    let rest = own_rows_from (row + 1) next more in
+    let here = row-back es rising row 0 hung cells (All-head (All (Between (Contains es))) own rest b) in
+    let ih = rows-back es rising (row + 1) next more (All-tail (All (Between (Contains es))) own rest b) in
+    rw (here, ih) refl
+
+-- ---- the cells of a table
+
+-- the cells of these rows, where they fit
+abbrev cells_of : List (List Span) → CellGrid
+cells_of rows =
+    let edges = edges_of (placed_rows rows) in
+    record { edges = edges; rows = map (map (on_columns edges)) (own_rows_from 0 [] rows) }
+
+cells-made : (rows : List (List Span)) → positions_fit (placed_rows rows) ≡ true → cell_grid_of rows ≡ Some (cells_of rows)
+cells-made rows e = rw e refl
+
+pub cells-are : (rows : List (List Span)) (g : CellGrid) → cell_grid_of rows ≡ Some g →
+    (positions_fit (placed_rows rows) ≡ true) × (cells_of rows ≡ g)
+cells-are rows g e = elim (cases_Bool (positions_fit (placed_rows rows))) [
+  | inl t ↦ let f = rw t at e in (t, cc)
+  | inr t ↦ let f = rw t at e in cc
+]
+
+-- they span what the rows ask for
+spans-back : (rows : List (List Span)) → spans_on (cells_of rows) ≡ rows
+spans-back rows =
+    let placed = placed_rows rows in
+    rows-back (edges_of placed) (IsStrictlyIncreasing-rising (0 ∷ ends placed)) 0 [] rows (own-in_edges rows)
+
+pub cells-valid : (rows : List (List Span)) → AreValid rows → positions_fit (placed_rows rows) ≡ true → IsCellGrid (cells_of rows)
+cells-valid rows valid fits = record {
+  valid = subst AreValid (sym (spans-back rows)) valid;
+  own = subst (λ r. cell_grid_of r ≡ Some (cells_of rows)) (sym (spans-back rows)) (cells-made rows fits);
+}
+
+-- ---- what is known of each table's cells
+
+pub edges-rise : (g : CellGrid) → IsCellGrid g → IsStrictlyIncreasing g.edges
+edges-rise g h =
+    let is = cells-are (spans_on g) g h.own in
+    subst (λ x. IsStrictlyIncreasing x.edges) is.1 (IsStrictlyIncreasing-rising (0 ∷ ends (placed_rows (spans_on g))))
+
+abbrev Valid : Span → Type 0
+Valid s = (1 ≤ s.colspan) × (1 ≤ s.rowspan)
+
+own_rows-wide : (row : ℕ) (hung : List Standing) (rows : List (List Span)) → AreValid rows → All (All Wide) (own_rows_from row hung rows)
+own_rows-wide row hung [] v = All-nil (All Wide)
+own_rows-wide row hung (cells ∷ more) v =
+    let own = own_from row 0 hung cells in
+    let next = hanging (row + 1) (hung ++ own) in
+    All-cons (All Wide) own (own_rows_from (row + 1) next more) (Wide-own_from row 0 hung cells (All-head (All Valid) cells more v))
+    (own_rows-wide (row + 1) next more (All-tail (All Valid) cells more v))
+
+-- a cell on columns of a table, one at least
+abbrev pub IsWithin : ℕ → GridCell → Type 0
+IsWithin columns c = (c.first + c.columns ≤ columns) × (0 < c.columns)
+
+cell-within : (es : List ℕ) (c : Standing) → Between (Contains es) c → Wide c → IsWithin (length es - 1) (on_columns es c)
+cell-within es c b wide =
+    let some : 1 ≤ c.span.colspan = wide in
+    let behind = edge_behind es c in
+    let below = rank-below es (c.column + c.span.colspan) b.1 in
+    let less = rank-less es c.column (c.column + c.span.colspan) b.0 (omega arith) in
+    (omega arith, omega arith)
+
+row-within_columns : (es : List ℕ) (cs : List Standing) → All (Between (Contains es)) cs → All Wide cs →
+    All (IsWithin (length es - 1)) (map (on_columns es) cs)
+row-within_columns es [] b w = All-nil (IsWithin (length es - 1))
+row-within_columns es (c ∷ cs) b w =
+    All-cons (IsWithin (length es - 1)) (on_columns es c) (map (on_columns es) cs)
+    (cell-within es c (All-head (Between (Contains es)) c cs b) (All-head Wide c cs w))
+    (row-within_columns es cs (All-tail (Between (Contains es)) c cs b) (All-tail Wide c cs w))
+
+rows-within_columns : (es : List ℕ) (rows : List (List Standing)) → All (All (Between (Contains es))) rows → All (All Wide) rows →
+    All (All (IsWithin (length es - 1))) (map (map (on_columns es)) rows)
+rows-within_columns es [] b w = All-nil (All (IsWithin (length es - 1)))
+rows-within_columns es (r ∷ rows) b w =
+    All-cons (All (IsWithin (length es - 1))) (map (on_columns es) r) (map (map (on_columns es)) rows)
+    (row-within_columns es r (All-head (All (Between (Contains es))) r rows b) (All-head (All Wide) r rows w))
+    (rows-within_columns es rows (All-tail (All (Between (Contains es))) r rows b) (All-tail (All Wide) r rows w))
+
+pub cells-within : (g : CellGrid) → IsCellGrid g → All (All (IsWithin (columns_of g))) g.rows
+cells-within g h =
+    let rows = spans_on g in
+    let is = cells-are rows g h.own in
+    subst (λ x. All (All (IsWithin (columns_of x))) x.rows) is.1
+    (rows-within_columns (edges_of (placed_rows rows)) (own_rows_from 0 [] rows) (own-in_edges rows) (own_rows-wide 0 [] rows h.valid))

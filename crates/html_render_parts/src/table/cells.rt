@@ -1,0 +1,300 @@
+//! The cells of a table on the columns of its grid, and what stands in each of its rows.
+//!
+//! A row of one cell of three columns beside one of two columns and two rows has cells over one column each. What stands in the
+//! rows follows from these and from the edges: the cells in the first row, and a gap and a placeholder in the one below it.
+
+ghost use Rattle.std.specs.Prelude.{◌≡◌, ◌+◌, ◌^◌, ◌≤◌, ◌<◌, ◌∷◌, [], All, Some, length, map, IsTrue, IfOk, IfErr, OnOk, MatchBool, MatchOption};
+ghost use Rattle.std.specs.List.Sorted.{IsStrictlyIncreasing};
+ghost use Rattle.html_render_parts.specs.Placement.{lists, own_rows_from, placed_rows};
+ghost use Rattle.html_render_parts.specs.PlacementSteps.{AreAhead, fitting, places_ahead};
+ghost use Rattle.html_render_parts.specs.Grid.{AreValid, edges_of, positions_fit};
+ghost use Rattle.html_render_parts.specs.TableCells.{cell_grid_of, columns_of, on_columns, rows_on, span_on};
+ghost use Rattle.html_render_parts.specs.Refusal.{Fails};
+
+use crate::table::gathering::Positions;
+use crate::table::placement::{RowPlacer, Standing};
+use crate::table::{PlacedCell, Span, numbering};
+use html_render_values::Error;
+use std::alloc::{AllocError, Global};
+use std::marker::Model;
+
+/// A cell of a table on the columns of its grid.
+#[derive(Clone, Copy, Debug, PartialEq, Eq)]
+pub struct GridCell {
+    /// How many rows it spans, its own included, at least 1.
+    pub rowspan: u128,
+    /// The first of its columns, counted from 0.
+    pub first: usize,
+    /// How many columns it has, at least 1.
+    pub columns: usize,
+}
+
+/// The cells of a table at their own columns, row by row, and the edges of its grid.
+#[derive(Drop)]
+struct PlacedCells {
+    /// The edges, rising.
+    edges: Vec<u128>,
+    /// The cells of each row.
+    own: Vec<Vec<Standing>>,
+}
+
+/// Places the rows of a table, and keeps its cells and edges of them.
+fn place_cells(alloc: Global, rows: &[Vec<Span>]) -> Result<PlacedCells, Error>
+    ensures fits { IfOk result (λ p. IsTrue (positions_fit (placed_rows (lists rows.now)))) }
+    ensures edges { IfOk result (λ p. p.edges.items ≡ edges_of (placed_rows (lists rows.now))) }
+    ensures own { IfOk result (λ p. lists p.own.items ≡ own_rows_from 0 [] (lists rows.now)) }
+    ensures err { IfErr result (λ e. Fails e (fitting (placed_rows (lists rows.now)))) }
+{
+    let mut placer = RowPlacer::new(alloc);
+    let mut positions = Positions::zero(alloc)?;
+    let mut own = Vec::with_capacity(alloc, rows.len())?;
+    for (row, cells) in rows.iter().enumerate() {
+        placer.place_row(row, cells)?;
+        positions.add(placer.told())?;
+        own.push(Vec::from_slice(alloc, placer.own())?)?;
+    }
+    'bottom: while placer.place_bottom_row()? {
+        positions.add(placer.told())?;
+    }
+    let edges = positions.into_rising()?;
+    Ok(PlacedCells { edges, own })
+}
+
+/// A cell on the columns of its grid.
+fn cell_on(edges: &[u128], cell: &Standing) -> GridCell
+    requires rising { IsStrictlyIncreasing edges.now }
+    requires fits { cell.now.column + cell.now.span.colspan < 2 ^ 128 }
+    ensures { result ≡ on_columns edges.now cell.now }
+{
+    let first = numbering::rank(edges, cell.column);
+    let end = numbering::rank(edges, cell.column + cell.span.colspan);
+    GridCell {
+        rowspan: cell.span.rowspan,
+        first,
+        columns: end - first,
+    }
+}
+
+/// The cells of a row on the columns of their grid.
+fn row_on(alloc: Global, edges: &[u128], cells: &[Standing]) -> Result<Vec<GridCell>, AllocError>
+    requires rising { IsStrictlyIncreasing edges.now }
+    requires fits { All (λ c. c.column + c.span.colspan < 2 ^ 128) cells.now }
+    ensures { IfOk result (λ v. v.items ≡ map (on_columns edges.now) cells.now) }
+{
+    let mut row = Vec::with_capacity(alloc, cells.len())?;
+    for cell in cells {
+        row.push(cell_on(edges, cell))?;
+    }
+    Ok(row)
+}
+
+/// The cells of all rows on the columns of their grid.
+fn rows_on_columns(
+    alloc: Global,
+    edges: &[u128],
+    own: &[Vec<Standing>],
+) -> Result<Vec<Vec<GridCell>>, AllocError>
+    requires rising { IsStrictlyIncreasing edges.now }
+    requires fits { All (λ cells. All (λ c. c.column + c.span.colspan < 2 ^ 128) cells) (lists own.now) }
+    ensures { IfOk result (λ v. lists v.items ≡ map (map (on_columns edges.now)) (lists own.now)) }
+{
+    let mut rows = Vec::with_capacity(alloc, own.len())?;
+    for cells in own {
+        rows.push(row_on(alloc, edges, cells)?)?;
+    }
+    Ok(rows)
+}
+
+/// A copy of the cells of all rows.
+fn copied_rows(alloc: Global, rows: &[Vec<GridCell>]) -> Result<Vec<Vec<GridCell>>, AllocError>
+    ensures { IfOk result (λ v. lists v.items ≡ lists rows.now) }
+{
+    let mut copy = Vec::with_capacity(alloc, rows.len())?;
+    for cells in rows {
+        copy.push(Vec::from_slice(alloc, cells)?)?;
+    }
+    Ok(copy)
+}
+
+/// Puts what the cells of a row span in place of other spans.
+fn put_spans(spans: &mut Vec<Span>, edges: &[u128], cells: &[GridCell]) -> Result<(), AllocError>
+    requires rising { IsStrictlyIncreasing edges.now }
+    requires on_edges { All (λ c. c.first + c.columns < length edges.now) cells.now }
+    ensures { OnOk result (spans.new.items ≡ map (span_on edges.now) cells.now) }
+{
+    spans.clear();
+    for cell in cells {
+        spans.push(Span {
+            colspan: edges[cell.first + cell.columns] - edges[cell.first],
+            rowspan: cell.rowspan,
+        })?;
+    }
+    Ok(())
+}
+
+/// The cells of a table, row by row, and the edges of its grid.
+#[derive(Drop)]
+pub struct TableCells {
+    /// 0 and the ends of all places, each once, in rising order: one more than there are columns.
+    edges: Vec<u128>,
+    /// The cells of each row.
+    rows: Vec<Vec<GridCell>>,
+}
+
+impl Model for TableCells {
+    ghost use Rattle.html_render_parts.specs.Placement.{lists};
+    ghost use Rattle.html_render_parts.specs.TableCells.{CellGrid, IsCellGrid};
+
+    ghost Value = { CellGrid };
+
+    ghost view = { λ c. record { edges = c.edges.items; rows = lists c.rows.items } };
+
+    ghost invariant = { λ c. IsCellGrid (record { edges = c.edges.items; rows = lists c.rows.items }) };
+}
+
+impl TableCells {
+    /// The cells of rows that ask for this, on the columns of their grid.
+    ///
+    /// # Errors
+    ///
+    /// `Fail` exactly where a cell, placeholder or gap would end past `u128::MAX`, and `OutOfMemory`.
+    pub fn new(alloc: Global, rows: &[Vec<Span>]) -> Result<TableCells, Error>
+        requires { AreValid (lists rows.now) }
+        ensures ok { IfOk result (λ cells. cell_grid_of (lists rows.now) ≡ Some cells) }
+        ensures err { IfErr result (λ e. Fails e (cell_grid_of (lists rows.now))) }
+    {
+        let placed = place_cells(alloc, rows)?;
+        let rows = rows_on_columns(alloc, &placed.edges, &placed.own)?;
+        Ok(TableCells {
+            edges: placed.edges,
+            rows,
+        })
+    }
+
+    /// The edges of the grid: 0 and the ends of all places, each once, in rising order.
+    fn edges(&self) -> &[u128]
+        ensures edges { result.now ≡ self.now.edges }
+        ensures rising { IsStrictlyIncreasing result.now }
+    {
+        self.edges.as_slice()
+    }
+
+    /// How many columns the table has.
+    pub fn columns(&self) -> usize
+        ensures { result ≡ columns_of self.now }
+    {
+        self.edges.len().saturating_sub(1)
+    }
+
+    /// The cells of each row.
+    pub fn rows(&self) -> &[Vec<GridCell>]
+        ensures rows { lists result.now ≡ self.now.rows }
+        ensures on_columns { All (λ cells. All (λ c. (c.first + c.columns ≤ columns_of self.now) × (0 < c.columns)) cells) self.now.rows }
+    {
+        self.rows.as_slice()
+    }
+
+    /// A copy.
+    ///
+    /// # Errors
+    ///
+    /// `OutOfMemory`.
+    pub fn try_clone(&self, alloc: Global) -> Result<TableCells, Error>
+        ensures ok { IfOk result (λ copy. copy ≡ self.now) }
+        ensures err { IfErr result (λ e. e ≡ Error.OutOfMemory) }
+    {
+        let edges = Vec::from_slice(alloc, &self.edges)?;
+        let rows = copied_rows(alloc, &self.rows)?;
+        Ok(TableCells { edges, rows })
+    }
+
+    /// What stands in the rows of the table, from the first on, to be asked for row by row.
+    pub fn into_rows(self, alloc: Global) -> RowsAhead
+        ensures { result ≡ rows_on self }
+    {
+        // the proof reads here what the cells of each table are
+        let _ = &self.edges;
+        RowsAhead {
+            cells: self,
+            row: 0,
+            placer: RowPlacer::new(alloc),
+            spans: Vec::new(alloc),
+        }
+    }
+}
+
+/// Places the next row of a table, and answers whether there is one.
+fn place_next(
+    cells: &TableCells,
+    row: &mut usize,
+    placer: &mut RowPlacer,
+    spans: &mut Vec<Span>,
+) -> Result<bool, Error>
+    requires { AreAhead cells.now row.old placer.old.hanging }
+    ensures ok { IfOk result (λ placed. MatchBool placed
+        (places_ahead cells.now row.old placer.old.hanging ≡ placer.new.places ∷ places_ahead cells.now row.new placer.new.hanging)
+        ((places_ahead cells.now row.old placer.old.hanging ≡ []) × (places_ahead cells.now row.new placer.new.hanging ≡ []))) }
+    ensures err { IfErr result (λ e. e ≡ Error.OutOfMemory) }
+    ensures ahead { AreAhead cells.now row.new placer.new.hanging }
+{
+    match cells.rows().get(*row) {
+        Some(own) => {
+            put_spans(spans, cells.edges(), own)?;
+            placer.place_row(*row, spans)?;
+            *row += 1;
+            Ok(true)
+        }
+        None => placer.place_bottom_row(),
+    }
+}
+
+/// The rows of a table that are ahead: its own, and behind these one for each end of a span below the last row. Each is placed
+/// when it is asked for.
+#[derive(Drop)]
+pub struct RowsAhead {
+    /// The cells of the table.
+    cells: TableCells,
+    /// How many of the table's own rows were placed.
+    row: usize,
+    /// What places the rows.
+    placer: RowPlacer,
+    /// What the cells of the row that was placed last span.
+    spans: Vec<Span>,
+}
+
+impl Model for RowsAhead {
+    ghost use Rattle.std.specs.Prelude.{List};
+    ghost use Rattle.html_render_parts.specs.declared.table.PlacedCell.{PlacedCell};
+
+    ghost Value = { List (List PlacedCell) };
+
+    ghost use Rattle.html_render_parts.specs.PlacementSteps.{AreAhead, rows_ahead};
+
+    ghost view = { λ a. rows_ahead a.cells a.row a.placer.hanging };
+
+    ghost invariant = { λ a. AreAhead a.cells a.row a.placer.hanging };
+}
+
+impl RowsAhead {
+    /// What stands in the next row, from the first column on: cells, placeholders and gaps. There is none behind the last row.
+    ///
+    /// # Errors
+    ///
+    /// `OutOfMemory`.
+    pub fn next(&mut self, alloc: Global) -> Result<Option<Vec<PlacedCell>>, Error>
+        ensures ok { IfOk result (λ row. MatchOption row ((self.old ≡ []) × (self.new ≡ [])) (λ places. self.old ≡ places.items ∷ self.new)) }
+        ensures err { IfErr result (λ e. e ≡ Error.OutOfMemory) }
+    {
+        let placed = place_next(
+            &self.cells,
+            &mut self.row,
+            &mut self.placer,
+            &mut self.spans,
+        )?;
+        if !placed {
+            return Ok(None);
+        }
+        let places = numbering::numbered_row(alloc, self.cells.edges(), self.placer.places())?;
+        Ok(Some(places))
+    }
+}
