@@ -4,6 +4,8 @@ pub mod Decorations
 pub mod Rendering
 -- the exit status of the program
 pub mod Program
+-- what a finished render tree is like where its tables stand
+pub mod GoodTrees
 -- laws of the definitions
 pub mod laws
 -- what the calls of the program's scripts make of a document

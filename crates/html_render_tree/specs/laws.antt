@@ -13,3 +13,7 @@ pub mod ElementResults
 pub mod InsertionResults
 -- the render tree of a document, by one recursion
 pub mod Conversion
+-- where trees are good, results over good trees, and the render tree of a document, which is good
+pub mod GoodPlaces
+pub mod GoodResults
+pub mod GoodTrees

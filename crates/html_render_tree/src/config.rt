@@ -10,6 +10,7 @@ ghost use Rattle.html_render_conversion.specs.Results.{render_tree_of};
 ghost use Rattle.html_render_dom.specs.Rules.{rule_of};
 ghost use Rattle.html_render_layout.specs.Settings.{default_settings};
 ghost use Rattle.html_render_parts.specs.Refusal.{Fails};
+ghost use Rattle.html_render_tree.specs.GoodTrees.{Anywhere, are_good};
 ghost use Rattle.html_render_tree.specs.Decorations.{decorations};
 ghost use Rattle.html_render_tree.specs.Rendering.{initial_options};
 
@@ -232,6 +233,7 @@ impl<D: TextDecorator> Config<D> {
     #[tactic(auto, using(crate::specs::laws::Conversion::same))]
     pub fn dom_to_render_tree(&self, alloc: Global, dom: &RcDom) -> Result<RenderTree, Error>
         ensures ok { IfOk result (λ tree. render_tree_of self.now.rules dom.now ≡ Some tree) }
+        ensures good { IfOk result (λ tree. are_good Anywhere tree ≡ true) }
         ensures err { IfErr result (λ e. Fails e (render_tree_of self.now.rules dom.now)) }
     {
         self.arranged_tree(alloc, dom)

@@ -35,7 +35,7 @@ use Rattle.html_render_tree.specs.laws.InsertionResults.{AllFilledIn}
 -- ---- what elements become
 
 -- whether it is a node of a kind that an element may become, before the tables are arranged
-abbrev is_made_by : Mapping → Bool
+abbrev pub is_made_by : Mapping → Bool
 is_made_by Nothing = true
 is_made_by (Leaf kind) = stands_as_is kind
 is_made_by (Parent kind if_empty) = is_made kind
@@ -52,7 +52,7 @@ made-link : (target : Option (List ℕ)) → is_made_by (link_mapping target) �
 made-link None = refl
 made-link (Some target) = refl
 
-made-element : (space : Space) (name : List ℕ) (properties : List Property) (below : Forest Content) →
+pub made-element : (space : Space) (name : List ℕ) (properties : List Property) (below : Forest Content) →
     is_made_by (element_mapping space name properties below) ≡ true
 made-element html name properties below = simp (made-if, made-link, if-true)
 made-element no_space name properties below = refl

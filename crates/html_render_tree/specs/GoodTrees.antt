@@ -1,0 +1,44 @@
+-- What a finished render tree is like where its tables stand.
+use Rattle.std.specs.Prelude.{Bool, true, false, ◌&&◌, List, ◌∷◌, Option, Some, None}
+use Rattle.html_render_values.specs.Forest.{Forest, none, node}
+use Rattle.html_render_parts.specs.declared.table.cells.GridCell.{GridCell}
+use Rattle.html_render_nodes.specs.declared.tree.NodeKind.{NodeKind}
+use Rattle.html_render_nodes.specs.declared.tree.NodeKind.TheVariants.{Table, TableRow, TableCell, Part}
+use Rattle.html_render_nodes.specs.declared.tree.RenderNode.{RenderNode}
+
+-- where trees stand: below a table of which these rows are still to come, below a row of which these cells are, or anywhere else
+pub data Place : Type 0 where
+  Anywhere : Place
+  InTable : (rows : List (List GridCell)) → Place
+  InRow : (cells : List GridCell) → Place
+
+-- whether nothing is still to come
+abbrev pub is_over : Place → Bool
+is_over (InTable (cells ∷ rows)) = false
+is_over (InRow (cell ∷ cells)) = false
+is_over _ = true
+
+-- where the trees below a node of this kind stand, and those beside it; none where such a node doesn't stand there
+pub record Around : Type 0 where
+  pub below : Place
+  pub beside : Place
+
+abbrev pub around : Place → NodeKind → Option Around
+around Anywhere (Table grid) = Some (record { below = InTable grid.cells.rows; beside = Anywhere })
+around Anywhere TableRow = None
+around Anywhere TableCell = None
+around Anywhere (Part part) = None
+around Anywhere kind = Some (record { below = Anywhere; beside = Anywhere })
+around (InTable (cells ∷ rows)) TableRow = Some (record { below = InRow cells; beside = InTable rows })
+around (InRow (cell ∷ cells)) TableCell = Some (record { below = Anywhere; beside = InRow cells })
+around _ _ = None
+
+-- GOOD TREES: each table stands over as many rows as its grid has, each of these over as many cells, and no row, cell or other
+-- part of a table stands anywhere else
+abbrev pub are_good_below : (below beside : Place → Bool) → Option Around → Bool
+are_good_below below beside None = false
+are_good_below below beside (Some a) = below a.below && beside a.beside
+
+abbrev pub are_good : Place → Forest RenderNode → Bool
+are_good place none = is_over place
+are_good place (node n children others) = are_good_below (λ p. are_good p children) (λ p. are_good p others) (around place n.kind)
