@@ -49,7 +49,7 @@ fn rows_of(alloc: Global, grid: &TableCells) -> Result<RowsAhead, Error>
     ensures err { IfErr result (λ e. e ≡ Error.OutOfMemory) }
 {
     let cells = grid.try_clone(alloc)?;
-    Ok(cells.into_rows(alloc))
+    cells.into_rows(alloc)
 }
 
 /// How a table is framed.

@@ -209,12 +209,25 @@ impl TableCells {
     }
 
     /// What stands in the rows of the table, from the first on, to be asked for row by row.
-    pub fn into_rows(self, alloc: Global) -> RowsAhead
+    ///
+    /// # Errors
+    ///
+    /// `OutOfMemory`.
+    pub fn into_rows(self, alloc: Global) -> Result<RowsAhead, Error>
+        ensures ok { IfOk result (λ rows. rows ≡ rows_on self) }
+        ensures err { IfErr result (λ e. e ≡ Error.OutOfMemory) }
+    {
+        let left = Box::new(alloc, self.into_placer(alloc))?;
+        Ok(RowsAhead { left: Some(left) })
+    }
+
+    /// The same, in place.
+    fn into_placer(self, alloc: Global) -> RowsLeft
         ensures { result ≡ rows_on self }
     {
         // the proof reads here what the cells of each table are
         let _ = &self.edges;
-        RowsAhead {
+        RowsLeft {
             cells: self,
             row: 0,
             placer: RowPlacer::new(alloc),
@@ -248,10 +261,9 @@ fn place_next(
     }
 }
 
-/// The rows of a table that are ahead: its own, and behind these one for each end of a span below the last row. Each is placed
-/// when it is asked for.
+/// What places the rows of a table that are ahead, and the memory that this takes.
 #[derive(Drop)]
-pub struct RowsAhead {
+struct RowsLeft {
     /// The cells of the table.
     cells: TableCells,
     /// How many of the table's own rows were placed.
@@ -262,7 +274,7 @@ pub struct RowsAhead {
     spans: Vec<Span>,
 }
 
-impl Model for RowsAhead {
+impl Model for RowsLeft {
     ghost use Rattle.std.specs.Prelude.{List};
     ghost use Rattle.html_render_parts.specs.declared.table.PlacedCell.{PlacedCell};
 
@@ -275,13 +287,9 @@ impl Model for RowsAhead {
     ghost invariant = { λ a. AreAhead a.cells a.row a.placer.hanging };
 }
 
-impl RowsAhead {
+impl RowsLeft {
     /// What stands in the next row, from the first column on: cells, placeholders and gaps. There is none behind the last row.
-    ///
-    /// # Errors
-    ///
-    /// `OutOfMemory`.
-    pub fn next(&mut self, alloc: Global) -> Result<Option<Vec<PlacedCell>>, Error>
+    fn next(&mut self, alloc: Global) -> Result<Option<Vec<PlacedCell>>, Error>
         ensures ok { IfOk result (λ row. MatchOption row ((self.old ≡ []) × (self.new ≡ [])) (λ places. self.old ≡ places.items ∷ self.new)) }
         ensures err { IfErr result (λ e. e ≡ Error.OutOfMemory) }
     {
@@ -296,5 +304,50 @@ impl RowsAhead {
         }
         let places = numbering::numbered_row(alloc, self.cells.edges(), self.placer.places())?;
         Ok(Some(places))
+    }
+
+    /// Whether all rows were placed.
+    fn is_over(&self) -> bool
+        ensures { IsTrue result → self.now ≡ [] }
+    {
+        self.row >= self.cells.rows().len() && self.placer.hangs_nothing()
+    }
+}
+
+/// The rows of a table that are ahead: its own, and behind these one for each end of a span below the last row. Each is placed
+/// when it is asked for, and behind the last one no memory is held.
+#[derive(Drop)]
+pub struct RowsAhead {
+    /// What places them, while there are any.
+    left: Option<Box<RowsLeft>>,
+}
+
+impl Model for RowsAhead {
+    ghost use Rattle.std.specs.Prelude.{List, [], option_map, unwrap_or};
+    ghost use Rattle.html_render_parts.specs.declared.table.PlacedCell.{PlacedCell};
+
+    ghost Value = { List (List PlacedCell) };
+
+    ghost view = { λ a. unwrap_or (option_map (λ l. l.value) a.left) [] };
+}
+
+impl RowsAhead {
+    /// What stands in the next row, from the first column on: cells, placeholders and gaps. There is none behind the last row.
+    ///
+    /// # Errors
+    ///
+    /// `OutOfMemory`.
+    pub fn next(&mut self, alloc: Global) -> Result<Option<Vec<PlacedCell>>, Error>
+        ensures ok { IfOk result (λ row. MatchOption row ((self.old ≡ []) × (self.new ≡ [])) (λ places. self.old ≡ places.items ∷ self.new)) }
+        ensures err { IfErr result (λ e. e ≡ Error.OutOfMemory) }
+    {
+        let Some(left) = &mut self.left else {
+            return Ok(None);
+        };
+        let places = left.next(alloc)?;
+        if left.is_over() {
+            self.left = None;
+        }
+        Ok(places)
     }
 }

@@ -1,6 +1,6 @@
 //! Where the cells of a table stand, before its edges have numbers.
 
-ghost use Rattle.std.specs.Prelude.{◌≡◌, ◌≤◌, ◌∷◌, nat_lt, [], Some, filter, IfOk, OnOk, IfErr, MatchBool, MatchOption, Contains, All};
+ghost use Rattle.std.specs.Prelude.{◌≡◌, ◌↔◌, ◌≤◌, ◌∷◌, nat_lt, [], Some, filter, IsTrue, IfOk, OnOk, IfErr, MatchBool, MatchOption, Contains, All};
 ghost use Rattle.html_render_parts.specs.Placement.{bottom_rows, end_of, hangs_into, lists, not_due, placed_rows};
 ghost use Rattle.html_render_parts.specs.PlacementSteps.{empty_row, put, put_to, telling_end, owning, keeping, with_hanging, with_due, with_own};
 ghost use Rattle.html_render_parts.specs.PlacementSteps.{with_gap, with_rest, with_row, nothing_placed, with_next, IsNextBottom, fitting};
@@ -366,6 +366,13 @@ impl RowPlacer {
         ensures { result.now ≡ self.now.told }
     {
         self.last.told()
+    }
+
+    /// Whether no cell hangs into the next row.
+    pub(crate) fn hangs_nothing(&self) -> bool
+        ensures { IsTrue result ↔ (self.now.hanging ≡ []) }
+    {
+        self.hanging.is_empty()
     }
 
     /// Places the next row. Where it is refused, the cells that hang into it stay.

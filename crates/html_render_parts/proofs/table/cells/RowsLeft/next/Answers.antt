@@ -1,5 +1,5 @@
 use Rattle.html_render_parts.proofs.RowsOfCells.{next-ordered}
-use Rattle.html_render_parts.proofs.table.cells.RowsAhead.next.Goals as goal
+use Rattle.html_render_parts.proofs.table.cells.RowsLeft.next.Goals as goal
 
 pub numbered_row-requires-clause-ordered : goal.numbered_row-requires-clause-ordered
 numbered_row-requires-clause-ordered c =
