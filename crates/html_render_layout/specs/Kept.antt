@@ -7,10 +7,7 @@ use Rattle.html_render_parts.specs.Decoration.{Decoration}
 use Rattle.html_render_lines.specs.Line.{Line}
 use Rattle.html_render_lines.specs.Visible.{visible_in_lines}
 use Rattle.html_render_nodes.specs.declared.tree.NodeKind.{NodeKind}
-use Rattle.html_render_nodes.specs.declared.tree.NodeKind.TheVariants.{Text, Container, Break, Block, Div, Emphasis}
-use Rattle.html_render_nodes.specs.declared.tree.NodeKind.TheVariants.{Header, BlockQuote, Ul, Ol, ListItem, Dl, Dt, Dd}
-use Rattle.html_render_nodes.specs.declared.tree.NodeKind.TheVariants.{Strikeout, Superscript, Link, Image, Svg, FragmentStart, Table, TableRow}
-use Rattle.html_render_nodes.specs.declared.tree.NodeKind.TheVariants.{TableCell, Part}
+use Rattle.html_render_nodes.specs.declared.tree.NodeKind.TheVariants.{Text}
 use Rattle.html_render_nodes.specs.declared.tree.RenderNode.{RenderNode}
 use Rattle.html_render_nodes.specs.Pass.{Steps, Inside, run, from}
 use Rattle.html_render_blocks.specs.Block as definition
@@ -18,17 +15,15 @@ use Rattle.html_render_blocks.specs.Operations.{Operations}
 use Rattle.html_render_blocks.specs.Visible.{text_count}
 use Rattle.html_render_pictures.specs.Visible.{count}
 use Rattle.html_render_layout.specs.declared.layout.state.Around.{Around}
-use Rattle.html_render_layout.specs.declared.layout.state.Around.TheVariants.{Plain, Bullets, Numbers, Cells}
+use Rattle.html_render_layout.specs.declared.layout.state.Around.TheVariants.{Cells}
 use Rattle.html_render_layout.specs.declared.layout.state.LayoutState.{LayoutState}
 use Rattle.html_render_layout.specs.declared.settings.LayoutSettings.{LayoutSettings}
 use Rattle.html_render_layout.specs.Layout.{Defined, defined, defined_inside, estimated, empty_state}
 
 -- whether the next node is skipped, by what it stands in: as a cell of a row, where there is no block for that
 abbrev pub skips : {S K T B : Type 0} → Operations B T → LayoutState S K T B → Around → Bool
-skips o s Plain = false
-skips o s (Bullets least) = false
-skips o s (Numbers least number columns) = false
 skips o s Cells = not (is_some (o.cell_block s.block))
+skips o s _ = false
 
 -- THE NODES that a run visits and doesn't skip, in order: a node; those below it, where they are asked for; and those beside
 -- it, in the state behind it
@@ -48,29 +43,7 @@ visited_nodes {S} {A} d settings t decorator width overflow =
 -- the characters of a node, if it is a text
 abbrev pub node_characters : NodeKind → List ℕ
 node_characters (Text t) = chars t
-node_characters Container = []
-node_characters Break = []
-node_characters Block = []
-node_characters Div = []
-node_characters (Emphasis m) = []
-node_characters (Header level) = []
-node_characters BlockQuote = []
-node_characters Ul = []
-node_characters (Ol first) = []
-node_characters ListItem = []
-node_characters Dl = []
-node_characters Dt = []
-node_characters Dd = []
-node_characters Strikeout = []
-node_characters Superscript = []
-node_characters (Link target) = []
-node_characters (Image i) = []
-node_characters (Svg title) = []
-node_characters (FragmentStart name) = []
-node_characters (Table grid) = []
-node_characters TableRow = []
-node_characters TableCell = []
-node_characters (Part part) = []
+node_characters _ = []
 
 -- the characters of the texts among these nodes, in order
 abbrev pub text_characters : List RenderNode → List ℕ
