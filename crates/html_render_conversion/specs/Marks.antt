@@ -1,15 +1,12 @@
 -- Which of an element's attributes names its mark.
 use Rattle.std.specs.Prelude.{ℕ, Bool, false, ◌&&◌, ◌||◌, List, codes, find, Option, option_map}
 use Rattle.std.specs.Str.{bytes_eq}
-use Rattle.html_render_dom.specs.Content.{Property, Space, no_space, html, svg, mathml, other, Name}
+use Rattle.html_render_dom.specs.Content.{Property, Space, html, Name}
 
 -- whether an element is an `a` of HTML
 abbrev pub is_anchor : Space → (local : List ℕ) → Bool
-is_anchor no_space local = false
 is_anchor html local = bytes_eq local (codes "a")
-is_anchor svg local = false
-is_anchor mathml local = false
-is_anchor (other address) local = false
+is_anchor _ local = false
 
 -- whether an attribute of an element names its mark: `id` does, and the `name` of an `a`
 abbrev pub names_mark : (element : Name) → Property → Bool
