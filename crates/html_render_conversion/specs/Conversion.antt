@@ -9,7 +9,7 @@ use Rattle.html_render_values.specs.declared.white_space.WhiteSpace.TheVariants.
 use Rattle.html_render_dom.specs.declared.style.origins.StyleOrigin.TheVariants.{Agent}
 use Rattle.html_render_dom.specs.declared.style.updates.Update.{Update}
 use Rattle.html_render_dom.specs.Cascade.{value_of, winner}
-use Rattle.html_render_dom.specs.Content.{Name, Property, Space, no_space, html, svg, mathml, other}
+use Rattle.html_render_dom.specs.Content.{Name, Property, Space, html, svg}
 use Rattle.html_render_dom.specs.Content.{Content, document, doctype, text, comment, element, instruction}
 use Rattle.html_render_dom.specs.Dom.{Dom, tree_of}
 use Rattle.html_render_dom.specs.ElementStyle.{ElementStyle, element_style}
@@ -115,11 +115,9 @@ html_element_mapping name properties =
 -- what becomes of an element of a namespace, over what stands below it: outside HTML no name but `svg` is special
 abbrev pub element_mapping : Space → (name : List ℕ) → List Property → (below : Forest Content) → Mapping
 element_mapping html name properties below = html_element_mapping name properties
-element_mapping no_space name properties below = Parent Container Vanishes
 element_mapping svg name properties below =
     if bytes_eq name (codes "svg") then Leaf (Svg (drawing_title below)) else Parent Container Vanishes
-element_mapping mathml name properties below = Parent Container Vanishes
-element_mapping (other address) name properties below = Parent Container Vanishes
+element_mapping _ name properties below = Parent Container Vanishes
 
 -- whether an element is a `pre` of HTML
 abbrev pub is_preformatted : Space → (name : List ℕ) → Bool
