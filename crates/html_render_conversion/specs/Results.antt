@@ -5,7 +5,7 @@ use Rattle.std.specs.List.{list_all, list_any}
 use Rattle.html_render_values.specs.Forest.{Forest, none, node, followed_by}
 use Rattle.html_render_values.specs.Outcome.{◌>>=◌}
 use Rattle.html_render_dom.specs.Cascade.{value_of}
-use Rattle.html_render_dom.specs.Content.{Content, document, doctype, text, comment, element, instruction}
+use Rattle.html_render_dom.specs.Content.{Content, document, text, element}
 use Rattle.html_render_dom.specs.Dom.{Dom, tree_of}
 use Rattle.html_render_dom.specs.ElementStyle.{ElementStyle}
 use Rattle.html_render_dom.specs.Rules.{Rule as StyleRule}
@@ -236,10 +236,9 @@ into_kind _ = Beside
 
 abbrev pub into_role : Role → NodeKind → Insertion
 into_role Contents kind = into_kind kind
-into_role Caption kind = Inside
 into_role (Rows behind rows) kind = FirstRow
 into_role (Row cells) kind = FirstCell
-into_role (Cell span) kind = Inside
+into_role _ kind = Inside
 
 -- nodes before and behind what stands in the first of some cells, and in the first cell of the first of some rows; where there
 -- is no such cell they are lost
@@ -295,9 +294,7 @@ result_of rules document below inside = do
 result_of rules (text contents) below inside = Some (Some (over (text_node contents) []))
 result_of rules (element name properties template_contents integration_point) below inside =
     styled (element_mapping name.space name.local properties below) (mark_of name properties) (own_style rules name properties) inside
-result_of rules (doctype name public_id system_id) below inside = Some None
-result_of rules (comment contents) below inside = Some None
-result_of rules (instruction target contents) below inside = Some None
+result_of rules _ below inside = Some None
 
 -- WHAT THE NODES of a document BECOME, in order; none where a table has no grid
 abbrev pub results : List StyleRule → Forest Content → Option (List Result)
