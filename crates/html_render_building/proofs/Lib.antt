@@ -1,0 +1,4 @@
+pub mod Arriving
+pub mod Keeping
+pub mod Lasts
+pub mod ValidSpans

@@ -1,0 +1,7 @@
+-- the nodes of a document, made in one pass
+pub mod Spans
+pub mod Kinds
+pub mod Elements
+pub mod Order
+pub mod Building
+pub mod Opened

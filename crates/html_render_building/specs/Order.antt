@@ -1,0 +1,44 @@
+-- In which order the children of a table are converted.
+use Rattle.std.specs.Prelude.{ℕ, Bool, true, false, not, ◌&&◌, List, ◌++◌, codes, filter, Option, Some, None, if◌then◌else◌}
+use Rattle.std.specs.List.{list_any}
+use Rattle.std.specs.Str.{bytes_eq}
+use Rattle.html_render_dom.specs.Content.{Space, html, Content, element}
+use Rattle.html_render_dom.specs.Dom.{Dom, content_at, children_at}
+use Rattle.html_render_building.specs.declared.order.Pick.{Pick}
+use Rattle.html_render_building.specs.declared.order.Pick.TheVariants.{All, Captions, Feet, Others}
+
+abbrev pub is_html : Space → Bool
+is_html html = true
+is_html _ = false
+
+-- whether a node is an element of HTML of this name
+abbrev pub is_named : (name : List ℕ) → Content → Bool
+is_named wanted (element name properties template_contents integration_point) = is_html name.space && bytes_eq name.local wanted
+is_named wanted _ = false
+
+-- whether a child is among some of a table's
+abbrev pub picks : Pick → Content → Bool
+picks All c = true
+picks Captions c = is_named (codes "caption") c
+picks Feet c = is_named (codes "tfoot") c
+picks Others c = not (is_named (codes "caption") c) && not (is_named (codes "tfoot") c)
+
+abbrev pub picked : Pick → Dom → List ℕ → List ℕ
+picked pick dom children = filter (λ h. picks pick (content_at dom h)) children
+
+-- whether a caption or a foot is among them
+abbrev pub has_own_order : Dom → List ℕ → Bool
+has_own_order dom children = list_any (λ h. not (picks Others (content_at dom h))) children
+
+-- the captions, and what is below the table itself, its feet last; none where these are all children in their order
+abbrev pub caption_order : Dom → List ℕ → Option (List ℕ)
+caption_order dom children = if has_own_order dom children then Some (picked Captions dom children) else None
+
+abbrev pub part_order : Dom → List ℕ → Option (List ℕ)
+part_order dom children =
+    if has_own_order dom children then Some (picked Others dom children ++ picked Feet dom children) else None
+
+-- the children of a node in an order of their own, if they have one
+abbrev pub children_in : Dom → (handle : ℕ) → Option (List ℕ) → List ℕ
+children_in dom handle None = children_at dom handle
+children_in dom handle (Some own) = own

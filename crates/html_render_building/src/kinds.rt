@@ -1,0 +1,57 @@
+//! What the kind of a node says of its children: what is kept, what counts, and where something is inserted.
+
+ghost use Rattle.std.specs.Prelude.{◌≡◌};
+ghost use Rattle.html_render_conversion.specs.Conversion.{is_blank};
+ghost use Rattle.html_render_conversion.specs.Results.{shows_nothing};
+ghost use Rattle.html_render_building.specs.Kinds.{holds_insertions, keeps_kind};
+
+use html_render_nodes::tree::NodeKind;
+
+/// Whether a node takes what is inserted among its own children.
+pub fn holds_insertions(kind: &NodeKind) -> bool
+    ensures { result ≡ holds_insertions kind.now }
+{
+    matches!(
+        kind,
+        NodeKind::Container
+            | NodeKind::Block
+            | NodeKind::Div
+            | NodeKind::BlockQuote
+            | NodeKind::ListItem
+            | NodeKind::Dl
+            | NodeKind::Dt
+            | NodeKind::Dd
+    )
+}
+
+/// Whether a node keeps a child of this kind.
+pub fn keeps_kind(parent: &NodeKind, child: &NodeKind) -> bool
+    ensures { result ≡ keeps_kind parent.now child.now }
+{
+    match parent {
+        NodeKind::Ol(_) => matches!(child, NodeKind::ListItem),
+        NodeKind::Dl => matches!(child, NodeKind::Dt | NodeKind::Dd),
+        _ => true,
+    }
+}
+
+/// Whether nothing but white space is in a text.
+fn is_blank(text: &str) -> bool
+    ensures { result ≡ is_blank text.now }
+{
+    text.trim().is_empty()
+}
+
+/// Whether a node shows nothing, as far as is seen without going into its children.
+pub fn shows_nothing(kind: &NodeKind, has_children: bool) -> bool
+    ensures { result ≡ shows_nothing kind.now has_children }
+{
+    match kind {
+        NodeKind::Text(text) => is_blank(text.as_str()),
+        NodeKind::Image(image) => is_blank(image.title().as_str()),
+        NodeKind::Svg(title) => is_blank(title.as_str()),
+        NodeKind::Break | NodeKind::FragmentStart(_) => true,
+        NodeKind::Table(_) => false,
+        _ => !has_children,
+    }
+}

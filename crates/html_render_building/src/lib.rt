@@ -1,0 +1,8 @@
+//! The nodes of a document, made in one pass from the last to the first.
+#![tactic(auto)]
+
+pub mod building;
+pub mod elements;
+mod kinds;
+pub mod order;
+pub mod spans;

@@ -1,0 +1,50 @@
+-- Drafts in reverse pre-order.
+use Rattle.std.proofs.Common.{◌≡◌, ℕ, ◌+◌, ◌-◌, ◌≤◌, List, [], ◌∷◌, ◌++◌, length, take, drop, get_or, reverse, sym, ap, ◌∙◌, arith}
+use Rattle.std.proofs.Common.{append_assoc, length-append, refl}
+use Rattle.std.proofs.lemmas.List.{reverse-append, reverse-reverse, length-reverse, take_all}
+use Rattle.std.proofs.Math.Seq.{take-append_seam, drop-append_seam, get_or-append_seam}
+use Rattle.html_render_values.specs.Forest.{Forest, none, node, count}
+use Rattle.html_render_nodes.specs.declared.tree.Entry.{Entry}
+use Rattle.html_render_nodes.specs.Preorder.{flatten}
+use Rattle.html_render_nodes.specs.laws.Preorder.{length-flatten, flatten-followed_by, IsForest, IsForest-flatten}
+use Rattle.html_render_nodes.specs.Splits.{SplitAt}
+use Rattle.html_render_nodes.specs.laws.Splits.{count-followed_by}
+
+module _ {K : Type 0} where
+  -- as many as the forest has nodes
+  pub length-entries : (es : List (Entry K)) (t : Forest K) → flatten t ≡ reverse es → length es ≡ count t
+  length-entries es t e = sym (length-reverse es) ∙ ap length (sym e) ∙ length-flatten t
+
+  count-split : (t : Forest K) (mark : ℕ) (s : SplitAt t mark) → count t ≡ count s.children + mark
+  count-split t mark s = ap count s.is ∙ count-followed_by s.children s.beside ∙ ap (λ n. count s.children + n) (sym s.mark_is)
+
+  -- the mark is within the nodes
+  pub SplitAt-le : (es : List (Entry K)) (t : Forest K) (mark : ℕ) (s : SplitAt t mark) → flatten t ≡ reverse es →
+      length es ≡ count s.children + mark
+  SplitAt-le es t mark s e = length-entries es t e ∙ count-split t mark s
+
+  -- a node over what came since
+  pub enclosed : (es : List (Entry K)) (t : Forest K) (k : K) (mark many : ℕ) (s : SplitAt t mark) → flatten t ≡ reverse es →
+      many ≡ length es →
+      IsForest (reverse (es ++ record { node = k; size = many - mark + 1 } ∷ [])) (node k s.children s.beside)
+  enclosed es t k mark many s e all =
+      let over : Entry K = record { node = k; size = many - mark + 1 } in
+      let long = SplitAt-le es t mark s e in
+      let size : many - mark + 1 ≡ length (flatten s.children) + 1 = omega (arith, length-flatten s.children) in
+      IsForest-flatten _ _ (reverse-append es (over ∷ [])
+      ∙ ap (λ l. over ∷ l) (sym e ∙ ap flatten s.is ∙ flatten-followed_by s.children s.beside)
+      ∙ ap (λ n. record { node = k; size = n } ∷ (flatten s.children ++ flatten s.beside)) size)
+
+  -- what stood before the mark
+  pub truncated : (es : List (Entry K)) (t : Forest K) (mark : ℕ) (s : SplitAt t mark) → flatten t ≡ reverse es →
+      IsForest (reverse (take mark es)) s.beside
+  truncated es t mark s e =
+      let parts : es ≡ reverse (flatten s.beside) ++ reverse (flatten s.children) =
+      sym (reverse-reverse es) ∙ ap reverse (sym e ∙ ap flatten s.is ∙ flatten-followed_by s.children s.beside)
+      ∙ reverse-append (flatten s.children) (flatten s.beside) in
+      let long : mark ≡ length (reverse (flatten s.beside)) = s.mark_is ∙ sym (length-flatten s.beside)
+      ∙ sym (length-reverse (flatten s.beside)) in
+      let front : take mark es ≡ reverse (flatten s.beside) =
+      ap (λ n. take n es) long ∙ ap (take (length (reverse (flatten s.beside)))) parts
+      ∙ take-append_seam (reverse (flatten s.beside)) (reverse (flatten s.children)) in
+      IsForest-flatten _ _ (ap reverse front ∙ reverse-reverse (flatten s.beside))

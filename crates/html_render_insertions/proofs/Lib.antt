@@ -1,0 +1,3 @@
+pub mod Drafting
+pub mod Expanding
+pub mod Firsts

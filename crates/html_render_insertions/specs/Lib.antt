@@ -1,0 +1,9 @@
+-- a list that is left out
+pub mod Listed
+pub mod Insertion
+-- trees of drafts, and the nodes that they become
+pub mod Drafts
+-- how they are written
+pub mod Expansion
+-- what follows from the definitions
+pub mod laws

@@ -1,0 +1,341 @@
+//! Trees of drafts: nodes beside which it is noted what is still to be inserted among their children, so that nothing
+//! that is made has to be moved for it.
+//!
+//! [`Drafts`] makes them from the last node to the first: after `put(b)`, `put(a)` and `enclose(c, 0)` it holds one tree, the
+//! draft `c` over `a` and `b`. `insert_first(0, inserted)` then notes an insertion at `c`, and `into_nodes` gives the nodes:
+//! `c` over what is inserted at the front, `a`, `b` and what is inserted at the end.
+
+ghost use Rattle.std.specs.Prelude.{◌≡◌, ◌↔◌, IsTrue, OnOk, OnErr, IfOk, IfErr, IfSome, IfNone, None, Some, [], ◌∷◌, ◌++◌};
+ghost use Rattle.html_render_values.specs.Forest as forest;
+ghost use Rattle.html_render_values.specs.Forest.{none, count};
+ghost use Rattle.html_render_nodes.specs.Splits.{SplitAt, Reversed};
+ghost use Rattle.html_render_insertions.specs.declared.drafts.Draft.{Draft};
+ghost use Rattle.html_render_insertions.specs.Drafts.{at_first, insert_first, with_first_style, first_kind, FirstAt, inserted_of, mark_in};
+
+use html_render_nodes::text::NodeText;
+use html_render_nodes::tree::{Entry, NodeKind, NodeStyle, RenderNode};
+use html_render_values::Error;
+use std::alloc::Global;
+use std::marker::Model;
+
+/// What one element inserts among the children of a node.
+#[derive(Drop)]
+pub struct Insertions {
+    /// The name of the mark that stands in front of all.
+    pub mark: Option<NodeText>,
+    /// The text in front of the children.
+    pub before: Option<NodeText>,
+    /// The text behind the children.
+    pub after: Option<NodeText>,
+}
+
+/// What elements insert among the children of a node, the innermost element first. It takes one word where there is nothing.
+#[derive(Drop)]
+pub struct Inserted {
+    rounds: Option<Box<Vec<Insertions>>>,
+}
+
+impl Model for Inserted {
+    ghost use Rattle.std.specs.Prelude.{List, [], option_map};
+    ghost use Rattle.html_render_insertions.specs.declared.drafts.Insertions.{Insertions};
+    ghost use Rattle.html_render_insertions.specs.Listed.{listed};
+
+    ghost Value = { List Insertions };
+
+    ghost view = { λ i. listed (option_map (λ b. b.value.items) i.rounds) };
+}
+
+impl Inserted {
+    /// Nothing.
+    pub fn none() -> Inserted
+        ensures { result ≡ [] }
+    {
+        Inserted { rounds: None }
+    }
+
+    /// Whether no element inserts anything.
+    pub fn is_empty(&self) -> bool
+        ensures { IsTrue result ↔ (self.now ≡ []) }
+    {
+        match &self.rounds {
+            Some(rounds) => rounds.is_empty(),
+            None => true,
+        }
+    }
+
+    /// What one element inserts.
+    ///
+    /// # Errors
+    ///
+    /// `OutOfMemory`.
+    pub fn of(alloc: Global, insertions: Insertions) -> Result<Inserted, Error>
+        ensures ok { IfOk result (λ i. i ≡ insertions ∷ []) }
+        ensures err { IfErr result (λ e. e ≡ Error.OutOfMemory) }
+    {
+        let mut rounds = Vec::new(alloc);
+        rounds.push(insertions)?;
+        let rounds = Box::new(alloc, rounds)?;
+        Ok(Inserted {
+            rounds: Some(rounds),
+        })
+    }
+
+    /// What each element inserts, the innermost element first.
+    fn into_rounds(self, alloc: Global) -> Vec<Insertions>
+        ensures { result.items ≡ self }
+    {
+        match self.rounds {
+            Some(rounds) => Box::into_inner(rounds),
+            None => Vec::new(alloc),
+        }
+    }
+
+    /// Puts what other elements insert round what is there.
+    ///
+    /// # Errors
+    ///
+    /// `OutOfMemory`. What is there is then as it was.
+    pub fn wrap(&mut self, other: Inserted) -> Result<(), Error>
+        ensures ok { OnOk result (self.new ≡ self.old ++ other) }
+        ensures unchanged { OnErr result (self.new ≡ self.old) }
+        ensures err { IfErr result (λ e. e ≡ Error.OutOfMemory) }
+    {
+        match other.rounds {
+            Some(outer) => match &mut self.rounds {
+                Some(rounds) => {
+                    let mut outer = Box::into_inner(outer);
+                    rounds.append(&mut outer)?;
+                    Ok(())
+                }
+                None => {
+                    self.rounds = Some(outer);
+                    Ok(())
+                }
+            },
+            None => Ok(()),
+        }
+    }
+}
+
+impl Inserted {
+    /// What an element inserts: its mark, the content before its children and the one behind them. It is nothing, without any.
+    ///
+    /// # Errors
+    ///
+    /// `OutOfMemory`.
+    pub fn new(
+        alloc: Global,
+        mark: Option<NodeText>,
+        before: Option<NodeText>,
+        after: Option<NodeText>,
+    ) -> Result<Inserted, Error>
+        ensures ok { IfOk result (λ i. i ≡ inserted_of mark before after) }
+        ensures err { IfErr result (λ e. e ≡ Error.OutOfMemory) }
+    {
+        if mark.is_some() || before.is_some() || after.is_some() {
+            Inserted::of(
+                alloc,
+                Insertions {
+                    mark,
+                    before,
+                    after,
+                },
+            )
+        } else {
+            Ok(Inserted::none())
+        }
+    }
+
+    /// The mark of the innermost element, if that has one.
+    pub fn into_mark(self) -> Option<NodeText>
+        ensures { result ≡ mark_in self }
+    {
+        let rounds = self.rounds?;
+        let mut rounds = Box::into_inner(rounds);
+        rounds.reverse();
+        rounds.pop()?.mark
+    }
+}
+
+/// A node that isn't measured, and what is still to be inserted among its children.
+#[derive(Drop)]
+pub struct Draft {
+    /// What the node is.
+    pub kind: NodeKind,
+    /// What its element's style gives it.
+    pub style: NodeStyle,
+    /// What is inserted into it.
+    pub inserted: Inserted,
+}
+
+impl From<NodeKind> for Draft {
+    ghost use Rattle.html_render_insertions.specs.Drafts.{plain_draft};
+
+    ghost from_gives = { λ k d. d ≡ plain_draft k };
+
+    /// A draft without a style, into which nothing is inserted.
+    fn from(kind: NodeKind) -> Draft {
+        Draft {
+            kind,
+            style: NodeStyle::default(),
+            inserted: Inserted::none(),
+        }
+    }
+}
+
+impl From<RenderNode> for Draft {
+    ghost use Rattle.html_render_insertions.specs.Drafts.{draft_of};
+
+    ghost from_gives = { λ n d. d ≡ draft_of n };
+
+    /// The draft of a node, into which nothing is inserted.
+    fn from(node: RenderNode) -> Draft {
+        Draft {
+            kind: node.kind,
+            style: node.style,
+            inserted: Inserted::none(),
+        }
+    }
+}
+
+/// Trees of drafts that grow at the front, from the last draft to the first.
+#[derive(Drop)]
+pub struct Drafts {
+    /// The entries in reverse: the last draft of the trees comes first.
+    entries: Vec<Entry<Draft>>,
+}
+
+impl Model for Drafts {
+    ghost use Rattle.std.specs.Prelude.{◌≡◌, List, reverse};
+    ghost use Rattle.std.specs.Coded.{codes, code_by, coded_list};
+    ghost use Rattle.html_render_values.specs.Forest.{Forest};
+    ghost use Rattle.html_render_nodes.specs.declared.tree.Entry.{Entry};
+    ghost use Rattle.html_render_insertions.specs.declared.drafts.Draft.{Draft};
+    ghost use Rattle.html_render_nodes.specs.Preorder.{forest_of, flatten};
+    ghost use Rattle.html_render_nodes.specs.laws.Preorder.{forest_of-flatten};
+
+    ghost Value = { Forest Draft };
+
+    ghost coded = { code_by (List (Entry Draft)) (coded_list (Prim.hlevel codes)) flatten forest_of forest_of-flatten };
+
+    ghost view = { λ d. forest_of (reverse d.entries.items) };
+
+    ghost invariant = { λ d. flatten (forest_of (reverse d.entries.items)) ≡ reverse d.entries.items };
+}
+
+impl Drafts {
+    /// No tree, with room for so many drafts.
+    ///
+    /// # Errors
+    ///
+    /// `OutOfMemory`.
+    pub fn with_capacity(alloc: Global, drafts: usize) -> Result<Drafts, Error>
+        ensures ok { IfOk result (λ d. d ≡ none) }
+        ensures err { IfErr result (λ e. e ≡ Error.OutOfMemory) }
+    {
+        let entries = Vec::with_capacity(alloc, drafts)?;
+        Ok(Drafts { entries })
+    }
+
+    /// How many drafts there are: the mark for a later [`Drafts::enclose`] or [`Drafts::truncate`].
+    pub fn len(&self) -> usize
+        ensures { result ≡ count self.now }
+    {
+        self.entries.len()
+    }
+
+    /// Puts a draft without children in front of the trees.
+    ///
+    /// # Errors
+    ///
+    /// `OutOfMemory`. The trees are then as they were.
+    pub fn put(&mut self, draft: Draft) -> Result<(), Error>
+        ensures ok { OnOk result (self.new ≡ forest.node draft none self.old) }
+        ensures unchanged { OnErr result (self.new ≡ self.old) }
+        ensures err { IfErr result (λ e. e ≡ Error.OutOfMemory) }
+    {
+        self.entries.push(Entry {
+            node: draft,
+            size: 1,
+        })?;
+        Ok(())
+    }
+
+    /// Puts a draft over all trees that came since there were `mark` drafts.
+    ///
+    /// # Errors
+    ///
+    /// `OutOfMemory`. The trees are then as they were.
+    pub fn enclose(&mut self, draft: Draft, mark: usize) -> Result<(), Error>
+        requires { SplitAt self.old mark }
+        ensures ok { OnOk result ((s : SplitAt self.old mark) → self.new ≡ forest.node draft s.children s.beside) }
+        ensures unchanged { OnErr result (self.new ≡ self.old) }
+        ensures err { IfErr result (λ e. e ≡ Error.OutOfMemory) }
+    {
+        let size = self.entries.len() - mark + 1;
+        self.entries.push(Entry { node: draft, size })?;
+        Ok(())
+    }
+
+    /// Takes back all trees that came since there were `mark` drafts.
+    pub fn truncate(&mut self, mark: usize)
+        requires { SplitAt self.old mark }
+        ensures { (s : SplitAt self.old mark) → self.new ≡ s.beside }
+    {
+        self.entries.truncate(mark);
+    }
+
+    /// What the first tree's top is, if there is a tree.
+    pub fn first_kind(&self) -> Option<&NodeKind>
+        ensures first { IfSome result (λ k. first_kind self.now ≡ Some k.now) }
+        ensures over { IfNone result (self.now ≡ none) }
+    {
+        let last = self.entries.len().checked_sub(1)?;
+        Some(&self.entries[last].node.kind)
+    }
+
+    /// Sets the style of the first tree's top, if there is a tree.
+    pub fn set_first_style(&mut self, style: NodeStyle)
+        ensures { self.new ≡ with_first_style style self.old }
+    {
+        if let Some(place) = first_place(&self.entries, 0) {
+            self.entries[place].node.style = style;
+        }
+    }
+
+    /// Notes an insertion round what is noted at the draft that is reached from the first tree's top by going down to the
+    /// first child `depth` times. Where no draft is there, the insertion is lost.
+    ///
+    /// # Errors
+    ///
+    /// `OutOfMemory`. The trees are then as they were.
+    pub fn insert_first(&mut self, depth: usize, inserted: Inserted) -> Result<(), Error>
+        ensures ok { OnOk result (self.new ≡ insert_first depth inserted self.old) }
+        ensures unchanged { OnErr result (self.new ≡ self.old) }
+        ensures err { IfErr result (λ e. e ≡ Error.OutOfMemory) }
+    {
+        match first_place(&self.entries, depth) {
+            Some(place) => self.entries[place].node.inserted.wrap(inserted),
+            None => Ok(()),
+        }
+    }
+}
+
+/// Where the draft stands, among drafts from the last to the first, that is reached from the first tree's top by going down
+/// to the first child `depth` times.
+fn first_place(entries: &[Entry<Draft>], depth: usize) -> Option<usize>
+    requires { Reversed entries.now }
+    ensures found { IfSome result (λ place. (s : Reversed entries.now) → FirstAt s.trees depth entries.now place) }
+    ensures lost { IfNone result ((s : Reversed entries.now) → (change : Draft → Draft) → at_first depth change s.trees ≡ s.trees) }
+{
+    let mut place = entries.len().checked_sub(1)?;
+    for _ in 0..depth {
+        if entries[place].size == 1 {
+            return None;
+        }
+        place -= 1;
+    }
+    Some(place)
+}
+
+mod expansion;

@@ -1,0 +1,4 @@
+//! Trees of drafts.
+#![tactic(auto)]
+
+pub mod drafts;
