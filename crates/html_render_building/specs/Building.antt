@@ -211,11 +211,14 @@ fresh k style if_empty inserted = record {
   drafts = none;
 }
 
+abbrev pub table_start : Holding
+table_start = fresh (Table []) no_style IfEmpty.Vanishes []
+
 -- what comes of an element, where `inside` is what comes of some of its children
 abbrev pub come_of : OpenKind → RenderNode → IfEmpty → (has_children : Bool) → List Insertions →
     (inside : Pick → Holding → Option Holding) → Holding → Option Holding
 come_of Captioned n if_empty has_children inserted inside p = do
-  feet ← inside Feet (fresh (Table []) no_style IfEmpty.Vanishes [])
+  feet ← inside Feet table_start
   table ← inside Others feet
   outer ← closed_into table (fresh Captioned n.style if_empty inserted)
   all ← inside Captions outer

@@ -5,3 +5,5 @@ pub mod Elements
 pub mod Order
 pub mod Building
 pub mod Opened
+-- what follows from the definitions
+pub mod laws

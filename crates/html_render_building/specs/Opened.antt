@@ -1,12 +1,55 @@
 -- The elements that are open while a document is converted, the innermost last.
-use Rattle.std.specs.Prelude.{◌≡◌, ℕ, ◌+◌, List, [], ◌∷◌, ◌++◌, slice_index_or, Option, Some}
+use Rattle.std.specs.Prelude.{◌≡◌, ℕ, ◌+◌, List, [], ◌∷◌, ◌++◌, length, slice_index_or, Bool, Option, Some, None, if◌then◌else◌}
 use Rattle.html_render_values.specs.Forest.{Forest}
-use Rattle.html_render_dom.specs.Dom.{Dom}
+use Rattle.html_render_dom.specs.Dom.{Dom, children_at}
 use Rattle.html_render_nodes.specs.Splits.{SplitAt}
+use Rattle.html_render_nodes.specs.declared.tree.NodeStyle.{NodeStyle}
 use Rattle.html_render_insertions.specs.declared.drafts.Draft.{Draft}
+use Rattle.html_render_insertions.specs.declared.drafts.Insertions.{Insertions}
+use Rattle.html_render_insertions.specs.Drafts.{draft_of, inserted_of}
+use Rattle.html_render_conversion.specs.declared.mapping.IfEmpty.{IfEmpty}
+use Rattle.html_render_conversion.specs.declared.mapping.Outline.{Outline}
+use Rattle.html_render_conversion.specs.declared.mapping.Outline.TheVariants.{Nothing, Alone, Over}
+use Rattle.html_render_building.specs.declared.elements.Element.{Element}
+use Rattle.html_render_building.specs.Elements.{opened_kind}
+use Rattle.html_render_values.specs.Forest.{count}
 use Rattle.html_render_building.specs.declared.building.Open.{Open}
-use Rattle.html_render_building.specs.Building.{Holding}
-use Rattle.html_render_building.specs.Order.{children_in}
+use Rattle.html_render_building.specs.Building.{Holding, arrive, fresh, is_captioned, leaf_arrival, table_start}
+use Rattle.html_render_building.specs.Order.{caption_order, children_in, part_order}
+
+-- how many children are in an order of their own, if there is one
+abbrev pub own_count : Option (List ℕ) → ℕ
+own_count None = 0
+own_count (Some own) = length own
+
+-- a table within what stands round it: its children come apart, the captions after what is below it
+abbrev pub table_elements : Dom → (handle start : ℕ) → (around : Element) → List Open
+table_elements dom handle start around =
+    let captions = caption_order dom (children_at dom handle) in
+    let parts = part_order dom (children_at dom handle) in
+    record { handle = handle; order = captions; ahead = own_count captions; start = start; element = around }
+    ∷ record {
+      handle = handle;
+      order = parts;
+      ahead = length (children_in dom handle parts);
+      start = start;
+      element = table_start.element;
+    } ∷ []
+
+-- any other element, with its children ahead, if these count
+abbrev pub other_elements : Dom → (handle start : ℕ) → (has_children : Bool) → Element → List Open
+other_elements dom handle start has_children e = record {
+  handle = handle;
+  order = None;
+  ahead = if has_children then length (children_at dom handle) else 0;
+  start = start;
+  element = e;
+} ∷ []
+
+-- the elements that are opened for one
+abbrev pub opened_elements : Dom → (handle start : ℕ) → (has_children : Bool) → Element → List Open
+opened_elements dom handle start has_children e =
+    if is_captioned e.kind then table_elements dom handle start e else other_elements dom handle start has_children e
 
 -- the innermost open element, and those that it stands in
 abbrev pub IsLast : (elements below : List Open) → Open → Type 0
@@ -39,3 +82,15 @@ pub record Closed (below : List Open) (p : Open) (elements : List Open) (drafts 
   pub holding : Holding
   pub wanted_is : wanted ≡ Some holding
   pub after : IsAfter below p elements drafts holding
+
+-- a node of this outline was opened: an element is open, and anything else has come to the innermost open element
+abbrev pub IsOpened : Dom → (handle : ℕ) → Outline → (elements : List Open) (drafts : Forest Draft) (elements_now : List Open)
+    (drafts_now : Forest Draft) → Type 0
+IsOpened dom handle Nothing elements drafts elements_now drafts_now = (elements_now ≡ elements) × (drafts_now ≡ drafts)
+IsOpened dom handle (Alone n) elements drafts elements_now drafts_now =
+    (below : List Open) (p : Open) → IsLast elements below p →
+    IsAfter below p elements_now drafts_now (arrive (leaf_arrival (draft_of n)) (record { element = p.element; drafts = drafts }))
+IsOpened dom handle (Over n if_empty has_children mark before after) elements drafts elements_now drafts_now =
+    (elements_now ≡ elements ++ opened_elements dom handle (count drafts) has_children
+    (fresh (opened_kind n.kind) n.style if_empty (inserted_of mark before after)).element)
+    × (drafts_now ≡ drafts)

@@ -3,6 +3,8 @@
 ghost use Rattle.std.specs.Prelude.{◌≡◌, ◌||◌, ◌≤◌, ◌∷◌, ◌++◌, List, [], length, Some, None, IfSome, IfNone, IfOk, OnOk, IfErr, map, option_map, false, true};
 ghost use Rattle.html_render_dom.specs.Dom.{IsForest, IsNode};
 ghost use Rattle.html_render_dom.specs.Rules.{rule_of};
+ghost use Rattle.html_render_conversion.specs.Converting.{outline_at};
+ghost use Rattle.html_render_building.specs.Order.{children_in};
 ghost use Rattle.html_render_nodes.specs.Splits.{SplitAt};
 ghost use Rattle.html_render_nodes.specs.RenderNodes.{no_style};
 ghost use Rattle.html_render_nodes.specs.declared.tree.NodeKind.TheVariants as kind;
@@ -13,15 +15,17 @@ ghost use Rattle.html_render_insertions.specs.Drafts.{draft, draft_of, first_kin
 ghost use Rattle.html_render_building.specs.Building.{Holding, arrive, leaf_arrival, over_draft, are_any, beside_insertions, goes_beside, with_insertions, node_made, row_made, rows_made, captioned_made, caption_kind};
 ghost use Rattle.html_render_building.specs.Building.{kept_arrival, table_alone, table_made, arrive_any, closed, closed_into, is_captioned, made_of, mark_left, table_closed, table_stands};
 ghost use Rattle.html_render_building.specs.Elements.{keeps, received, told_of_table};
-ghost use Rattle.html_render_building.specs.Opened.{Closed, Comes, IsAfter, IsLast, NextChild};
+ghost use Rattle.html_render_building.specs.Opened.{opened_elements, other_elements, table_elements, Closed, Comes, IsAfter, IsLast, IsOpened, NextChild};
 ghost use Rattle.html_render_building.specs.declared.building.Open.{Open};
 ghost use Rattle.html_render_building.specs.declared.elements.Role.TheVariants as role;
 
 use crate::elements::{Element, OpenKind, Role};
 use crate::kinds::holds_insertions;
-use crate::order::Order;
+use crate::order::{Order, table_orders};
 use crate::spans::{Gathered, PartRows, RowCells, grid_over};
-use html_render_dom::dom::Handle;
+use html_render_conversion::mapping::{Outline, outline_of, text_node};
+use html_render_dom::dom::{Handle, NodeData, RcDom};
+use html_render_dom::style::StyleRule;
 use html_render_insertions::drafts::{Draft, Drafts, Inserted};
 use html_render_nodes::tree::{CellSpan, Grid, NodeKind, NodeStyle};
 use html_render_values::Error;
@@ -399,7 +403,7 @@ fn is_in_table(elements: &[Open]) -> bool
     ensures { (below : List Open) (p : Open) → IsLast elements.now below p → result ≡ is_captioned p.element.kind }
 {
     match elements.last() {
-        Some(parent) => matches!(parent.element.kind, OpenKind::Captioned),
+        Some(parent) => parent.element.kind.is_captioned(),
         None => false,
     }
 }
@@ -635,4 +639,147 @@ fn close_element(
         }
         None => close_other(element, start, elements, drafts),
     }
+}
+
+/// Opens a table and what stands round it: its children come apart, the captions after what is below it.
+fn open_table(
+    alloc: Global,
+    dom: &RcDom,
+    handle: Handle,
+    start: usize,
+    around: Element,
+    elements: &mut Vec<Open>,
+) -> Result<(), Error>
+    requires { IsNode dom.now handle }
+    ensures ok { OnOk result (elements.new.items ≡ elements.old.items
+        ++ table_elements dom.now handle start around) }
+    ensures err { IfErr result (λ e. e ≡ Error.OutOfMemory) }
+{
+    let (captions, parts) = table_orders(alloc, dom, handle)?;
+    let caption_count = captions.own_count();
+    let part_count = parts.children(dom, handle).len();
+    elements.push(Open {
+        handle,
+        order: captions,
+        ahead: caption_count,
+        start,
+        element: around,
+    })?;
+    elements.push(Open {
+        handle,
+        order: parts,
+        ahead: part_count,
+        start,
+        element: Element::table(alloc),
+    })?;
+    Ok(())
+}
+
+/// Opens an element that is no table, with its children ahead, if these count.
+fn open_other(
+    dom: &RcDom,
+    handle: Handle,
+    start: usize,
+    has_children: bool,
+    element: Element,
+    elements: &mut Vec<Open>,
+) -> Result<(), Error>
+    requires { IsNode dom.now handle }
+    ensures ok { OnOk result (elements.new.items ≡ elements.old.items ++ other_elements dom.now handle start has_children element) }
+    ensures err { IfErr result (λ e. e ≡ Error.OutOfMemory) }
+{
+    let ahead = if has_children {
+        dom.child_list(handle).len()
+    } else {
+        0
+    };
+    elements.push(Open {
+        handle,
+        order: Order::of_document(),
+        ahead,
+        start,
+        element,
+    })?;
+    Ok(())
+}
+
+/// Opens an element.
+fn open_element(
+    alloc: Global,
+    dom: &RcDom,
+    handle: Handle,
+    start: usize,
+    has_children: bool,
+    element: Element,
+    elements: &mut Vec<Open>,
+) -> Result<(), Error>
+    requires { IsNode dom.now handle }
+    ensures ok { OnOk result (elements.new.items ≡ elements.old.items ++ opened_elements dom.now handle start has_children element) }
+    ensures err { IfErr result (λ e. e ≡ Error.OutOfMemory) }
+{
+    if element.kind.is_captioned() {
+        open_table(alloc, dom, handle, start, element, elements)
+    } else {
+        open_other(dom, handle, start, has_children, element, elements)
+    }
+}
+
+/// Converts a node as far as can be without its children: an element is opened, anything else is done.
+fn open_node(
+    alloc: Global,
+    rules: &[StyleRule],
+    dom: &RcDom,
+    handle: Handle,
+    elements: &mut Vec<Open>,
+    drafts: &mut Drafts,
+) -> Result<(), Error>
+    requires forest { IsForest dom.now }
+    requires node { IsNode dom.now handle }
+    ensures ok { OnOk result (IsOpened dom.now handle (outline_at (map rule_of rules.now) dom.now handle)
+        elements.old.items drafts.old elements.new.items drafts.new) }
+    ensures err { IfErr result (λ e. e ≡ Error.OutOfMemory) }
+{
+    // most nodes are texts, so these take the shortest way
+    if let NodeData::Text { contents } = dom.data(handle) {
+        return put_alone(
+            Draft::from(text_node(alloc, contents.as_str())?),
+            elements,
+            drafts,
+        );
+    }
+    match outline_of(alloc, rules, dom, handle)? {
+        Outline::Nothing => Ok(()),
+        Outline::Alone(node) => put_alone(Draft::from(node), elements, drafts),
+        Outline::Over {
+            node,
+            if_empty,
+            has_children,
+            mark,
+            before,
+            after,
+        } => {
+            let inserted = Inserted::new(alloc, mark, before, after)?;
+            let kind = OpenKind::new(alloc, node.kind);
+            let element = Element::new(kind, node.style, if_empty, inserted);
+            let start = drafts.len();
+            open_element(alloc, dom, handle, start, has_children, element, elements)
+        }
+    }
+}
+
+/// The last of the children that the innermost open element has ahead, which has one fewer ahead then; `None` where no
+/// child is ahead.
+#[inline(always)]
+fn next_child(dom: &RcDom, elements: &mut Vec<Open>) -> Option<Handle>
+    requires { (below : List Open) (o : Open) → IsLast elements.old.items below o →
+        IsNode dom.now o.handle × (o.ahead ≤ length (children_in dom.now o.handle o.order)) }
+    ensures next { IfSome result (NextChild dom.now elements.old.items elements.new.items) }
+    ensures same { IfNone result (elements.new.items ≡ elements.old.items) }
+    ensures over { IfNone result ((below : List Open) (o : Open) → IsLast elements.old.items below o → o.ahead ≡ 0) }
+{
+    let last = elements.len().checked_sub(1)?;
+    let ahead = elements[last].ahead.checked_sub(1)?;
+    elements[last].ahead = ahead;
+    let handle = elements[last].handle;
+    Some(elements[last].order.children(dom, handle)[ahead])
 }

@@ -3,7 +3,7 @@
 ghost use Rattle.std.specs.Prelude.{◌≡◌, false, [], OnOk, IfErr, IfOk, IfNone};
 ghost use Rattle.html_render_building.specs.Elements.{counts, gathered, has_place, keeps, opened_kind, received, stands_alone, told_of_table};
 ghost use Rattle.html_render_conversion.specs.Conversion.{vanishes};
-ghost use Rattle.html_render_building.specs.Building.{rows_of};
+ghost use Rattle.html_render_building.specs.Building.{fresh, is_captioned, rows_of, table_start};
 
 use crate::kinds::{keeps_kind, shows_nothing};
 use crate::spans::{Gathered, PartRows, RowCells};
@@ -103,6 +103,13 @@ impl OpenKind {
         }
     }
 
+    /// Whether it is a table with its captions before it.
+    pub fn is_captioned(&self) -> bool
+        ensures { result ≡ is_captioned self.now }
+    {
+        matches!(self, OpenKind::Captioned)
+    }
+
     /// Takes the rows out, if it is a table.
     pub fn take_rows(&mut self, alloc: Global) -> Option<Gathered<PartRows>>
         ensures rows { result ≡ rows_of self.old }
@@ -187,6 +194,18 @@ impl Element {
             is_stray: false,
             inserted,
         }
+    }
+
+    /// A table within what stands round it, before anything has come of its children.
+    pub fn table(alloc: Global) -> Element
+        ensures { result ≡ table_start.element }
+    {
+        Element::new(
+            OpenKind::Table(Gathered::new(alloc)),
+            NodeStyle::default(),
+            IfEmpty::Vanishes,
+            Inserted::none(),
+        )
     }
 
     /// A child has become something in this role, of this kind: answers whether that is kept.

@@ -4,5 +4,6 @@
 pub mod building;
 pub mod elements;
 mod kinds;
+mod laws;
 pub mod order;
 pub mod spans;

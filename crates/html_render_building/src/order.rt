@@ -4,6 +4,7 @@
 ghost use Rattle.std.specs.Prelude.{◌≡◌, ◌++◌, OnOk, IfOk, IfErr, None, Some};
 ghost use Rattle.html_render_dom.specs.Content.{content_of};
 ghost use Rattle.html_render_dom.specs.Dom.{IsNode, children_at};
+ghost use Rattle.html_render_building.specs.Opened.{own_count};
 ghost use Rattle.html_render_building.specs.Order.{caption_order, children_in, has_own_order, is_named, part_order, picked, picks};
 
 use html_render_dom::dom::{Handle, Namespace, NodeData, RcDom};
@@ -112,6 +113,16 @@ impl Order {
     {
         let own = Some(Box::new(alloc, children)?);
         Ok(Order { own })
+    }
+
+    /// How many children there are in an order of their own.
+    pub fn own_count(&self) -> usize
+        ensures { result ≡ own_count self.now }
+    {
+        match &self.own {
+            Some(children) => children.len(),
+            None => 0,
+        }
     }
 
     /// The children in this order.

@@ -1,0 +1,90 @@
+-- What comes of trees beside each other, of some that are picked, and to an element beside which others stand.
+use Rattle.std.proofs.Common.{◌≡◌, ℕ, ◌+◌, ◌≤◌, Bool, true, false, not, ◌&&◌, ◌||◌, List, [], ◌∷◌, ◌++◌, length, take, Option, Some, None, refl, sym, ap, ◌∙◌, arith}
+use Rattle.std.proofs.Common.{if◌then◌else◌, option_map, filter}
+use Rattle.html_render_values.specs.Forest.{Forest, none, node, count, followed_by}
+use Rattle.html_render_values.specs.Outcome.{◌>>=◌}
+use Rattle.html_render_dom.specs.Content.{Content}
+use Rattle.html_render_dom.specs.Dom.{Dom, IsForest, IsNode, node_count, content_at, children_at, below, trees_of, tree_of}
+use Rattle.html_render_dom.specs.Rules.{Rule as StyleRule}
+use Rattle.html_render_nodes.specs.laws.Splits.{followed_by-none, followed_by-followed_by}
+use Rattle.html_render_insertions.specs.declared.drafts.Draft.{Draft}
+use Rattle.html_render_conversion.specs.Converting.{outline_of}
+use Rattle.html_render_building.specs.declared.order.Pick.{Pick}
+use Rattle.html_render_building.specs.declared.order.Pick.TheVariants.{All, Captions, Feet, Others}
+use Rattle.html_render_building.specs.Building.{Arrival, Holding, arrive, come, arrivals}
+use Rattle.html_render_building.specs.Elements.{keeps}
+use Rattle.html_render_building.specs.Order.{picks, picked}
+
+-- ---- one after the other
+
+bind-some : {X : Type 0} (o : Option X) → (o >>= (λ x. Some x)) ≡ o
+bind-some None = refl
+bind-some (Some x) = refl
+
+pub bind-bind : {X Y Z : Type 0} (o : Option X) (f : X → Option Y) (g : Y → Option Z) → ((o >>= f) >>= g) ≡ (o >>= (λ x. f x >>= g))
+bind-bind None f g = refl
+bind-bind (Some x) f g = refl
+
+pub bind-same : {X Y : Type 0} (o : Option X) (f g : X → Option Y) → ((x : X) → f x ≡ g x) → (o >>= f) ≡ (o >>= g)
+bind-same None f g e = refl
+bind-same (Some x) f g e = e x
+
+module _ (rules : List StyleRule) where
+  -- what comes of a node that is picked, or isn't
+  abbrev pub step : Pick → Content → (children : Forest Content) → Holding → Option Holding
+  step pick c children q =
+      if picks pick c then come (outline_of rules c children) (λ k h. arrivals rules children k h) q else Some q
+
+  -- the trees behind come first
+  pub arrivals-followed_by : (pick : Pick) (t u : Forest Content) (p : Holding) →
+      arrivals rules (followed_by t u) pick p ≡ (arrivals rules u pick p >>= (λ q. arrivals rules t pick q))
+  arrivals-followed_by pick none u p = sym (bind-some (arrivals rules u pick p))
+  arrivals-followed_by pick (node c children others) u p =
+      ap (λ o. o >>= step pick c children) (arrivals-followed_by pick others u p)
+      ∙ bind-bind (arrivals rules u pick p) (λ q. arrivals rules others pick q) (step pick c children)
+
+  -- of those that are picked all come
+  pub arrivals-picked : (dom : Dom) (pick : Pick) (hs : List ℕ) (p : Holding) →
+      arrivals rules (trees_of dom (picked pick dom hs)) All p ≡ arrivals rules (trees_of dom hs) pick p
+  arrivals-picked dom pick [] p = refl
+  arrivals-picked dom pick (h ∷ hs) p = by (picks pick (content_at dom h)) (arrivals-picked dom pick hs p)
+    where
+      children : Forest Content
+      children = below (node_count dom) dom h
+
+      came : Holding → Option Holding
+      came q = come (outline_of rules (content_at dom h) children) (λ k x. arrivals rules children k x) q
+
+      by : (b : Bool) → arrivals rules (trees_of dom (picked pick dom hs)) All p ≡ arrivals rules (trees_of dom hs) pick p →
+          arrivals rules (trees_of dom (if b then h ∷ picked pick dom hs else picked pick dom hs)) All p
+          ≡ (arrivals rules (trees_of dom hs) pick p >>= (λ q. if b then came q else Some q))
+      by true e = ap (λ o. o >>= came) e
+      by false e = e ∙ sym (bind-some (arrivals rules (trees_of dom hs) pick p))
+
+pub trees_of-append : (dom : Dom) (xs ys : List ℕ) → trees_of dom (xs ++ ys) ≡ followed_by (trees_of dom xs) (trees_of dom ys)
+trees_of-append dom [] ys = refl
+trees_of-append dom (x ∷ xs) ys = ap (λ t. node (content_at dom x) (below (node_count dom) dom x) t) (trees_of-append dom xs ys)
+
+-- ---- beside others
+
+-- an element's drafts with what stands behind them
+abbrev pub before : Forest Draft → Holding → Holding
+before rest h = record { element = h.element; drafts = followed_by h.drafts rest }
+
+pub arrive-before : (a : Arrival) (h : Holding) (rest : Forest Draft) → arrive a (before rest h) ≡ before rest (arrive a h)
+arrive-before a h rest = by (keeps h.element.kind a.role a.kind)
+  where
+    e : Holding
+    e = arrive a h
+
+    by : (b : Bool) →
+        (let q : Holding = record {
+          element = e.element;
+          drafts = if b then followed_by a.drafts (followed_by h.drafts rest) else followed_by h.drafts rest;
+        } in q)
+        ≡ (let q : Holding = record {
+          element = e.element;
+          drafts = followed_by (if b then followed_by a.drafts h.drafts else h.drafts) rest;
+        } in q)
+    by true = ap (λ t. (let q : Holding = record { element = e.element; drafts = t } in q)) (sym (followed_by-followed_by a.drafts h.drafts rest))
+    by false = refl

@@ -1,0 +1,161 @@
+-- What a conversion in one pass keeps true: what has come so far, with what is still ahead, gives the document's drafts.
+use Rattle.std.proofs.Common.{◌≡◌, ℕ, suc, ◌+◌, ◌*◌, ◌<◌, ◌≤◌, Bool, true, false, if◌then◌else◌, List, [], ◌∷◌, ◌++◌, length, take, get_or, Option, Some, None}
+use Rattle.std.proofs.Common.{refl, sym, ap, subst, ◌∙◌, arith, length-append, option_map}
+use Rattle.std.proofs.lemmas.List.{same_from_push}
+use Rattle.std.proofs.Math.Seq.{take-suc, take-length}
+use Rattle.html_render_values.specs.Forest.{Forest, none, node, count, followed_by}
+use Rattle.html_render_values.specs.Outcome.{◌>>=◌}
+use Rattle.html_render_dom.specs.Dom.{Dom, IsForest, IsNode, node_count, content_at, children_at, below, trees_of, tree_of}
+use Rattle.html_render_dom.specs.Rules.{Rule as StyleRule}
+use Rattle.html_render_dom.specs.laws.Trees.{below-children}
+use Rattle.html_render_nodes.specs.Splits.{SplitAt}
+use Rattle.html_render_nodes.specs.laws.Splits.{followed_by-none, followed_by-followed_by}
+use Rattle.html_render_insertions.specs.declared.drafts.Draft.{Draft}
+use Rattle.html_render_building.specs.declared.building.Open.{Open}
+use Rattle.html_render_building.specs.declared.order.Pick.TheVariants.{All}
+use Rattle.html_render_building.specs.Building.{Holding, arrivals, come, closed_into, document_of, document_start}
+use Rattle.html_render_building.specs.Order.{children_in}
+use Rattle.html_render_conversion.specs.Converting.{outline_at, outline_of}
+use Rattle.html_render_building.proofs.Coming.{arrivals-followed_by, arrivals-picked, bind-bind, trees_of-append}
+
+-- an open element, and the drafts of what it has kept
+pub record Step : Type 0 where
+  pub opened : Open
+  pub drafts : Forest Draft
+
+abbrev pub holding : Step → Holding
+holding x = record { element = x.opened.element; drafts = x.drafts }
+
+-- the open elements, the innermost first
+abbrev pub Path : Type 0
+Path = List Step
+
+abbrev pub elements_of : Path → List Open
+elements_of [] = []
+elements_of (x ∷ path) = elements_of path ++ x.opened ∷ []
+
+abbrev pub made_of_path : Path → Forest Draft
+made_of_path [] = none
+made_of_path (x ∷ path) = followed_by x.drafts (made_of_path path)
+
+-- the children of an open element that are still ahead, and what comes of them
+abbrev pub remaining : Dom → Open → List ℕ
+remaining dom o = take o.ahead (children_in dom o.handle o.order)
+
+abbrev pub ahead_of : List StyleRule → Dom → Open → Holding → Option Holding
+ahead_of rules dom o h = arrivals rules (trees_of dom (remaining dom o)) All h
+
+-- what all becomes, once the innermost element is this
+abbrev pub resumed_from : List StyleRule → Dom → Holding → Path → Option (Forest Draft)
+resumed_from rules dom h [] = document_of h
+resumed_from rules dom h (y ∷ path) = do
+  p ← closed_into h (holding y)
+  q ← ahead_of rules dom y.opened p
+  resumed_from rules dom q path
+
+abbrev pub resumed : List StyleRule → Dom → Path → Option (Forest Draft)
+resumed rules dom [] = None
+resumed rules dom (x ∷ path) = do
+  h ← ahead_of rules dom x.opened (holding x)
+  resumed_from rules dom h path
+
+-- the drafts of the document
+abbrev pub whole : List StyleRule → Dom → Option (Forest Draft)
+whole rules dom = do
+  h ← arrivals rules (trees_of dom (children_at dom 0)) All document_start
+  document_of h
+
+-- an open element of the document, whose drafts begin where its own mark says
+pub record IsSound (dom : Dom) (x : Step) (path : Path) : Type 0 where
+  pub is_node : IsNode dom x.opened.handle
+  pub ahead_within : x.opened.ahead ≤ length (children_in dom x.opened.handle x.opened.order)
+  pub are_nodes : (n d : ℕ) → n < length (children_in dom x.opened.handle x.opened.order) →
+      IsNode dom (get_or (children_in dom x.opened.handle x.opened.order) n d)
+  pub start_is : x.opened.start ≡ count (made_of_path path)
+
+abbrev pub AreSound : Dom → Path → Type 0
+AreSound dom [] = Unit {0}
+AreSound dom (x ∷ path) = IsSound dom x path × AreSound dom path
+
+-- where a conversion stands
+pub record Converting (rules : List StyleRule) (dom : Dom) (elements : List Open) (drafts : Forest Draft) : Type 0 where
+  pub path : Path
+  pub elements_are : elements ≡ elements_of path
+  pub drafts_are : drafts ≡ made_of_path path
+  pub result : resumed rules dom path ≡ whole rules dom
+  pub sound : AreSound dom path
+
+-- and where a child is to be opened that was ahead
+pub record Opening (rules : List StyleRule) (dom : Dom) (h : ℕ) (elements : List Open) (drafts : Forest Draft) : Type 0 where
+  pub path : Path
+  pub top : Step
+  pub elements_are : elements ≡ elements_of (top ∷ path)
+  pub drafts_are : drafts ≡ made_of_path (top ∷ path)
+  pub result : (do
+    g ← arrivals rules (tree_of dom h) All (holding top)
+    q ← ahead_of rules dom top.opened g
+    resumed_from rules dom q path) ≡ whole rules dom
+  pub sound : AreSound dom (top ∷ path)
+  pub is_node : IsNode dom h
+
+module _ (rules : List StyleRule) (dom : Dom) (f : IsForest dom) where
+  -- what comes of a node, by its outline
+  pub come_at : (h : ℕ) → IsNode dom h → (p : Holding) →
+      arrivals rules (tree_of dom h) All p
+      ≡ come (outline_at rules dom h) (λ k q. arrivals rules (trees_of dom (children_at dom h)) k q) p
+  come_at h at p =
+      ap (λ t. come (outline_of rules (content_at dom h) t) (λ k q. arrivals rules t k q) p) (below-children dom f h at)
+
+  -- the last of the children ahead comes first
+  ahead-last : (o : Open) (n h : ℕ) (p : Holding) → o.ahead ≡ suc n → n < length (children_in dom o.handle o.order) →
+      h ≡ get_or (children_in dom o.handle o.order) n h →
+      ahead_of rules dom o p ≡ (arrivals rules (tree_of dom h) All p >>= (λ q. ahead_of rules dom (record o { ahead = n }) q))
+  ahead-last o n h p ahead within at =
+      let children = children_in dom o.handle o.order in
+      let last : remaining dom o ≡ take n children ++ h ∷ [] = ap (λ k. take k children) ahead ∙ take-suc children n h within
+      ∙ ap (λ c. take n children ++ c ∷ []) (sym at) in
+      ap (λ hs. arrivals rules (trees_of dom hs) All p) last
+      ∙ ap (λ t. arrivals rules t All p) (trees_of-append dom (take n children) (h ∷ []))
+      ∙ arrivals-followed_by rules All (trees_of dom (take n children)) (tree_of dom h) p
+
+  child_at : (elements : List Open) (o : Open) (n : ℕ) (drafts : Forest Draft) (h : ℕ) (path : Path) → o.ahead ≡ suc n →
+      h ≡ get_or (children_in dom o.handle o.order) n h → elements ++ o ∷ [] ≡ elements_of path → drafts ≡ made_of_path path →
+      resumed rules dom path ≡ whole rules dom → AreSound dom path → Opening rules dom h (elements ++ record o { ahead = n } ∷ []) drafts
+  child_at elements o n drafts h [] ahead at elements_are drafts_are result sound =
+      absurd (omega (arith, ap length elements_are, length-append elements (o ∷ [])))
+  child_at elements o n drafts h (x ∷ path) ahead at elements_are drafts_are result sound =
+      let same = same_from_push elements (elements_of path) o x.opened elements_are in
+      let shorter : Open = record o { ahead = n } in
+      let top : Step = record { opened = shorter; drafts = x.drafts } in
+      let within : n < length (children_in dom o.handle o.order) =
+      omega (arith, ahead, subst (λ (e : Open). e.ahead ≤ length (children_in dom e.handle e.order)) (sym same.1) sound.0.ahead_within) in
+      record {
+        path = path;
+        top = top;
+        elements_are = ap (λ es. es ++ shorter ∷ []) same.0;
+        drafts_are = drafts_are;
+        result =
+            sym (bind-bind (arrivals rules (tree_of dom h) All (holding top)) (λ q. ahead_of rules dom shorter q) (λ q. resumed_from rules dom q path))
+            ∙ ap (λ r. r >>= (λ q. resumed_from rules dom q path)) (sym (ahead-last o n h (holding top) ahead within at))
+            ∙ ap (λ (e : Open). ahead_of rules dom e (record { element = e.element; drafts = x.drafts }) >>= (λ q. resumed_from rules dom q path)) same.1
+            ∙ result;
+        sound = (
+          record {
+            is_node = subst (λ (e : Open). IsNode dom e.handle) (sym same.1) sound.0.is_node;
+            ahead_within = omega (arith, within);
+            are_nodes = subst (λ (e : Open). (k d : ℕ) → k < length (children_in dom e.handle e.order) →
+                IsNode dom (get_or (children_in dom e.handle e.order) k d)) (sym same.1) sound.0.are_nodes;
+            start_is = ap (λ (e : Open). e.start) same.1 ∙ sound.0.start_is;
+          },
+          sound.1,
+        );
+        is_node = subst (λ c. IsNode dom c) (sym at)
+            ((subst (λ (e : Open). (k d : ℕ) → k < length (children_in dom e.handle e.order) →
+            IsNode dom (get_or (children_in dom e.handle e.order) k d)) (sym same.1) sound.0.are_nodes) n h within);
+      }
+
+  pub Converting-child : (elements : List Open) (o : Open) (n : ℕ) (drafts : Forest Draft) (h : ℕ) →
+      o.ahead ≡ suc n → h ≡ get_or (children_in dom o.handle o.order) n h → Converting rules dom (elements ++ o ∷ []) drafts →
+      Opening rules dom h (elements ++ record o { ahead = n } ∷ []) drafts
+  Converting-child elements o n drafts h ahead at c =
+      child_at elements o n drafts h c.path ahead at c.elements_are c.drafts_are c.result c.sound

@@ -1,0 +1,14 @@
+pub mod Mappings
+pub mod Arrivals
+pub mod Shown
+pub mod Inserting
+pub mod Closing
+pub mod ClosingParts
+pub mod PartsShown
+pub mod TableShown
+pub mod TableClosed
+pub mod TableParted
+pub mod ElementShown
+pub mod ResultRoles
+pub mod Parting
+pub mod Agreement

@@ -1,0 +1,246 @@
+-- What an element becomes that is no table shows what its node becomes over the results of its children.
+use Rattle.std.proofs.Common.{◌≡◌, ℕ, Bool, true, false, not, ◌&&◌, ◌||◌, if◌then◌else◌, List, [], ◌∷◌, Option, Some, None, option_map, refl, sym, ap, subst, ◌∙◌}
+use Rattle.std.specs.Prelude.{filter, map}
+use Rattle.std.specs.List.{list_any, list_all}
+use Rattle.html_render_values.specs.Forest.{Forest, none, node}
+use Rattle.html_render_values.specs.Outcome.{◌>>=◌}
+use Rattle.html_render_nodes.specs.declared.tree.NodeKind.{NodeKind}
+use Rattle.html_render_nodes.specs.declared.tree.NodeKind.TheVariants.{Dl, Link, Ol, Part}
+use Rattle.html_render_nodes.specs.declared.tree.NodeStyle.{NodeStyle}
+use Rattle.html_render_nodes.specs.laws.Splits.{followed_by-none}
+use Rattle.html_render_insertions.specs.declared.drafts.Draft.{Draft}
+use Rattle.html_render_insertions.specs.declared.drafts.Insertions.{Insertions}
+use Rattle.html_render_insertions.specs.Drafts.{draft, inserted_of}
+use Rattle.html_render_conversion.specs.declared.mapping.IfEmpty.{IfEmpty}
+use Rattle.html_render_conversion.specs.Conversion.{is_item, is_term_or_description, vanishes}
+use Rattle.html_render_conversion.specs.Results as new
+use Rattle.html_render_conversion.specs.Results.{Nodes, Result, as_block, beside, completed, has_any, in_style, leaf, over, shows_nothing, trees_of}
+use Rattle.html_render_building.specs.declared.elements.Element.{Element}
+use Rattle.html_render_building.specs.declared.elements.OpenKind.{OpenKind}
+use Rattle.html_render_building.specs.declared.elements.OpenKind.TheVariants.{Node}
+use Rattle.html_render_building.specs.declared.elements.Role.{Role}
+use Rattle.html_render_building.specs.declared.elements.Role.TheVariants as role
+use Rattle.html_render_building.specs.Elements.{counts, gathered, is_caption, keeps, stands_alone, with_kept}
+use Rattle.html_render_building.specs.Kinds.{keeps_kind}
+use Rattle.html_render_building.specs.Building.{Arrival, Holding, arrive, beside_insertions, goes_beside, closed, fresh, made_of, mark_left, node_made, with_insertions}
+use Rattle.html_render_building.specs.laws.Arrivals.{all_arrive}
+use Rattle.html_render_building.specs.laws.Mappings.{stands_as_is}
+use Rattle.html_render_building.specs.laws.Shown.{Agrees, AllShow, Gives, Shows, both, caption-meant, alone-meant, own_trees, together}
+use Rattle.html_render_building.specs.laws.Shown.{children-shown, results-shown, trees_shown}
+use Rattle.html_render_building.specs.laws.Inserting.{ShowsAny, inserted-noted, mark-shown, node_shown, with_noted}
+
+-- ---- as a table sees it
+
+-- in a table a caption is a block
+abbrev pub seen_role : new.Role → (in_table : Bool) → Result → Result
+seen_role new.Caption true r = as_block r
+seen_role new.Caption false r = r
+seen_role _ in_table r = r
+
+abbrev pub seen : (in_table : Bool) → Result → Result
+seen in_table r = seen_role r.role in_table r
+
+abbrev pub ShowsIn : (in_table : Bool) → Option Arrival → Option Result → Type 0
+ShowsIn in_table a r = ShowsAny a (option_map (seen in_table) r)
+
+pub shows-other : (in_table : Bool) (a : Arrival) (r : Result) → is_caption a.role ≡ false → Shows a r → Shows a (seen in_table r)
+shows-other in_table a r h s =
+    subst (Shows a) (sym (by r.role (ap new.is_caption (sym s.role_is) ∙ sym (caption-meant a.role) ∙ h))) s
+  where
+    by : (x : new.Role) → new.is_caption x ≡ false → seen_role x in_table r ≡ r
+    by new.Caption e = cc
+    by x e = refl
+
+pub seen-elsewhere : (rs : List Result) → map (seen false) rs ≡ rs
+seen-elsewhere [] = refl
+seen-elsewhere (r ∷ rs) = ap (λ x. x ∷ map (seen false) rs) (by r.role) ∙ ap (λ x. r ∷ x) (seen-elsewhere rs)
+  where
+    by : (x : new.Role) → seen_role x false r ≡ r
+    by new.Caption = refl
+    by x = refl
+
+-- ---- what stays of an element
+
+module _ {X : Type 0} (f : Element → X) (counted : (e : Element) (b : Bool) → f (record e { has_results = b }) ≡ f e)
+    (kept : (r : Role) (s : Bool) (e : Element) → f (with_kept r s e) ≡ f e) where
+  arrive-stays : (a : Arrival) (p : Holding) → f (arrive a p).element ≡ f p.element
+  arrive-stays a p = by (keeps p.element.kind a.role a.kind)
+      (record p.element { has_results = p.element.has_results || counts p.element.kind a.role a.kind a.has_children })
+      ∙ counted p.element (p.element.has_results || counts p.element.kind a.role a.kind a.has_children)
+    where
+      by : (b : Bool) (e : Element) → f (if b then with_kept a.role a.is_stray e else e) ≡ f e
+      by true e = kept a.role a.is_stray e
+      by false e = refl
+
+  pub all-stays : (xs : List Arrival) (p : Holding) → f (all_arrive xs p).element ≡ f p.element
+  all-stays [] p = refl
+  all-stays (a ∷ xs) p = arrive-stays a (all_arrive xs p) ∙ all-stays xs p
+
+-- one that gathers nothing stays of its kind
+pub kind-stays : (k : OpenKind) → ((r : Role) → gathered r k ≡ k) → (xs : List Arrival) (p : Holding) → p.element.kind ≡ k →
+    (all_arrive xs p).element.kind ≡ k
+kind-stays k same [] p e = e
+kind-stays k same (a ∷ xs) p e = by (keeps (all_arrive xs p).element.kind a.role a.kind) (kind-stays k same xs p e)
+  where
+    by : (b : Bool) → (all_arrive xs p).element.kind ≡ k →
+        (let q = (all_arrive xs p).element in
+        let c : Element = record q { has_results = q.has_results || counts q.kind a.role a.kind a.has_children } in
+        if b then with_kept a.role a.is_stray c else c).kind ≡ k
+    by true e = ap (gathered a.role) e ∙ same a.role
+    by false e = e
+
+-- ---- an element that is closed
+
+abbrev pub closed_as : (in_table : Bool) → OpenKind → NodeStyle → IfEmpty → (has_results has_children is_stray : Bool) → List Insertions →
+    Forest Draft → Option Arrival
+closed_as in_table k style e has_results has_children is_stray i drafts =
+    if vanishes e has_results then mark_left i else made_of in_table k style i has_children is_stray drafts
+
+module _ (in_table : Bool) (k : OpenKind) (style : NodeStyle) (e : IfEmpty) (mark before after : Option (List ℕ))
+    (keeps_result counts_result : Result → Bool) (places : new.Role → Bool) (agrees : Agrees k keeps_result counts_result places) where
+  abbrev pub noted : List Insertions
+  noted = inserted_of mark before after
+
+  abbrev pub start : Holding
+  start = fresh k style e noted
+
+  mark-in : ShowsIn in_table (mark_left noted) (completed mark before after None)
+  mark-in = by (mark_left noted) mark (mark-shown mark before after)
+    where
+      by : (a : Option Arrival) (m : Option (List ℕ)) → ShowsAny a (completed m before after None) →
+          ShowsIn in_table a (completed m before after None)
+      by None None h = tt
+      by None (Some name) h = elim h [ ]
+      by (Some a) None h = elim h [ ]
+      by (Some a) (Some name) h = h
+
+  -- it shows a result, if what it is made of does
+  pub close-shown : (xs : List Arrival) (rs : List Result) → AllShow xs rs → (gathered : OpenKind) →
+      (all_arrive xs start).element.kind ≡ gathered → (r : Result) →
+      ShowsIn in_table (made_of in_table gathered style noted (has_any (filter keeps_result rs)) (all_arrive xs start).element.is_stray
+      (all_arrive xs start).drafts) (Some (with_noted noted r)) →
+      ShowsIn in_table (closed in_table (all_arrive xs start))
+      (completed mark before after (if vanishes e (list_any counts_result rs) then None else Some r))
+  close-shown xs rs h gathered kind_is r made =
+      let q = all_arrive xs start in
+      subst (λ o. ShowsIn in_table o (completed mark before after (if vanishes e (list_any counts_result rs) then None else Some r)))
+      (sym (ap (λ x. closed_as in_table x q.element.style q.element.if_empty q.element.has_results q.element.has_children q.element.is_stray
+      q.element.inserted q.drafts) kind_is
+      ∙ ap (λ x. closed_as in_table gathered x q.element.if_empty q.element.has_results q.element.has_children q.element.is_stray
+      q.element.inserted q.drafts) (all-stays (λ e. e.style) (λ e b. refl) (λ r s e. refl) xs start)
+      ∙ ap (λ x. closed_as in_table gathered style x q.element.has_results q.element.has_children q.element.is_stray
+      q.element.inserted q.drafts) (all-stays (λ e. e.if_empty) (λ e b. refl) (λ r s e. refl) xs start)
+      ∙ ap (λ x. closed_as in_table gathered style e x q.element.has_children q.element.is_stray q.element.inserted q.drafts)
+      (results-shown start keeps_result counts_result places agrees xs rs h)
+      ∙ ap (λ x. closed_as in_table gathered style e (list_any counts_result rs) x q.element.is_stray q.element.inserted q.drafts)
+      (children-shown start keeps_result counts_result places agrees xs rs h)
+      ∙ ap (λ x. closed_as in_table gathered style e (list_any counts_result rs) (has_any (filter keeps_result rs)) q.element.is_stray x q.drafts)
+      (all-stays (λ e. e.inserted) (λ e b. refl) (λ r s e. refl) xs start)))
+      (by (vanishes e (list_any counts_result rs))
+      (made_of in_table gathered style noted (has_any (filter keeps_result rs)) q.element.is_stray q.drafts) made)
+    where
+      by : (b : Bool) (o : Option Arrival) → ShowsIn in_table o (Some (with_noted noted r)) →
+          ShowsIn in_table (if b then mark_left noted else o) (completed mark before after (if b then None else Some r))
+      by true o made = mark-in
+      by false o made = subst (λ x. ShowsIn in_table o (Some x)) (sym (inserted-noted mark before after r)) made
+
+  -- and it has the trees of what it keeps
+  pub close-gives : (xs : List Arrival) (rs : List Result) → AllShow xs rs →
+      Gives (all_arrive xs start).element.is_stray (all_arrive xs start).drafts (together places (filter keeps_result rs))
+  close-gives xs rs h =
+      subst (Gives (all_arrive xs start).element.is_stray (all_arrive xs start).drafts) (by (together places (filter keeps_result rs)))
+      (trees_shown start keeps_result counts_result places agrees xs rs h (Some none) (refl, refl))
+    where
+      by : (o : Option Nodes) → both o (Some none) ≡ o
+      by None = refl
+      by (Some t) = ap Some (followed_by-none t)
+
+-- ---- nodes
+
+-- the trees of results that stand in no table
+pub together-alone : (rs : List Result) → together new.stands_alone rs ≡ trees_of rs
+together-alone [] = refl
+together-alone (r ∷ rs) =
+    ap (both (if new.stands_alone r.role then own_trees r.role r.node r.below else None)) (together-alone rs)
+    ∙ by r.role r.below (list_all (λ r. new.stands_alone r.role) rs) (beside rs)
+  where
+    alone : (o : Option Nodes) (all : Bool) (b : Option Nodes) →
+        both (option_map (λ t. node r.node t none) o) (if all then b else None)
+        ≡ (if all then (do
+          below ← o
+          others ← b
+          Some (node r.node below others)) else None)
+    alone None true b = refl
+    alone None false b = refl
+    alone (Some t) true None = refl
+    alone (Some t) true (Some u) = refl
+    alone (Some t) false b = refl
+
+    by : (x : new.Role) (o : Option Nodes) (all : Bool) (b : Option Nodes) →
+        both (if new.stands_alone x then own_trees x r.node o else None) (if all then b else None)
+        ≡ (if new.stands_alone x && all then (do
+          below ← o
+          others ← b
+          Some (node r.node below others)) else None)
+    by new.Contents o all b = alone o all b
+    by new.Caption o all b = alone o all b
+    by x o all b = refl
+
+agrees-keeps : (k : NodeKind) (a : Arrival) (r : Result) → Shows a r → keeps_kind k a.kind ≡ new.keeps k r
+agrees-keeps (Ol number) a r s = ap is_item s.kind_is
+agrees-keeps Dl a r s = ap is_term_or_description s.kind_is
+agrees-keeps k a r s = refl
+
+pub places-alone : (a : Arrival) (r : Result) → Shows a r → stands_alone a.role ≡ new.stands_alone r.role
+places-alone a r s = alone-meant a.role ∙ ap new.stands_alone s.role_is
+
+agrees-counts : (k : NodeKind) → stands_as_is k ≡ true → (a : Arrival) (r : Result) → Shows a r →
+    counts (Node k) a.role a.kind a.has_children ≡ new.counts k r
+agrees-counts (Link target) h a r s =
+    ap (λ x. not (x && shows_nothing a.kind a.has_children)) (places-alone a r s)
+    ∙ ap (λ x. not (new.stands_alone r.role && shows_nothing x a.has_children)) s.kind_is
+    ∙ ap (λ x. not (new.stands_alone r.role && shows_nothing r.node.kind x)) s.children_are
+agrees-counts (Part p) h a r s = cc
+agrees-counts k h a r s = refl
+
+pub agrees-node : (k : NodeKind) → stands_as_is k ≡ true → Agrees (Node k) (new.keeps k) (new.counts k) new.stands_alone
+agrees-node k h = record {
+  keeps_are = agrees-keeps k;
+  counts_are = agrees-counts k h;
+  places_are = places-alone;
+}
+
+node-gathered : (k : NodeKind) (r : Role) → gathered r (Node k) ≡ Node k
+node-gathered k role.Contents = refl
+node-gathered k role.Caption = refl
+node-gathered k (role.Rows behind rows) = refl
+node-gathered k (role.Row cells) = refl
+node-gathered k (role.Cell span) = refl
+
+pub made-role : (k : NodeKind) (style : NodeStyle) (i : List Insertions) (has_children s : Bool) (below : Forest Draft) →
+    is_caption (node_made (draft k style i) has_children s below).role ≡ false
+made-role k style i has_children s below = by (goes_beside (draft k style i))
+  where
+    by : (b : Bool) → is_caption (if b then beside_insertions (draft k style i) s below
+        else with_insertions role.Contents (draft k style i) has_children s below).role ≡ false
+    by true = refl
+    by false = refl
+
+-- A NODE that is neither a table nor a part of one, over its children's results
+pub node_closed : (in_table : Bool) (k : NodeKind) (style : NodeStyle) (e : IfEmpty) (mark before after : Option (List ℕ)) →
+    stands_as_is k ≡ true → (xs : List Arrival) (rs : List Result) → AllShow xs rs →
+    ShowsIn in_table (closed in_table (all_arrive xs (fresh (Node k) style e (inserted_of mark before after))))
+    (completed mark before after
+    (if vanishes e (list_any (new.counts k) rs) then None else Some (over (in_style style k) (filter (new.keeps k) rs))))
+node_closed in_table k style e mark before after h xs rs shown =
+    let i = inserted_of mark before after in
+    let q = all_arrive xs (fresh (Node k) style e i) in
+    let kept = filter (new.keeps k) rs in
+    let r = over (in_style style k) kept in
+    close-shown in_table (Node k) style e mark before after (new.keeps k) (new.counts k) new.stands_alone (agrees-node k h) xs rs shown
+    (Node k) (kind-stays (Node k) (node-gathered k) xs (fresh (Node k) style e i) refl) r
+    (shows-other in_table (node_made (draft k style i) (has_any kept) q.element.is_stray q.drafts) (with_noted i r)
+    (made-role k style i (has_any kept) q.element.is_stray q.drafts)
+    (node_shown k style i (has_any kept) q.element.is_stray q.drafts (trees_of kept) h
+    (subst (Gives q.element.is_stray q.drafts) (together-alone kept)
+    (close-gives in_table (Node k) style e mark before after (new.keeps k) (new.counts k) new.stands_alone (agrees-node k h) xs rs shown))))

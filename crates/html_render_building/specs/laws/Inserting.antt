@@ -1,0 +1,152 @@
+-- What is inserted into drafts stands where it is inserted into a result.
+use Rattle.std.proofs.Common.{◌≡◌, ℕ, Bool, true, false, not, ◌&&◌, if◌then◌else◌, List, [], ◌∷◌, Option, Some, None, option_map, refl, sym, ap, subst, ◌∙◌}
+use Rattle.html_render_values.specs.Forest.{Forest, none, node, followed_by}
+use Rattle.html_render_nodes.specs.declared.tree.NodeKind.{NodeKind}
+use Rattle.html_render_nodes.specs.declared.tree.NodeKind.TheVariants.{Container, FragmentStart, Table}
+use Rattle.html_render_nodes.specs.declared.tree.NodeStyle.{NodeStyle}
+use Rattle.html_render_nodes.specs.RenderNodes.{no_style, without_style}
+use Rattle.html_render_insertions.specs.declared.drafts.Draft.{Draft}
+use Rattle.html_render_insertions.specs.declared.drafts.Insertions.{Insertions}
+use Rattle.html_render_insertions.specs.Drafts.{front, back, wrapped, draft, plain_draft, node_of, expanded, insert_first, inserted_of, mark_in}
+use Rattle.html_render_insertions.specs.laws.Drafts.{wrapped-none, expanded-insert_top}
+use Rattle.html_render_conversion.specs.Insertion.{text_node, fragment_start}
+use Rattle.html_render_conversion.specs.Results.{Nodes, Result, Inside, Beside, Contents, in_style, into_kind, into_role, inserted, over}
+use Rattle.html_render_conversion.specs.Results.{with_inserted, leaf, completed, in_first_cell, in_first_row}
+use Rattle.html_render_building.specs.Kinds.{holds_insertions}
+use Rattle.html_render_building.specs.Building.{Arrival, are_any, leaf_arrival, mark_left, node_made, with_insertions, beside_insertions}
+use Rattle.html_render_building.specs.declared.elements.Role.TheVariants as role
+use Rattle.html_render_building.specs.laws.Mappings.{stands_as_is}
+use Rattle.html_render_building.specs.laws.Shown.{AllPlain, Gives, Shows}
+
+-- ---- what one element inserts
+
+-- a result, where this is inserted
+abbrev pub with_noted : List Insertions → Result → Result
+with_noted i r = if are_any i then inserted (into_role r.role r.node.kind) (front i) (back i) r else r
+
+abbrev pub fronts : (mark before : Option (List ℕ)) → Nodes
+fronts mark before = followed_by (leaf (option_map fragment_start mark)) (leaf (option_map text_node before))
+
+pub inserted-noted : (mark before after : Option (List ℕ)) (r : Result) →
+    with_inserted (fronts mark before) (leaf (option_map text_node after)) r ≡ with_noted (inserted_of mark before after) r
+inserted-noted None None None r = refl
+inserted-noted None None (Some c) r = refl
+inserted-noted None (Some b) None r = refl
+inserted-noted None (Some b) (Some c) r = refl
+inserted-noted (Some a) None None r = refl
+inserted-noted (Some a) None (Some c) r = refl
+inserted-noted (Some a) (Some b) None r = refl
+inserted-noted (Some a) (Some b) (Some c) r = refl
+
+pub mark-noted : (mark before after : Option (List ℕ)) → mark_in (inserted_of mark before after) ≡ mark
+mark-noted None None None = refl
+mark-noted None None (Some c) = refl
+mark-noted None (Some b) None = refl
+mark-noted None (Some b) (Some c) = refl
+mark-noted (Some a) None None = refl
+mark-noted (Some a) None (Some c) = refl
+mark-noted (Some a) (Some b) None = refl
+mark-noted (Some a) (Some b) (Some c) = refl
+
+-- ---- a node over what is shown
+
+-- what something became shows what its node became
+abbrev pub ShowsAny : Option Arrival → Option Result → Type 0
+ShowsAny None None = Unit {0}
+ShowsAny None (Some r) = ⊥
+ShowsAny (Some a) None = ⊥
+ShowsAny (Some a) (Some r) = Shows a r
+
+-- a draft over others gives its node over theirs
+pub gives-over : (s : Bool) (d : Draft) (below : Forest Draft) (o : Option Nodes) → Gives s below o →
+    Gives s (node d below none) (option_map (λ t. node (node_of d) t none) (option_map (wrapped d.inserted) o))
+gives-over s d below None g = g
+gives-over s d below (Some t) g = (g.0, ap (λ x. node (node_of d) (wrapped d.inserted x) none) g.1)
+
+pub gives-alone : (s : Bool) (k : NodeKind) (style : NodeStyle) (below : Forest Draft) (o : Option Nodes) → Gives s below o →
+    Gives s (node (draft k style []) below none) (option_map (λ t. node (in_style style k) t none) o)
+gives-alone s k style below None g = g
+gives-alone s k style below (Some t) g =
+    (g.0, ap (λ x. node (in_style style k) x none) (wrapped-none (expanded below)) ∙ ap (λ x. node (in_style style k) x none) g.1)
+
+gives-beside : (s : Bool) (k : NodeKind) (style : NodeStyle) (i : List Insertions) (below : Forest Draft) (o : Option Nodes) → Gives s below o →
+    Gives s (node (draft Container no_style i) (node (draft k style []) below none) none)
+    (option_map (λ t. node (without_style Container) t none)
+    (option_map (λ t. followed_by (front i) (node (in_style style k) t (back i))) o))
+gives-beside s k style i below None g = g
+gives-beside s k style i below (Some t) g = (
+  g.0,
+  ap (λ x. node (without_style Container) (followed_by (front i) (node (in_style style k) x (back i))) none)
+      (wrapped-none (expanded below) ∙ g.1),
+)
+
+into-holds : (k : NodeKind) → stands_as_is k ≡ true → into_kind k ≡ (if holds_insertions k then Inside else Beside)
+into-holds (Table grid) h = cc
+into-holds k h = refl
+
+-- A NODE over what its element has kept, with what is inserted
+pub node_shown : (k : NodeKind) (style : NodeStyle) (i : List Insertions) (has_children s : Bool) (below : Forest Draft) (o : Option Nodes) →
+    stands_as_is k ≡ true → Gives s below o →
+    Shows (node_made (draft k style i) has_children s below)
+    (with_noted i (record { role = Contents; node = in_style style k; has_children = has_children; below = o }))
+node_shown k style [] has_children s below o h g =
+    record { role_is = refl; kind_is = refl; children_are = refl; gives = gives-alone s k style below o g; rows_are_plain = tt }
+node_shown k style (x ∷ xs) has_children s below o h g =
+    subst (λ w. Shows (node_made (draft k style (x ∷ xs)) has_children s below) (inserted w (front (x ∷ xs)) (back (x ∷ xs)) r))
+    (sym (into-holds k h)) (by (holds_insertions k))
+  where
+    r : Result
+    r = record { role = Contents; node = in_style style k; has_children = has_children; below = o }
+
+    by : (b : Bool) →
+        Shows (if true && not b then beside_insertions (draft k style (x ∷ xs)) s below
+        else with_insertions role.Contents (draft k style (x ∷ xs)) has_children s below)
+        (inserted (if b then Inside else Beside) (front (x ∷ xs)) (back (x ∷ xs))
+        (record { role = Contents; node = in_style style k; has_children = has_children; below = o }))
+    by true = record {
+      role_is = refl;
+      kind_is = refl;
+      children_are = refl;
+      gives = gives-over s (draft k style (x ∷ xs)) below o g;
+      rows_are_plain = tt;
+    }
+    by false = record {
+      role_is = refl;
+      kind_is = refl;
+      children_are = refl;
+      gives = gives-beside s k style (x ∷ xs) below o g;
+      rows_are_plain = tt;
+    }
+
+-- what is left of an element that becomes nothing
+pub mark-shown : (mark before after : Option (List ℕ)) →
+    ShowsAny (mark_left (inserted_of mark before after)) (completed mark before after None)
+mark-shown mark before after =
+    subst (λ m. ShowsAny (option_map (λ name. leaf_arrival (plain_draft (FragmentStart name))) m) (completed mark before after None))
+    (sym (mark-noted mark before after)) (by mark)
+  where
+    by : (m : Option (List ℕ)) → ShowsAny (option_map (λ name. leaf_arrival (plain_draft (FragmentStart name))) m)
+        (option_map (λ name. over (fragment_start name) []) m)
+    by None = tt
+    by (Some name) = record { role_is = refl; kind_is = refl; children_are = refl; gives = (refl, refl); rows_are_plain = tt }
+
+-- ---- inside the first cell
+
+pub insert-cell : (i : List Insertions) (t : Forest Draft) → expanded (insert_first 0 i t) ≡ in_first_cell (front i) (back i) (expanded t)
+insert-cell i none = refl
+insert-cell i (node d children others) = expanded-insert_top i d children others
+
+-- and in the first cell of the first row
+pub insert-row : (i : List Insertions) (t : Forest Draft) → AllPlain t →
+    expanded (insert_first 1 i t) ≡ in_first_row (front i) (back i) (expanded t)
+insert-row i none h = refl
+insert-row i (node d children others) h =
+    ap (λ n. node (node_of d) (wrapped n (expanded (insert_first 0 i children))) (expanded others)) h.0
+    ∙ ap (λ x. node (node_of d) x (expanded others)) (wrapped-none (expanded (insert_first 0 i children)))
+    ∙ ap (λ x. node (node_of d) x (expanded others)) (insert-cell i children)
+    ∙ ap (λ x. node (node_of d) (in_first_cell (front i) (back i) x) (expanded others)) (sym (wrapped-none (expanded children)))
+    ∙ ap (λ n. node (node_of d) (in_first_cell (front i) (back i) (wrapped n (expanded children))) (expanded others)) (sym h.0)
+
+pub plain-insert_row : (i : List Insertions) (t : Forest Draft) → AllPlain t → AllPlain (insert_first 1 i t)
+plain-insert_row i none h = tt
+plain-insert_row i (node d children others) h = h

@@ -1,0 +1,181 @@
+-- A table whose captions, feet and other children are converted apart shows what it becomes over all of them.
+use Rattle.std.proofs.Common.{◌≡◌, ℕ, Bool, true, false, not, ◌&&◌, ◌||◌, if◌then◌else◌, List, [], ◌∷◌, ◌++◌, Option, Some, None, refl, sym, ap, subst, ◌∙◌}
+use Rattle.std.specs.List.{list_any}
+use Rattle.html_render_values.specs.Outcome.{◌>>=◌}
+use Rattle.html_render_nodes.specs.declared.tree.NodeStyle.{NodeStyle}
+use Rattle.html_render_insertions.specs.Drafts.{inserted_of}
+use Rattle.html_render_conversion.specs.Conversion.{vanishes}
+use Rattle.html_render_conversion.specs.Results as new
+use Rattle.html_render_conversion.specs.Results.{Nodes, Result, beside, completed, has_any, in_first_cell, in_first_row, in_style, over, row_over, rows_over, trees_of}
+use Rattle.html_render_building.specs.Building.{Arrival, Holding, arrive, closed, fresh}
+use Rattle.html_render_building.specs.laws.Arrivals.{all_arrive}
+use Rattle.html_render_building.specs.laws.Shown.{AllShow}
+use Rattle.html_render_building.specs.laws.Closing.{ShowsIn, seen}
+use Rattle.std.specs.Prelude.{map}
+use Rattle.html_render_nodes.specs.Tables.{TableParts}
+use Rattle.html_render_conversion.specs.declared.mapping.IfEmpty.TheVariants.{Vanishes}
+use Rattle.html_render_conversion.specs.Results.{as_block, captioned, have_rows, joined, table_over}
+use Rattle.html_render_building.specs.declared.elements.OpenKind.TheVariants.{Captioned}
+use Rattle.html_render_building.specs.Building.{closed_into}
+use Rattle.html_render_conversion.specs.Results.{built}
+use Rattle.html_render_building.specs.laws.TableShown.{any_rows, parts_of}
+use Rattle.std.specs.Prelude.{is_some}
+use Rattle.html_render_nodes.specs.declared.tree.NodeKind.TheVariants.{Part}
+use Rattle.html_render_nodes.specs.declared.tree.Part.TheVariants as part
+use Rattle.html_render_conversion.specs.Results.{of_role, table_of, with_rows}
+use Rattle.html_render_building.specs.laws.Closing.{seen-elsewhere}
+use Rattle.html_render_building.specs.laws.TableShown.{grid_over, into_grid, table-gives, table-into, table-plain, table_start}
+use Rattle.html_render_building.specs.laws.TableClosed.{captions_of, table-shown}
+
+-- ---- lists of what has come
+
+abbrev pub AllShowAny : (in_table : Bool) → Option (List Arrival) → Option (List Result) → Type 0
+AllShowAny in_table None None = Unit {0}
+AllShowAny in_table None (Some rs) = ⊥
+AllShowAny in_table (Some xs) None = ⊥
+AllShowAny in_table (Some xs) (Some rs) = AllShow xs (map (seen in_table) rs)
+
+abbrev pub AnyShows : (in_table : Bool) → Option (Option Arrival) → Option (Option Result) → Type 0
+AnyShows in_table None None = Unit {0}
+AnyShows in_table None (Some r) = ⊥
+AnyShows in_table (Some a) None = ⊥
+AnyShows in_table (Some a) (Some r) = ShowsIn in_table a r
+
+pub show-elsewhere : (xs : List Arrival) (rs : List Result) → AllShow xs (map (seen false) rs) → AllShow xs rs
+show-elsewhere xs rs h = subst (AllShow xs) (seen-elsewhere rs) h
+
+pub show-append : (xs ys : List Arrival) (rs zs : List Result) → AllShow xs rs → AllShow ys zs → AllShow (xs ++ ys) (rs ++ zs)
+show-append [] ys [] zs h k = k
+show-append [] ys (r ∷ rs) zs h k = elim h [ ]
+show-append (a ∷ xs) ys [] zs h k = elim h [ ]
+show-append (a ∷ xs) ys (r ∷ rs) zs h k = (h.0, show-append xs ys rs zs h.1 k)
+
+all_arrive-append : (xs ys : List Arrival) (p : Holding) → all_arrive (xs ++ ys) p ≡ all_arrive xs (all_arrive ys p)
+all_arrive-append [] ys p = refl
+all_arrive-append (a ∷ xs) ys p = ap (arrive a) (all_arrive-append xs ys p)
+
+-- ---- the results of a table's children, parted
+
+abbrev pub Parted : (all feet others captions : Option (List Result)) → Type 0
+Parted None feet others captions = (is_some feet && (is_some others && is_some captions)) ≡ false
+Parted (Some rs) (Some f) (Some u) (Some c) =
+    (captions_of rs ≡ captions_of c) × (of_role (new.are_rows false) rs ≡ parts_of u) × (of_role (new.are_rows true) rs ≡ parts_of f)
+Parted (Some rs) _ _ _ = ⊥
+
+parts-append : (u f : List Result) → parts_of u ++ parts_of f ≡ parts_of (u ++ f)
+parts-append [] f = refl
+parts-append (r ∷ u) f = by (any_rows r.role) (parts-append u f)
+  where
+    by : (b : Bool) → parts_of u ++ parts_of f ≡ parts_of (u ++ f) →
+        (if b then r ∷ parts_of u else parts_of u) ++ parts_of f ≡ (if b then r ∷ parts_of (u ++ f) else parts_of (u ++ f))
+    by true e = ap (λ l. r ∷ l) e
+    by false e = e
+
+rows-append : (xs ys : List Result) → have_rows (xs ++ ys) ≡ (have_rows xs || have_rows ys)
+rows-append [] ys = refl
+rows-append (r ∷ xs) ys = ap (λ b. r.has_children || b) (rows-append xs ys) ∙ by r.has_children (have_rows xs) (have_rows ys)
+  where
+    by : (a b c : Bool) → (a || (b || c)) ≡ ((a || b) || c)
+    by true b c = refl
+    by false b c = refl
+
+-- a table counts its captions, and rows where there are any
+table-counts : (rs : List Result) → list_any (new.counts (Part part.Table)) rs
+    ≡ ((have_rows (of_role (new.are_rows false) rs) || have_rows (of_role (new.are_rows true) rs)) || has_any (captions_of rs))
+table-counts [] = refl
+table-counts (r ∷ rs) =
+    ap (λ b. new.counts (Part part.Table) r || b) (table-counts rs)
+    ∙ by r.role r.has_children (of_role (new.are_rows false) rs) (of_role (new.are_rows true) rs) (captions_of rs)
+  where
+    true-first : (a b c : Bool) → ((a || (true || b)) || c) ≡ true
+    true-first true b c = refl
+    true-first false b c = refl
+
+    last : (a : Bool) → (a || true) ≡ true
+    last true = refl
+    last false = refl
+
+    by : (x : new.Role) (h : Bool) (f t c : List Result) →
+        ((new.is_caption x || (h && (new.are_rows false x || new.are_rows true x))) || ((have_rows f || have_rows t) || has_any c))
+        ≡ ((have_rows (if new.are_rows false x then record r { has_children = h } ∷ f else f)
+        || have_rows (if new.are_rows true x then record r { has_children = h } ∷ t else t))
+        || has_any (if new.is_caption x then r ∷ c else c))
+    by new.Caption h f t c = sym (last (have_rows f || have_rows t))
+    by (new.Rows false rows) true f t c = refl
+    by (new.Rows false rows) false f t c = refl
+    by (new.Rows true rows) true f t c = sym (true-first (have_rows f) (have_rows t) (has_any c))
+    by (new.Rows true rows) false f t c = refl
+    by new.Contents true f t c = refl
+    by new.Contents false f t c = refl
+    by (new.Row cells) true f t c = refl
+    by (new.Row cells) false f t c = refl
+    by (new.Cell span) true f t c = refl
+    by (new.Cell span) false f t c = refl
+
+-- ---- a table
+
+module _ (in_table : Bool) (style : NodeStyle) (mark before after : Option (List ℕ)) where
+  abbrev pub around : Holding
+  around = fresh Captioned style Vanishes (inserted_of mark before after)
+
+  abbrev pub table_came : (feet others captions : Option (List Arrival)) → Option (Option Arrival)
+  table_came feet others captions = do
+    f ← feet
+    u ← others
+    outer ← closed_into (all_arrive u (all_arrive f table_start)) around
+    c ← captions
+    Some (closed in_table (all_arrive c outer))
+
+  abbrev pub table_becomes : Option (List Result) → Option (Option Result)
+  table_becomes all = do
+    made ← (do
+      results ← all
+      r ← built (Part part.Table) style results
+      Some (if vanishes Vanishes (list_any (new.counts (Part part.Table)) results) then None else Some r))
+    Some (completed mark before after made)
+
+  -- over a grid
+  abbrev over_grid : (has : Bool) (captions parts : List Result) → Option TableParts → Option (Option Result)
+  over_grid has captions parts grid = do
+    made ← (do
+      r ← (do
+        g ← grid
+        Some (if has_any captions then captioned style g captions parts else table_over style g parts))
+      Some (if not has then None else Some r))
+    Some (completed mark before after made)
+
+  becomes-over : (rs f u c : List Result) → Parted (Some rs) (Some f) (Some u) (Some c) →
+      table_becomes (Some rs)
+      ≡ over_grid (have_rows (parts_of (u ++ f)) || has_any (captions_of c)) (captions_of c) (parts_of (u ++ f)) (grid_over (parts_of (u ++ f)))
+  becomes-over rs f u c h =
+      let rows : with_rows rs ≡ parts_of (u ++ f) = ap (λ l. l ++ of_role (new.are_rows true) rs) h.1 ∙ ap (λ l. parts_of u ++ l) h.2 ∙ parts-append u f in
+      let counted : list_any (new.counts (Part part.Table)) rs ≡ (have_rows (parts_of (u ++ f)) || has_any (captions_of c)) =
+      table-counts rs
+      ∙ ap (λ b. b || has_any (captions_of rs)) (sym (rows-append (of_role (new.are_rows false) rs) (of_role (new.are_rows true) rs)))
+      ∙ ap (λ l. have_rows l || has_any (captions_of rs)) rows
+      ∙ ap (λ l. have_rows (parts_of (u ++ f)) || has_any l) h.0 in
+      ap (λ b. over_grid b (captions_of rs) (with_rows rs) (grid_over (with_rows rs))) counted
+      ∙ ap (λ l. over_grid (have_rows (parts_of (u ++ f)) || has_any (captions_of c)) l (with_rows rs) (grid_over (with_rows rs))) h.0
+      ∙ ap (λ l. over_grid (have_rows (parts_of (u ++ f)) || has_any (captions_of c)) (captions_of c) l (grid_over l)) rows
+
+  pub parted-shown : (xf xu xc : List Arrival) (rs f u c : List Result) → AllShow xf f → AllShow xu u → AllShow xc (map (seen true) c) →
+      Parted (Some rs) (Some f) (Some u) (Some c) → AnyShows in_table (table_came (Some xf) (Some xu) (Some xc)) (table_becomes (Some rs))
+  parted-shown xf xu xc rs f u c hf hu hc h =
+      let xs = xu ++ xf in
+      let l = u ++ f in
+      let shown = show-append xu xf u f hu hf in
+      let q = all_arrive xs table_start in
+      subst (λ o. AnyShows in_table (o >>= (λ outer. Some (closed in_table (all_arrive xc outer)))) (table_becomes (Some rs)))
+      (sym (ap (λ t. closed_into t around) (sym (all_arrive-append xu xf table_start)) ∙ table-into xs l shown around))
+      (subst (AnyShows in_table (into_grid (grid_over (parts_of l)) (have_rows (parts_of l)) q.element.is_stray q.drafts around
+      >>= (λ outer. Some (closed in_table (all_arrive xc outer))))) (sym (becomes-over rs f u c h))
+      (by (grid_over (parts_of l)) shown))
+    where
+      by : (g : Option TableParts) → AllShow (xu ++ xf) (u ++ f) →
+          AnyShows in_table (into_grid g (have_rows (parts_of (u ++ f))) (all_arrive (xu ++ xf) table_start).element.is_stray
+          (all_arrive (xu ++ xf) table_start).drafts around >>= (λ outer. Some (closed in_table (all_arrive xc outer))))
+          (over_grid (have_rows (parts_of (u ++ f)) || has_any (captions_of c)) (captions_of c) (parts_of (u ++ f)) g)
+      by None shown = tt
+      by (Some grid) shown = table-shown in_table grid style mark before after (all_arrive (xu ++ xf) table_start).element.is_stray
+          (all_arrive (xu ++ xf) table_start).drafts (parts_of (u ++ f)) (table-plain (xu ++ xf) (u ++ f) shown table_start refl tt)
+          (table-gives (xu ++ xf) (u ++ f) shown) xc c hc

@@ -1,0 +1,160 @@
+-- The rows of a table: what it gathers of them, and what it becomes over them.
+use Rattle.std.proofs.Common.{◌≡◌, Bool, true, false, ◌&&◌, ◌||◌, if◌then◌else◌, List, [], ◌∷◌, ◌++◌, Option, Some, None, option_map, refl, sym, ap, subst, ◌∙◌}
+use Rattle.std.specs.Prelude.{filter, flat_map}
+use Rattle.std.specs.List.{list_any}
+use Rattle.html_render_values.specs.Forest.{Forest, none, followed_by}
+use Rattle.html_render_values.specs.Outcome.{◌>>=◌}
+use Rattle.html_render_nodes.specs.declared.tree.CellSpan.{CellSpan}
+use Rattle.html_render_nodes.specs.declared.tree.RenderNode.{RenderNode}
+use Rattle.html_render_nodes.specs.laws.Splits.{followed_by-none}
+use Rattle.html_render_insertions.specs.declared.drafts.Draft.{Draft}
+use Rattle.html_render_conversion.specs.Results as new
+use Rattle.html_render_conversion.specs.Results.{Nodes, Result, beside, completed, has_any, in_first_cell, in_first_row, in_style, over, row_over, rows_over, trees_of}
+use Rattle.html_render_building.specs.declared.elements.Role.{Role}
+use Rattle.html_render_building.specs.declared.elements.Role.TheVariants as role
+use Rattle.html_render_building.specs.Elements.{gathered, keeps}
+use Rattle.html_render_building.specs.Building.{Arrival, Holding, fresh}
+use Rattle.html_render_building.specs.laws.Arrivals.{all_arrive}
+use Rattle.html_render_building.specs.laws.Shown.{Agrees, AllPlain, AllShow, Gives, meant, own_trees, together, both, plain-followed_by}
+use Rattle.html_render_nodes.specs.Tables.{TableParts, unmeasured_table}
+use Rattle.html_render_nodes.specs.RenderNodes.{no_style}
+use Rattle.html_render_parts.specs.TableCells.{cell_grid_of}
+use Rattle.html_render_conversion.specs.declared.mapping.IfEmpty.TheVariants.{Vanishes}
+use Rattle.html_render_conversion.specs.Results.{as_block, captioned, have_rows, joined, table_over}
+use Rattle.html_render_building.specs.declared.elements.OpenKind.TheVariants.{Table}
+use Rattle.html_render_building.specs.Elements.{are_rows}
+use Rattle.html_render_building.specs.Spans.{spans_of_parts}
+use Rattle.html_render_building.specs.Building.{rows_of, closed_by, closed_into, table_stands}
+use Rattle.html_render_building.specs.laws.Shown.{RowsArePlain, rows-meant, results-shown, trees_shown}
+use Rattle.html_render_building.specs.laws.ClosingParts.{kind-after}
+
+-- ---- what the table gathers
+
+abbrev pub any_rows : new.Role → Bool
+any_rows x = new.are_rows false x || new.are_rows true x
+
+abbrev pub part_rows : new.Role → List (List (List CellSpan))
+part_rows (new.Rows behind rows) = rows ∷ []
+part_rows _ = []
+
+abbrev pub parts_of : List Result → List Result
+parts_of rs = filter (λ r. any_rows r.role) rs
+
+pub agrees-table : (parts : List (List (List CellSpan))) →
+    Agrees (Table parts) (λ r. any_rows r.role) (λ r. r.has_children && any_rows r.role) (λ r. true)
+agrees-table parts = record {
+  keeps_are = λ a r s. rows-meant a.role ∙ ap any_rows s.role_is;
+  counts_are = λ a r s. ap (λ b. b && are_rows a.role) s.children_are ∙ ap (λ b. r.has_children && b) (rows-meant a.role ∙ ap any_rows s.role_is);
+  places_are = λ a r s. refl;
+}
+
+abbrev parts_with : new.Role → List (List (List CellSpan)) → List (List (List CellSpan))
+parts_with x rest = if any_rows x then part_rows x ++ rest else rest
+
+pub table-kind : (xs : List Arrival) (rs : List Result) → AllShow xs rs → (p : Holding) → p.element.kind ≡ Table [] →
+    (all_arrive xs p).element.kind ≡ Table (flat_map (λ r. part_rows r.role) (parts_of rs))
+table-kind [] [] h p e = e
+table-kind (a ∷ xs) (r ∷ rs) h p e =
+    kind-after a (all_arrive xs p) ∙ ap (λ k. if keeps k a.role a.kind then gathered a.role k else k) (table-kind xs rs h.1 p e)
+    ∙ one a.role (flat_map (λ r. part_rows r.role) (parts_of rs))
+    ∙ ap (λ x. Table (parts_with x (flat_map (λ r. part_rows r.role) (parts_of rs)))) h.0.role_is
+    ∙ by (any_rows r.role)
+  where
+    one : (x : Role) (f : List (List (List CellSpan))) → (if are_rows x then gathered x (Table f) else Table f) ≡ Table (parts_with (meant x) f)
+    one role.Contents f = refl
+    one role.Caption f = refl
+    one (role.Rows true rows) f = refl
+    one (role.Rows false rows) f = refl
+    one (role.Row cells) f = refl
+    one (role.Cell span) f = refl
+
+    by : (b : Bool) →
+        Table (if b then part_rows r.role ++ flat_map (λ r. part_rows r.role) (parts_of rs) else flat_map (λ r. part_rows r.role) (parts_of rs))
+        ≡ Table (flat_map (λ r. part_rows r.role) (if b then r ∷ parts_of rs else parts_of rs))
+    by true = refl
+    by false = refl
+table-kind [] (r ∷ rs) h p e = elim h [ ]
+table-kind (a ∷ xs) [] h p e = elim h [ ]
+
+pub table-plain : (xs : List Arrival) (rs : List Result) → AllShow xs rs → (p : Holding) → p.element.kind ≡ Table [] →
+    AllPlain p.drafts → AllPlain (all_arrive xs p).drafts
+table-plain [] [] h p e f = f
+table-plain (a ∷ xs) (r ∷ rs) h p e f =
+    subst (λ k. AllPlain (if keeps k a.role a.kind then followed_by a.drafts (all_arrive xs p).drafts else (all_arrive xs p).drafts))
+    (sym (table-kind xs rs h.1 p e)) (by a.role h.0.rows_are_plain (table-plain xs rs h.1 p e f))
+  where
+    by : (x : Role) → RowsArePlain x a.drafts → AllPlain (all_arrive xs p).drafts →
+        AllPlain (if are_rows x then followed_by a.drafts (all_arrive xs p).drafts else (all_arrive xs p).drafts)
+    by (role.Rows behind rows) g f = plain-followed_by a.drafts (all_arrive xs p).drafts g f
+    by x g f = f
+table-plain [] (r ∷ rs) h p e f = elim h [ ]
+table-plain (a ∷ xs) [] h p e f = elim h [ ]
+
+pub spans-parts : (rs : List Result) → spans_of_parts (flat_map (λ r. part_rows r.role) rs) ≡ flat_map (λ r. new.spans_of r.role) rs
+spans-parts [] = refl
+spans-parts (r ∷ rs) = by r.role (flat_map (λ r. part_rows r.role) rs) ∙ ap (λ x. new.spans_of r.role ++ x) (spans-parts rs)
+  where
+    by : (x : new.Role) (f : List (List (List CellSpan))) → spans_of_parts (part_rows x ++ f) ≡ new.spans_of x ++ spans_of_parts f
+    by (new.Rows behind rows) f = refl
+    by x f = refl
+
+rows-own : (x : new.Role) (n : RenderNode) (o : Option Nodes) → any_rows x ≡ true → own_trees x n o ≡ o
+rows-own (new.Rows behind rows) n o h = refl
+rows-own x n o h = cc
+
+pub together-joined : (rs : List Result) → together (λ r. true) (parts_of rs) ≡ joined (parts_of rs)
+together-joined [] = refl
+together-joined (r ∷ rs) = by (any_rows r.role) refl (together-joined rs)
+  where
+    by : (b : Bool) → any_rows r.role ≡ b → together (λ r. true) (parts_of rs) ≡ joined (parts_of rs) →
+        together (λ r. true) (if b then r ∷ parts_of rs else parts_of rs) ≡ joined (if b then r ∷ parts_of rs else parts_of rs)
+    by true e same = ap (λ x. both x (together (λ r. true) (parts_of rs))) (rows-own r.role r.node r.below e) ∙ ap (both r.below) same
+    by false e same = same
+
+pub rows-counted : (rs : List Result) → list_any (λ r. r.has_children && any_rows r.role) rs ≡ have_rows (parts_of rs)
+rows-counted [] = refl
+rows-counted (r ∷ rs) = by (any_rows r.role) r.has_children (rows-counted rs)
+  where
+    by : (b c : Bool) → list_any (λ r. r.has_children && any_rows r.role) rs ≡ have_rows (parts_of rs) →
+        ((c && b) || list_any (λ r. r.has_children && any_rows r.role) rs)
+        ≡ list_any (λ r. r.has_children) (if b then record r { has_children = c } ∷ parts_of rs else parts_of rs)
+    by true true same = refl
+    by true false same = same
+    by false true same = same
+    by false false same = same
+
+-- ---- the table in what stands round it
+
+abbrev pub table_start : Holding
+table_start = fresh (Table []) no_style Vanishes []
+
+abbrev pub into_grid : (grid : Option TableParts) → (has_rows is_stray : Bool) → (rows : Forest Draft) → Holding → Option Holding
+into_grid grid has_rows is_stray rows p = do
+  g ← grid
+  Some (table_stands g has_rows is_stray rows p)
+
+abbrev pub grid_over : List Result → Option TableParts
+grid_over parts = option_map unmeasured_table (cell_grid_of (flat_map (λ r. new.spans_of r.role) parts))
+
+module _ (xs : List Arrival) (rs : List Result) (shown : AllShow xs rs) where
+  pub table-into : (p : Holding) → closed_into (all_arrive xs table_start) p
+      ≡ into_grid (grid_over (parts_of rs)) (have_rows (parts_of rs)) (all_arrive xs table_start).element.is_stray
+      (all_arrive xs table_start).drafts p
+  table-into p =
+      let q = all_arrive xs table_start in
+      ap (λ k. closed_by (rows_of k) q p) (table-kind xs rs shown table_start refl)
+      ∙ ap (λ s. into_grid (option_map unmeasured_table (cell_grid_of s)) q.element.has_results q.element.is_stray q.drafts p) (spans-parts (parts_of rs))
+      ∙ ap (λ b. into_grid (grid_over (parts_of rs)) b q.element.is_stray q.drafts p)
+      (results-shown table_start (λ r. any_rows r.role) (λ r. r.has_children && any_rows r.role) (λ r. true) (agrees-table []) xs rs shown
+      ∙ rows-counted rs)
+
+  pub table-gives : Gives (all_arrive xs table_start).element.is_stray (all_arrive xs table_start).drafts (joined (parts_of rs))
+  table-gives =
+      subst (Gives (all_arrive xs table_start).element.is_stray (all_arrive xs table_start).drafts)
+      (by (together (λ r. true) (parts_of rs)) ∙ together-joined rs)
+      (trees_shown table_start (λ r. any_rows r.role) (λ r. r.has_children && any_rows r.role) (λ r. true) (agrees-table []) xs rs shown
+      (Some none) (refl, refl))
+    where
+      by : (o : Option Nodes) → both o (Some none) ≡ o
+      by None = refl
+      by (Some t) = ap Some (followed_by-none t)
