@@ -5,7 +5,7 @@ use Rattle.std.specs.Prelude.{Option, Some, None, option_map, if◌then◌else�
 use Rattle.std.specs.List.{list_all}
 use Rattle.html_render_values.specs.Outcome.{◌>>=◌}
 use Rattle.html_render_values.specs.declared.white_space.WhiteSpace.{WhiteSpace}
-use Rattle.html_render_values.specs.declared.white_space.WhiteSpace.TheVariants.{Normal, Pre, PreWrap}
+use Rattle.html_render_values.specs.declared.white_space.WhiteSpace.TheVariants.{Normal}
 use Rattle.html_render_lines.specs.declared.character.Item.{Item}
 use Rattle.html_render_lines.specs.declared.character.Item.TheVariants.{Mark}
 use Rattle.html_render_lines.specs.declared.character.TextStyle.{TextStyle}
@@ -95,8 +95,7 @@ new_line_hard {T} {M} d = option_map
 -- a text that shows nothing at a block's end
 abbrev pub is_blank : WhiteSpace → List ℕ → Bool
 is_blank Normal cs = list_all is_collapsible cs
-is_blank Pre cs = false
-is_blank PreWrap cs = false
+is_blank _ cs = false
 
 -- a text is fed to the open paragraph
 abbrev pub feed : {T M : Type 0} → DefinedBlock T M → TextStyle T → List ℕ → DefinedBlock T M
@@ -220,12 +219,11 @@ put_stacked d border has_lines more cell = record (put_below (if has_lines && mo
 
 -- the next cell is this flushed block
 abbrev pub cell_added : {T M : Type 0} → DefinedBlock T M → Option (OpenTable (Rows T M) T M) → DefinedBlock T M → Option (DefinedBlock T M)
-cell_added {T} {M} d None cell = option_map (λ (e : DefinedBlock T M). put_below e cell) (flush d)
-cell_added {T} {M} d (Some (Across picture widths ahead None)) cell = option_map (λ (e : DefinedBlock T M). put_below e cell) (flush d)
 cell_added d (Some (Across picture widths ahead (Some row))) cell =
     Some (record d { table = Some (Across picture widths ahead (Some (with_cell row (kept_cell cell ∷ [])))) })
 cell_added {T} {M} d (Some (Stacked border has_lines)) cell =
     option_map (λ (e : DefinedBlock T M). put_stacked e border has_lines (not (is_empty cell.lines)) cell) (flush d)
+cell_added {T} {M} d _ cell = option_map (λ (e : DefinedBlock T M). put_below e cell) (flush d)
 
 -- the next cell is this block
 abbrev pub add_cell : {T M : Type 0} → DefinedBlock T M → DefinedBlock T M → Option (DefinedBlock T M)
@@ -235,12 +233,11 @@ add_cell d cell = do
 
 -- the row that is open is over: below a row of cells one below another that have lines, there is a border
 abbrev pub row_ended : {T M : Type 0} → DefinedBlock T M → Option (OpenTable (Rows T M) T M) → Option (DefinedBlock T M)
-row_ended d None = Some d
 row_ended d (Some (Across picture widths ahead row)) =
     Some (record d { table = Some (Across (with_open defined_pictures picture row) widths ahead None) })
 row_ended {T} {M} d (Some (Stacked border true)) =
     option_map (λ (e : DefinedBlock T M). record (add_border e border 0x2500) { table = Some (Stacked border false) }) (flush d)
-row_ended d (Some (Stacked border false)) = Some d
+row_ended d _ = Some d
 
 abbrev pub end_row : {T M : Type 0} → DefinedBlock T M → Option (DefinedBlock T M)
 end_row d = row_ended d d.table

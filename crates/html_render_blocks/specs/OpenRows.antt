@@ -3,7 +3,7 @@ use Rattle.std.specs.Prelude.{ℕ, ◌+◌, ◌-◌, ◌==◌, Bool, true, false
 use Rattle.std.specs.Prelude.{Option, Some, None, flat_map, if◌then◌else◌}
 use Rattle.std.specs.List.{list_any}
 use Rattle.html_render_parts.specs.declared.table.CellKind.{CellKind}
-use Rattle.html_render_parts.specs.declared.table.CellKind.TheVariants.{Cell, Placeholder, Gap}
+use Rattle.html_render_parts.specs.declared.table.CellKind.TheVariants.{Cell, Placeholder}
 use Rattle.html_render_parts.specs.declared.table.PlacedCell.{PlacedCell}
 use Rattle.html_render_pictures.specs.Picture.{KeptCell, TableRow}
 use Rattle.html_render_blocks.specs.declared.block.rows.RowPlace.{RowPlace}
@@ -15,13 +15,11 @@ cell_width columns = if sum columns == 0 then None else Some (sum columns + (len
 -- a cell of the row itself, and one of a row above it
 abbrev pub is_cell : CellKind → Bool
 is_cell Cell = true
-is_cell Placeholder = false
-is_cell Gap = false
+is_cell _ = false
 
 abbrev pub is_placeholder : CellKind → Bool
-is_placeholder Cell = false
 is_placeholder Placeholder = true
-is_placeholder Gap = false
+is_placeholder _ = false
 
 -- the places of a row over columns of these widths
 abbrev pub places : (widths : List ℕ) → List PlacedCell → List RowPlace

@@ -1,5 +1,5 @@
 -- The table that is open in a block: its cells stand side by side, or one below another.
-use Rattle.std.specs.Prelude.{ℕ, ◌+◌, ◌-◌, ◌==◌, Bool, false, not, ◌&&◌, List, [], ◌∷◌, ◌++◌, sum, count_by}
+use Rattle.std.specs.Prelude.{ℕ, ◌+◌, ◌-◌, ◌==◌, Bool, false, not, ◌&&◌, List, [], ◌∷◌, ◌++◌, sum, fold, count_by}
 use Rattle.std.specs.Prelude.{Option, Some, None, drop, replicate, slice_index_or, if◌then◌else◌}
 use Rattle.html_render_lines.specs.declared.line.Element.TheVariants.{Character}
 use Rattle.html_render_lines.specs.Line.{Line}
@@ -67,21 +67,18 @@ next_cell_width width _ = Some width
 -- a table without its next cell
 abbrev pub skipped : {P T M : Type 0} → OpenTable P T M → OpenTable P T M
 skipped (Across picture widths ahead (Some row)) = Across picture widths ahead (Some (with_cell row []))
-skipped (Across picture widths ahead None) = Across picture widths ahead None
-skipped (Stacked border has_lines) = Stacked border has_lines
+skipped table = table
 
 -- and with that cell
 abbrev pub with_next : {P T M : Type 0} → KeptCell T M → OpenTable P T M → OpenTable P T M
 with_next cell (Across picture widths ahead (Some row)) = Across picture widths ahead (Some (with_cell row (cell ∷ [])))
-with_next cell (Across picture widths ahead None) = Across picture widths ahead None
-with_next cell (Stacked border has_lines) = Stacked border has_lines
+with_next cell table = table
 
 -- where the next cell goes
 abbrev pub cell_place : {P T M : Type 0} → Option (OpenTable P T M) → CellPlace T
-cell_place None = Below
-cell_place (Some (Across picture widths ahead None)) = Below
 cell_place (Some (Across picture widths ahead (Some row))) = InRow
 cell_place (Some (Stacked border has_lines)) = InStack border has_lines
+cell_place _ = Below
 
 module _ {P T M : Type 0} (pictures : Pictures P T M) where
   -- a picture with the row that is open, if one is
@@ -92,12 +89,11 @@ module _ {P T M : Type 0} (pictures : Pictures P T M) where
   -- a table whose open row is over
   abbrev pub with_row_over : OpenTable P T M → OpenTable P T M
   with_row_over (Across picture widths ahead row) = Across (with_open picture row) widths ahead None
-  with_row_over (Stacked border has_lines) = Stacked border has_lines
+  with_row_over table = table
 
   -- a picture with rows in which no cell begins: those below the table's own
   abbrev pub with_ahead : (widths : List ℕ) → (ahead : List (List PlacedCell)) → P → P
-  with_ahead widths [] picture = picture
-  with_ahead widths (cells ∷ ahead) picture = with_ahead widths ahead (pictures.with_row picture (whole_row (open_row widths cells)))
+  with_ahead widths ahead picture = fold (λ p cells. pictures.with_row p (whole_row (open_row widths cells))) picture ahead
 
   -- the lines of a table's picture, once its rows are over, and the marks that wait behind them
   abbrev pub picture_of : P → (widths : List ℕ) → (ahead : List (List PlacedCell)) → Option (OpenRow T M) → List (Line T M) × List M

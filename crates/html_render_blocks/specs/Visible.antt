@@ -1,5 +1,5 @@
 -- The visible characters of a text and of a block, and how often one is among them.
-use Rattle.std.specs.Prelude.{ℕ, ◌+◌, List, [], ◌∷◌, ◌++◌, Option, Some, None}
+use Rattle.std.specs.Prelude.{ℕ, ◌+◌, List, ◌++◌, flat_map, Option, Some, None}
 use Rattle.html_render_lines.specs.Visible.{if_visible, visible_in_items, visible_in_lines}
 use Rattle.html_render_pictures.specs.Visible.{count, visible_in_cells, visible_in_rows}
 use Rattle.html_render_blocks.specs.declared.block.tables.OpenTable.{OpenTable}
@@ -10,8 +10,7 @@ use Rattle.html_render_blocks.specs.Block.{DefinedBlock}
 
 -- the visible characters of a text, in order
 abbrev pub visible_in_text : List ℕ → List ℕ
-visible_in_text [] = []
-visible_in_text (c ∷ cs) = if_visible c ++ visible_in_text cs
+visible_in_text cs = flat_map if_visible cs
 
 -- those of a block, its open table aside: of its lines, and of all that was fed to its open paragraph
 abbrev pub visible_in_block : {T M : Type 0} → DefinedBlock T M → List ℕ

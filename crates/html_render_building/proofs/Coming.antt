@@ -8,7 +8,7 @@ use Rattle.html_render_dom.specs.Dom.{Dom, IsForest, IsNode, node_count, content
 use Rattle.html_render_dom.specs.Rules.{Rule as StyleRule}
 use Rattle.html_render_nodes.specs.laws.Splits.{followed_by-none, followed_by-followed_by}
 use Rattle.html_render_insertions.specs.declared.drafts.Draft.{Draft}
-use Rattle.html_render_conversion.specs.Converting.{outline_of}
+use Rattle.html_render_conversion.specs.Outlines.{outline_of}
 use Rattle.html_render_building.specs.declared.order.Pick.{Pick}
 use Rattle.html_render_building.specs.declared.order.Pick.TheVariants.{All, Captions, Feet, Others}
 use Rattle.html_render_building.specs.Building.{Arrival, Holding, arrive, come, arrivals}
@@ -28,6 +28,22 @@ bind-bind (Some x) f g = refl
 pub bind-same : {X Y : Type 0} (o : Option X) (f g : X → Option Y) → ((x : X) → f x ≡ g x) → (o >>= f) ≡ (o >>= g)
 bind-same None f g e = refl
 bind-same (Some x) f g e = e x
+
+-- steps one after the other, and what follows the last of them
+chain-third : {C D E F : Type 0} (c : Option C) (k : C → Option D) (l : D → Option E) (r : E → Option F) →
+    ((c >>= (λ x. k x >>= l)) >>= r) ≡ (c >>= (λ x. k x >>= (λ d. l d >>= r)))
+chain-third None k l r = refl
+chain-third (Some x) k l r = bind-bind (k x) l r
+
+chain-second : {B C D E F : Type 0} (b : Option B) (g : B → Option C) (k : C → Option D) (l : D → Option E) (r : E → Option F) →
+    ((b >>= (λ x. g x >>= (λ c. k c >>= l))) >>= r) ≡ (b >>= (λ x. g x >>= (λ c. k c >>= (λ d. l d >>= r))))
+chain-second None g k l r = refl
+chain-second (Some x) g k l r = chain-third (g x) k l r
+
+pub chain : {A B C D E F : Type 0} (o : Option A) (f : A → Option B) (g : B → Option C) (k : C → Option D) (l : D → Option E) (r : E → Option F) →
+    ((o >>= (λ a. f a >>= (λ b. g b >>= (λ c. k c >>= l)))) >>= r) ≡ ((o >>= f) >>= (λ b. g b >>= (λ c. k c >>= (λ d. l d >>= r))))
+chain None f g k l r = refl
+chain (Some a) f g k l r = chain-second (f a) g k l r
 
 module _ (rules : List StyleRule) where
   -- what comes of a node that is picked, or isn't

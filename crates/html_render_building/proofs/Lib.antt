@@ -1,6 +1,9 @@
 pub mod Arriving
+pub mod Closing
 pub mod Coming
 pub mod Keeping
 pub mod Lasts
+pub mod Opening
 pub mod Paths
 pub mod ValidSpans
+pub mod Working

@@ -13,10 +13,11 @@ use Rattle.html_render_nodes.specs.laws.Splits.{followed_by-none, followed_by-fo
 use Rattle.html_render_insertions.specs.declared.drafts.Draft.{Draft}
 use Rattle.html_render_building.specs.declared.building.Open.{Open}
 use Rattle.html_render_building.specs.declared.order.Pick.TheVariants.{All}
-use Rattle.html_render_building.specs.Building.{Holding, arrivals, come, closed_into, document_of, document_start}
+use Rattle.html_render_building.specs.Building.{Holding, arrivals, come, closed_into, document_drafts, document_of}
+use Rattle.html_render_building.specs.Opened.{IsAfter}
 use Rattle.html_render_building.specs.Order.{children_in}
-use Rattle.html_render_conversion.specs.Converting.{outline_at, outline_of}
-use Rattle.html_render_building.proofs.Coming.{arrivals-followed_by, arrivals-picked, bind-bind, trees_of-append}
+use Rattle.html_render_conversion.specs.Outlines.{outline_at, outline_of}
+use Rattle.html_render_building.proofs.Coming.{arrivals-followed_by, before, bind-bind, trees_of-append}
 
 -- an open element, and the drafts of what it has kept
 pub record Step : Type 0 where
@@ -59,12 +60,6 @@ resumed rules dom (x ∷ path) = do
   h ← ahead_of rules dom x.opened (holding x)
   resumed_from rules dom h path
 
--- the drafts of the document
-abbrev pub whole : List StyleRule → Dom → Option (Forest Draft)
-whole rules dom = do
-  h ← arrivals rules (trees_of dom (children_at dom 0)) All document_start
-  document_of h
-
 -- an open element of the document, whose drafts begin where its own mark says
 pub record IsSound (dom : Dom) (x : Step) (path : Path) : Type 0 where
   pub is_node : IsNode dom x.opened.handle
@@ -82,8 +77,35 @@ pub record Converting (rules : List StyleRule) (dom : Dom) (elements : List Open
   pub path : Path
   pub elements_are : elements ≡ elements_of path
   pub drafts_are : drafts ≡ made_of_path path
-  pub result : resumed rules dom path ≡ whole rules dom
+  pub result : resumed rules dom path ≡ document_drafts rules dom
   pub sound : AreSound dom path
+
+-- an open element that has become this
+abbrev pub step_with : Step → Holding → Step
+step_with x h = record { opened = record x.opened { element = h.element }; drafts = h.drafts }
+
+-- where the innermost element has become this
+pub Converting-after : (rules : List StyleRule) (dom : Dom) (path : Path) (top : Step) → AreSound dom (top ∷ path) →
+    (es : List Open) (ds : Forest Draft) (g : Holding) → IsAfter (elements_of path) top.opened es ds (before (made_of_path path) g) →
+    (do
+      q ← ahead_of rules dom top.opened g
+      resumed_from rules dom q path) ≡ document_drafts rules dom →
+    Converting rules dom es ds
+Converting-after rules dom path top sound es ds g after result = record {
+  path = step_with top g ∷ path;
+  elements_are = after.elements_are;
+  drafts_are = after.drafts_are;
+  result = result;
+  sound = (
+    record {
+      is_node = sound.0.is_node;
+      ahead_within = sound.0.ahead_within;
+      are_nodes = sound.0.are_nodes;
+      start_is = sound.0.start_is;
+    },
+    sound.1,
+  );
+}
 
 -- and where a child is to be opened that was ahead
 pub record Opening (rules : List StyleRule) (dom : Dom) (h : ℕ) (elements : List Open) (drafts : Forest Draft) : Type 0 where
@@ -94,7 +116,7 @@ pub record Opening (rules : List StyleRule) (dom : Dom) (h : ℕ) (elements : Li
   pub result : (do
     g ← arrivals rules (tree_of dom h) All (holding top)
     q ← ahead_of rules dom top.opened g
-    resumed_from rules dom q path) ≡ whole rules dom
+    resumed_from rules dom q path) ≡ document_drafts rules dom
   pub sound : AreSound dom (top ∷ path)
   pub is_node : IsNode dom h
 
@@ -120,7 +142,7 @@ module _ (rules : List StyleRule) (dom : Dom) (f : IsForest dom) where
 
   child_at : (elements : List Open) (o : Open) (n : ℕ) (drafts : Forest Draft) (h : ℕ) (path : Path) → o.ahead ≡ suc n →
       h ≡ get_or (children_in dom o.handle o.order) n h → elements ++ o ∷ [] ≡ elements_of path → drafts ≡ made_of_path path →
-      resumed rules dom path ≡ whole rules dom → AreSound dom path → Opening rules dom h (elements ++ record o { ahead = n } ∷ []) drafts
+      resumed rules dom path ≡ document_drafts rules dom → AreSound dom path → Opening rules dom h (elements ++ record o { ahead = n } ∷ []) drafts
   child_at elements o n drafts h [] ahead at elements_are drafts_are result sound =
       absurd (omega (arith, ap length elements_are, length-append elements (o ∷ [])))
   child_at elements o n drafts h (x ∷ path) ahead at elements_are drafts_are result sound =

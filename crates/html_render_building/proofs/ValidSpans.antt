@@ -3,7 +3,7 @@ use Rattle.std.proofs.Common.{◌≢◌, ℕ, ◌+◌, ◌-◌, ◌==◌, ◌≤
 use Rattle.std.proofs.lemmas.Bool.{cases_Bool, eqb-false}
 use Rattle.std.proofs.lemmas.List.Elements.{All-append, All-map}
 use Rattle.std.specs.List.{All}
-use Rattle.html_render_nodes.specs.declared.tree.CellSpan.{CellSpan}
+use Rattle.html_render_conversion.specs.declared.tables.CellSpan.{CellSpan}
 use Rattle.html_render_parts.specs.Grid.{AreValid}
 use Rattle.html_render_parts.specs.declared.table.Span.{Span}
 use Rattle.html_render_conversion.specs.Tables.{width_of, greatest_width, spanned, spanned_in}

@@ -3,9 +3,10 @@ use Rattle.std.specs.Prelude.{Bool, true, false, not, ◌&&◌, ◌||◌, List, 
 use Rattle.html_render_values.specs.Forest.{Forest, none, node, followed_by}
 use Rattle.html_render_values.specs.Outcome.{◌>>=◌}
 use Rattle.html_render_dom.specs.Content.{Content}
+use Rattle.html_render_dom.specs.Dom.{Dom, children_at, trees_of}
 use Rattle.html_render_dom.specs.Rules.{Rule as StyleRule}
 use Rattle.html_render_parts.specs.TableCells.{cell_grid_of}
-use Rattle.html_render_nodes.specs.declared.tree.CellSpan.{CellSpan}
+use Rattle.html_render_conversion.specs.declared.tables.CellSpan.{CellSpan}
 use Rattle.html_render_nodes.specs.declared.tree.NodeKind.{NodeKind}
 use Rattle.html_render_nodes.specs.declared.tree.NodeKind.TheVariants.{Container, Block, TableRow, TableCell, FragmentStart}
 use Rattle.html_render_nodes.specs.declared.tree.NodeKind.TheVariants as kind
@@ -21,7 +22,7 @@ use Rattle.html_render_conversion.specs.declared.mapping.Outline.{Outline}
 use Rattle.html_render_conversion.specs.declared.mapping.Outline.TheVariants.{Alone, Over}
 use Rattle.html_render_conversion.specs.declared.mapping.Outline.TheVariants as outline
 use Rattle.html_render_conversion.specs.Conversion.{vanishes}
-use Rattle.html_render_conversion.specs.Converting.{outline_of}
+use Rattle.html_render_conversion.specs.Outlines.{outline_of}
 use Rattle.html_render_building.specs.declared.elements.Element.{Element}
 use Rattle.html_render_building.specs.declared.elements.OpenKind.{OpenKind}
 use Rattle.html_render_building.specs.declared.elements.OpenKind.TheVariants.{Node, Captioned, Table, Rows, Row, Cell, Caption}
@@ -215,24 +216,24 @@ abbrev pub table_start : Holding
 table_start = fresh (Table []) no_style IfEmpty.Vanishes []
 
 -- what comes of an element, where `inside` is what comes of some of its children
-abbrev pub come_of : OpenKind → RenderNode → IfEmpty → (has_children : Bool) → List Insertions →
+abbrev pub come_of : OpenKind → NodeStyle → IfEmpty → (has_children : Bool) → List Insertions →
     (inside : Pick → Holding → Option Holding) → Holding → Option Holding
-come_of Captioned n if_empty has_children inserted inside p = do
+come_of Captioned style if_empty has_children inserted inside p = do
   feet ← inside Feet table_start
   table ← inside Others feet
-  outer ← closed_into table (fresh Captioned n.style if_empty inserted)
+  outer ← closed_into table (fresh Captioned style if_empty inserted)
   all ← inside Captions outer
   closed_into all p
-come_of k n if_empty has_children inserted inside p = do
-  h ← if has_children then inside All (fresh k n.style if_empty inserted) else Some (fresh k n.style if_empty inserted)
+come_of k style if_empty has_children inserted inside p = do
+  h ← if has_children then inside All (fresh k style if_empty inserted) else Some (fresh k style if_empty inserted)
   closed_into h p
 
 -- what comes of a node
 abbrev pub come : Outline → (inside : Pick → Holding → Option Holding) → Holding → Option Holding
 come outline.Nothing inside p = Some p
 come (Alone n) inside p = Some (arrive (leaf_arrival (draft_of n)) p)
-come (Over n if_empty has_children mark before after) inside p =
-    come_of (opened_kind n.kind) n if_empty has_children (inserted_of mark before after) inside p
+come (Over k style if_empty has_children mark before after) inside p =
+    come_of (opened_kind k) style if_empty has_children (inserted_of mark before after) inside p
 
 -- an element once all have come of some trees that are picked among these, the last first
 abbrev pub arrivals : List StyleRule → Forest Content → Pick → Holding → Option Holding
@@ -247,3 +248,9 @@ document_of h = if h.element.is_stray then None else Some (node (plain_draft Con
 
 abbrev pub document_start : Holding
 document_start = fresh (Node Container) no_style IfEmpty.Stands []
+
+-- THE DRAFTS of a document
+abbrev pub document_drafts : List StyleRule → Dom → Option (Forest Draft)
+document_drafts rules dom = do
+  h ← arrivals rules (trees_of dom (children_at dom 0)) All document_start
+  document_of h

@@ -1,18 +1,20 @@
 -- An element whose children are converted from the last to the first: what has come of them so far.
 use Rattle.std.specs.Prelude.{Bool, true, false, not, ◌&&◌, ◌||◌, [], ◌∷◌, if◌then◌else◌}
 use Rattle.html_render_nodes.specs.declared.tree.NodeKind.{NodeKind}
-use Rattle.html_render_nodes.specs.declared.tree.NodeKind.TheVariants.{Link, Part}
-use Rattle.html_render_nodes.specs.declared.tree.Part.{Part as TablePart}
-use Rattle.html_render_nodes.specs.declared.tree.Part.TheVariants as part
+use Rattle.html_render_nodes.specs.declared.tree.NodeKind.TheVariants.{Link}
+use Rattle.html_render_conversion.specs.declared.tables.Part.{Part as TablePart}
+use Rattle.html_render_conversion.specs.declared.tables.Part.TheVariants as part
+use Rattle.html_render_conversion.specs.declared.mapping.ElementKind.{ElementKind}
+use Rattle.html_render_conversion.specs.declared.mapping.ElementKind.TheVariants as element
 use Rattle.html_render_conversion.specs.Results.{shows_nothing}
 use Rattle.html_render_building.specs.declared.elements.Element.{Element}
 use Rattle.html_render_building.specs.declared.elements.OpenKind.{OpenKind}
 use Rattle.html_render_building.specs.declared.elements.OpenKind.TheVariants.{Node, Captioned, Table, Rows, Row, Cell, Caption}
 use Rattle.html_render_building.specs.declared.elements.Role.{Role}
 use Rattle.html_render_building.specs.declared.elements.Role.TheVariants as role
-use Rattle.html_render_building.specs.Kinds.{keeps_kind}
+use Rattle.html_render_conversion.specs.Results.{keeps as keeps_kind}
 
--- what an element becomes whose node is of this kind
+-- what an element of this kind is while it is open
 abbrev pub opened_part : TablePart → OpenKind
 opened_part part.Table = Captioned
 opened_part part.Body = Rows false []
@@ -21,9 +23,9 @@ opened_part part.Row = Row []
 opened_part (part.Cell span) = Cell span
 opened_part part.Caption = Caption
 
-abbrev pub opened_kind : NodeKind → OpenKind
-opened_kind (Part p) = opened_part p
-opened_kind kind = Node kind
+abbrev pub opened_kind : ElementKind → OpenKind
+opened_kind (element.Node kind) = Node kind
+opened_kind (element.Part p) = opened_part p
 
 -- ---- roles
 

@@ -90,7 +90,7 @@ IsOpened dom handle Nothing elements drafts elements_now drafts_now = (elements_
 IsOpened dom handle (Alone n) elements drafts elements_now drafts_now =
     (below : List Open) (p : Open) → IsLast elements below p →
     IsAfter below p elements_now drafts_now (arrive (leaf_arrival (draft_of n)) (record { element = p.element; drafts = drafts }))
-IsOpened dom handle (Over n if_empty has_children mark before after) elements drafts elements_now drafts_now =
+IsOpened dom handle (Over k style if_empty has_children mark before after) elements drafts elements_now drafts_now =
     (elements_now ≡ elements ++ opened_elements dom handle (count drafts) has_children
-    (fresh (opened_kind n.kind) n.style if_empty (inserted_of mark before after)).element)
+    (fresh (opened_kind k) style if_empty (inserted_of mark before after)).element)
     × (drafts_now ≡ drafts)

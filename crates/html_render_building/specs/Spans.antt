@@ -1,6 +1,6 @@
 -- What the cells of a table span.
 use Rattle.std.specs.Prelude.{List, flat_map}
-use Rattle.html_render_nodes.specs.declared.tree.CellSpan.{CellSpan}
+use Rattle.html_render_conversion.specs.declared.tables.CellSpan.{CellSpan}
 use Rattle.html_render_parts.specs.declared.table.Span.{Span}
 use Rattle.html_render_conversion.specs.Tables.{greatest_width, spanned_in}
 

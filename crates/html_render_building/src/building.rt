@@ -3,7 +3,8 @@
 ghost use Rattle.std.specs.Prelude.{◌≡◌, ◌||◌, ◌≤◌, ◌∷◌, ◌++◌, List, [], length, Some, None, IfSome, IfNone, IfOk, OnOk, IfErr, map, option_map, false, true};
 ghost use Rattle.html_render_dom.specs.Dom.{IsForest, IsNode};
 ghost use Rattle.html_render_dom.specs.Rules.{rule_of};
-ghost use Rattle.html_render_conversion.specs.Converting.{outline_at};
+ghost use Rattle.html_render_conversion.specs.Outlines.{outline_at};
+ghost use Rattle.html_render_conversion.specs.Results.{render_tree_of};
 ghost use Rattle.html_render_building.specs.Order.{children_in};
 ghost use Rattle.html_render_nodes.specs.Splits.{SplitAt};
 ghost use Rattle.html_render_nodes.specs.RenderNodes.{no_style};
@@ -11,9 +12,9 @@ ghost use Rattle.html_render_nodes.specs.declared.tree.NodeKind.TheVariants as k
 ghost use Rattle.html_render_parts.specs.Refusal.{Fails};
 ghost use Rattle.html_render_insertions.specs.declared.drafts.Draft.{Draft};
 ghost use Rattle.html_render_values.specs.Forest.{Forest, followed_by, node, none};
-ghost use Rattle.html_render_insertions.specs.Drafts.{draft, draft_of, first_kind, insert_first, with_first_style};
+ghost use Rattle.html_render_insertions.specs.Drafts.{draft, draft_of, expanded, first_kind, insert_first, with_first_style};
 ghost use Rattle.html_render_building.specs.Building.{Holding, arrive, leaf_arrival, over_draft, are_any, beside_insertions, goes_beside, with_insertions, node_made, row_made, rows_made, captioned_made, caption_kind};
-ghost use Rattle.html_render_building.specs.Building.{kept_arrival, table_alone, table_made, arrive_any, closed, closed_into, is_captioned, made_of, mark_left, table_closed, table_stands};
+ghost use Rattle.html_render_building.specs.Building.{document_of, document_start, kept_arrival, table_alone, table_made, arrive_any, closed, closed_into, is_captioned, made_of, mark_left, table_closed, table_stands};
 ghost use Rattle.html_render_building.specs.Elements.{keeps, received, told_of_table};
 ghost use Rattle.html_render_building.specs.Opened.{opened_elements, other_elements, table_elements, Closed, Comes, IsAfter, IsLast, IsOpened, NextChild};
 ghost use Rattle.html_render_building.specs.declared.building.Open.{Open};
@@ -23,11 +24,12 @@ use crate::elements::{Element, OpenKind, Role};
 use crate::kinds::holds_insertions;
 use crate::order::{Order, table_orders};
 use crate::spans::{Gathered, PartRows, RowCells, grid_over};
-use html_render_conversion::mapping::{Outline, outline_of, text_node};
+use html_render_conversion::mapping::{IfEmpty, Outline, outline_of, text_node};
+use html_render_conversion::tables::CellSpan;
 use html_render_dom::dom::{Handle, NodeData, RcDom};
 use html_render_dom::style::StyleRule;
 use html_render_insertions::drafts::{Draft, Drafts, Inserted};
-use html_render_nodes::tree::{CellSpan, Grid, NodeKind, NodeStyle};
+use html_render_nodes::tree::{Flat, Grid, NodeKind, NodeStyle, RenderNode};
 use html_render_values::Error;
 use std::alloc::Global;
 
@@ -751,7 +753,8 @@ fn open_node(
         Outline::Nothing => Ok(()),
         Outline::Alone(node) => put_alone(Draft::from(node), elements, drafts),
         Outline::Over {
-            node,
+            kind,
+            style,
             if_empty,
             has_children,
             mark,
@@ -759,8 +762,8 @@ fn open_node(
             after,
         } => {
             let inserted = Inserted::new(alloc, mark, before, after)?;
-            let kind = OpenKind::new(alloc, node.kind);
-            let element = Element::new(kind, node.style, if_empty, inserted);
+            let kind = OpenKind::new(alloc, kind);
+            let element = Element::new(kind, style, if_empty, inserted);
             let start = drafts.len();
             open_element(alloc, dom, handle, start, has_children, element, elements)
         }
@@ -782,4 +785,90 @@ fn next_child(dom: &RcDom, elements: &mut Vec<Open>) -> Option<Handle>
     elements[last].ahead = ahead;
     let handle = elements[last].handle;
     Some(elements[last].order.children(dom, handle)[ahead])
+}
+
+impl Open {
+    /// What it becomes, without its place in the document.
+    fn into_element(self) -> Element
+        ensures { result ≡ self.element }
+    {
+        self.element
+    }
+}
+
+/// The document, before anything has come of its children.
+fn document() -> Element
+    ensures { result ≡ document_start.element }
+{
+    Element::new(
+        OpenKind::Node(NodeKind::Container),
+        NodeStyle::default(),
+        IfEmpty::Stands,
+        Inserted::none(),
+    )
+}
+
+/// The drafts of the document over those of its children.
+///
+/// # Errors
+///
+/// `Fail` exactly where a part of a table stands in none, and `OutOfMemory`.
+fn close_document(element: Element, drafts: Drafts) -> Result<Drafts, Error>
+    ensures ok { IfOk result (λ all. document_of (record { element = element; drafts = drafts }) ≡ Some all) }
+    ensures err { IfErr result (λ e. Fails e (document_of (record { element = element; drafts = drafts }))) }
+{
+    if element.is_stray {
+        return Err(Error::Fail);
+    }
+    let mut all = drafts;
+    all.enclose(Draft::from(NodeKind::Container), 0)?;
+    Ok(all)
+}
+
+/// The drafts of a document, whose elements are styled by rules in the order in which these were added. It takes no more
+/// stack for a deep document than for a flat one.
+///
+/// # Errors
+///
+/// `Fail` exactly where a cell of a table would end past `u128::MAX` columns, or a part of a table stands in none, and
+/// `OutOfMemory`.
+fn drafts_of(alloc: Global, rules: &[StyleRule], dom: &RcDom) -> Result<Drafts, Error>
+    ensures ok { IfOk result (λ drafts. render_tree_of (map rule_of rules.now) dom.now ≡ Some (expanded drafts)) }
+    ensures err { IfErr result (λ e. Fails e (render_tree_of (map rule_of rules.now) dom.now)) }
+{
+    let mut elements = Vec::new(alloc);
+    let mut drafts = Drafts::with_capacity(alloc, dom.node_count())?;
+    open_other(dom, dom.get_document(), 0, true, document(), &mut elements)?;
+    'converting: loop {
+        if let Some(child) = next_child(dom, &mut elements) {
+            open_node(alloc, rules, dom, child, &mut elements, &mut drafts)?;
+        } else if let Some(open) = elements.pop() {
+            let start = open.start;
+            let element = open.into_element();
+            if elements.is_empty() {
+                return close_document(element, drafts);
+            }
+            close_element(alloc, element, start, &mut elements, &mut drafts)?;
+        } else {
+            return Err(Error::Fail);
+        }
+    }
+}
+
+/// The render tree of a document, whose elements are styled by rules in the order in which these were added. It takes no
+/// more stack for a deep document than for a flat one.
+///
+/// # Errors
+///
+/// `Fail` exactly where a cell of a table would end past `u128::MAX` columns, or a part of a table stands in none, and
+/// `OutOfMemory`.
+pub fn dom_to_render_tree(
+    alloc: Global,
+    rules: &[StyleRule],
+    dom: &RcDom,
+) -> Result<Flat<RenderNode>, Error>
+    ensures ok { IfOk result (λ tree. render_tree_of (map rule_of rules.now) dom.now ≡ Some tree) }
+    ensures err { IfErr result (λ e. Fails e (render_tree_of (map rule_of rules.now) dom.now)) }
+{
+    drafts_of(alloc, rules, dom)?.into_nodes(alloc)
 }

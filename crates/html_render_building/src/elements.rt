@@ -7,9 +7,10 @@ ghost use Rattle.html_render_building.specs.Building.{fresh, is_captioned, rows_
 
 use crate::kinds::{keeps_kind, shows_nothing};
 use crate::spans::{Gathered, PartRows, RowCells};
-use html_render_conversion::mapping::IfEmpty;
+use html_render_conversion::mapping::{ElementKind, IfEmpty};
+use html_render_conversion::tables::{CellSpan, Part};
 use html_render_insertions::drafts::Inserted;
-use html_render_nodes::tree::{CellSpan, NodeKind, NodeStyle, Part};
+use html_render_nodes::tree::{NodeKind, NodeStyle};
 use html_render_values::Error;
 use std::alloc::Global;
 
@@ -48,12 +49,13 @@ pub enum OpenKind {
 }
 
 impl OpenKind {
-    /// What an element becomes whose node is of this kind.
-    pub fn new(alloc: Global, kind: NodeKind) -> OpenKind
+    /// What an element of this kind is while it is open.
+    pub fn new(alloc: Global, kind: ElementKind) -> OpenKind
         ensures { result ≡ opened_kind kind }
     {
         match kind {
-            NodeKind::Part(part) => match part {
+            ElementKind::Node(kind) => OpenKind::Node(kind),
+            ElementKind::Part(part) => match part {
                 Part::Table => OpenKind::Captioned,
                 Part::Body => OpenKind::Rows(false, Gathered::new(alloc)),
                 Part::Foot => OpenKind::Rows(true, Gathered::new(alloc)),
@@ -61,7 +63,6 @@ impl OpenKind {
                 Part::Cell(span) => OpenKind::Cell(span),
                 Part::Caption => OpenKind::Caption,
             },
-            kind => OpenKind::Node(kind),
         }
     }
 

@@ -4,6 +4,5 @@
 pub mod building;
 pub mod elements;
 mod kinds;
-mod laws;
 pub mod order;
 pub mod spans;

@@ -8,7 +8,8 @@ ghost use Rattle.html_render_parts.specs.Refusal.{Fails};
 ghost use Rattle.html_render_conversion.specs.Tables.{width_of, greatest_width, spanned, spanned_in};
 ghost use Rattle.html_render_building.specs.Spans.{spans_of_parts};
 
-use html_render_nodes::tree::{CellSpan, Grid};
+use html_render_conversion::tables::CellSpan;
+use html_render_nodes::tree::Grid;
 use html_render_parts::table::Span;
 use html_render_parts::table::cells::TableCells;
 use html_render_values::Error;
@@ -71,7 +72,7 @@ pub struct RowCells {
 
 impl Model for RowCells {
     ghost use Rattle.std.specs.Prelude.{List};
-    ghost use Rattle.html_render_nodes.specs.declared.tree.CellSpan.{CellSpan};
+    ghost use Rattle.html_render_conversion.specs.declared.tables.CellSpan.{CellSpan};
 
     ghost Value = { List CellSpan };
 
@@ -97,7 +98,7 @@ pub struct PartRows {
 
 impl Model for PartRows {
     ghost use Rattle.std.specs.Prelude.{List};
-    ghost use Rattle.html_render_nodes.specs.declared.tree.CellSpan.{CellSpan};
+    ghost use Rattle.html_render_conversion.specs.declared.tables.CellSpan.{CellSpan};
 
     ghost Value = { List (List CellSpan) };
 

@@ -11,8 +11,8 @@ use Rattle.html_render_dom.specs.declared.style.rules.StyleRule.{StyleRule}
 use Rattle.html_render_dom.specs.declared.style.specificities.Specificity.{Specificity}
 use Rattle.html_render_dom.specs.declared.style.updates.Update.{Update}
 use Rattle.html_render_dom.specs.laws.Winners.{winner-one}
-use Rattle.html_render_nodes.specs.declared.tree.NodeKind.{NodeKind}
-use Rattle.html_render_nodes.specs.RenderNodes.{unmeasured}
+use Rattle.html_render_conversion.specs.declared.mapping.ElementKind.{ElementKind}
+use Rattle.html_render_conversion.specs.declared.mapping.ElementKind.TheVariants.{Node}
 use Rattle.html_render_conversion.specs.declared.mapping.IfEmpty.{IfEmpty}
 use Rattle.html_render_conversion.specs.declared.mapping.IfEmpty.TheVariants.{Stands}
 use Rattle.html_render_conversion.specs.declared.mapping.Mapping.{Mapping}
@@ -20,7 +20,7 @@ use Rattle.html_render_conversion.specs.declared.mapping.Mapping.TheVariants.{No
 use Rattle.html_render_conversion.specs.declared.mapping.Outline.TheVariants.{Over}
 use Rattle.html_render_conversion.specs.declared.mapping.Outline.TheVariants as outline
 use Rattle.html_render_conversion.specs.Conversion.{is_preformatted, last_white_space, preformatted_style, own_style, node_style}
-use Rattle.html_render_conversion.specs.Converting.{mark_alone, displayed_outline, styled_outline}
+use Rattle.html_render_conversion.specs.Outlines.{mark_alone, displayed_outline, styled_outline}
 
 pub without_rules : (rules : List StyleRule) (name : Name) (properties : List Property) → length rules ≡ 0 →
     is_preformatted name.space name.local ≡ false → own_style (map rule_of rules) name properties ≡ style_by []
@@ -38,15 +38,14 @@ preformatted style least new e takes =
     (takes before (sym (winner-one style.white_space))
     ∙ ap (λ s. winner (before ++ record last_white_space { specificity = s } ∷ [])) e)
 
-hidden : (kind : NodeKind) (if_empty : IfEmpty) (has_children : Bool) (mark : Option (List ℕ)) (style : ElementStyle) →
+hidden : (kind : ElementKind) (if_empty : IfEmpty) (has_children : Bool) (mark : Option (List ℕ)) (style : ElementStyle) →
     is_some style.display ≡ true → displayed_outline kind if_empty has_children mark style ≡ outline.Nothing
 hidden kind if_empty has_children mark style h =
     ap (λ b. if b then outline.Nothing
-    else Over (record { kind = kind; style = node_style style; estimate = unmeasured }) if_empty has_children mark
-    (value_of style.content_before) (value_of style.content_after)) h
+    else Over kind (node_style style) if_empty has_children mark (value_of style.content_before) (value_of style.content_after)) h
 
 pub not_displayed : (mapping : Mapping) (mark : Option (List ℕ)) (style : ElementStyle) → is_some style.display ≡ true →
     styled_outline mapping mark style ≡ outline.Nothing
 not_displayed Nothing mark style h = ap (λ b. if b then outline.Nothing else mark_alone mark) h
-not_displayed (Leaf kind) mark style h = hidden kind Stands false mark style h
+not_displayed (Leaf kind) mark style h = hidden (Node kind) Stands false mark style h
 not_displayed (Parent kind if_empty) mark style h = hidden kind if_empty true mark style h

@@ -9,10 +9,6 @@ use Rattle.html_render_nodes.specs.declared.tree.ImageParts.{ImageParts}
 
 -- ---- images
 
--- an image of which nothing has been read
-abbrev pub unread : ImageParts
-unread = record { source = []; title = [] }
-
 -- an attribute is read: `alt` is the title and `src` the source, if its value isn't empty, in the place of one read before
 abbrev pub read : Property → ImageParts → ImageParts
 read p image =
@@ -28,7 +24,7 @@ read_all (p ∷ ps) image = if is_filled image.source && is_filled image.title t
 
 -- THE PARTS of an image
 abbrev pub image_parts : List Property → ImageParts
-image_parts properties = read_all properties unread
+image_parts properties = read_all properties (record { source = []; title = [] })
 
 -- ---- drawings
 
@@ -57,8 +53,7 @@ abbrev pub in_last_title : (found : Forest Content) → Forest Content → Fores
 in_last_title found none = found
 in_last_title found (node content below beside) =
     if is_title content then in_last_title below beside
-    else if is_element content then found
-    else in_last_title found beside
+    else if is_element content then found else in_last_title found beside
 
 -- THE TITLE of a drawing over these trees
 abbrev pub drawing_title : Forest Content → List ℕ

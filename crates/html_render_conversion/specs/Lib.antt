@@ -1,4 +1,4 @@
--- a document becomes a render tree
+-- what becomes of each element
 pub mod Insertion
 pub mod Images
 pub mod Marks
@@ -6,5 +6,5 @@ pub mod Tables
 pub mod Conversion
 -- THE DEFINITION of the conversion
 pub mod Results
--- where the code stands on its way
-pub mod Converting
+-- what becomes of a node, its children aside
+pub mod Outlines

@@ -9,22 +9,25 @@ use Rattle.html_render_dom.specs.Content.{Content, document, text, element}
 use Rattle.html_render_dom.specs.Dom.{Dom, tree_of}
 use Rattle.html_render_dom.specs.ElementStyle.{ElementStyle}
 use Rattle.html_render_dom.specs.Rules.{Rule as StyleRule}
+use Rattle.html_render_dom.specs.Selectors.{is_filled}
 use Rattle.html_render_parts.specs.TableCells.{cell_grid_of}
 use Rattle.html_render_parts.specs.declared.table.Span.{Span}
-use Rattle.html_render_nodes.specs.declared.tree.CellSpan.{CellSpan}
+use Rattle.html_render_conversion.specs.declared.tables.CellSpan.{CellSpan}
 use Rattle.html_render_nodes.specs.declared.tree.NodeKind.{NodeKind}
 use Rattle.html_render_nodes.specs.declared.tree.NodeKind.TheVariants.{Text, Container, Break, Block, Div}
 use Rattle.html_render_nodes.specs.declared.tree.NodeKind.TheVariants.{BlockQuote, Ol, ListItem, Dl, Dt, Dd}
-use Rattle.html_render_nodes.specs.declared.tree.NodeKind.TheVariants.{Link, Image, Svg, FragmentStart, Table, TableRow, TableCell, Part}
+use Rattle.html_render_nodes.specs.declared.tree.NodeKind.TheVariants.{Link, Image, Svg, FragmentStart, Table, TableRow, TableCell}
 use Rattle.html_render_nodes.specs.declared.tree.NodeStyle.{NodeStyle}
-use Rattle.html_render_nodes.specs.declared.tree.Part.TheVariants as part
+use Rattle.html_render_conversion.specs.declared.tables.Part.TheVariants as part
 use Rattle.html_render_nodes.specs.declared.tree.RenderNode.{RenderNode}
 use Rattle.html_render_nodes.specs.RenderNodes.{unmeasured, no_style, without_style}
 use Rattle.html_render_nodes.specs.Tables.{TableParts, unmeasured_table}
+use Rattle.html_render_conversion.specs.declared.mapping.ElementKind.{ElementKind}
+use Rattle.html_render_conversion.specs.declared.mapping.ElementKind.TheVariants.{Node, Part}
 use Rattle.html_render_conversion.specs.declared.mapping.Mapping.{Mapping}
 use Rattle.html_render_conversion.specs.declared.mapping.Mapping.TheVariants.{Nothing, Leaf, Parent}
 use Rattle.html_render_conversion.specs.Marks.{mark_of}
-use Rattle.html_render_conversion.specs.Conversion.{element_mapping, own_style, node_style, is_blank, is_item, is_term_or_description, vanishes}
+use Rattle.html_render_conversion.specs.Conversion.{element_mapping, own_style, node_style, is_blank, vanishes}
 use Rattle.html_render_conversion.specs.Tables.{greatest_width, spanned_in}
 use Rattle.html_render_conversion.specs.Insertion.{are_any, text_node, fragment_start}
 
@@ -35,8 +38,7 @@ Nodes = Forest RenderNode
 
 -- what a result is to a table: its caption; rows, which stand behind all others or don't; a row; a cell; or no part of it
 pub data Role : Type 0 where
-  Contents : Role
-  Caption : Role
+  Contents Caption : Role
   Rows : (behind : Bool) → List (List CellSpan) → Role
   Row : List CellSpan → Role
   Cell : CellSpan → Role
@@ -91,10 +93,6 @@ stands_alone _ = false
 abbrev pub of_role : (Role → Bool) → List Result → List Result
 of_role is results = filter (λ r. is r.role) results
 
-abbrev pub has_any : List Result → Bool
-has_any [] = false
-has_any (r ∷ rs) = true
-
 -- the trees of results that stand in no table, or none where a part of one is among them
 abbrev pub trees_of : List Result → Option Nodes
 trees_of results = if list_all (λ r. stands_alone r.role) results then beside results else None
@@ -105,7 +103,7 @@ abbrev pub in_style : NodeStyle → NodeKind → RenderNode
 in_style style kind = record { kind = kind; style = style; estimate = unmeasured }
 
 abbrev pub over : RenderNode → List Result → Result
-over n results = record { role = Contents; node = n; has_children = has_any results; below = trees_of results }
+over n results = record { role = Contents; node = n; has_children = is_filled results; below = trees_of results }
 
 -- a row over its cells
 abbrev pub cell_spans : Role → List CellSpan
@@ -113,12 +111,8 @@ cell_spans (Cell span) = span ∷ []
 cell_spans _ = []
 
 abbrev pub row_over : NodeStyle → (cells : List Result) → Result
-row_over style cells = record {
-  role = Row (flat_map (λ r. cell_spans r.role) cells);
-  node = in_style style TableRow;
-  has_children = has_any cells;
-  below = beside cells;
-}
+row_over style cells =
+    record (over (in_style style TableRow) cells) { role = Row (flat_map (λ r. cell_spans r.role) cells); below = beside cells }
 
 -- rows beside each other
 abbrev pub row_spans : Role → List (List CellSpan)
@@ -126,12 +120,9 @@ row_spans (Row cells) = cells ∷ []
 row_spans _ = []
 
 abbrev pub rows_over : (behind : Bool) → (rows : List Result) → Result
-rows_over behind rows = record {
-  role = Rows behind (flat_map (λ r. row_spans r.role) rows);
-  node = without_style Container;
-  has_children = has_any rows;
-  below = beside rows;
-}
+rows_over behind rows =
+    let spans = flat_map (λ r. row_spans r.role) rows in
+    record (over (without_style Container) rows) { role = Rows behind spans; below = beside rows }
 
 -- ---- tables
 
@@ -163,15 +154,18 @@ captioned style grid captions parts =
 abbrev pub table_of : NodeStyle → (captions parts : List Result) → Option Result
 table_of style captions parts = do
   grid ← option_map unmeasured_table (cell_grid_of (flat_map (λ r. spans_of r.role) parts))
-  Some (if has_any captions then captioned style grid captions parts else table_over style grid parts)
+  Some (if is_filled captions then captioned style grid captions parts else table_over style grid parts)
 
 -- ---- which results a node keeps, and which it counts
 
 -- an ordered list keeps items, and a list of descriptions terms and descriptions
-abbrev pub keeps : (parent : NodeKind) → Result → Bool
-keeps (Ol start) r = is_item r.node.kind
-keeps Dl r = is_term_or_description r.node.kind
-keeps _ r = true
+abbrev pub keeps : (parent child : NodeKind) → Bool
+keeps (Ol start) ListItem = true
+keeps (Ol start) child = false
+keeps Dl Dt = true
+keeps Dl Dd = true
+keeps Dl child = false
+keeps _ child = true
 
 -- whether a node shows nothing, as far as is seen without going into its children
 abbrev pub shows_nothing : NodeKind → (has_children : Bool) → Bool
@@ -187,22 +181,22 @@ abbrev pub is_shallow_empty : Result → Bool
 is_shallow_empty r = stands_alone r.role && shows_nothing r.node.kind r.has_children
 
 -- a link counts what shows something; a table its captions, and rows where there are any
-abbrev pub counts : (parent : NodeKind) → Result → Bool
-counts (Link target) r = not (is_shallow_empty r)
+abbrev pub counts : (parent : ElementKind) → Result → Bool
+counts (Node (Link target)) r = not (is_shallow_empty r)
 counts (Part part.Table) r = is_caption r.role || (r.has_children && (are_rows false r.role || are_rows true r.role))
 counts _ r = true
 
 -- ---- what an element becomes
 
--- a node of a kind over its children's results
-abbrev pub built : NodeKind → NodeStyle → List Result → Option Result
+-- a node of a kind, or a part of a table, over its children's results
+abbrev pub built : ElementKind → NodeStyle → List Result → Option Result
 built (Part part.Table) style results = table_of style (of_role is_caption results) (with_rows results)
 built (Part part.Body) style results = Some (rows_over false (of_role is_row results))
 built (Part part.Foot) style results = Some (rows_over true (of_role is_row results))
 built (Part part.Row) style results = Some (row_over style (of_role is_cell results))
 built (Part (part.Cell span)) style results = Some (record (over (in_style style TableCell) results) { role = Cell span })
 built (Part part.Caption) style results = Some (record (over (in_style style Container) results) { role = Caption })
-built kind style results = Some (over (in_style style kind) (filter (keeps kind) results))
+built (Node kind) style results = Some (over (in_style style kind) (filter (λ r. keeps kind r.node.kind) results))
 
 -- under its mapping; what stands in an element that has no children isn't converted
 abbrev pub mapped : Mapping → NodeStyle → (inside : Option (List Result)) → Option (Option Result)
@@ -217,10 +211,7 @@ mapped (Parent kind if_empty) style inside = do
 
 -- where something is inserted into a result: inside, in the first cell of its first row or of itself, or beside its node
 pub data Insertion : Type 0 where
-  Inside : Insertion
-  FirstRow : Insertion
-  FirstCell : Insertion
-  Beside : Insertion
+  Inside FirstRow FirstCell Beside : Insertion
 
 abbrev pub into_kind : NodeKind → Insertion
 into_kind Container = Inside
@@ -255,12 +246,9 @@ inserted Inside front back r =
     record r { has_children = true; below = option_map (λ t. followed_by front (followed_by t back)) r.below }
 inserted FirstRow front back r = record r { below = option_map (in_first_row front back) r.below }
 inserted FirstCell front back r = record r { below = option_map (in_first_cell front back) r.below }
-inserted Beside front back r = record {
-  role = Contents;
-  node = without_style Container;
-  has_children = true;
-  below = option_map (λ t. followed_by front (node r.node t back)) r.below;
-}
+inserted Beside front back r =
+    let below = option_map (λ t. followed_by front (node r.node t back)) r.below in
+    record { role = Contents; node = without_style Container; has_children = true; below = below }
 
 abbrev pub with_inserted : (front back : Nodes) → Result → Result
 with_inserted front back r = if are_any front || are_any back then inserted (into_role r.role r.node.kind) front back r else r

@@ -9,10 +9,10 @@ ghost use Rattle.html_render_conversion.specs.Conversion.{number_of, start_of};
 ghost use Rattle.html_render_conversion.specs.Marks.{is_anchor, names_mark, mark_of};
 ghost use Rattle.html_render_conversion.specs.Tables.{size_of, size_or_one, span_of};
 
+use crate::tables::CellSpan;
 use html_render_dom::Error;
 use html_render_dom::dom::{Attribute, Namespace, QualName};
 use html_render_nodes::text::NodeText;
-use html_render_nodes::tree::CellSpan;
 use std::alloc::Global;
 
 /// The first attribute of a local name.

@@ -1,10 +1,7 @@
-//! Conversion: the render tree of a document under style rules.
+//! What a node of a document becomes in a render tree, its children aside; and the definition of the whole render tree.
 #![tactic(auto)]
 
 mod attributes;
-pub mod convert;
-mod held;
 mod images;
-mod kinds;
 pub mod mapping;
-mod tables;
+pub mod tables;

@@ -12,18 +12,18 @@ ghost use Rattle.html_render_conversion.specs.Insertion.{text_node};
 ghost use Rattle.html_render_conversion.specs.Marks.{mark_of};
 ghost use Rattle.html_render_conversion.specs.Conversion.{html_mapping, html_element_mapping, element_mapping, link_mapping, image_mapping};
 ghost use Rattle.html_render_conversion.specs.Conversion.{is_preformatted, preformatted_style, own_style, node_style};
-ghost use Rattle.html_render_conversion.specs.Converting.{mark_alone, styled_outline, outline_at};
+ghost use Rattle.html_render_conversion.specs.Outlines.{mark_alone, styled_outline, outline_at};
 
 use crate::attributes::{first_value, mark_of, span_of, start_of};
-use crate::held::OpenNode;
 use crate::images::{drawing_title, image_parts};
+use crate::tables::Part;
 use html_render_dom::Error;
 use html_render_dom::dom::{Attribute, Handle, Namespace, NodeData, QualName, RcDom};
 use html_render_dom::style::{
     ComputedStyle, Specificity, StyleOrigin, StyleRule, WhiteSpace, WithSpec, computed_style,
 };
 use html_render_nodes::text::NodeText;
-use html_render_nodes::tree::{Emphasis, Image, NodeKind, NodeStyle, Part, RenderNode};
+use html_render_nodes::tree::{Emphasis, Image, NodeKind, NodeStyle, RenderNode};
 use std::alloc::Global;
 
 /// What becomes of an element whose children have no results that count.
@@ -35,6 +35,15 @@ pub enum IfEmpty {
     Vanishes,
 }
 
+/// What an element becomes that stands over what its children become.
+#[derive(Drop)]
+pub enum ElementKind {
+    /// A node of this kind.
+    Node(NodeKind),
+    /// A part of a table.
+    Part(Part),
+}
+
 /// What becomes of an element, its style aside.
 #[derive(Drop)]
 pub enum Mapping {
@@ -42,8 +51,8 @@ pub enum Mapping {
     Nothing,
     /// A node without children; what stands in it isn't converted.
     Leaf(NodeKind),
-    /// A node over what its children become.
-    Parent(NodeKind, IfEmpty),
+    /// A node, or a part of a table, over what its children become.
+    Parent(ElementKind, IfEmpty),
 }
 
 /// What becomes of a node of a document, its children aside.
@@ -53,10 +62,12 @@ pub enum Outline {
     Nothing,
     /// A node alone.
     Alone(RenderNode),
-    /// A node over what its children become, with a mark and a content before these and a content behind them.
+    /// An element over what its children become, with a mark and a content before these and a content behind them.
     Over {
-        /// The node.
-        node: OpenNode,
+        /// What it becomes.
+        kind: ElementKind,
+        /// What its style gives its node.
+        style: NodeStyle,
         /// What becomes of it if its children have no results that count.
         if_empty: IfEmpty,
         /// Whether what stands in it is converted.
@@ -70,46 +81,64 @@ pub enum Outline {
     },
 }
 
+/// A node over what its children become, where these have results that count.
+fn vanishing(kind: NodeKind) -> Mapping
+    ensures { result ≡ Mapping.Parent (ElementKind.Node kind) IfEmpty.Vanishes }
+{
+    Mapping::Parent(ElementKind::Node(kind), IfEmpty::Vanishes)
+}
+
+/// A node over what its children become.
+fn standing(kind: NodeKind) -> Mapping
+    ensures { result ≡ Mapping.Parent (ElementKind.Node kind) IfEmpty.Stands }
+{
+    Mapping::Parent(ElementKind::Node(kind), IfEmpty::Stands)
+}
+
+/// A part of a table.
+fn table_part(part: Part, if_empty: IfEmpty) -> Mapping
+    ensures { result ≡ Mapping.Parent (ElementKind.Part part) if_empty }
+{
+    Mapping::Parent(ElementKind::Part(part), if_empty)
+}
+
 /// What becomes of an element of HTML whose node holds no text, by its local name and its attributes. Cells and rows, of which
 /// there are most in a long table, are looked for first.
 fn html_mapping(name: &str, attributes: &[Attribute]) -> Mapping
     ensures { result ≡ html_mapping name.now (map property_of attributes.now) }
 {
     match name {
-        "td" | "th" => Mapping::Parent(
-            NodeKind::Part(Part::Cell(span_of(attributes))),
-            IfEmpty::Stands,
-        ),
-        "tr" => Mapping::Parent(NodeKind::Part(Part::Row), IfEmpty::Stands),
-        "p" => Mapping::Parent(NodeKind::Block, IfEmpty::Vanishes),
-        "pre" => Mapping::Parent(NodeKind::Block, IfEmpty::Stands),
-        "li" => Mapping::Parent(NodeKind::ListItem, IfEmpty::Stands),
-        "em" | "i" | "ins" => Mapping::Parent(NodeKind::Emphasis(Emphasis::Em), IfEmpty::Stands),
-        "strong" | "b" => Mapping::Parent(NodeKind::Emphasis(Emphasis::Strong), IfEmpty::Stands),
-        "code" => Mapping::Parent(NodeKind::Emphasis(Emphasis::Code), IfEmpty::Stands),
+        "td" | "th" => table_part(Part::Cell(span_of(attributes)), IfEmpty::Stands),
+        "tr" => table_part(Part::Row, IfEmpty::Stands),
+        "p" => vanishing(NodeKind::Block),
+        "pre" => standing(NodeKind::Block),
+        "li" => standing(NodeKind::ListItem),
+        "em" | "i" | "ins" => standing(NodeKind::Emphasis(Emphasis::Em)),
+        "strong" | "b" => standing(NodeKind::Emphasis(Emphasis::Strong)),
+        "code" => standing(NodeKind::Emphasis(Emphasis::Code)),
         "br" => Mapping::Leaf(NodeKind::Break),
-        "div" => Mapping::Parent(NodeKind::Div, IfEmpty::Vanishes),
-        "ul" => Mapping::Parent(NodeKind::Ul, IfEmpty::Vanishes),
-        "ol" => Mapping::Parent(NodeKind::Ol(start_of(attributes)), IfEmpty::Vanishes),
-        "h1" => Mapping::Parent(NodeKind::Header(1), IfEmpty::Stands),
-        "h2" => Mapping::Parent(NodeKind::Header(2), IfEmpty::Stands),
-        "h3" => Mapping::Parent(NodeKind::Header(3), IfEmpty::Stands),
-        "h4" => Mapping::Parent(NodeKind::Header(4), IfEmpty::Stands),
-        "h5" => Mapping::Parent(NodeKind::Header(5), IfEmpty::Stands),
-        "h6" => Mapping::Parent(NodeKind::Header(6), IfEmpty::Stands),
-        "blockquote" => Mapping::Parent(NodeKind::BlockQuote, IfEmpty::Vanishes),
-        "s" | "del" => Mapping::Parent(NodeKind::Strikeout, IfEmpty::Stands),
-        "sup" => Mapping::Parent(NodeKind::Superscript, IfEmpty::Stands),
-        "dl" => Mapping::Parent(NodeKind::Dl, IfEmpty::Vanishes),
-        "dt" => Mapping::Parent(NodeKind::Dt, IfEmpty::Stands),
-        "dd" => Mapping::Parent(NodeKind::Dd, IfEmpty::Stands),
-        "table" => Mapping::Parent(NodeKind::Part(Part::Table), IfEmpty::Vanishes),
-        "thead" | "tbody" => Mapping::Parent(NodeKind::Part(Part::Body), IfEmpty::Vanishes),
-        "tfoot" => Mapping::Parent(NodeKind::Part(Part::Foot), IfEmpty::Vanishes),
-        "caption" => Mapping::Parent(NodeKind::Part(Part::Caption), IfEmpty::Vanishes),
-        "html" | "body" => Mapping::Parent(NodeKind::Container, IfEmpty::Stands),
+        "div" => vanishing(NodeKind::Div),
+        "ul" => vanishing(NodeKind::Ul),
+        "ol" => vanishing(NodeKind::Ol(start_of(attributes))),
+        "h1" => standing(NodeKind::Header(1)),
+        "h2" => standing(NodeKind::Header(2)),
+        "h3" => standing(NodeKind::Header(3)),
+        "h4" => standing(NodeKind::Header(4)),
+        "h5" => standing(NodeKind::Header(5)),
+        "h6" => standing(NodeKind::Header(6)),
+        "blockquote" => vanishing(NodeKind::BlockQuote),
+        "s" | "del" => standing(NodeKind::Strikeout),
+        "sup" => standing(NodeKind::Superscript),
+        "dl" => vanishing(NodeKind::Dl),
+        "dt" => standing(NodeKind::Dt),
+        "dd" => standing(NodeKind::Dd),
+        "table" => table_part(Part::Table, IfEmpty::Vanishes),
+        "thead" | "tbody" => table_part(Part::Body, IfEmpty::Vanishes),
+        "tfoot" => table_part(Part::Foot, IfEmpty::Vanishes),
+        "caption" => table_part(Part::Caption, IfEmpty::Vanishes),
+        "html" | "body" => standing(NodeKind::Container),
         "head" | "link" | "meta" | "hr" | "script" | "style" => Mapping::Nothing,
-        _ => Mapping::Parent(NodeKind::Container, IfEmpty::Vanishes),
+        _ => vanishing(NodeKind::Container),
     }
 }
 
@@ -121,9 +150,9 @@ fn link_mapping(alloc: Global, attributes: &[Attribute]) -> Result<Mapping, Erro
     match first_value(attributes, "href") {
         Some(target) => {
             let target = NodeText::from_str(alloc, target)?;
-            Ok(Mapping::Parent(NodeKind::Link(target), IfEmpty::Vanishes))
+            Ok(vanishing(NodeKind::Link(target)))
         }
-        None => Ok(Mapping::Parent(NodeKind::Container, IfEmpty::Stands)),
+        None => Ok(standing(NodeKind::Container)),
     }
 }
 
@@ -185,7 +214,7 @@ fn element_mapping(
             let title = drawing_title(alloc, dom, element)?;
             Ok(Mapping::Leaf(NodeKind::Svg(title)))
         }
-        _ => Ok(Mapping::Parent(NodeKind::Container, IfEmpty::Vanishes)),
+        _ => Ok(vanishing(NodeKind::Container)),
     }
 }
 
@@ -251,14 +280,12 @@ fn styled_outline(mapping: Mapping, mark: Option<NodeText>, style: ComputedStyle
     }
     let (kind, if_empty, has_children) = match mapping {
         Mapping::Nothing => return mark_alone(mark),
-        Mapping::Leaf(kind) => (kind, IfEmpty::Stands, false),
+        Mapping::Leaf(kind) => (ElementKind::Node(kind), IfEmpty::Stands, false),
         Mapping::Parent(kind, if_empty) => (kind, if_empty, true),
     };
     Outline::Over {
-        node: OpenNode {
-            kind,
-            style: node_style(&style),
-        },
+        kind,
+        style: node_style(&style),
         if_empty,
         has_children,
         mark,
@@ -273,11 +300,12 @@ fn unstyled_outline(mapping: Mapping, mark: Option<NodeText>) -> Outline
 {
     let (kind, if_empty, has_children) = match mapping {
         Mapping::Nothing => return mark_alone(mark),
-        Mapping::Leaf(kind) => (kind, IfEmpty::Stands, false),
+        Mapping::Leaf(kind) => (ElementKind::Node(kind), IfEmpty::Stands, false),
         Mapping::Parent(kind, if_empty) => (kind, if_empty, true),
     };
     Outline::Over {
-        node: OpenNode::from(kind),
+        kind,
+        style: NodeStyle::default(),
         if_empty,
         has_children,
         mark,
@@ -342,7 +370,8 @@ pub fn outline_of(
 {
     match dom.data(node) {
         NodeData::Document => Ok(Outline::Over {
-            node: OpenNode::from(NodeKind::Container),
+            kind: ElementKind::Node(NodeKind::Container),
+            style: NodeStyle::default(),
             if_empty: IfEmpty::Stands,
             has_children: true,
             mark: None,

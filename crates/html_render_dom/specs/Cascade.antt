@@ -1,6 +1,6 @@
 -- Which of several updates of a property wins, as CSS Cascading and Inheritance Level 3, section 6, has it: importance
 -- and origin decide first, then specificity, then the order of appearance.
-use Rattle.std.specs.Prelude.{ℕ, Bool, true, false, List, Option, None, option_map, filter}
+use Rattle.std.specs.Prelude.{ℕ, ◌-◌, Bool, List, Option, None, option_map, filter, if◌then◌else◌}
 use Rattle.std.specs.declared.cmp.Ordering.{Ordering}
 use Rattle.std.specs.Ordering.{is_le, nat_cmp, bool_cmp, on, then_cmp}
 use Rattle.std.specs.List.{list_all, last_or}
@@ -10,16 +10,16 @@ use Rattle.html_render_dom.specs.declared.style.specificities.Specificity.{Speci
 use Rattle.html_render_dom.specs.declared.style.updates.Update.{Update}
 use Rattle.html_render_dom.specs.Specificities.{specificity_cmp}
 
--- normal declarations of a later origin win, and important ones of an earlier origin
+-- normal declarations of a later origin win
+abbrev pub normal_rank : StyleOrigin → ℕ
+normal_rank origin.None = 0
+normal_rank origin.Agent = 1
+normal_rank origin.User = 2
+normal_rank origin.Author = 3
+
+-- and important ones of an earlier origin
 abbrev pub rank_of : (important : Bool) → StyleOrigin → ℕ
-rank_of false origin.None = 0
-rank_of false origin.Agent = 1
-rank_of false origin.User = 2
-rank_of false origin.Author = 3
-rank_of true origin.Author = 0
-rank_of true origin.User = 1
-rank_of true origin.Agent = 2
-rank_of true origin.None = 3
+rank_of important origin = if important then 3 - normal_rank origin else normal_rank origin
 
 -- what decides between two updates, the order of appearance aside
 pub record Key : Type 0 where

@@ -4,7 +4,7 @@ use Rattle.std.specs.Prelude.{◌≡◌, ℕ, zero, suc, ◌<◌, Bool, true, fa
 use Rattle.std.specs.List.{IsDistinct}
 use Rattle.html_render_dom.specs.declared.dom.settings.QuirksMode.{QuirksMode}
 use Rattle.html_render_dom.specs.declared.dom.settings.QuirksMode.TheVariants.{NoQuirks}
-use Rattle.html_render_dom.specs.Content.{Content, document, doctype, text, comment, element, instruction}
+use Rattle.html_render_dom.specs.Content.{Content, document, element}
 use Rattle.html_render_dom.specs.Elements.{contents_in}
 use Rattle.html_render_values.specs.Forest.{Forest, none, node}
 
@@ -48,12 +48,8 @@ empty_dom = record { nodes = lone document ∷ []; messages = []; mode = NoQuirk
 
 -- an element's content
 abbrev pub is_element : Content → Bool
-is_element document = false
-is_element (doctype name public_id system_id) = false
-is_element (text contents) = false
-is_element (comment contents) = false
 is_element (element name properties template_contents integration_point) = true
-is_element (instruction target contents) = false
+is_element _ = false
 
 abbrev pub IsElement : Content → Type 0
 IsElement c = IsTrue (is_element c)

@@ -60,8 +60,7 @@ content_after_in _ _ = None
 -- the update of a property that a declaration makes, if it is one of that property
 abbrev pub update_by : {T : Type 0} → (Option PseudoElement → StyleValue → Option T) → Applied → Option (Update T)
 update_by property a =
-    option_map
-    (λ x. record { important = a.declared.important; origin = a.origin; specificity = a.specificity; value = x })
+    option_map (λ x. record { important = a.declared.important; origin = a.origin; specificity = a.specificity; value = x })
     (property a.pseudo a.declared.style)
 
 -- the updates of a property, in order

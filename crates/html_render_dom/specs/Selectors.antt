@@ -1,7 +1,8 @@
 -- Which elements a rule selects, and how specific it is: CSS Selectors Level 3, sections 6.1, 6.2, 6.4, 6.5 and 9.
-use Rattle.std.specs.Prelude.{ℕ, ◌+◌, min, Bool, true, false, ◌&&◌, List, [], ◌∷◌, length, Option, Some, None, option_map, is_some, filter, find}
+use Rattle.std.specs.Prelude.{ℕ, ◌+◌, min, Bool, true, false, ◌&&◌, List, [], ◌∷◌, length, Option, Some, None, option_map, filter, find}
 use Rattle.std.specs.List.{list_any, list_all, slice_split}
 use Rattle.std.specs.Char.{is_ascii_whitespace}
+use Rattle.std.specs.Option.{option_len}
 use Rattle.std.specs.Str.{bytes_eq}
 use Rattle.html_render_dom.specs.declared.style.specificities.Specificity.{Specificity}
 use Rattle.html_render_dom.specs.Content.{Property}
@@ -11,8 +12,8 @@ use Rattle.html_render_dom.specs.Rules.{Rule}
 abbrev pub first_value : (name : List ℕ) → List Property → Option (List ℕ)
 first_value name properties = option_map (λ p. p.value) (find (λ p. bytes_eq p.name.local name) properties)
 
--- whether a text has a character
-abbrev pub is_filled : List ℕ → Bool
+-- whether a list has an item, as a text that has a character
+abbrev pub is_filled : {X : Type 0} → List X → Bool
 is_filled [] = false
 is_filled (c ∷ cs) = true
 
@@ -46,11 +47,7 @@ selects rule subject =
 abbrev pub specificity_of : Rule → Specificity
 specificity_of rule = record {
   inline = false;
-  id = counted (is_some rule.id);
+  id = option_len rule.id;
   class = min (length rule.classes) 65535;
-  typ = counted (is_some rule.element) + counted (is_some rule.pseudo);
+  typ = option_len rule.element + option_len rule.pseudo;
 }
-  where
-    counted : Bool → ℕ
-    counted true = 1
-    counted false = 0

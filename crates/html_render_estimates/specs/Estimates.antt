@@ -99,12 +99,9 @@ module _ {D A : Type 0} (decoration : Decoration D A) (decorator : D) where
     estimate_of (Table grid) children = table_estimate (columns_of grid.cells) (cell_needs grid.cells.rows children) (trees children)
     estimate_of kind children =
         let prefix = prefix_of kind (trees children) in
-        record {
-          least = saturated (greatest_least children + prefix);
-          size = saturated (total_size children + prefix);
-          prefix = prefix;
-          children = trees children;
-        }
+        let least = saturated (greatest_least children + prefix) in
+        let size = saturated (total_size children + prefix) in
+        record { least = least; size = size; prefix = prefix; children = trees children }
 
     -- a node over its measured children
     abbrev pub measured_node : RenderNode → (children : Forest RenderNode) → RenderNode

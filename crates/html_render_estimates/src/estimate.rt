@@ -109,8 +109,7 @@ fn prefix_of<D: TextDecorator>(
         | NodeKind::FragmentStart(_)
         | NodeKind::Table(_)
         | NodeKind::TableRow
-        | NodeKind::TableCell
-        | NodeKind::Part(_) => Ok(0),
+        | NodeKind::TableCell => Ok(0),
     }
 }
 

@@ -1,15 +1,15 @@
 -- What the lines of a layout keep of the texts of its tree.
-use Rattle.std.specs.Prelude.{ℕ, ◌≤◌, Bool, false, not, List, [], ◌∷◌, ◌++◌, if◌then◌else◌}
+use Rattle.std.specs.Prelude.{ℕ, ◌≤◌, Bool, false, not, List, [], flat_map}
 use Rattle.std.specs.Option.{is_some}
 use Rattle.std.specs.Str.{chars}
-use Rattle.html_render_values.specs.Forest.{Forest, none, node}
+use Rattle.html_render_values.specs.Forest.{Forest}
 use Rattle.html_render_parts.specs.Decoration.{Decoration}
 use Rattle.html_render_lines.specs.Line.{Line}
 use Rattle.html_render_lines.specs.Visible.{visible_in_lines}
 use Rattle.html_render_nodes.specs.declared.tree.NodeKind.{NodeKind}
 use Rattle.html_render_nodes.specs.declared.tree.NodeKind.TheVariants.{Text}
 use Rattle.html_render_nodes.specs.declared.tree.RenderNode.{RenderNode}
-use Rattle.html_render_nodes.specs.Pass.{Steps, Inside, run, from}
+use Rattle.html_render_nodes.specs.Pass.{unskipped}
 use Rattle.html_render_blocks.specs.Block as definition
 use Rattle.html_render_blocks.specs.Operations.{Operations}
 use Rattle.html_render_blocks.specs.Visible.{text_count}
@@ -25,15 +25,6 @@ abbrev pub skips : {S K T B : Type 0} → Operations B T → LayoutState S K T B
 skips o s Cells = not (is_some (o.cell_block s.block))
 skips o s _ = false
 
--- THE NODES that a run visits and doesn't skip, in order: a node; those below it, where they are asked for; and those beside
--- it, in the state behind it
-abbrev pub unskipped : {K S : Type 0} → (skipped : S → Bool) → Steps K S → Inside K S → Forest K → S → List K
-unskipped skipped steps inside none s = []
-unskipped skipped steps inside (node k children beside) s =
-    (if skipped s then [] else k ∷ [])
-    ++ (from (λ q. unskipped skipped steps inside children q) (inside k children s)
-    ++ from (λ t. unskipped skipped steps inside beside t) (steps k children (λ q. run steps children q) s))
-
 -- the nodes that a layout visits, in order, without the cells that it skips
 abbrev pub visited_nodes : {S A : Type 0} → Decoration S A → LayoutSettings → Forest RenderNode → S → (width : ℕ) → (overflow : Bool) → List RenderNode
 visited_nodes {S} {A} d settings t decorator width overflow =
@@ -47,8 +38,7 @@ node_characters _ = []
 
 -- the characters of the texts among these nodes, in order
 abbrev pub text_characters : List RenderNode → List ℕ
-text_characters [] = []
-text_characters (n ∷ ns) = node_characters n.kind ++ text_characters ns
+text_characters nodes = flat_map (λ n. node_characters n.kind) nodes
 
 -- each visible character stands in the lines as often as in the texts among these nodes, or more often
 abbrev pub KeepsTexts : {T M : Type 0} → List RenderNode → List (Line T M) → Type 0

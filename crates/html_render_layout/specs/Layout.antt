@@ -23,7 +23,7 @@ use Rattle.html_render_nodes.specs.declared.tree.NodeKind.{NodeKind}
 use Rattle.html_render_nodes.specs.declared.tree.NodeKind.TheVariants.{Text, Container, Break, Block, Div, Emphasis}
 use Rattle.html_render_nodes.specs.declared.tree.NodeKind.TheVariants.{Header, BlockQuote, Ul, Ol, ListItem, Dl, Dt, Dd}
 use Rattle.html_render_nodes.specs.declared.tree.NodeKind.TheVariants.{Strikeout, Superscript, Link, Image, Svg, FragmentStart, Table, TableRow}
-use Rattle.html_render_nodes.specs.declared.tree.NodeKind.TheVariants.{TableCell, Part}
+use Rattle.html_render_nodes.specs.declared.tree.NodeKind.TheVariants.{TableCell}
 use Rattle.html_render_nodes.specs.declared.tree.NodeStyle.{NodeStyle}
 use Rattle.html_render_nodes.specs.declared.tree.Estimate.{Estimate}
 use Rattle.html_render_nodes.specs.declared.tree.RenderNode.{RenderNode}
@@ -385,7 +385,6 @@ module _ {S A K T B : Type 0} (d : Decoration S A) (push : K → T → A → K �
     r ← among Cells children (row_begun o s)
     on_block o.end_row r
   kind_steps TableCell e trees children s = children s
-  kind_steps (Part part) e trees children s = children s
 
   -- and each node: its kind, in its style
   abbrev pub node_steps : Steps RenderNode (LayoutState S K T B)
@@ -427,7 +426,6 @@ module _ {S A K T B : Type 0} (d : Decoration S A) (push : K → T → A → K �
   kind_inside (Table grid) e trees s = table_begun o grid.cells grid.needs s
   kind_inside TableRow e trees s = Some (record (row_begun o s) { around = Cells })
   kind_inside TableCell e trees s = Some s
-  kind_inside (Part part) e trees s = Some s
 
   abbrev pub node_inside : RenderNode → Forest RenderNode → LayoutState S K T B → Option (LayoutState S K T B)
   node_inside n trees s = kind_inside n.kind n.estimate trees (in_style d push n.style s)

@@ -12,7 +12,7 @@ use Rattle.html_render_nodes.specs.declared.tree.NodeKind.{NodeKind}
 use Rattle.html_render_nodes.specs.declared.tree.NodeKind.TheVariants.{Text, Container, Break, Block, Div, Emphasis}
 use Rattle.html_render_nodes.specs.declared.tree.NodeKind.TheVariants.{Header, BlockQuote, Ul, Ol, ListItem, Dl, Dt, Dd}
 use Rattle.html_render_nodes.specs.declared.tree.NodeKind.TheVariants.{Strikeout, Superscript, Link, Image, Svg, FragmentStart, Table, TableRow}
-use Rattle.html_render_nodes.specs.declared.tree.NodeKind.TheVariants.{TableCell, Part}
+use Rattle.html_render_nodes.specs.declared.tree.NodeKind.TheVariants.{TableCell}
 use Rattle.html_render_nodes.specs.declared.tree.RenderNode.{RenderNode}
 use Rattle.html_render_parts.specs.TableCells.{CellGrid}
 use Rattle.html_render_nodes.specs.Pass.{Way, Into, Past, past}
@@ -199,7 +199,6 @@ module _ {S A K T B : Type 0} (d : Decoration S A) (push : K → T → A → K �
   kind_opened (Table grid) e trees s = table_opened grid.cells grid.needs s
   kind_opened TableRow e trees s = row_opened s
   kind_opened TableCell e trees s = Some (Into s Nothing)
-  kind_opened (Part part) e trees s = Some (Into s Nothing)
 
   -- what each does once its children are laid out
   abbrev pub kind_closed : KindClosing S T B → LayoutState S K T B → Option (LayoutState S K T B)

@@ -1,5 +1,5 @@
 -- The characters that can be seen, in what a paragraph is fed and in its lines.
-use Rattle.std.specs.Prelude.{ℕ, Bool, not, ◌||◌, ◌==◌, List, [], ◌∷◌, ◌++◌, if◌then◌else◌}
+use Rattle.std.specs.Prelude.{ℕ, Bool, not, ◌||◌, ◌==◌, List, [], ◌∷◌, ◌++◌, flat_map, if◌then◌else◌}
 use Rattle.std.specs.Char.{is_whitespace}
 use Rattle.html_render_lines.specs.declared.character.Item.{Item}
 use Rattle.html_render_lines.specs.declared.character.Item.TheVariants as item
@@ -29,5 +29,4 @@ visible_in_line (element.Mark m ∷ es) = visible_in_line es
 
 -- the visible characters of lines, line by line
 abbrev pub visible_in_lines : {T M : Type 0} → List (Line T M) → List ℕ
-visible_in_lines [] = []
-visible_in_lines (l ∷ ls) = visible_in_line l ++ visible_in_lines ls
+visible_in_lines {T} {M} lines = flat_map (λ (l : Line T M). visible_in_line l) lines

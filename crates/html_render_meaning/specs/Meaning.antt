@@ -3,6 +3,7 @@
 -- the next character of one that is cut, or where the text ends. No line passes the width but one of a single character,
 -- with overflow on. A word is cut only where it begins a line and is wider than it, into longest fronts.
 use Rattle.std.specs.Prelude.{◌≡◌, ℕ, ◌+◌, ◌-◌, ◌%◌, ◌≤◌, ◌<◌, ◌⊎◌, Bool, true, false, List, [], ◌∷◌, ◌++◌, Option, Some, None, map, replicate}
+use Rattle.std.specs.Option.{option_or}
 use Rattle.html_render_lines.specs.declared.character.Kind.{Kind}
 use Rattle.html_render_lines.specs.declared.character.Kind.TheVariants.{Preserved, Newline, Tab, SoftSpace, SoftTab}
 use Rattle.html_render_lines.specs.declared.character.Character.{Character}
@@ -10,7 +11,7 @@ use Rattle.html_render_lines.specs.declared.character.Item.{Item}
 use Rattle.html_render_lines.specs.declared.character.Item.TheVariants as item
 use Rattle.html_render_lines.specs.declared.line.Element.TheVariants as element
 use Rattle.html_render_lines.specs.Line.{Line, columns}
-use Rattle.html_render_paragraphs.specs.Paragraph.{Piece, Word, Gap, Cut, Single, Loose, pieces, Setting, first_of}
+use Rattle.html_render_paragraphs.specs.Paragraph.{Piece, Word, Gap, Cut, Single, Loose, pieces, Setting}
 use Rattle.html_render_lines.specs.Character.{tag_on}
 use Rattle.html_render_paragraphs.specs.Word.{line_with_word, marks_behind_word}
 
@@ -57,7 +58,7 @@ with_between (Some c) k ps = Between c ∷ ps
 abbrev pub parts : {T M : Type 0} → Option (Character T) → List (Piece T M) → List (Part T M)
 parts space [] = []
 parts space (Word k word ∷ ps) = Whole space word ∷ parts None ps
-parts space (Gap c ∷ ps) = parts (first_of space c) ps
+parts space (Gap c ∷ ps) = parts (option_or space (Some c)) ps
 parts space (Cut ∷ ps) = parts space ps
 parts space (Single k c ∷ ps) = with_between space k (with_single k c (parts None ps))
 parts space (Loose m ∷ ps) = Marked m ∷ parts space ps

@@ -1,4 +1,3 @@
-pub mod Building
 pub mod Copies
 pub mod Walking
 mod Depths

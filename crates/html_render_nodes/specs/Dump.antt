@@ -5,8 +5,7 @@ use Rattle.html_render_nodes.specs.declared.tree.Emphasis.TheVariants.{Em, Stron
 use Rattle.html_render_nodes.specs.declared.tree.NodeKind.{NodeKind}
 use Rattle.html_render_nodes.specs.declared.tree.NodeKind.TheVariants.{Text, Container, Break, Block, Div, Emphasis, Header, BlockQuote, Ul}
 use Rattle.html_render_nodes.specs.declared.tree.NodeKind.TheVariants.{Ol, ListItem, Dl, Dt, Dd, Strikeout, Superscript, Link, Image, Svg}
-use Rattle.html_render_nodes.specs.declared.tree.NodeKind.TheVariants.{FragmentStart, Table, TableRow, TableCell, Part}
-use Rattle.html_render_nodes.specs.declared.tree.Part.TheVariants as part
+use Rattle.html_render_nodes.specs.declared.tree.NodeKind.TheVariants.{FragmentStart, Table, TableRow, TableCell}
 use Rattle.html_render_nodes.specs.declared.tree.RenderNode.{RenderNode}
 
 -- what a node of a kind is called
@@ -36,12 +35,6 @@ kind_name (FragmentStart name) = codes "FragStart"
 kind_name (Table grid) = codes "Table"
 kind_name TableRow = codes "TableRow"
 kind_name TableCell = codes "TableCell"
-kind_name (Part part.Table) = codes "Table"
-kind_name (Part part.Body) = codes "TableBody"
-kind_name (Part part.Foot) = codes "TableBody"
-kind_name (Part part.Row) = codes "TableRow"
-kind_name (Part (part.Cell span)) = codes "TableCell"
-kind_name (Part part.Caption) = codes "Container"
 
 -- a name behind so many spaces, and a line feed
 abbrev pub line : (depth : ℕ) → (name : List ℕ) → List ℕ

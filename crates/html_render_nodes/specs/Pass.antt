@@ -1,5 +1,5 @@
 -- What a pass over a forest computes, step by step, and which nodes it visits.
-use Rattle.std.specs.Prelude.{◌≡◌, ℕ, ◌+◌, max, List, [], ◌∷◌, ◌++◌, Option, Some, None}
+use Rattle.std.specs.Prelude.{◌≡◌, ℕ, ◌+◌, max, Bool, false, List, [], ◌∷◌, ◌++◌, Option, Some, None, if◌then◌else◌}
 use Rattle.html_render_values.specs.Forest.{Forest, none, node}
 use Rattle.html_render_values.specs.Outcome.{◌>>=◌}
 
@@ -36,13 +36,18 @@ abbrev pub from : {K S : Type 0} → (S → List K) → Option S → List K
 from visits None = []
 from visits (Some t) = visits t
 
--- THE NODES that a run visits, in order: a node; those below it, where they are asked for; and those beside it, in the
--- state behind it
+-- THE NODES that a run visits and doesn't skip, in order: a node; those below it, where they are asked for; and those beside
+-- it, in the state behind it
+abbrev pub unskipped : {K S : Type 0} → (skipped : S → Bool) → Steps K S → Inside K S → Forest K → S → List K
+unskipped skipped steps inside none s = []
+unskipped skipped steps inside (node k children beside) s =
+    (if skipped s then [] else k ∷ [])
+    ++ (from (λ q. unskipped skipped steps inside children q) (inside k children s)
+    ++ from (λ t. unskipped skipped steps inside beside t) (steps k children (λ q. run steps children q) s))
+
+-- THE NODES that it visits: all of these, where none is skipped
 abbrev pub visited : {K S : Type 0} → Steps K S → Inside K S → Forest K → S → List K
-visited steps inside none s = []
-visited steps inside (node k children beside) s =
-    k ∷ (from (λ q. visited steps inside children q) (inside k children s)
-    ++ from (λ t. visited steps inside beside t) (steps k children (λ q. run steps children q) s))
+visited steps inside trees s = unskipped (λ q. false) steps inside trees s
 
 -- what is counted from a state on, if there is one
 abbrev pub count_from : {S : Type 0} → (S → ℕ) → Option S → ℕ

@@ -1,6 +1,6 @@
 -- A forest that grew at the front: the trees that came since, and those that stood before.
 use Rattle.std.specs.Prelude.{ℕ, ◌≡◌, List, reverse}
-use Rattle.html_render_values.specs.Forest.{Forest, node, count, followed_by}
+use Rattle.html_render_values.specs.Forest.{Forest, count, followed_by}
 use Rattle.html_render_nodes.specs.declared.tree.Entry.{Entry}
 use Rattle.html_render_nodes.specs.Preorder.{flatten}
 
@@ -15,12 +15,3 @@ pub record SplitAt {K : Type 0} (t : Forest K) (mark : ℕ) : Type 0 where
 pub record Reversed {K : Type 0} (es : List (Entry K)) : Type 0 where
   pub trees : Forest K
   pub is : es ≡ reverse (flatten trees)
-
--- a forest parted at its first tree: its node, and the nodes below it and those of the trees beside it, each from the last to
--- the first
-pub record FirstTree {K : Type 0} (t : Forest K) (first : K) (under after : List (Entry K)) : Type 0 where
-  pub below : Forest K
-  pub beside : Forest K
-  pub is : t ≡ node first below beside
-  pub below_is : under ≡ reverse (flatten below)
-  pub beside_is : after ≡ reverse (flatten beside)

@@ -5,4 +5,3 @@ pub mod Visits
 pub mod Counts
 pub mod Agree
 pub mod Images
-pub mod Growth

@@ -1,13 +1,7 @@
 //! Render trees: trees beside each other, in one vector in pre-order.
-//!
-//! [`Builder`] makes them from the last node to the first: after `put(b)`, `put(a)` and `enclose(c, 0)` it holds
-//! one tree, the node `c` over `a` and `b`, and `finish` gives the [`Flat`] of it, whose nodes are `c`, `a`, `b`.
 
-ghost use Rattle.std.specs.Prelude.{◌≡◌, ◌↔◌, IsTrue, OnOk, OnErr, IfOk, IfErr, IfSome, IfNone, ℕ, reverse};
-ghost use Rattle.html_render_values.specs.Forest as forest;
-ghost use Rattle.html_render_values.specs.Forest.{none, count};
+ghost use Rattle.std.specs.Prelude.{◌≡◌, IfOk, IfErr};
 ghost use Rattle.html_render_nodes.specs.Preorder.{flatten, forest_of};
-ghost use Rattle.html_render_nodes.specs.Splits.{SplitAt, Reversed, FirstTree};
 ghost use Rattle.html_render_nodes.specs.Tables.{unmeasured_table};
 
 use crate::text::NodeText;
@@ -76,136 +70,6 @@ impl<N> Flat<N> {
     }
 }
 
-/// Trees beside each other that grow at the front, from the last node to the first.
-#[derive(Drop)]
-pub struct Builder<N> {
-    /// The entries in reverse: the last node of the trees comes first.
-    entries: Vec<Entry<N>>,
-}
-
-impl<N> Model for Builder<N> {
-    ghost use Rattle.std.specs.Prelude.{◌≡◌, List, reverse};
-    ghost use Rattle.std.specs.Coded.{codes, code_by, coded_list};
-    ghost use Rattle.html_render_values.specs.Forest.{Forest};
-    ghost use Rattle.html_render_nodes.specs.declared.tree.Entry.{Entry};
-    ghost use Rattle.html_render_nodes.specs.Preorder.{forest_of, flatten};
-    ghost use Rattle.html_render_nodes.specs.laws.Preorder.{forest_of-flatten};
-
-    ghost Value = { Forest N };
-
-    ghost coded = { code_by (List (Entry N)) (coded_list (Prim.hlevel (codes, N.code))) flatten forest_of forest_of-flatten };
-
-    ghost view = { λ b. forest_of (reverse b.entries.items) };
-
-    ghost invariant = { λ b. flatten (forest_of (reverse b.entries.items)) ≡ reverse b.entries.items };
-}
-
-impl<N: Drop> Builder<N> {
-    /// No tree.
-    pub fn new(alloc: Global) -> Builder<N>
-        ensures { result ≡ none }
-    {
-        Builder {
-            entries: Vec::new(alloc),
-        }
-    }
-
-    /// No tree, with room for so many nodes.
-    ///
-    /// # Errors
-    ///
-    /// `OutOfMemory`.
-    pub fn with_capacity(alloc: Global, nodes: usize) -> Result<Builder<N>, Error>
-        ensures ok { IfOk result (λ b. b ≡ none) }
-        ensures err { IfErr result (λ e. e ≡ Error.OutOfMemory) }
-    {
-        let entries = Vec::with_capacity(alloc, nodes)?;
-        Ok(Builder { entries })
-    }
-
-    /// How many nodes there are: the mark for a later [`Builder::enclose`] or [`Builder::truncate`].
-    pub fn len(&self) -> usize
-        ensures { result ≡ count self.now }
-    {
-        self.entries.len()
-    }
-
-    /// Whether there is no node.
-    pub fn is_empty(&self) -> bool
-        ensures { IsTrue result ↔ (count self.now ≡ 0) }
-    {
-        self.entries.is_empty()
-    }
-
-    /// Puts a node without children in front of the trees.
-    ///
-    /// # Errors
-    ///
-    /// `OutOfMemory`. The trees are then as they were.
-    pub fn put(&mut self, node: N) -> Result<(), Error>
-        ensures ok { OnOk result (self.new ≡ forest.node node none self.old) }
-        ensures unchanged { OnErr result (self.new ≡ self.old) }
-        ensures err { IfErr result (λ e. e ≡ Error.OutOfMemory) }
-    {
-        self.entries.push(Entry { node, size: 1 })?;
-        Ok(())
-    }
-
-    /// Puts a node over all trees that came since there were `mark` nodes.
-    ///
-    /// # Errors
-    ///
-    /// `OutOfMemory`. The trees are then as they were.
-    pub fn enclose(&mut self, node: N, mark: usize) -> Result<(), Error>
-        requires { SplitAt self.old mark }
-        ensures ok { OnOk result ((s : SplitAt self.old mark) → self.new ≡ forest.node node s.children s.beside) }
-        ensures unchanged { OnErr result (self.new ≡ self.old) }
-        ensures err { IfErr result (λ e. e ≡ Error.OutOfMemory) }
-    {
-        let size = self.entries.len() - mark + 1;
-        self.entries.push(Entry { node, size })?;
-        Ok(())
-    }
-
-    /// The nodes of all trees that came since there were `mark` nodes, from the last to the first: [`first_tree`] reads them.
-    pub fn since(&self, mark: usize) -> &[Entry<N>]
-        requires { SplitAt self.now mark }
-        ensures { (s : SplitAt self.now mark) → result.now ≡ reverse (flatten s.children) }
-    {
-        &self.entries[mark..]
-    }
-
-    /// Takes back all trees that came since there were `mark` nodes.
-    pub fn truncate(&mut self, mark: usize)
-        requires { SplitAt self.old mark }
-        ensures { (s : SplitAt self.old mark) → self.new ≡ s.beside }
-    {
-        self.entries.truncate(mark);
-    }
-
-    /// The trees, with their nodes from the first to the last. It takes no memory.
-    pub fn finish(self) -> Flat<N>
-        ensures { result ≡ self }
-    {
-        let mut entries = self.entries;
-        entries.reverse();
-        Flat { entries }
-    }
-}
-
-/// The first of some trees, whose nodes stand from the last to the first: its node, and the nodes below it and those of
-/// the trees beside it, in the same order.
-pub fn first_tree<N>(entries: &[Entry<N>]) -> Option<(&N, &[Entry<N>], &[Entry<N>])>
-    requires { Reversed entries.now }
-    ensures first { IfSome result (λ r. (s : Reversed entries.now) → FirstTree s.trees r.0.now r.1.now r.2.now) }
-    ensures over { IfNone result ((s : Reversed entries.now) → s.trees ≡ none) }
-{
-    let last = entries.len().checked_sub(1)?;
-    let entry = &entries[last];
-    let below = entries.len() - entry.size;
-    Some((&entry.node, &entries[below..last], &entries[..below]))
-}
-
 /// How a part of a line is emphasised.
 #[derive(Clone, Copy, Debug, PartialEq, Eq)]
 pub enum Emphasis {
@@ -266,34 +130,6 @@ pub enum NodeKind {
     TableRow,
     /// A cell of a row.
     TableCell,
-    /// A part of a table that isn't in its place yet. A tree that is ready to be laid out has none.
-    Part(Part),
-}
-
-/// A part of a table that isn't in its place yet, as an element of HTML makes it.
-#[derive(Clone, Copy, Debug, PartialEq, Eq)]
-pub enum Part {
-    /// A table whose rows aren't placed: of `table`.
-    Table,
-    /// Rows: of `thead` and `tbody`.
-    Body,
-    /// Rows that stand behind all others: of `tfoot`.
-    Foot,
-    /// A row: of `tr`.
-    Row,
-    /// A cell, and what it spans: of `td` and `th`.
-    Cell(CellSpan),
-    /// What stands above a table: of `caption`.
-    Caption,
-}
-
-/// What a cell asks for.
-#[derive(Clone, Copy, Debug, PartialEq, Eq)]
-pub struct CellSpan {
-    /// How many columns: 0 stands for as many as its row has left, in its part of the table.
-    pub colspan: usize,
-    /// How many rows, its own included: at least 1.
-    pub rowspan: usize,
 }
 
 /// The cells of a table on the columns of its grid, and what these columns need.

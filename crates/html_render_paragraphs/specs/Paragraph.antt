@@ -1,8 +1,9 @@
 -- THE DEFINITION of a paragraph. All that was fed, a list of characters and marks, is cut into pieces: words, gaps
 -- between them, characters that are placed by themselves, and marks. Then the pieces are placed on a page, one after
 -- the other, which gives the lines.
-use Rattle.std.specs.Prelude.{ℕ, ◌+◌, ◌-◌, ◌%◌, Bool, true, false, not, ◌||◌, nat_le, List, [], ◌∷◌, ◌++◌, Option, Some, None, map, replicate}
+use Rattle.std.specs.Prelude.{ℕ, ◌+◌, ◌-◌, ◌%◌, Bool, true, false, not, ◌||◌, nat_le, List, [], ◌∷◌, ◌++◌, Option, Some, None, map, fold, replicate}
 use Rattle.std.specs.Prelude.{if◌then◌else◌, option_and_then}
+use Rattle.std.specs.Option.{option_or}
 use Rattle.html_render_values.specs.WhiteSpace.{preserves}
 use Rattle.html_render_lines.specs.declared.character.Kind.{Kind}
 use Rattle.html_render_lines.specs.declared.character.Kind.TheVariants.{Letter, Space, Divider, Dropped, Preserved, Newline, Tab, SoftSpace, SoftTab}
@@ -45,11 +46,7 @@ with_kind Letter c ps = with_letter c ps
 with_kind Space c ps = Gap c ∷ ps
 with_kind Divider c ps = Cut ∷ ps
 with_kind Dropped c ps = ps
-with_kind Preserved c ps = Single Preserved c ∷ ps
-with_kind Newline c ps = Single Newline c ∷ ps
-with_kind Tab c ps = Single Tab c ∷ ps
-with_kind SoftSpace c ps = Single SoftSpace c ∷ ps
-with_kind SoftTab c ps = Single SoftTab c ∷ ps
+with_kind k c ps = Single k c ∷ ps
 
 -- a mark before pieces: inside a word, or directly before one, it is part of it
 abbrev pub with_mark : {T M : Type 0} → M → List (Piece T M) → List (Piece T M)
@@ -153,15 +150,13 @@ put_fitting setting page c = if fits setting page (width_of c.code) then with_ch
 
 -- those of the characters that fit, one by one
 abbrev pub put_all_fitting : {T M : Type 0} → Setting → Page T M → List (Character T) → Page T M
-put_all_fitting setting page [] = page
-put_all_fitting setting page (c ∷ cs) = put_all_fitting setting (put_fitting setting page c) cs
+put_all_fitting setting page cs = fold (put_fitting setting) page cs
 
 -- ---- 4. The space that is due
 
 abbrev pub gap_width_of : {T M : Type 0} → Line T M → Option (Character T) → ℕ
 gap_width_of (e ∷ es) (Some c) = 1
-gap_width_of [] pending = 0
-gap_width_of line None = 0
+gap_width_of line pending = 0
 
 -- the columns of the space that is due: none at the start of a line
 abbrev pub gap_width : {T M : Type 0} → Page T M → Option (Character T) → ℕ
@@ -169,8 +164,7 @@ gap_width page pending = gap_width_of page.line pending
 
 abbrev pub with_due_space_by : {T M : Type 0} → Page T M → Line T M → Option (Character T) → Page T M
 with_due_space_by page (e ∷ es) (Some c) = with_space page c
-with_due_space_by page [] pending = page
-with_due_space_by page line None = page
+with_due_space_by page line pending = page
 
 -- the page with the space that is due
 abbrev pub with_due_space : {T M : Type 0} → Page T M → Option (Character T) → Page T M
@@ -214,15 +208,11 @@ put_single setting page k c = Some page
 
 -- ---- 7. The paragraph
 
-abbrev pub first_of : {A : Type 0} → Option A → A → Option A
-first_of (Some a) b = Some a
-first_of None b = Some b
-
 -- the page with all pieces, where a space may be due: the first character of a gap says with which tag
 abbrev pub place : {T M : Type 0} → Setting → Page T M → Option (Character T) → List (Piece T M) → Option (Page T M)
 place setting page pending [] = Some page
 place setting page pending (Word k w ∷ ps) = option_and_then (λ p. place setting p None ps) (put_word setting page pending w)
-place setting page pending (Gap c ∷ ps) = place setting page (first_of pending c) ps
+place setting page pending (Gap c ∷ ps) = place setting page (option_or pending (Some c)) ps
 place setting page pending (Cut ∷ ps) = place setting page pending ps
 place setting page pending (Single k c ∷ ps) =
     option_and_then (λ p. place setting p None ps) (put_single setting (page_for_single setting page pending k) k c)

@@ -1,5 +1,6 @@
 -- A paragraph that is fed character by character.
 use Rattle.std.specs.Prelude.{ℕ, Bool, false, List, [], ◌∷◌, ◌++◌, Option, Some, None, map, option_and_then, option_map, if◌then◌else◌}
+use Rattle.std.specs.Option.{option_or}
 use Rattle.html_render_values.specs.WhiteSpace.{preserves}
 use Rattle.html_render_lines.specs.declared.character.Kind.{Kind}
 use Rattle.html_render_lines.specs.declared.character.Kind.TheVariants.{Letter, Space, Divider, Dropped, Preserved, Newline, Tab, SoftSpace, SoftTab}
@@ -9,7 +10,7 @@ use Rattle.html_render_lines.specs.declared.character.TextStyle.{TextStyle}
 use Rattle.html_render_lines.specs.declared.character.Item.TheVariants as item
 use Rattle.html_render_lines.specs.Character.{kind, character_of}
 use Rattle.html_render_lines.specs.Line.{Line}
-use Rattle.html_render_paragraphs.specs.Paragraph.{Page, Setting, blank_page, with_waiting_mark, put_word, put_single, page_for_single, first_of, is_same, all_lines}
+use Rattle.html_render_paragraphs.specs.Paragraph.{Page, Setting, blank_page, with_waiting_mark, put_word, put_single, page_for_single, is_same, all_lines}
 
 -- the page, the space that is due, and the word that is open, with whether white space is preserved in it
 pub record State (T M : Type 0) : Type 0 where
@@ -61,7 +62,7 @@ abbrev pub then_single : {T M : Type 0} → State T M → Kind → Character T �
 then_single {T} {M} st k c = option_and_then (λ (t : State T M). single_step t k c) (end_word st)
 
 abbrev pub with_pending : {T M : Type 0} → State T M → Character T → State T M
-with_pending st c = record st { pending = first_of st.pending c }
+with_pending st c = record st { pending = option_or st.pending (Some c) }
 
 abbrev pub character_step : {T M : Type 0} → Kind → State T M → Character T → Option (State T M)
 character_step Letter st c = letter_step st c

@@ -1,5 +1,5 @@
 -- The grid of a table: its edges, and how many columns each cell has.
-use Rattle.std.specs.Prelude.{◌≡◌, ℕ, ◌-◌, ◌^◌, ◌<◌, ◌≤◌, Bool, All, Contains, List, [], ◌∷◌, ◌++◌, Option, Some, None, map, count_by, nat_lt, if◌then◌else◌}
+use Rattle.std.specs.Prelude.{◌≡◌, ℕ, ◌-◌, ◌^◌, ◌<◌, ◌≤◌, Bool, All, Contains, List, [], ◌∷◌, Option, Some, None, map, flat_map, count_by, nat_lt, if◌then◌else◌}
 use Rattle.std.specs.List.{list_all}
 use Rattle.html_render_parts.specs.declared.table.Span.{Span}
 use Rattle.html_render_parts.specs.declared.table.PlacedCell.{PlacedCell}
@@ -13,8 +13,7 @@ AreValid rows = All (λ cells. All (λ s. (1 ≤ s.colspan) × (1 ≤ s.rowspan)
 
 -- the ends of all places
 abbrev pub ends : List (List Place) → List ℕ
-ends [] = []
-ends (r ∷ rs) = map (λ p. p.end) r ++ ends rs
+ends rows = flat_map (λ r. map (λ p. p.end) r) rows
 
 -- the edges: 0 and the ends of all places, each once, in rising order
 abbrev pub edges_of : List (List Place) → List ℕ

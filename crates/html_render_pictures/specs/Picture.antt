@@ -49,14 +49,13 @@ pub record DrawnRow (T M : Type 0) : Type 0 where
 abbrev pub drawn_rows : {T M : Type 0} → (waiting : List M) → List (TableRow T M) → List (DrawnRow T M)
 drawn_rows waiting [] = []
 drawn_rows waiting (r ∷ rs) =
-    if is_drawn r
-    then record { marks = waiting ++ waiting_in r.cells; cells = r.cells } ∷ drawn_rows [] rs
+    if is_drawn r then record { marks = waiting ++ waiting_in r.cells; cells = r.cells } ∷ drawn_rows [] rs
     else drawn_rows (waiting ++ waiting_in r.cells) rs
 
 -- the marks that still wait behind the last drawn row
 abbrev pub left_waiting : {T M : Type 0} → (waiting : List M) → List (TableRow T M) → List M
-left_waiting waiting [] = waiting
-left_waiting waiting (r ∷ rs) = left_waiting (if is_drawn r then [] else waiting ++ waiting_in r.cells) rs
+left_waiting {T} {M} waiting rows =
+    fold (λ ms (r : TableRow T M). if is_drawn r then [] else ms ++ waiting_in r.cells) waiting rows
 
 -- ---- where the separators of a row stand
 
@@ -107,9 +106,8 @@ module _ {T M : Type 0} (frame : Frame T) where
 
   -- lines beside others, with a separator between them
   abbrev pub beside : List (Line T M) → List (Line T M) → List (Line T M)
-  beside [] rights = []
-  beside (l ∷ ls) [] = l ∷ ls
   beside (l ∷ ls) (r ∷ rs) = (l ++ drawn (separator frame) ∷ r) ∷ beside ls rs
+  beside lefts rights = lefts
 
   -- the lines of a row: those of its cells beside each other, from left to right
   abbrev pub row_lines : List (KeptCell T M) → List (Line T M)
@@ -131,8 +129,7 @@ module _ {T M : Type 0} (frame : Frame T) where
   -- the picture's lines
   abbrev pub picture_lines : (waiting : List M) → List (TableRow T M) → List (Line T M)
   picture_lines waiting rows =
-      if has_top frame
-      then marked_before waiting (top_border (drawn_rows [] rows) ∷ rows_lines (drawn_rows [] rows))
+      if has_top frame then marked_before waiting (top_border (drawn_rows [] rows) ∷ rows_lines (drawn_rows [] rows))
       else rows_lines (drawn_rows waiting rows)
 
   -- THE PICTURE of rows behind marks that wait: its lines, and the marks that wait behind them

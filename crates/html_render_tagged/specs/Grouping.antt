@@ -17,10 +17,9 @@ pub data Piece (T : Type 0) : Type 0 where
 module _ {T : Type 0} (equal : T → T → Bool) where
   -- a text in front of what follows it: it joins a string under an equal tag, and that has the text's tag then
   abbrev pub in_front : (text : List ℕ) → (tag : T) → List (Piece T) → List (Piece T)
-  in_front text tag [] = Str text tag ∷ []
   in_front text tag (Str next other ∷ ps) =
       if equal tag other then Str (text ++ next) tag ∷ ps else Str text tag ∷ Str next other ∷ ps
-  in_front text tag (FragmentStart name ∷ ps) = Str text tag ∷ FragmentStart name ∷ ps
+  in_front text tag ps = Str text tag ∷ ps
 
   -- a mark is the number of its name
   abbrev pub grouped : (names : List (List ℕ)) → Line T ℕ → List (Piece T)

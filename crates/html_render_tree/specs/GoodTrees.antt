@@ -3,7 +3,7 @@ use Rattle.std.specs.Prelude.{Bool, true, false, ◌&&◌, List, ◌∷◌, Opti
 use Rattle.html_render_values.specs.Forest.{Forest, none, node}
 use Rattle.html_render_parts.specs.declared.table.cells.GridCell.{GridCell}
 use Rattle.html_render_nodes.specs.declared.tree.NodeKind.{NodeKind}
-use Rattle.html_render_nodes.specs.declared.tree.NodeKind.TheVariants.{Table, TableRow, TableCell, Part}
+use Rattle.html_render_nodes.specs.declared.tree.NodeKind.TheVariants.{Table, TableRow, TableCell}
 use Rattle.html_render_nodes.specs.declared.tree.RenderNode.{RenderNode}
 
 -- where trees stand: below a table of which these rows are still to come, below a row of which these cells are, or anywhere else
@@ -27,7 +27,6 @@ abbrev pub around : Place → NodeKind → Option Around
 around Anywhere (Table grid) = Some (record { below = InTable grid.cells.rows; beside = Anywhere })
 around Anywhere TableRow = None
 around Anywhere TableCell = None
-around Anywhere (Part part) = None
 around Anywhere kind = Some (record { below = Anywhere; beside = Anywhere })
 around (InTable (cells ∷ rows)) TableRow = Some (record { below = InRow cells; beside = InTable rows })
 around (InRow (cell ∷ cells)) TableCell = Some (record { below = Anywhere; beside = InRow cells })

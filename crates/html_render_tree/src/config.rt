@@ -3,9 +3,7 @@
 //! `plain(alloc)?.allow_width_overflow()` is a configuration; its `dom_to_render_tree(alloc, &dom)?` is a document's
 //! render tree, and `render_to_string(alloc, tree, 80)?` the text of that, in 80 columns.
 
-ghost use Rattle.std.specs.Prelude.{◌≡◌, ◌∷◌, ◌++◌, [], Some, true, false, option_and_then, IfOk, IfErr};
-ghost use Rattle.html_render_arrangement.specs.Arrangement.{in_place};
-ghost use Rattle.html_render_conversion.specs.Conversion.{tree_of_parts};
+ghost use Rattle.std.specs.Prelude.{◌≡◌, ◌∷◌, ◌++◌, [], Some, true, false, IfOk, IfErr};
 ghost use Rattle.html_render_conversion.specs.Results.{render_tree_of};
 ghost use Rattle.html_render_dom.specs.Rules.{rule_of};
 ghost use Rattle.html_render_layout.specs.Settings.{default_settings};
@@ -14,8 +12,7 @@ ghost use Rattle.html_render_tree.specs.GoodTrees.{Anywhere, are_good};
 ghost use Rattle.html_render_tree.specs.Decorations.{decorations};
 ghost use Rattle.html_render_tree.specs.Rendering.{initial_options};
 
-use html_render_arrangement::arrangement::arrange;
-use html_render_conversion::convert;
+use html_render_building::building;
 use html_render_dom::Error;
 use html_render_dom::dom::RcDom;
 use html_render_dom::style::StyleRule;
@@ -40,9 +37,6 @@ pub struct Config<D: TextDecorator> {
 
 impl<D: TextDecorator> Model for Config<D> {
     ghost use Rattle.std.specs.Prelude.{map};
-    ghost use Rattle.html_render_arrangement.specs.Arrangement.{in_place};
-    ghost use Rattle.html_render_conversion.specs.Conversion.{tree_of_parts};
-    ghost use Rattle.html_render_conversion.specs.Results.{render_tree_of};
     ghost use Rattle.html_render_dom.specs.Rules.{rule_of};
     ghost use Rattle.html_render_tree.specs.Rendering.{Options};
 
@@ -230,23 +224,13 @@ impl<D: TextDecorator> Config<D> {
     /// `Fail`, where a part of a table, as a row or a cell, stands outside its place in the tree: a row that isn't among those
     /// of a table, for example. A part that is dropped, as one in an ordered list beside its items, isn't in the tree. `Fail`
     /// also, where the cells of a table would end past a column of 128 bits. `OutOfMemory`.
-    #[tactic(auto, using(crate::specs::laws::Conversion::same))]
+    #[tactic(auto, using(crate::specs::laws::GoodTrees::render_trees_are_good))]
     pub fn dom_to_render_tree(&self, alloc: Global, dom: &RcDom) -> Result<RenderTree, Error>
         ensures ok { IfOk result (λ tree. render_tree_of self.now.rules dom.now ≡ Some tree) }
         ensures good { IfOk result (λ tree. are_good Anywhere tree ≡ true) }
         ensures err { IfErr result (λ e. Fails e (render_tree_of self.now.rules dom.now)) }
     {
-        self.arranged_tree(alloc, dom)
-    }
-
-    /// The same by two passes: one makes nodes of all parts of tables, and the other puts these in their places.
-    #[tactic(auto, using(html_render_parts::specs::laws::Refusal::refusals))]
-    fn arranged_tree(&self, alloc: Global, dom: &RcDom) -> Result<RenderTree, Error>
-        ensures ok { IfOk result (λ tree. option_and_then in_place (tree_of_parts self.now.rules dom.now) ≡ Some tree) }
-        ensures err { IfErr result (λ e. Fails e (option_and_then in_place (tree_of_parts self.now.rules dom.now))) }
-    {
-        let parts = convert::dom_to_render_tree(alloc, &self.rules, dom)?;
-        let nodes = arrange(alloc, parts)?;
+        let nodes = building::dom_to_render_tree(alloc, &self.rules, dom)?;
         RenderTree::new(alloc, nodes)
     }
 }

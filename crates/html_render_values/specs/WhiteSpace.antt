@@ -6,8 +6,7 @@ use Rattle.html_render_values.specs.declared.white_space.WhiteSpace.TheVariants.
 -- whether white space is kept
 abbrev pub preserves : WhiteSpace → Bool
 preserves Normal = false
-preserves Pre = true
-preserves PreWrap = true
+preserves _ = true
 
 -- whether lines are wrapped between words
 abbrev pub wraps : WhiteSpace → Bool

@@ -4,23 +4,27 @@ use Rattle.std.specs.Prelude.{filter, option_to_list}
 use Rattle.html_render_values.specs.Forest.{Forest, none, node}
 use Rattle.html_render_values.specs.Outcome.{◌>>=◌}
 use Rattle.html_render_dom.specs.Content.{Content, document, doctype, text, comment, element, instruction}
+use Rattle.html_render_dom.specs.Dom as documents
+use Rattle.html_render_dom.specs.Dom.{Dom, IsForest, node_count, children_at, content_at, below}
+use Rattle.html_render_dom.specs.laws.Trees.{below-children}
 use Rattle.html_render_dom.specs.Rules.{Rule as StyleRule}
 use Rattle.html_render_nodes.specs.declared.tree.NodeKind.TheVariants.{Container}
 use Rattle.html_render_nodes.specs.RenderNodes.{no_style, without_style}
 use Rattle.html_render_insertions.specs.declared.drafts.Draft.{Draft}
 use Rattle.html_render_insertions.specs.Drafts.{expanded, plain_draft}
 use Rattle.html_render_insertions.specs.laws.Drafts.{wrapped-none}
+use Rattle.html_render_conversion.specs.declared.mapping.ElementKind.TheVariants as becomes
 use Rattle.html_render_conversion.specs.declared.mapping.IfEmpty.TheVariants.{Stands}
 use Rattle.html_render_conversion.specs.Conversion.{element_mapping, own_style}
-use Rattle.html_render_conversion.specs.Converting.{outline_of}
+use Rattle.html_render_conversion.specs.Outlines.{outline_of}
 use Rattle.html_render_conversion.specs.Marks.{mark_of}
 use Rattle.html_render_conversion.specs.Results as new
-use Rattle.html_render_conversion.specs.Results.{Nodes, Result, over, result_of, results, trees_of}
+use Rattle.html_render_conversion.specs.Results.{Nodes, Result, over, render_tree_of, result_of, results, trees_of}
 use Rattle.html_render_building.specs.declared.elements.OpenKind.TheVariants.{Node}
 use Rattle.html_render_building.specs.declared.order.Pick.{Pick}
 use Rattle.html_render_building.specs.declared.order.Pick.TheVariants.{All, Captions, Feet, Others}
 use Rattle.html_render_building.specs.Order.{picks}
-use Rattle.html_render_building.specs.Building.{Arrival, arrivals, closed, document_of, document_start, fresh}
+use Rattle.html_render_building.specs.Building.{Arrival, arrivals, closed, document_drafts, document_of, document_start, fresh}
 use Rattle.html_render_building.specs.laws.Arrivals.{all_arrive, all_came, arrivals_told, came}
 use Rattle.html_render_building.specs.laws.Closing.{ShowsIn, agrees-node, close-gives, node_closed, together-alone}
 use Rattle.html_render_building.specs.laws.ElementShown.{styled-any}
@@ -126,7 +130,7 @@ document-shown xs rs h =
     given q.element.is_stray q.drafts (trees_of rs)
     (subst (λ l. Gives q.element.is_stray q.drafts (trees_of l)) (all-kept rs)
     (subst (Gives q.element.is_stray q.drafts) (together-alone (filter (λ (r : Result). true) rs))
-    (close-gives false (Node Container) no_style Stands None None None (new.keeps Container) (new.counts Container) new.stands_alone
+    (close-gives false (Node Container) no_style Stands None None None (λ (r : Result). new.keeps Container r.node.kind) (new.counts (becomes.Node Container)) new.stands_alone
     (agrees-node Container refl) xs rs h)))
 
 all-agree : (x : Option (List Arrival)) (o : Option (List Result)) → AllShowAny false x o →
@@ -137,7 +141,7 @@ all-agree (Some xs) None h = elim h [ ]
 all-agree (Some xs) (Some rs) h = document-shown xs rs (show-elsewhere xs rs h)
 
 -- THE NODES that the drafts of a document become are its results in a Container, and there are none where these aren't
-pub documents_agree : (rules : List StyleRule) (t : Forest Content) →
+documents_agree : (rules : List StyleRule) (t : Forest Content) →
     option_map expanded (do
       h ← arrivals rules t All document_start
       document_of h)
@@ -148,3 +152,30 @@ documents_agree rules t =
     ap (λ o. option_map expanded (o >>= document_of)) (arrivals_told rules t All document_start)
     ∙ all-agree (all_came rules t All false) (results rules t)
     (subst (AllShowAny false (all_came rules t All false)) (sym (results-picked rules t)) (all-shown rules t All false))
+
+-- THE RENDER TREE of a document is what its drafts become
+pub tree_of_drafts : (rules : List StyleRule) (dom : Dom) → IsForest dom →
+    option_map expanded (document_drafts rules dom) ≡ render_tree_of rules dom
+tree_of_drafts rules dom f =
+    let t = documents.trees_of dom (children_at dom 0) in
+    documents_agree rules t ∙ by (results rules t)
+    ∙ sym (ap (λ b. results rules (node document b none) >>= trees_of) (below-children dom f 0 f.has_document))
+    ∙ sym (ap (λ c. results rules (node c (below (node_count dom) dom 0) none) >>= trees_of) f.document_content)
+  where
+    trees : (o : Option Nodes) →
+        option_map container_over o ≡ (do
+          below ← o
+          Some (node (without_style Container) below none))
+    trees None = refl
+    trees (Some b) = refl
+
+    by : (o : Option (List Result)) →
+        option_map container_over (o >>= trees_of)
+        ≡ ((do
+          r ← do
+            rs ← o
+            Some (Some (over (without_style Container) rs))
+          rest ← Some []
+          Some (option_to_list r ++ rest)) >>= trees_of)
+    by None = refl
+    by (Some rs) = trees (trees_of rs)

@@ -5,10 +5,13 @@ use Rattle.html_render_values.specs.Forest.{Forest, none, node}
 use Rattle.html_render_values.specs.Outcome.{◌>>=◌}
 use Rattle.html_render_dom.specs.Content.{Content}
 use Rattle.html_render_dom.specs.Rules.{Rule as StyleRule}
-use Rattle.html_render_nodes.specs.declared.tree.CellSpan.{CellSpan}
+use Rattle.html_render_nodes.specs.declared.tree.NodeStyle.{NodeStyle}
+use Rattle.html_render_conversion.specs.declared.mapping.ElementKind.{ElementKind}
+use Rattle.html_render_conversion.specs.declared.mapping.ElementKind.TheVariants as becomes
+use Rattle.html_render_conversion.specs.declared.mapping.ElementKind.TheVariants.{Part}
+use Rattle.html_render_conversion.specs.declared.tables.CellSpan.{CellSpan}
 use Rattle.html_render_nodes.specs.declared.tree.NodeKind.{NodeKind}
-use Rattle.html_render_nodes.specs.declared.tree.NodeKind.TheVariants.{Part}
-use Rattle.html_render_nodes.specs.declared.tree.Part.TheVariants as part
+use Rattle.html_render_conversion.specs.declared.tables.Part.TheVariants as part
 use Rattle.html_render_nodes.specs.declared.tree.RenderNode.{RenderNode}
 use Rattle.html_render_nodes.specs.RenderNodes.{no_style}
 use Rattle.html_render_nodes.specs.Tables.{TableParts, unmeasured_table}
@@ -20,7 +23,7 @@ use Rattle.html_render_conversion.specs.declared.mapping.IfEmpty.TheVariants.{Va
 use Rattle.html_render_conversion.specs.declared.mapping.Outline.{Outline}
 use Rattle.html_render_conversion.specs.declared.mapping.Outline.TheVariants.{Alone, Over}
 use Rattle.html_render_conversion.specs.declared.mapping.Outline.TheVariants as outline
-use Rattle.html_render_conversion.specs.Converting.{outline_of}
+use Rattle.html_render_conversion.specs.Outlines.{outline_of}
 use Rattle.html_render_building.specs.declared.elements.Element.{Element}
 use Rattle.html_render_building.specs.declared.elements.OpenKind.{OpenKind}
 use Rattle.html_render_building.specs.declared.elements.OpenKind.TheVariants.{Captioned, Table, Rows, Row}
@@ -41,23 +44,23 @@ all_arrive [] p = p
 all_arrive (a ∷ xs) p = arrive a (all_arrive xs p)
 
 -- what comes of an element, in a table or elsewhere, where `inside` is what comes of some of its children
-abbrev pub came_of : (in_table : Bool) → OpenKind → RenderNode → IfEmpty → (has_children : Bool) → List Insertions →
+abbrev pub came_of : (in_table : Bool) → OpenKind → NodeStyle → IfEmpty → (has_children : Bool) → List Insertions →
     (inside : Pick → Bool → Option (List Arrival)) → Option (Option Arrival)
-came_of in_table Captioned n if_empty has_children inserted inside = do
+came_of in_table Captioned style if_empty has_children inserted inside = do
   feet ← inside Feet false
   others ← inside Others false
-  outer ← closed_into (all_arrive others (all_arrive feet (fresh (Table []) no_style Vanishes []))) (fresh Captioned n.style if_empty inserted)
+  outer ← closed_into (all_arrive others (all_arrive feet (fresh (Table []) no_style Vanishes []))) (fresh Captioned style if_empty inserted)
   captions ← inside Captions true
   Some (closed in_table (all_arrive captions outer))
-came_of in_table k n if_empty has_children inserted inside = do
+came_of in_table k style if_empty has_children inserted inside = do
   xs ← if has_children then inside All false else Some []
-  Some (closed in_table (all_arrive xs (fresh k n.style if_empty inserted)))
+  Some (closed in_table (all_arrive xs (fresh k style if_empty inserted)))
 
 abbrev pub came : (in_table : Bool) → Outline → (inside : Pick → Bool → Option (List Arrival)) → Option (Option Arrival)
 came in_table outline.Nothing inside = Some None
 came in_table (Alone n) inside = Some (Some (leaf_arrival (draft_of n)))
-came in_table (Over n if_empty has_children mark before after) inside =
-    came_of in_table (opened_kind n.kind) n if_empty has_children (inserted_of mark before after) inside
+came in_table (Over k style if_empty has_children mark before after) inside =
+    came_of in_table (opened_kind k) style if_empty has_children (inserted_of mark before after) inside
 
 -- what comes of the trees that are picked among these, in order
 abbrev pub all_came : List StyleRule → Forest Content → Pick → (in_table : Bool) → Option (List Arrival)
@@ -103,14 +106,14 @@ no_rows : (k : OpenKind) → is_table k ≡ false → rows_of k ≡ None
 no_rows (Table parts) h = cc
 no_rows k h = refl
 
-opened-no_table : (k : NodeKind) → is_table (opened_kind k) ≡ false
+opened-no_table : (k : ElementKind) → is_table (opened_kind k) ≡ false
 opened-no_table (Part part.Table) = refl
 opened-no_table (Part part.Body) = refl
 opened-no_table (Part part.Foot) = refl
 opened-no_table (Part part.Row) = refl
 opened-no_table (Part (part.Cell span)) = refl
 opened-no_table (Part part.Caption) = refl
-opened-no_table k = refl
+opened-no_table (becomes.Node k) = refl
 
 any-same : (a : Option Arrival) (p : Holding) → is_captioned (arrive_any a p).element.kind ≡ is_captioned p.element.kind
 any-same None p = refl
@@ -162,22 +165,22 @@ module _ (q : Holding) (f : Pick → Holding → Option Holding) (g : Pick → B
   close-told : (h : Holding) → is_table h.element.kind ≡ false → closed_into h q ≡ option_map to_q (Some (closed in_table h))
   close-told h e = ap (λ o. closed_by o h q) (no_rows h.element.kind e)
 
-  all-told : (k : OpenKind) (n : RenderNode) (e : IfEmpty) (has_children : Bool) (i : List Insertions) → is_table k ≡ false → is_captioned k ≡ false →
+  all-told : (k : OpenKind) (style : NodeStyle) (e : IfEmpty) (has_children : Bool) (i : List Insertions) → is_table k ≡ false → is_captioned k ≡ false →
       (do
-        h ← if has_children then f All (fresh k n.style e i) else Some (fresh k n.style e i)
+        h ← if has_children then f All (fresh k style e i) else Some (fresh k style e i)
         closed_into h q)
       ≡ option_map to_q (do
         xs ← if has_children then g All false else Some []
-        Some (closed in_table (all_arrive xs (fresh k n.style e i))))
-  all-told k n e has_children i t c =
-      let start = fresh k n.style e i in
+        Some (closed in_table (all_arrive xs (fresh k style e i))))
+  all-told k style e has_children i t c =
+      let start = fresh k style e i in
       after-all to_q (if has_children then f All start else Some start) start (if has_children then g All false else Some [])
       (λ h. closed_into h q) (λ xs. Some (closed in_table (all_arrive xs start))) (by has_children)
       (λ xs. close-told (all_arrive xs start) (all_arrive-same is_table table-gathered xs start ∙ t))
     where
-      by : (b : Bool) → (if b then f All (fresh k n.style e i) else Some (fresh k n.style e i))
-          ≡ option_map (λ xs. all_arrive xs (fresh k n.style e i)) (if b then g All false else Some [])
-      by true = same All (fresh k n.style e i) ∙ ap (λ b. option_map (λ xs. all_arrive xs (fresh k n.style e i)) (g All b)) c
+      by : (b : Bool) → (if b then f All (fresh k style e i) else Some (fresh k style e i))
+          ≡ option_map (λ xs. all_arrive xs (fresh k style e i)) (if b then g All false else Some [])
+      by true = same All (fresh k style e i) ∙ ap (λ b. option_map (λ xs. all_arrive xs (fresh k style e i)) (g All b)) c
       by false = refl
 
   captions-told : (start : Holding) → is_captioned start.element.kind ≡ true → is_table start.element.kind ≡ false →
@@ -197,11 +200,11 @@ module _ (q : Holding) (f : Pick → Holding → Option Holding) (g : Pick → B
   captioned-no_table (Table parts) h = cc
   captioned-no_table k h = refl
 
-  of-told : (k : OpenKind) (n : RenderNode) (e : IfEmpty) (has_children : Bool) (i : List Insertions) → is_table k ≡ false →
-      come_of k n e has_children i f q ≡ option_map to_q (came_of in_table k n e has_children i g)
-  of-told Captioned n e has_children i h =
+  of-told : (k : OpenKind) (style : NodeStyle) (e : IfEmpty) (has_children : Bool) (i : List Insertions) → is_table k ≡ false →
+      come_of k style e has_children i f q ≡ option_map to_q (came_of in_table k style e has_children i g)
+  of-told Captioned style e has_children i h =
       let start = fresh (Table []) no_style Vanishes [] in
-      let outer = fresh Captioned n.style e i in
+      let outer = fresh Captioned style e i in
       after-all to_q (f Feet start) start (g Feet false)
       (λ feet. f Others feet >>= (λ table. closed_into table outer >>= (λ p. f Captions p >>= (λ all. closed_into all q))))
       (λ feet. g Others false >>= (λ others. closed_into (all_arrive others (all_arrive feet start)) outer >>=
@@ -218,14 +221,14 @@ module _ (q : Holding) (f : Pick → Holding → Option Holding) (g : Pick → B
       (λ p. g Captions true >>= (λ captions. Some (closed in_table (all_arrive captions p))))
       (into-same (all_arrive others next) outer)
       (λ p c. captions-told p c (captioned-no_table p.element.kind c))))
-  of-told (Table parts) n e has_children i h = cc
-  of-told k n e has_children i h = all-told k n e has_children i refl refl
+  of-told (Table parts) style e has_children i h = cc
+  of-told k style e has_children i h = all-told k style e has_children i refl refl
 
   come-told : (o : Outline) → come o f q ≡ option_map to_q (came in_table o g)
   come-told outline.Nothing = refl
   come-told (Alone n) = refl
-  come-told (Over n e has_children mark before after) =
-      of-told (opened_kind n.kind) n e has_children (inserted_of mark before after) (opened-no_table n.kind)
+  come-told (Over k style e has_children mark before after) =
+      of-told (opened_kind k) style e has_children (inserted_of mark before after) (opened-no_table k)
 
 -- THE ELEMENT, once all have come of some trees, is what the list of them makes of it
 pub arrivals_told : (rules : List StyleRule) (t : Forest Content) (pick : Pick) (p : Holding) →

@@ -5,23 +5,25 @@ use Rattle.std.specs.List.{list_any, list_all}
 use Rattle.html_render_values.specs.Forest.{Forest, none, node}
 use Rattle.html_render_values.specs.Outcome.{◌>>=◌}
 use Rattle.html_render_nodes.specs.declared.tree.NodeKind.{NodeKind}
-use Rattle.html_render_nodes.specs.declared.tree.NodeKind.TheVariants.{Dl, Link, Ol, Part}
+use Rattle.html_render_nodes.specs.declared.tree.NodeKind.TheVariants.{Dl, Link, Ol}
 use Rattle.html_render_nodes.specs.declared.tree.NodeStyle.{NodeStyle}
 use Rattle.html_render_nodes.specs.laws.Splits.{followed_by-none}
 use Rattle.html_render_insertions.specs.declared.drafts.Draft.{Draft}
 use Rattle.html_render_insertions.specs.declared.drafts.Insertions.{Insertions}
 use Rattle.html_render_insertions.specs.Drafts.{draft, inserted_of}
+use Rattle.html_render_conversion.specs.declared.mapping.ElementKind.TheVariants as becomes
 use Rattle.html_render_conversion.specs.declared.mapping.IfEmpty.{IfEmpty}
-use Rattle.html_render_conversion.specs.Conversion.{is_item, is_term_or_description, vanishes}
+use Rattle.html_render_conversion.specs.Conversion.{vanishes}
+use Rattle.html_render_dom.specs.Selectors.{is_filled}
 use Rattle.html_render_conversion.specs.Results as new
-use Rattle.html_render_conversion.specs.Results.{Nodes, Result, as_block, beside, completed, has_any, in_style, leaf, over, shows_nothing, trees_of}
+use Rattle.html_render_conversion.specs.Results.{Nodes, Result, as_block, beside, completed, in_style, leaf, over, shows_nothing, trees_of}
 use Rattle.html_render_building.specs.declared.elements.Element.{Element}
 use Rattle.html_render_building.specs.declared.elements.OpenKind.{OpenKind}
 use Rattle.html_render_building.specs.declared.elements.OpenKind.TheVariants.{Node}
 use Rattle.html_render_building.specs.declared.elements.Role.{Role}
 use Rattle.html_render_building.specs.declared.elements.Role.TheVariants as role
 use Rattle.html_render_building.specs.Elements.{counts, gathered, is_caption, keeps, stands_alone, with_kept}
-use Rattle.html_render_building.specs.Kinds.{keeps_kind}
+use Rattle.html_render_conversion.specs.Results.{keeps as keeps_kind}
 use Rattle.html_render_building.specs.Building.{Arrival, Holding, arrive, beside_insertions, goes_beside, closed, fresh, made_of, mark_left, node_made, with_insertions}
 use Rattle.html_render_building.specs.laws.Arrivals.{all_arrive}
 use Rattle.html_render_building.specs.laws.Mappings.{stands_as_is}
@@ -117,7 +119,7 @@ module _ (in_table : Bool) (k : OpenKind) (style : NodeStyle) (e : IfEmpty) (mar
   -- it shows a result, if what it is made of does
   pub close-shown : (xs : List Arrival) (rs : List Result) → AllShow xs rs → (gathered : OpenKind) →
       (all_arrive xs start).element.kind ≡ gathered → (r : Result) →
-      ShowsIn in_table (made_of in_table gathered style noted (has_any (filter keeps_result rs)) (all_arrive xs start).element.is_stray
+      ShowsIn in_table (made_of in_table gathered style noted (is_filled (filter keeps_result rs)) (all_arrive xs start).element.is_stray
       (all_arrive xs start).drafts) (Some (with_noted noted r)) →
       ShowsIn in_table (closed in_table (all_arrive xs start))
       (completed mark before after (if vanishes e (list_any counts_result rs) then None else Some r))
@@ -134,10 +136,10 @@ module _ (in_table : Bool) (k : OpenKind) (style : NodeStyle) (e : IfEmpty) (mar
       (results-shown start keeps_result counts_result places agrees xs rs h)
       ∙ ap (λ x. closed_as in_table gathered style e (list_any counts_result rs) x q.element.is_stray q.element.inserted q.drafts)
       (children-shown start keeps_result counts_result places agrees xs rs h)
-      ∙ ap (λ x. closed_as in_table gathered style e (list_any counts_result rs) (has_any (filter keeps_result rs)) q.element.is_stray x q.drafts)
+      ∙ ap (λ x. closed_as in_table gathered style e (list_any counts_result rs) (is_filled (filter keeps_result rs)) q.element.is_stray x q.drafts)
       (all-stays (λ e. e.inserted) (λ e b. refl) (λ r s e. refl) xs start)))
       (by (vanishes e (list_any counts_result rs))
-      (made_of in_table gathered style noted (has_any (filter keeps_result rs)) q.element.is_stray q.drafts) made)
+      (made_of in_table gathered style noted (is_filled (filter keeps_result rs)) q.element.is_stray q.drafts) made)
     where
       by : (b : Bool) (o : Option Arrival) → ShowsIn in_table o (Some (with_noted noted r)) →
           ShowsIn in_table (if b then mark_left noted else o) (completed mark before after (if b then None else Some r))
@@ -186,24 +188,21 @@ together-alone (r ∷ rs) =
     by new.Caption o all b = alone o all b
     by x o all b = refl
 
-agrees-keeps : (k : NodeKind) (a : Arrival) (r : Result) → Shows a r → keeps_kind k a.kind ≡ new.keeps k r
-agrees-keeps (Ol number) a r s = ap is_item s.kind_is
-agrees-keeps Dl a r s = ap is_term_or_description s.kind_is
-agrees-keeps k a r s = refl
+agrees-keeps : (k : NodeKind) (a : Arrival) (r : Result) → Shows a r → keeps_kind k a.kind ≡ new.keeps k r.node.kind
+agrees-keeps k a r s = ap (new.keeps k) s.kind_is
 
 pub places-alone : (a : Arrival) (r : Result) → Shows a r → stands_alone a.role ≡ new.stands_alone r.role
 places-alone a r s = alone-meant a.role ∙ ap new.stands_alone s.role_is
 
 agrees-counts : (k : NodeKind) → stands_as_is k ≡ true → (a : Arrival) (r : Result) → Shows a r →
-    counts (Node k) a.role a.kind a.has_children ≡ new.counts k r
+    counts (Node k) a.role a.kind a.has_children ≡ new.counts (becomes.Node k) r
 agrees-counts (Link target) h a r s =
     ap (λ x. not (x && shows_nothing a.kind a.has_children)) (places-alone a r s)
     ∙ ap (λ x. not (new.stands_alone r.role && shows_nothing x a.has_children)) s.kind_is
     ∙ ap (λ x. not (new.stands_alone r.role && shows_nothing r.node.kind x)) s.children_are
-agrees-counts (Part p) h a r s = cc
 agrees-counts k h a r s = refl
 
-pub agrees-node : (k : NodeKind) → stands_as_is k ≡ true → Agrees (Node k) (new.keeps k) (new.counts k) new.stands_alone
+pub agrees-node : (k : NodeKind) → stands_as_is k ≡ true → Agrees (Node k) (λ (r : Result). new.keeps k r.node.kind) (new.counts (becomes.Node k)) new.stands_alone
 agrees-node k h = record {
   keeps_are = agrees-keeps k;
   counts_are = agrees-counts k h;
@@ -231,16 +230,16 @@ pub node_closed : (in_table : Bool) (k : NodeKind) (style : NodeStyle) (e : IfEm
     stands_as_is k ≡ true → (xs : List Arrival) (rs : List Result) → AllShow xs rs →
     ShowsIn in_table (closed in_table (all_arrive xs (fresh (Node k) style e (inserted_of mark before after))))
     (completed mark before after
-    (if vanishes e (list_any (new.counts k) rs) then None else Some (over (in_style style k) (filter (new.keeps k) rs))))
+    (if vanishes e (list_any (new.counts (becomes.Node k)) rs) then None else Some (over (in_style style k) (filter (λ (r : Result). new.keeps k r.node.kind) rs))))
 node_closed in_table k style e mark before after h xs rs shown =
     let i = inserted_of mark before after in
     let q = all_arrive xs (fresh (Node k) style e i) in
-    let kept = filter (new.keeps k) rs in
+    let kept = filter (λ (r : Result). new.keeps k r.node.kind) rs in
     let r = over (in_style style k) kept in
-    close-shown in_table (Node k) style e mark before after (new.keeps k) (new.counts k) new.stands_alone (agrees-node k h) xs rs shown
+    close-shown in_table (Node k) style e mark before after (λ (r : Result). new.keeps k r.node.kind) (new.counts (becomes.Node k)) new.stands_alone (agrees-node k h) xs rs shown
     (Node k) (kind-stays (Node k) (node-gathered k) xs (fresh (Node k) style e i) refl) r
-    (shows-other in_table (node_made (draft k style i) (has_any kept) q.element.is_stray q.drafts) (with_noted i r)
-    (made-role k style i (has_any kept) q.element.is_stray q.drafts)
-    (node_shown k style i (has_any kept) q.element.is_stray q.drafts (trees_of kept) h
+    (shows-other in_table (node_made (draft k style i) (is_filled kept) q.element.is_stray q.drafts) (with_noted i r)
+    (made-role k style i (is_filled kept) q.element.is_stray q.drafts)
+    (node_shown k style i (is_filled kept) q.element.is_stray q.drafts (trees_of kept) h
     (subst (Gives q.element.is_stray q.drafts) (together-alone kept)
-    (close-gives in_table (Node k) style e mark before after (new.keeps k) (new.counts k) new.stands_alone (agrees-node k h) xs rs shown))))
+    (close-gives in_table (Node k) style e mark before after (λ (r : Result). new.keeps k r.node.kind) (new.counts (becomes.Node k)) new.stands_alone (agrees-node k h) xs rs shown))))

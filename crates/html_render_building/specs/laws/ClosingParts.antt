@@ -3,7 +3,7 @@ use Rattle.std.proofs.Common.{◌≡◌, Bool, true, false, ◌||◌, if◌then�
 use Rattle.std.specs.Prelude.{filter, flat_map}
 use Rattle.html_render_values.specs.Forest.{Forest, none, node}
 use Rattle.html_render_values.specs.Outcome.{◌>>=◌}
-use Rattle.html_render_nodes.specs.declared.tree.CellSpan.{CellSpan}
+use Rattle.html_render_conversion.specs.declared.tables.CellSpan.{CellSpan}
 use Rattle.html_render_nodes.specs.RenderNodes.{without_style}
 use Rattle.html_render_nodes.specs.declared.tree.NodeKind.TheVariants.{Container, TableRow, TableCell}
 use Rattle.html_render_nodes.specs.declared.tree.NodeStyle.{NodeStyle}
@@ -12,8 +12,9 @@ use Rattle.html_render_nodes.specs.laws.Splits.{followed_by-none}
 use Rattle.html_render_insertions.specs.declared.drafts.Draft.{Draft}
 use Rattle.html_render_insertions.specs.declared.drafts.Insertions.{Insertions}
 use Rattle.html_render_insertions.specs.Drafts.{draft, expanded, insert_first, front, back}
+use Rattle.html_render_dom.specs.Selectors.{is_filled}
 use Rattle.html_render_conversion.specs.Results as new
-use Rattle.html_render_conversion.specs.Results.{Nodes, Result, beside, completed, has_any, in_first_cell, in_first_row, in_style, over, row_over, rows_over, trees_of}
+use Rattle.html_render_conversion.specs.Results.{Nodes, Result, beside, completed, in_first_cell, in_first_row, in_style, over, row_over, rows_over, trees_of}
 use Rattle.html_render_building.specs.declared.elements.Element.{Element}
 use Rattle.html_render_building.specs.declared.elements.OpenKind.TheVariants.{Row, Rows}
 use Rattle.html_render_building.specs.declared.elements.Role.{Role}

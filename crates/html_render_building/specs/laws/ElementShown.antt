@@ -6,10 +6,14 @@ use Rattle.html_render_values.specs.Outcome.{◌>>=◌}
 use Rattle.html_render_nodes.specs.declared.tree.NodeKind.TheVariants.{Container, TableRow, TableCell}
 use Rattle.html_render_nodes.specs.declared.tree.NodeStyle.{NodeStyle}
 use Rattle.html_render_insertions.specs.Drafts.{inserted_of}
+use Rattle.html_render_conversion.specs.declared.mapping.ElementKind.{ElementKind}
+use Rattle.html_render_conversion.specs.declared.mapping.ElementKind.TheVariants as becomes
+use Rattle.html_render_conversion.specs.declared.mapping.ElementKind.TheVariants.{Part}
 use Rattle.html_render_conversion.specs.declared.mapping.IfEmpty.{IfEmpty}
 use Rattle.html_render_conversion.specs.Conversion.{vanishes}
+use Rattle.html_render_dom.specs.Selectors.{is_filled}
 use Rattle.html_render_conversion.specs.Results as new
-use Rattle.html_render_conversion.specs.Results.{Nodes, Result, beside, completed, has_any, in_first_cell, in_first_row, in_style, over, row_over, rows_over, trees_of}
+use Rattle.html_render_conversion.specs.Results.{Nodes, Result, beside, completed, in_first_cell, in_first_row, in_style, over, row_over, rows_over, trees_of}
 use Rattle.html_render_building.specs.declared.elements.OpenKind.{OpenKind}
 use Rattle.html_render_building.specs.declared.elements.OpenKind.TheVariants.{Cell, Caption, Row, Rows}
 use Rattle.html_render_building.specs.Building.{Arrival, Holding, closed, fresh}
@@ -24,8 +28,7 @@ use Rattle.html_render_building.specs.Building.{closed_into}
 use Rattle.html_render_conversion.specs.Results.{built}
 use Rattle.html_render_nodes.specs.declared.tree.NodeKind.TheVariants.{Block}
 use Rattle.std.specs.Prelude.{is_some}
-use Rattle.html_render_nodes.specs.declared.tree.NodeKind.TheVariants.{Part}
-use Rattle.html_render_nodes.specs.declared.tree.Part.TheVariants as part
+use Rattle.html_render_conversion.specs.declared.tables.Part.TheVariants as part
 use Rattle.html_render_conversion.specs.Results.{of_role, table_of, with_rows}
 use Rattle.html_render_building.specs.laws.TableShown.{table_start}
 use Rattle.html_render_nodes.specs.declared.tree.NodeKind.{NodeKind}
@@ -35,7 +38,7 @@ use Rattle.html_render_dom.specs.Cascade.{value_of}
 use Rattle.html_render_conversion.specs.declared.mapping.IfEmpty.TheVariants.{Stands}
 use Rattle.html_render_conversion.specs.declared.mapping.Mapping.{Mapping}
 use Rattle.html_render_conversion.specs.declared.mapping.Mapping.TheVariants.{Nothing, Leaf, Parent}
-use Rattle.html_render_conversion.specs.Converting.{mark_alone, styled_outline}
+use Rattle.html_render_conversion.specs.Outlines.{mark_alone, styled_outline}
 use Rattle.html_render_conversion.specs.Insertion.{fragment_start}
 use Rattle.html_render_conversion.specs.declared.mapping.Outline.{Outline}
 use Rattle.html_render_conversion.specs.declared.mapping.Outline.TheVariants.{Over}
@@ -103,10 +106,10 @@ module _ (in_table : Bool) (style : NodeStyle) (mark before after : Option (List
 module _ (in_table : Bool) (style : NodeStyle) (mark before after : Option (List ℕ)) (inside : Pick → Bool → Option (List Arrival))
     (all f u c : Option (List Result)) (ha : AllShowAny false (inside All false) all) (hf : AllShowAny false (inside Feet false) f)
     (hu : AllShowAny false (inside Others false) u) (hc : AllShowAny true (inside Captions true) c) (parted : Parted all f u c) where
-  abbrev parent_came : NodeKind → IfEmpty → Option (Option Arrival)
-  parent_came k e = came_of in_table (opened_kind k) (in_style style k) e true (inserted_of mark before after) inside
+  abbrev parent_came : ElementKind → IfEmpty → Option (Option Arrival)
+  parent_came k e = came_of in_table (opened_kind k) style e true (inserted_of mark before after) inside
 
-  abbrev parent_becomes : NodeKind → IfEmpty → Option (Option Result)
+  abbrev parent_becomes : ElementKind → IfEmpty → Option (Option Result)
   parent_becomes k e = do
     made ← mapped (Parent k e) style all
     Some (completed mark before after made)
@@ -116,17 +119,14 @@ module _ (in_table : Bool) (style : NodeStyle) (mark before after : Option (List
       (do
         made ← (do
           results ← all
-          r ← Some (over (in_style style k) (filter (new.keeps k) results))
-          Some (if vanishes e (list_any (new.counts k) results) then None else Some r))
+          r ← Some (over (in_style style k) (filter (λ (r : Result). new.keeps k r.node.kind) results))
+          Some (if vanishes e (list_any (new.counts (becomes.Node k)) results) then None else Some r))
         Some (completed mark before after made))
-  node-any k e h = other-any in_table style mark before after (Node k) e (new.counts k) (λ rs. over (in_style style k) (filter (new.keeps k) rs))
+  node-any k e h = other-any in_table style mark before after (Node k) e (new.counts (becomes.Node k)) (λ rs. over (in_style style k) (filter (λ (r : Result). new.keeps k r.node.kind) rs))
       (λ xs rs shown. node_closed in_table k style e mark before after h xs rs shown) (inside All false) all ha
 
-  pub parent-any : (caption foot : Bool) (k : NodeKind) (e : IfEmpty) → fits_kind caption foot e k ≡ true →
+  pub parent-any : (caption foot : Bool) (k : ElementKind) (e : IfEmpty) → fits_kind caption foot e k ≡ true →
       AnyShows in_table (parent_came k e) (parent_becomes k e)
-  parent-any caption foot (kind.Table grid) e h = cc
-  parent-any caption foot TableRow e h = cc
-  parent-any caption foot TableCell e h = cc
   parent-any caption foot (Part part.Table) Stands h = cc
   parent-any caption foot (Part part.Table) Vanishes h =
       table-any in_table style mark before after (inside Feet false) (inside Others false) (inside Captions true) all f u c hf hu hc parted
@@ -145,16 +145,12 @@ module _ (in_table : Bool) (style : NodeStyle) (mark before after : Option (List
   parent-any caption foot (Part part.Caption) e h =
       other-any in_table style mark before after Caption e (λ r. true) (λ rs. record (over (in_style style Container) rs) { role = new.Caption })
       (λ xs rs shown. caption-closed in_table style e mark before after xs rs shown) (inside All false) all ha
-  parent-any caption foot k e h = node-any k e refl
+  parent-any caption foot (becomes.Node k) e h = node-any k e h
 
   pub leaf-any : (k : NodeKind) → stands_as_is k ≡ true →
-      AnyShows in_table (came_of in_table (opened_kind k) (in_style style k) Stands false (inserted_of mark before after) inside)
+      AnyShows in_table (came_of in_table (Node k) style Stands false (inserted_of mark before after) inside)
       (Some (completed mark before after (Some (over (in_style style k) []))))
-  leaf-any (kind.Table grid) h = cc
-  leaf-any TableRow h = cc
-  leaf-any TableCell h = cc
-  leaf-any (Part p) h = cc
-  leaf-any k h = node_closed in_table k style Stands mark before after refl [] [] tt
+  leaf-any k h = node_closed in_table k style Stands mark before after h [] [] tt
 
 -- AN ELEMENT under its style
 module _ (in_table : Bool) (style : ElementStyle) (mark : Option (List ℕ)) (inside : Pick → Bool → Option (List Arrival))
@@ -181,12 +177,12 @@ module _ (in_table : Bool) (style : ElementStyle) (mark : Option (List ℕ)) (in
       (Some (completed mark (value_of style.content_before) (value_of style.content_after) None)) mark-any
   styled-any caption foot (Leaf k) h =
       hidden-or (is_some style.display)
-      (Over (in_style (node_style style) k) Stands false mark (value_of style.content_before) (value_of style.content_after))
+      (Over (becomes.Node k) (node_style style) Stands false mark (value_of style.content_before) (value_of style.content_after))
       (Some (completed mark (value_of style.content_before) (value_of style.content_after) (Some (over (in_style (node_style style) k) []))))
       (leaf-any in_table (node_style style) mark (value_of style.content_before) (value_of style.content_after) inside all f u c ha hf hu hc parted k h)
   styled-any caption foot (Parent k e) h =
       hidden-or (is_some style.display)
-      (Over (in_style (node_style style) k) e true mark (value_of style.content_before) (value_of style.content_after))
+      (Over k (node_style style) e true mark (value_of style.content_before) (value_of style.content_after))
       (do
         made ← mapped (Parent k e) (node_style style) all
         Some (completed mark (value_of style.content_before) (value_of style.content_after) made))

@@ -6,9 +6,11 @@ use Rattle.std.proofs.lemmas.Slice.Eq.{bytes_eq-Decides}
 use Rattle.html_render_values.specs.Forest.{Forest}
 use Rattle.html_render_dom.specs.Content.{Content, Property, Space, no_space, html, svg, mathml, other}
 use Rattle.html_render_nodes.specs.declared.tree.NodeKind.{NodeKind}
-use Rattle.html_render_nodes.specs.declared.tree.NodeKind.TheVariants.{Table, TableRow, TableCell, Part}
-use Rattle.html_render_nodes.specs.declared.tree.Part.{Part as TablePart}
-use Rattle.html_render_nodes.specs.declared.tree.Part.TheVariants as part
+use Rattle.html_render_nodes.specs.declared.tree.NodeKind.TheVariants.{Table, TableRow, TableCell}
+use Rattle.html_render_conversion.specs.declared.mapping.ElementKind.{ElementKind}
+use Rattle.html_render_conversion.specs.declared.mapping.ElementKind.TheVariants.{Node, Part}
+use Rattle.html_render_conversion.specs.declared.tables.Part.{Part as TablePart}
+use Rattle.html_render_conversion.specs.declared.tables.Part.TheVariants as part
 use Rattle.html_render_conversion.specs.declared.mapping.IfEmpty.{IfEmpty}
 use Rattle.html_render_conversion.specs.declared.mapping.IfEmpty.TheVariants.{Stands, Vanishes}
 use Rattle.html_render_conversion.specs.declared.mapping.Mapping.{Mapping}
@@ -28,20 +30,16 @@ fits_part caption foot if_empty part.Foot = foot
 fits_part caption foot if_empty part.Caption = caption
 fits_part caption foot if_empty _ = true
 
-abbrev pub fits_kind : (caption foot : Bool) → IfEmpty → NodeKind → Bool
-fits_kind caption foot if_empty (Table grid) = false
-fits_kind caption foot if_empty TableRow = false
-fits_kind caption foot if_empty TableCell = false
-fits_kind caption foot if_empty (Part p) = fits_part caption foot if_empty p
-fits_kind caption foot if_empty _ = true
-
 -- whether a node's kind is that of neither a table nor a part of one
 abbrev pub stands_as_is : NodeKind → Bool
 stands_as_is (Table grid) = false
 stands_as_is TableRow = false
 stands_as_is TableCell = false
-stands_as_is (Part p) = false
 stands_as_is kind = true
+
+abbrev pub fits_kind : (caption foot : Bool) → IfEmpty → ElementKind → Bool
+fits_kind caption foot if_empty (Node kind) = stands_as_is kind
+fits_kind caption foot if_empty (Part p) = fits_part caption foot if_empty p
 
 abbrev pub fits : (caption foot : Bool) → Mapping → Bool
 fits caption foot Nothing = true

@@ -134,7 +134,7 @@ one-more false false e r h all f u c p =
     subst (λ o. Parted (add r all) o (add r u) (add (Some None) c)) (add-none f)
     (subst (λ o. Parted (add r all) f (add r u) o) (add-none c) (to-others r h all f u c p))
 
-one_name : (content : Content) → (is_named (codes "caption") content && is_named (codes "tfoot") content) ≡ false
+pub one_name : (content : Content) → (is_named (codes "caption") content && is_named (codes "tfoot") content) ≡ false
 one_name (element name properties template_contents integration_point) =
     by (is_html name.space) (bytes_eq name.local (codes "caption")) refl
   where

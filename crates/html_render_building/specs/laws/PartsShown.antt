@@ -3,15 +3,16 @@ use Rattle.std.proofs.Common.{◌≡◌, ℕ, Bool, true, if◌then◌else◌, L
 use Rattle.std.specs.Prelude.{filter, flat_map}
 use Rattle.std.specs.List.{list_any}
 use Rattle.html_render_values.specs.Forest.{followed_by}
-use Rattle.html_render_nodes.specs.declared.tree.CellSpan.{CellSpan}
+use Rattle.html_render_conversion.specs.declared.tables.CellSpan.{CellSpan}
 use Rattle.html_render_nodes.specs.declared.tree.NodeKind.TheVariants.{Container, TableCell}
 use Rattle.html_render_nodes.specs.declared.tree.NodeStyle.{NodeStyle}
 use Rattle.html_render_insertions.specs.declared.drafts.Insertions.{Insertions}
 use Rattle.html_render_insertions.specs.Drafts.{draft, inserted_of}
 use Rattle.html_render_conversion.specs.declared.mapping.IfEmpty.{IfEmpty}
 use Rattle.html_render_conversion.specs.Conversion.{vanishes}
+use Rattle.html_render_dom.specs.Selectors.{is_filled}
 use Rattle.html_render_conversion.specs.Results as new
-use Rattle.html_render_conversion.specs.Results.{Nodes, Result, beside, completed, has_any, in_first_cell, in_first_row, in_style, over, row_over, rows_over, trees_of}
+use Rattle.html_render_conversion.specs.Results.{Nodes, Result, beside, completed, in_first_cell, in_first_row, in_style, over, row_over, rows_over, trees_of}
 use Rattle.html_render_building.specs.declared.elements.OpenKind.{OpenKind}
 use Rattle.html_render_building.specs.declared.elements.OpenKind.TheVariants.{Cell, Caption, Row, Rows}
 use Rattle.html_render_building.specs.declared.elements.Role.{Role}
@@ -70,9 +71,9 @@ module _ (in_table : Bool) (style : NodeStyle) (e : IfEmpty) (mark before after 
       subst (λ k. ShowsIn in_table (closed in_table q) (becomes (record (over (in_style style TableCell) k) { role = new.Cell span }))) (all-kept rs)
       (close-shown in_table (Cell span) style e mark before after (λ r. true) (λ r. true) new.stands_alone (agrees-cell span) xs rs shown
       (Cell span) (kind-stays (Cell span) (cell-gathered span) xs (fresh (Cell span) style e noted) refl) r
-      (shows-other in_table (with_insertions (role.Cell span) (draft TableCell style noted) (has_any kept) q.element.is_stray q.drafts)
+      (shows-other in_table (with_insertions (role.Cell span) (draft TableCell style noted) (is_filled kept) q.element.is_stray q.drafts)
       (with_noted noted r) refl
-      (cell-shown span style noted (has_any kept) q.element.is_stray q.drafts (trees_of kept)
+      (cell-shown span style noted (is_filled kept) q.element.is_stray q.drafts (trees_of kept)
       (subst (Gives q.element.is_stray q.drafts) (together-alone kept)
       (close-gives in_table (Cell span) style e mark before after (λ r. true) (λ r. true) new.stands_alone (agrees-cell span) xs rs shown)))))
 
@@ -85,7 +86,7 @@ module _ (in_table : Bool) (style : NodeStyle) (e : IfEmpty) (mark before after 
       subst (λ k. ShowsIn in_table (closed in_table q) (becomes (record (over (in_style style Container) k) { role = new.Caption }))) (all-kept rs)
       (close-shown in_table Caption style e mark before after (λ r. true) (λ r. true) new.stands_alone agrees-caption xs rs shown
       Caption (kind-stays Caption caption-gathered xs (fresh Caption style e noted) refl) r
-      (caption-shown in_table style noted (has_any kept) q.element.is_stray q.drafts (trees_of kept)
+      (caption-shown in_table style noted (is_filled kept) q.element.is_stray q.drafts (trees_of kept)
       (subst (Gives q.element.is_stray q.drafts) (together-alone kept)
       (close-gives in_table Caption style e mark before after (λ r. true) (λ r. true) new.stands_alone agrees-caption xs rs shown))))
 
@@ -133,8 +134,8 @@ module _ (in_table : Bool) (style : NodeStyle) (e : IfEmpty) (mark before after 
       let r = row_over style kept in
       close-shown in_table (Row []) style e mark before after (λ r. new.is_cell r.role) (λ r. true) (λ r. true) (agrees-row []) xs rs shown
       (Row cells) (row-kind xs rs shown p refl) r
-      (shows-other in_table (row_made cells style i (has_any kept) q.element.is_stray q.drafts) (with_noted i r) refl
-      (row-shown cells style i (has_any kept) q.element.is_stray q.drafts (beside kept)
+      (shows-other in_table (row_made cells style i (is_filled kept) q.element.is_stray q.drafts) (with_noted i r) refl
+      (row-shown cells style i (is_filled kept) q.element.is_stray q.drafts (beside kept)
       (subst (Gives q.element.is_stray q.drafts) (together-beside new.is_cell cell-own rs)
       (close-gives in_table (Row []) style e mark before after (λ r. new.is_cell r.role) (λ r. true) (λ r. true) (agrees-row []) xs rs shown))))
 
@@ -150,8 +151,8 @@ module _ (in_table : Bool) (style : NodeStyle) (e : IfEmpty) (mark before after 
       let r = rows_over behind kept in
       close-shown in_table (Rows behind []) style e mark before after (λ r. new.is_row r.role) (λ r. true) (λ r. true) (agrees-rows behind []) xs rs shown
       (Rows behind rows) (rows-kind behind xs rs shown p refl) r
-      (shows-other in_table (rows_made behind rows i (has_any kept) q.element.is_stray q.drafts) (with_noted i r) refl
-      (rows-shown behind rows i (has_any kept) q.element.is_stray q.drafts (beside kept) (rows-plain behind xs rs shown p refl tt)
+      (shows-other in_table (rows_made behind rows i (is_filled kept) q.element.is_stray q.drafts) (with_noted i r) refl
+      (rows-shown behind rows i (is_filled kept) q.element.is_stray q.drafts (beside kept) (rows-plain behind xs rs shown p refl tt)
       (subst (Gives q.element.is_stray q.drafts) (together-beside new.is_row row-own rs)
       (close-gives in_table (Rows behind []) style e mark before after (λ r. new.is_row r.role) (λ r. true) (λ r. true) (agrees-rows behind []) xs rs shown))))
 

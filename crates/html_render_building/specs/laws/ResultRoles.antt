@@ -11,9 +11,10 @@ use Rattle.html_render_dom.specs.ElementStyle.{ElementStyle}
 use Rattle.html_render_dom.specs.Rules.{Rule as StyleRule}
 use Rattle.html_render_nodes.specs.Tables.{TableParts, unmeasured_table}
 use Rattle.html_render_nodes.specs.declared.tree.NodeKind.{NodeKind}
-use Rattle.html_render_nodes.specs.declared.tree.NodeKind.TheVariants.{Part}
 use Rattle.html_render_nodes.specs.declared.tree.NodeStyle.{NodeStyle}
-use Rattle.html_render_nodes.specs.declared.tree.Part.TheVariants as part
+use Rattle.html_render_conversion.specs.declared.mapping.ElementKind.{ElementKind}
+use Rattle.html_render_conversion.specs.declared.mapping.ElementKind.TheVariants.{Node, Part}
+use Rattle.html_render_conversion.specs.declared.tables.Part.TheVariants as part
 use Rattle.html_render_parts.specs.TableCells.{cell_grid_of}
 use Rattle.html_render_conversion.specs.declared.mapping.IfEmpty.{IfEmpty}
 use Rattle.html_render_conversion.specs.declared.mapping.Mapping.{Mapping}
@@ -21,8 +22,9 @@ use Rattle.html_render_conversion.specs.declared.mapping.Mapping.TheVariants.{No
 use Rattle.html_render_conversion.specs.Conversion.{element_mapping, node_style, own_style, vanishes}
 use Rattle.html_render_conversion.specs.Insertion.{are_any, text_node}
 use Rattle.html_render_conversion.specs.Marks.{mark_of}
+use Rattle.html_render_dom.specs.Selectors.{is_filled}
 use Rattle.html_render_conversion.specs.Results as new
-use Rattle.html_render_conversion.specs.Results.{Insertion, Inside, FirstRow, FirstCell, Beside, Nodes, Result, built, captioned, completed, has_any, inserted, into_role}
+use Rattle.html_render_conversion.specs.Results.{Insertion, Inside, FirstRow, FirstCell, Beside, Nodes, Result, built, captioned, completed, inserted, into_role}
 use Rattle.html_render_conversion.specs.Results.{leaf, mapped, of_role, over, result_of, styled, table_of, table_over, with_inserted, with_rows}
 use Rattle.html_render_building.specs.Order.{is_html, is_named}
 use Rattle.html_render_building.specs.laws.Inserting.{fronts}
@@ -73,11 +75,11 @@ module _ (caption foot : Bool) where
 
       by : (o : Option TableParts) → Fits caption foot (do
         grid ← o
-        Some (if has_any captions then captioned style grid captions parts else table_over style grid parts))
+        Some (if is_filled captions then captioned style grid captions parts else table_over style grid parts))
       by None = tt
-      by (Some grid) = either (has_any captions) grid
+      by (Some grid) = either (is_filled captions) grid
 
-  fits-built : (k : NodeKind) (e : IfEmpty) (style : NodeStyle) (rs : List Result) → fits_kind caption foot e k ≡ true →
+  fits-built : (k : ElementKind) (e : IfEmpty) (style : NodeStyle) (rs : List Result) → fits_kind caption foot e k ≡ true →
       Fits caption foot (built k style rs)
   fits-built (Part part.Table) e style rs h = fits-table style (of_role new.is_caption rs) (with_rows rs)
   fits-built (Part part.Body) e style rs h = h
@@ -85,7 +87,7 @@ module _ (caption foot : Bool) where
   fits-built (Part part.Row) e style rs h = refl
   fits-built (Part (part.Cell span)) e style rs h = refl
   fits-built (Part part.Caption) e style rs h = h
-  fits-built k e style rs h = refl
+  fits-built (Node k) e style rs h = refl
 
   fits-mapped : (m : Mapping) (style : NodeStyle) (inside : Option (List Result)) → fits caption foot m ≡ true →
       FitsAny caption foot (mapped m style inside)

@@ -9,8 +9,9 @@ use Rattle.html_render_nodes.specs.laws.Splits.{followed_by-followed_by}
 use Rattle.html_render_insertions.specs.declared.drafts.Draft.{Draft}
 use Rattle.html_render_insertions.specs.Drafts.{expanded}
 use Rattle.html_render_insertions.specs.laws.Drafts.{expanded-followed_by}
+use Rattle.html_render_dom.specs.Selectors.{is_filled}
 use Rattle.html_render_conversion.specs.Results as new
-use Rattle.html_render_conversion.specs.Results.{Nodes, Result, has_any}
+use Rattle.html_render_conversion.specs.Results.{Nodes, Result}
 use Rattle.html_render_building.specs.declared.elements.Element.{Element}
 use Rattle.html_render_building.specs.declared.elements.OpenKind.{OpenKind}
 use Rattle.html_render_building.specs.declared.elements.OpenKind.TheVariants as opened
@@ -226,14 +227,14 @@ module _ (p : Holding) (keeps_result counts_result : Result → Bool) (places : 
   results-shown (a ∷ xs) [] h = elim h [ ]
 
   pub children-shown : (xs : List Arrival) (rs : List Result) → AllShow xs rs →
-      (all_arrive xs p).element.has_children ≡ (p.element.has_children || has_any (filter keeps_result rs))
+      (all_arrive xs p).element.has_children ≡ (p.element.has_children || is_filled (filter keeps_result rs))
   children-shown [] [] h = sym (or-false p.element.has_children)
   children-shown (a ∷ xs) (r ∷ rs) h =
       ap (λ b. (after b a (all_arrive xs p).element).has_children) (keeps-as xs a r h.0) ∙ by (keeps_result r) (children-shown xs rs h.1)
     where
-      by : (b : Bool) → (all_arrive xs p).element.has_children ≡ (p.element.has_children || has_any (filter keeps_result rs)) →
+      by : (b : Bool) → (all_arrive xs p).element.has_children ≡ (p.element.has_children || is_filled (filter keeps_result rs)) →
           (after b a (all_arrive xs p).element).has_children
-          ≡ (p.element.has_children || has_any (if b then r ∷ filter keeps_result rs else filter keeps_result rs))
+          ≡ (p.element.has_children || is_filled (if b then r ∷ filter keeps_result rs else filter keeps_result rs))
       by true e = sym (or-true p.element.has_children)
       by false e = e
   children-shown [] (r ∷ rs) h = elim h [ ]
@@ -269,28 +270,28 @@ module _ (p : Holding) (keeps_result counts_result : Result → Bool) (places : 
   trees_shown (a ∷ xs) [] h o g = elim h [ ]
 
   -- where nothing is kept, nothing changes
-  pub drafts-stay : (xs : List Arrival) (rs : List Result) → AllShow xs rs → has_any (filter keeps_result rs) ≡ false →
+  pub drafts-stay : (xs : List Arrival) (rs : List Result) → AllShow xs rs → is_filled (filter keeps_result rs) ≡ false →
       (all_arrive xs p).drafts ≡ p.drafts
   drafts-stay [] [] h e = refl
   drafts-stay (a ∷ xs) (r ∷ rs) h e =
       ap (λ b. drafts_after b a (all_arrive xs p).drafts) (keeps-as xs a r h.0) ∙ by (keeps_result r) (drafts-stay xs rs h.1) e
     where
-      by : (b : Bool) → (has_any (filter keeps_result rs) ≡ false → (all_arrive xs p).drafts ≡ p.drafts) →
-          has_any (if b then r ∷ filter keeps_result rs else filter keeps_result rs) ≡ false →
+      by : (b : Bool) → (is_filled (filter keeps_result rs) ≡ false → (all_arrive xs p).drafts ≡ p.drafts) →
+          is_filled (if b then r ∷ filter keeps_result rs else filter keeps_result rs) ≡ false →
           drafts_after b a (all_arrive xs p).drafts ≡ p.drafts
       by true same e = cc
       by false same e = same e
   drafts-stay [] (r ∷ rs) h e = elim h [ ]
   drafts-stay (a ∷ xs) [] h e = elim h [ ]
 
-  pub stray-stays : (xs : List Arrival) (rs : List Result) → AllShow xs rs → has_any (filter keeps_result rs) ≡ false →
+  pub stray-stays : (xs : List Arrival) (rs : List Result) → AllShow xs rs → is_filled (filter keeps_result rs) ≡ false →
       (all_arrive xs p).element.is_stray ≡ p.element.is_stray
   stray-stays [] [] h e = refl
   stray-stays (a ∷ xs) (r ∷ rs) h e =
       ap (λ b. (after b a (all_arrive xs p).element).is_stray) (keeps-as xs a r h.0) ∙ by (keeps_result r) (stray-stays xs rs h.1) e
     where
-      by : (b : Bool) → (has_any (filter keeps_result rs) ≡ false → (all_arrive xs p).element.is_stray ≡ p.element.is_stray) →
-          has_any (if b then r ∷ filter keeps_result rs else filter keeps_result rs) ≡ false →
+      by : (b : Bool) → (is_filled (filter keeps_result rs) ≡ false → (all_arrive xs p).element.is_stray ≡ p.element.is_stray) →
+          is_filled (if b then r ∷ filter keeps_result rs else filter keeps_result rs) ≡ false →
           (after b a (all_arrive xs p).element).is_stray ≡ p.element.is_stray
       by true same e = cc
       by false same e = same e

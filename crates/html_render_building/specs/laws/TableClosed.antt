@@ -10,8 +10,9 @@ use Rattle.html_render_nodes.specs.declared.tree.RenderNode.{RenderNode}
 use Rattle.html_render_insertions.specs.declared.drafts.Draft.{Draft}
 use Rattle.html_render_insertions.specs.declared.drafts.Insertions.{Insertions}
 use Rattle.html_render_insertions.specs.Drafts.{inserted_of, insert_first, front, back}
+use Rattle.html_render_dom.specs.Selectors.{is_filled}
 use Rattle.html_render_conversion.specs.Results as new
-use Rattle.html_render_conversion.specs.Results.{Nodes, Result, beside, completed, has_any, in_first_cell, in_first_row, in_style, over, row_over, rows_over, trees_of}
+use Rattle.html_render_conversion.specs.Results.{Nodes, Result, beside, completed, in_first_cell, in_first_row, in_style, over, row_over, rows_over, trees_of}
 use Rattle.html_render_building.specs.declared.elements.OpenKind.{OpenKind}
 use Rattle.html_render_building.specs.declared.elements.Role.{Role}
 use Rattle.html_render_building.specs.declared.elements.Role.TheVariants as role
@@ -44,14 +45,14 @@ module _ (in_table : Bool) (p : Holding) (keeps_result counts_result : Result �
   pub closed-is : (k : OpenKind) → (all_arrive xs p).element.kind ≡ k →
       closed in_table (all_arrive xs p)
       ≡ closed_as in_table k p.element.style p.element.if_empty (p.element.has_results || list_any counts_result rs)
-      (p.element.has_children || has_any (filter keeps_result rs)) (all_arrive xs p).element.is_stray p.element.inserted (all_arrive xs p).drafts
+      (p.element.has_children || is_filled (filter keeps_result rs)) (all_arrive xs p).element.is_stray p.element.inserted (all_arrive xs p).drafts
   closed-is k kind_is =
       let q = all_arrive xs p in
       let i = p.element.inserted in
       let style = p.element.style in
       let e = p.element.if_empty in
       let any = p.element.has_results || list_any counts_result rs in
-      let some = p.element.has_children || has_any (filter keeps_result rs) in
+      let some = p.element.has_children || is_filled (filter keeps_result rs) in
       ap (λ x. closed_as in_table x q.element.style q.element.if_empty q.element.has_results q.element.has_children q.element.is_stray
       q.element.inserted q.drafts) kind_is
       ∙ ap (λ x. closed_as in_table k x q.element.if_empty q.element.has_results q.element.has_children q.element.is_stray
@@ -109,15 +110,15 @@ seen-captions [] = refl
 seen-captions (r ∷ rs) =
     seen-caption r.role r.node r.has_children r.below (captions_of (map (seen true) rs)) (captions_of rs) (seen-captions rs)
 
-any-filter : (is : Result → Bool) (rs : List Result) → list_any is rs ≡ has_any (filter is rs)
+any-filter : (is : Result → Bool) (rs : List Result) → list_any is rs ≡ is_filled (filter is rs)
 any-filter is [] = refl
 any-filter is (r ∷ rs) = by (is r) (any-filter is rs)
   where
-    by : (b : Bool) → list_any is rs ≡ has_any (filter is rs) → (b || list_any is rs) ≡ has_any (if b then r ∷ filter is rs else filter is rs)
+    by : (b : Bool) → list_any is rs ≡ is_filled (filter is rs) → (b || list_any is rs) ≡ is_filled (if b then r ∷ filter is rs else filter is rs)
     by true e = refl
     by false e = e
 
-any-map : (rs : List Result) → has_any (map as_block rs) ≡ has_any rs
+any-map : (rs : List Result) → is_filled (map as_block rs) ≡ is_filled rs
 any-map [] = refl
 any-map (r ∷ rs) = refl
 
@@ -231,7 +232,7 @@ module _ (in_table : Bool) (grid : TableParts) (style : NodeStyle) (mark before 
 
   -- what it becomes
   abbrev table_result : (captions : List Result) → Result
-  table_result captions = if has_any captions then captioned style grid captions parts else table_over style grid parts
+  table_result captions = if is_filled captions then captioned style grid captions parts else table_over style grid parts
 
   made-captioned : (st : Bool) (ds : Forest Draft) (captions : List Result) →
       Gives st ds (both (beside (map as_block captions)) (beside (table_among (have_rows parts)))) →
@@ -243,7 +244,7 @@ module _ (in_table : Bool) (grid : TableParts) (style : NodeStyle) (mark before 
       (node_shown Container style noted true st ds o refl
       (subst (Gives st ds) (beside-append (map as_block captions) (table_among (have_rows parts))) g))
 
-  finished : (b : Bool) → have_rows parts ≡ b → (captions : List Result) (c : Bool) → has_any captions ≡ c → (st : Bool) (ds : Forest Draft) →
+  finished : (b : Bool) → have_rows parts ≡ b → (captions : List Result) (c : Bool) → is_filled captions ≡ c → (st : Bool) (ds : Forest Draft) →
       Gives st ds (both (beside (map as_block captions)) (beside (table_among (have_rows parts)))) →
       (c ≡ false → st ≡ (outer b).element.is_stray) → (c ≡ false → ds ≡ (outer b).drafts) →
       ShowsIn in_table (if not (b || c) then mark_left noted else captioned_made style noted c st ds)
@@ -267,23 +268,23 @@ module _ (in_table : Bool) (grid : TableParts) (style : NodeStyle) (mark before 
   pub table-shown : (xs : List Arrival) (rs : List Result) → AllShow xs (map (seen true) rs) →
       ShowsIn in_table (closed in_table (all_arrive xs (outer (have_rows parts))))
       (completed mark before after
-      (if not (have_rows parts || has_any (captions_of rs)) then None else Some (table_result (captions_of rs))))
+      (if not (have_rows parts || is_filled (captions_of rs)) then None else Some (table_result (captions_of rs))))
   table-shown xs rs h =
       let b = have_rows parts in
       let p = outer b in
       let q = all_arrive xs p in
       let seen_rs = map (seen true) rs in
-      let some : has_any (captions_of seen_rs) ≡ has_any (captions_of rs) = ap has_any (seen-captions rs) ∙ any-map (captions_of rs) in
-      let any : list_any (λ r. new.is_caption r.role) seen_rs ≡ has_any (captions_of rs) = any-filter (λ r. new.is_caption r.role) seen_rs ∙ some in
+      let some : is_filled (captions_of seen_rs) ≡ is_filled (captions_of rs) = ap is_filled (seen-captions rs) ∙ any-map (captions_of rs) in
+      let any : list_any (λ r. new.is_caption r.role) seen_rs ≡ is_filled (captions_of rs) = any-filter (λ r. new.is_caption r.role) seen_rs ∙ some in
       let wanted = completed mark before after
-      (if not (b || has_any (captions_of rs)) then None else Some (table_result (captions_of rs))) in
+      (if not (b || is_filled (captions_of rs)) then None else Some (table_result (captions_of rs))) in
       subst (λ o. ShowsIn in_table o wanted)
       (sym (closed-is in_table p (λ r. new.is_caption r.role) (λ r. new.is_caption r.role) (λ r. true) (outer-agrees b) xs seen_rs h Captioned
       (kind-stays Captioned captioned-gathered xs p (outer-kind b))
-      ∙ outer-made b (list_any (λ r. new.is_caption r.role) seen_rs) (has_any (captions_of seen_rs)) q.element.is_stray q.drafts
-      ∙ ap (λ x. if not (b || x) then mark_left noted else captioned_made style noted (has_any (captions_of seen_rs)) q.element.is_stray q.drafts) any
-      ∙ ap (λ x. if not (b || has_any (captions_of rs)) then mark_left noted else captioned_made style noted x q.element.is_stray q.drafts) some))
-      (finished b refl (captions_of rs) (has_any (captions_of rs)) refl q.element.is_stray q.drafts
+      ∙ outer-made b (list_any (λ r. new.is_caption r.role) seen_rs) (is_filled (captions_of seen_rs)) q.element.is_stray q.drafts
+      ∙ ap (λ x. if not (b || x) then mark_left noted else captioned_made style noted (is_filled (captions_of seen_rs)) q.element.is_stray q.drafts) any
+      ∙ ap (λ x. if not (b || is_filled (captions_of rs)) then mark_left noted else captioned_made style noted x q.element.is_stray q.drafts) some))
+      (finished b refl (captions_of rs) (is_filled (captions_of rs)) refl q.element.is_stray q.drafts
       (subst (λ o. Gives q.element.is_stray q.drafts (both o (beside (table_among b))))
       (together-beside new.is_caption caption-own seen_rs ∙ ap beside (seen-captions rs))
       (trees_shown p (λ r. new.is_caption r.role) (λ r. new.is_caption r.role) (λ r. true) (outer-agrees b) xs seen_rs h (beside (table_among b)) (outer-gives b)))

@@ -4,9 +4,11 @@ use Rattle.std.specs.List.{list_any}
 use Rattle.html_render_values.specs.Outcome.{◌>>=◌}
 use Rattle.html_render_nodes.specs.declared.tree.NodeStyle.{NodeStyle}
 use Rattle.html_render_insertions.specs.Drafts.{inserted_of}
+use Rattle.html_render_conversion.specs.declared.mapping.ElementKind.TheVariants.{Part}
 use Rattle.html_render_conversion.specs.Conversion.{vanishes}
+use Rattle.html_render_dom.specs.Selectors.{is_filled}
 use Rattle.html_render_conversion.specs.Results as new
-use Rattle.html_render_conversion.specs.Results.{Nodes, Result, beside, completed, has_any, in_first_cell, in_first_row, in_style, over, row_over, rows_over, trees_of}
+use Rattle.html_render_conversion.specs.Results.{Nodes, Result, beside, completed, in_first_cell, in_first_row, in_style, over, row_over, rows_over, trees_of}
 use Rattle.html_render_building.specs.Building.{Arrival, Holding, arrive, closed, fresh}
 use Rattle.html_render_building.specs.laws.Arrivals.{all_arrive}
 use Rattle.html_render_building.specs.laws.Shown.{AllShow}
@@ -20,8 +22,7 @@ use Rattle.html_render_building.specs.Building.{closed_into}
 use Rattle.html_render_conversion.specs.Results.{built}
 use Rattle.html_render_building.specs.laws.TableShown.{any_rows, parts_of}
 use Rattle.std.specs.Prelude.{is_some}
-use Rattle.html_render_nodes.specs.declared.tree.NodeKind.TheVariants.{Part}
-use Rattle.html_render_nodes.specs.declared.tree.Part.TheVariants as part
+use Rattle.html_render_conversion.specs.declared.tables.Part.TheVariants as part
 use Rattle.html_render_conversion.specs.Results.{of_role, table_of, with_rows}
 use Rattle.html_render_building.specs.laws.Closing.{seen-elsewhere}
 use Rattle.html_render_building.specs.laws.TableShown.{grid_over, into_grid, table-gives, table-into, table-plain, table_start}
@@ -81,7 +82,7 @@ rows-append (r ∷ xs) ys = ap (λ b. r.has_children || b) (rows-append xs ys) �
 
 -- a table counts its captions, and rows where there are any
 table-counts : (rs : List Result) → list_any (new.counts (Part part.Table)) rs
-    ≡ ((have_rows (of_role (new.are_rows false) rs) || have_rows (of_role (new.are_rows true) rs)) || has_any (captions_of rs))
+    ≡ ((have_rows (of_role (new.are_rows false) rs) || have_rows (of_role (new.are_rows true) rs)) || is_filled (captions_of rs))
 table-counts [] = refl
 table-counts (r ∷ rs) =
     ap (λ b. new.counts (Part part.Table) r || b) (table-counts rs)
@@ -96,14 +97,14 @@ table-counts (r ∷ rs) =
     last false = refl
 
     by : (x : new.Role) (h : Bool) (f t c : List Result) →
-        ((new.is_caption x || (h && (new.are_rows false x || new.are_rows true x))) || ((have_rows f || have_rows t) || has_any c))
+        ((new.is_caption x || (h && (new.are_rows false x || new.are_rows true x))) || ((have_rows f || have_rows t) || is_filled c))
         ≡ ((have_rows (if new.are_rows false x then record r { has_children = h } ∷ f else f)
         || have_rows (if new.are_rows true x then record r { has_children = h } ∷ t else t))
-        || has_any (if new.is_caption x then r ∷ c else c))
+        || is_filled (if new.is_caption x then r ∷ c else c))
     by new.Caption h f t c = sym (last (have_rows f || have_rows t))
     by (new.Rows false rows) true f t c = refl
     by (new.Rows false rows) false f t c = refl
-    by (new.Rows true rows) true f t c = sym (true-first (have_rows f) (have_rows t) (has_any c))
+    by (new.Rows true rows) true f t c = sym (true-first (have_rows f) (have_rows t) (is_filled c))
     by (new.Rows true rows) false f t c = refl
     by new.Contents true f t c = refl
     by new.Contents false f t c = refl
@@ -140,23 +141,23 @@ module _ (in_table : Bool) (style : NodeStyle) (mark before after : Option (List
     made ← (do
       r ← (do
         g ← grid
-        Some (if has_any captions then captioned style g captions parts else table_over style g parts))
+        Some (if is_filled captions then captioned style g captions parts else table_over style g parts))
       Some (if not has then None else Some r))
     Some (completed mark before after made)
 
   becomes-over : (rs f u c : List Result) → Parted (Some rs) (Some f) (Some u) (Some c) →
       table_becomes (Some rs)
-      ≡ over_grid (have_rows (parts_of (u ++ f)) || has_any (captions_of c)) (captions_of c) (parts_of (u ++ f)) (grid_over (parts_of (u ++ f)))
+      ≡ over_grid (have_rows (parts_of (u ++ f)) || is_filled (captions_of c)) (captions_of c) (parts_of (u ++ f)) (grid_over (parts_of (u ++ f)))
   becomes-over rs f u c h =
       let rows : with_rows rs ≡ parts_of (u ++ f) = ap (λ l. l ++ of_role (new.are_rows true) rs) h.1 ∙ ap (λ l. parts_of u ++ l) h.2 ∙ parts-append u f in
-      let counted : list_any (new.counts (Part part.Table)) rs ≡ (have_rows (parts_of (u ++ f)) || has_any (captions_of c)) =
+      let counted : list_any (new.counts (Part part.Table)) rs ≡ (have_rows (parts_of (u ++ f)) || is_filled (captions_of c)) =
       table-counts rs
-      ∙ ap (λ b. b || has_any (captions_of rs)) (sym (rows-append (of_role (new.are_rows false) rs) (of_role (new.are_rows true) rs)))
-      ∙ ap (λ l. have_rows l || has_any (captions_of rs)) rows
-      ∙ ap (λ l. have_rows (parts_of (u ++ f)) || has_any l) h.0 in
+      ∙ ap (λ b. b || is_filled (captions_of rs)) (sym (rows-append (of_role (new.are_rows false) rs) (of_role (new.are_rows true) rs)))
+      ∙ ap (λ l. have_rows l || is_filled (captions_of rs)) rows
+      ∙ ap (λ l. have_rows (parts_of (u ++ f)) || is_filled l) h.0 in
       ap (λ b. over_grid b (captions_of rs) (with_rows rs) (grid_over (with_rows rs))) counted
-      ∙ ap (λ l. over_grid (have_rows (parts_of (u ++ f)) || has_any (captions_of c)) l (with_rows rs) (grid_over (with_rows rs))) h.0
-      ∙ ap (λ l. over_grid (have_rows (parts_of (u ++ f)) || has_any (captions_of c)) (captions_of c) l (grid_over l)) rows
+      ∙ ap (λ l. over_grid (have_rows (parts_of (u ++ f)) || is_filled (captions_of c)) l (with_rows rs) (grid_over (with_rows rs))) h.0
+      ∙ ap (λ l. over_grid (have_rows (parts_of (u ++ f)) || is_filled (captions_of c)) (captions_of c) l (grid_over l)) rows
 
   pub parted-shown : (xf xu xc : List Arrival) (rs f u c : List Result) → AllShow xf f → AllShow xu u → AllShow xc (map (seen true) c) →
       Parted (Some rs) (Some f) (Some u) (Some c) → AnyShows in_table (table_came (Some xf) (Some xu) (Some xc)) (table_becomes (Some rs))
@@ -174,7 +175,7 @@ module _ (in_table : Bool) (style : NodeStyle) (mark before after : Option (List
       by : (g : Option TableParts) → AllShow (xu ++ xf) (u ++ f) →
           AnyShows in_table (into_grid g (have_rows (parts_of (u ++ f))) (all_arrive (xu ++ xf) table_start).element.is_stray
           (all_arrive (xu ++ xf) table_start).drafts around >>= (λ outer. Some (closed in_table (all_arrive xc outer))))
-          (over_grid (have_rows (parts_of (u ++ f)) || has_any (captions_of c)) (captions_of c) (parts_of (u ++ f)) g)
+          (over_grid (have_rows (parts_of (u ++ f)) || is_filled (captions_of c)) (captions_of c) (parts_of (u ++ f)) g)
       by None shown = tt
       by (Some grid) shown = table-shown in_table grid style mark before after (all_arrive (xu ++ xf) table_start).element.is_stray
           (all_arrive (xu ++ xf) table_start).drafts (parts_of (u ++ f)) (table-plain (xu ++ xf) (u ++ f) shown table_start refl tt)

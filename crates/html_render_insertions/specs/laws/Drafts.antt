@@ -3,7 +3,8 @@ use Rattle.std.specs.Prelude.{ℕ, ◌+◌, ◌≡◌, List, [], ◌∷◌, ◌+
 use Rattle.std.proofs.Common.{suc, zero, arith, ap, ◌∙◌, sym}
 use Rattle.html_render_values.specs.Forest.{Forest, none, node, count, followed_by}
 use Rattle.html_render_nodes.specs.declared.tree.RenderNode.{RenderNode}
-use Rattle.html_render_nodes.specs.laws.Splits.{followed_by-none, followed_by-followed_by}
+use Rattle.html_render_nodes.specs.Splits.{SplitAt}
+use Rattle.html_render_nodes.specs.laws.Splits.{followed_by-none, followed_by-followed_by, SplitAt-none}
 use Rattle.html_render_insertions.specs.declared.drafts.Draft.{Draft}
 use Rattle.html_render_insertions.specs.declared.drafts.Insertions.{Insertions}
 use Rattle.html_render_insertions.specs.Drafts.{front_of, back_of, front, back, wrapped, node_of, expanded, with_inserted, at_first, insert_first}
@@ -107,3 +108,9 @@ pub expanded-insert_grandchild : (inserted : List Insertions) (d e f : Draft) (b
     (expanded others)
 expanded-insert_grandchild inserted d e f below beside next others =
     ap (λ t. node (node_of d) (wrapped d.inserted t) (expanded others)) (expanded-insert_child inserted e f below beside next)
+
+-- ---- where drafts can be parted
+
+-- all drafts came since there was none
+pub came_since_none : (t : Forest Draft) → SplitAt t 0
+came_since_none t = SplitAt-none t

@@ -14,7 +14,7 @@ use Rattle.html_render_nodes.specs.declared.tree.NodeKind.{NodeKind}
 use Rattle.html_render_nodes.specs.declared.tree.NodeKind.TheVariants.{Text, Container, Break, Block, Div, Emphasis}
 use Rattle.html_render_nodes.specs.declared.tree.NodeKind.TheVariants.{Header, BlockQuote, Ul, Ol, ListItem, Dl, Dt, Dd}
 use Rattle.html_render_nodes.specs.declared.tree.NodeKind.TheVariants.{Strikeout, Superscript, Link, Image, Svg, FragmentStart, Table, TableRow}
-use Rattle.html_render_nodes.specs.declared.tree.NodeKind.TheVariants.{TableCell, Part}
+use Rattle.html_render_nodes.specs.declared.tree.NodeKind.TheVariants.{TableCell}
 use Rattle.html_render_nodes.specs.declared.tree.RenderNode.{RenderNode}
 use Rattle.html_render_parts.specs.TableCells.{CellGrid}
 use Rattle.html_render_nodes.specs.Pass.{run}
@@ -276,7 +276,6 @@ module _ {S A K T B : Type 0} (d : Decoration S A) (push : K → T → A → K �
       kind-keeps (Table grid) e trees i s p = table-keeps grid.cells grid.needs i s p
       kind-keeps TableRow e trees i s p = row-keeps i s p
       kind-keeps TableCell e trees i s p = below i s p
-      kind-keeps (Part part) e trees i s p = below i s p
 
       node-keeps : (n : RenderNode) (trees : Forest RenderNode) (i : I) (s : State) → OfState i s →
           MatchOption (node_steps d push o n trees layout s) N (OfState i)
@@ -533,7 +532,6 @@ module _ {S A K T B : Type 0} (d : Decoration S A) (push : K → T → A → K �
     kind-same (Table grid) e trees s = table-same grid.cells grid.needs s
     kind-same TableRow e trees s = row-same s
     kind-same TableCell e trees s = below-same s
-    kind-same (Part part) e trees s = below-same s
 
     node-same : (n : RenderNode) (trees : Forest RenderNode) (s : State) → IfSome (node_steps d push o n trees children s) (Same s)
     node-same n trees s =

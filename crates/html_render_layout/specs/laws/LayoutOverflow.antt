@@ -15,7 +15,7 @@ use Rattle.html_render_nodes.specs.declared.tree.NodeKind.{NodeKind}
 use Rattle.html_render_nodes.specs.declared.tree.NodeKind.TheVariants.{Text, Container, Break, Block, Div, Emphasis}
 use Rattle.html_render_nodes.specs.declared.tree.NodeKind.TheVariants.{Header, BlockQuote, Ul, Ol, ListItem, Dl, Dt, Dd}
 use Rattle.html_render_nodes.specs.declared.tree.NodeKind.TheVariants.{Strikeout, Superscript, Link, Image as TheImage, Svg, FragmentStart, Table}
-use Rattle.html_render_nodes.specs.declared.tree.NodeKind.TheVariants.{TableRow, TableCell, Part}
+use Rattle.html_render_nodes.specs.declared.tree.NodeKind.TheVariants.{TableRow, TableCell}
 use Rattle.html_render_nodes.specs.declared.tree.NodeStyle.{NodeStyle}
 use Rattle.html_render_nodes.specs.declared.tree.RenderNode.{RenderNode}
 use Rattle.html_render_parts.specs.TableCells.{CellGrid}
@@ -273,7 +273,6 @@ module _ {S A K T B : Type 0} (d : Decoration S A) (push : K → T → A → K �
         both (l q) (m (mapped q)) (table_ended o s.in_table) (table_ended o s.in_table) (below q) (table_ended-stays s.in_table))
     kind-stays TableRow e trees s = row-stays s
     kind-stays TableCell e trees s = below s
-    kind-stays (Part part) e trees s = below s
 
     node-stays : (n : RenderNode) (trees : Forest RenderNode) → Stays (node_steps d push o n trees l) (node_steps d push o n trees m)
     node-stays n trees s =

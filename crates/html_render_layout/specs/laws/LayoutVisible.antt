@@ -17,10 +17,10 @@ use Rattle.html_render_nodes.specs.declared.tree.NodeKind.{NodeKind}
 use Rattle.html_render_nodes.specs.declared.tree.NodeKind.TheVariants.{Text, Container, Break, Block, Div, Emphasis}
 use Rattle.html_render_nodes.specs.declared.tree.NodeKind.TheVariants.{Header, BlockQuote, Ul, Ol, ListItem, Dl, Dt, Dd}
 use Rattle.html_render_nodes.specs.declared.tree.NodeKind.TheVariants.{Strikeout, Superscript, Link, Image, Svg, FragmentStart, Table, TableRow}
-use Rattle.html_render_nodes.specs.declared.tree.NodeKind.TheVariants.{TableCell, Part}
+use Rattle.html_render_nodes.specs.declared.tree.NodeKind.TheVariants.{TableCell}
 use Rattle.html_render_nodes.specs.declared.tree.RenderNode.{RenderNode}
 use Rattle.html_render_parts.specs.TableCells.{CellGrid}
-use Rattle.html_render_nodes.specs.Pass.{Steps, Inside, run, from, count_from}
+use Rattle.html_render_nodes.specs.Pass.{Steps, Inside, run, from, count_from, unskipped}
 use Rattle.html_render_nodes.specs.laws.Runs.{IfSome-then, IfSome-weaken}
 use Rattle.html_render_blocks.specs.Operations.{Operations}
 use Rattle.html_render_blocks.specs.Block as definition
@@ -37,7 +37,7 @@ use Rattle.html_render_layout.specs.declared.layout.state.LayoutState.{LayoutSta
 use Rattle.html_render_layout.specs.declared.layout.state.TextContext.{TextContext}
 use Rattle.html_render_layout.specs.declared.settings.LayoutSettings.{LayoutSettings}
 use Rattle.html_render_layout.specs.Images.{shown_title}
-use Rattle.html_render_layout.specs.Kept.{skips, unskipped, visited_nodes, node_characters, text_characters, KeepsTexts}
+use Rattle.html_render_layout.specs.Kept.{skips, visited_nodes, node_characters, text_characters, KeepsTexts}
 use Rattle.html_render_layout.specs.Layout.{on_block, struck, written, add_characters, add_text, text_style, under, inner_least}
 use Rattle.html_render_layout.specs.Layout.{spaces, padded, next_number, nested, resumed, indented, quoted, among, placed}
 use Rattle.html_render_layout.specs.Layout.{emphasis_decoration, begun, decorated, numbers, image_round, titled, image, raised, digits_of}
@@ -382,7 +382,6 @@ module _ {S A K T B : Type 0} (d : Decoration S A) (push : K → T → A → K �
         (table_begun-counts grid.cells grid.needs s) (table_ended-counts s.in_table))
     kind-counts TableRow e trees s = grows TableRow e trees s refl (row-counts s)
     kind-counts TableCell e trees s = grows TableCell e trees s refl (below s)
-    kind-counts (Part part) e trees s = grows (Part part) e trees s refl (below s)
 
     node-counts : (n : RenderNode) (trees : Forest RenderNode) (s : State) →
         IfSome (node_steps d push o n trees children s)

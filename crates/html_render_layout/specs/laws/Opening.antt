@@ -9,7 +9,7 @@ use Rattle.html_render_nodes.specs.declared.tree.NodeKind.{NodeKind}
 use Rattle.html_render_nodes.specs.declared.tree.NodeKind.TheVariants.{Text, Container, Break, Block, Div, Emphasis}
 use Rattle.html_render_nodes.specs.declared.tree.NodeKind.TheVariants.{Header, BlockQuote, Ul, Ol, ListItem, Dl, Dt, Dd}
 use Rattle.html_render_nodes.specs.declared.tree.NodeKind.TheVariants.{Strikeout, Superscript, Link, Image, Svg, FragmentStart, Table, TableRow}
-use Rattle.html_render_nodes.specs.declared.tree.NodeKind.TheVariants.{TableCell, Part}
+use Rattle.html_render_nodes.specs.declared.tree.NodeKind.TheVariants.{TableCell}
 use Rattle.html_render_nodes.specs.declared.tree.RenderNode.{RenderNode}
 use Rattle.html_render_nodes.specs.Pass.{Way, Into, Past, AsksIn, past, through, into, inside_of}
 use Rattle.html_render_nodes.specs.laws.Visits.{opened-asks, asks-same}
@@ -124,7 +124,6 @@ module _ {S A K T B : Type 0} (d : Decoration S A) (push : K → T → A → K �
   kind-told (Table grid) e trees children s plain = and_then_assoc (table_begun o grid.cells grid.needs s) _ _
   kind-told TableRow e trees children s plain = row-told (row_begun o s) children plain
   kind-told TableCell e trees children s plain = and_then_some (children s)
-  kind-told (Part part) e trees children s plain = and_then_some (children s)
 
   -- texts are treated so again
   abbrev back : TextContext T → State → Option State
@@ -235,7 +234,6 @@ module _ {S A K T B : Type 0} (d : Decoration S A) (push : K → T → A → K �
   kind-inside (Table grid) e trees s = into-inside (KindClosing S T B) (table_begun o grid.cells grid.needs s) _
   kind-inside TableRow e trees s = refl
   kind-inside TableCell e trees s = refl
-  kind-inside (Part part) e trees s = refl
 
   keeping-inside : (item : Interruption S T B) (text : TextContext T) (w : Option (Way State (KindClosing S T B))) →
       option_and_then (λ v. into v) (option_and_then (keeping o item text) w) ≡ option_and_then (λ v. into v) w

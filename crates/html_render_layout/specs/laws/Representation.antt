@@ -19,7 +19,7 @@ use Rattle.html_render_nodes.specs.declared.tree.NodeKind.{NodeKind}
 use Rattle.html_render_nodes.specs.declared.tree.NodeKind.TheVariants.{Text, Container, Break, Block, Div, Emphasis}
 use Rattle.html_render_nodes.specs.declared.tree.NodeKind.TheVariants.{Header, BlockQuote, Ul, Ol, ListItem, Dl, Dt, Dd}
 use Rattle.html_render_nodes.specs.declared.tree.NodeKind.TheVariants.{Strikeout, Superscript, Link, Image, Svg, FragmentStart, Table, TableRow}
-use Rattle.html_render_nodes.specs.declared.tree.NodeKind.TheVariants.{TableCell, Part}
+use Rattle.html_render_nodes.specs.declared.tree.NodeKind.TheVariants.{TableCell}
 use Rattle.html_render_nodes.specs.declared.tree.NodeStyle.{NodeStyle}
 use Rattle.html_render_nodes.specs.declared.tree.RenderNode.{RenderNode}
 use Rattle.html_render_parts.specs.TableCells.{CellGrid}
@@ -921,7 +921,6 @@ module _ {S A K T V : Type 0} (d : Decoration S A) (push : K → T → A → K �
         (among-represents Cells Cells (row_begun machine.operations s) (row_begun definition.operations e) refl
         (row_begun-represents s e h)) end_row-represents
     kind-represents TableCell m trees s e h = below s e h
-    kind-represents (Part part) m trees s e h = below s e h
 
     node-represents : (n : RenderNode) (trees : Forest RenderNode) (s : Worked) (e : Defined S A) → Represents s e →
         Agree (Reached s) (node_steps d push machine.operations n trees f s) (node_steps d onto definition.operations n trees g e)
@@ -1022,7 +1021,6 @@ module _ {S A K T V : Type 0} (d : Decoration S A) (push : K → T → A → K �
       with_around (row_begun machine.operations s) (row_begun definition.operations e) Cells Cells refl
       (row_begun-represents s e h)
   kind_inside-represents TableCell m trees s e h = h
-  kind_inside-represents (Part part) m trees s e h = h
 
   node_inside-represents : (n : RenderNode) (trees : Forest RenderNode) (s : Worked) (e : Defined S A) → Represents s e →
       Agree (λ q e. Represents q e) (node_inside d push machine.operations n trees s) (node_inside d onto definition.operations n trees e)

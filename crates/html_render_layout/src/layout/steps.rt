@@ -214,9 +214,7 @@ fn open_kind<D: TextDecorator, G: Tagging<D::Annotation>>(
             add_text(alloc, text.as_str(), state)?;
             Ok(None)
         }
-        NodeKind::Container | NodeKind::TableCell | NodeKind::Part(_) => {
-            Ok(Some(KindClosing::Nothing))
-        }
+        NodeKind::Container | NodeKind::TableCell => { Ok(Some(KindClosing::Nothing)) }
         NodeKind::Table(grid) => open_table(grid, state),
         NodeKind::TableRow => open_row(state),
         NodeKind::Break => {

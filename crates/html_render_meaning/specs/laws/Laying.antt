@@ -2,6 +2,7 @@
 use Rattle.std.proofs.Common.{◌≡◌, ℕ, ◌+◌, Bool, true, false, cond, List, [], ◌∷◌, Option, Some, None, refl, sym, ap, ◌∙◌, leb, ◌||◌, ◌<◌}
 use Rattle.std.proofs.Common.{option_and_then, arith}
 use Rattle.std.proofs.lemmas.Bool.{lt-leb, leb-false}
+use Rattle.std.specs.Option.{option_or}
 use Rattle.html_render_lines.specs.declared.character.Kind.{Kind}
 use Rattle.html_render_lines.specs.declared.character.Kind.TheVariants.{Preserved, Newline}
 use Rattle.html_render_lines.specs.declared.character.Character.{Character}
@@ -10,7 +11,7 @@ use Rattle.html_render_lines.specs.Character.{width_of}
 use Rattle.html_render_lines.specs.Line.{Line, columns, word_columns}
 use Rattle.html_render_paragraphs.specs.Paragraph.{Piece, Word, Gap, Cut, Single, Loose, Page, Setting, with_waiting_mark, with_line_break, tab_spaces}
 use Rattle.html_render_paragraphs.specs.Paragraph.{put_character, put_characters, put_items, put_word, put_single, put_fitting, put_all_fitting}
-use Rattle.html_render_paragraphs.specs.Paragraph.{with_due_space_by, with_fitting_space, page_for_single, place, first_of, continued, gap_width_of, page_for_word}
+use Rattle.html_render_paragraphs.specs.Paragraph.{with_due_space_by, with_fitting_space, page_for_single, place, continued, gap_width_of, page_for_word}
 use Rattle.html_render_lines.specs.laws.Cases.{if_cases}
 use Rattle.html_render_meaning.specs.laws.Words.{page_of, word_columns-one}
 use Rattle.html_render_meaning.specs.Meaning.{Part, Whole, Between, Soft, Break, Stop, SoftStop, Marked, with_single, with_between, parts}
@@ -111,7 +112,7 @@ lay-parts s page space [] = refl
 lay-parts {T} {M} s page space (Word k word ∷ ps) =
     then-same (λ (p : Page T M). place s p None ps) (λ (p : Page T M). lay s p (parts None ps)) (put_word s page space word)
     (λ p. lay-parts s p None ps)
-lay-parts s page space (Gap c ∷ ps) = lay-parts s page (first_of space c) ps
+lay-parts s page space (Gap c ∷ ps) = lay-parts s page (option_or space (Some c)) ps
 lay-parts s page space (Cut ∷ ps) = lay-parts s page space ps
 lay-parts {T} {M} s page space (Single k c ∷ ps) =
     then-same (λ (p : Page T M). place s p None ps) (λ (p : Page T M). lay s p (parts None ps))

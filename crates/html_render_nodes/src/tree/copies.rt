@@ -66,7 +66,6 @@ impl NodeKind {
             NodeKind::Table(grid) => NodeKind::Table(grid.try_clone(alloc)?),
             NodeKind::TableRow => NodeKind::TableRow,
             NodeKind::TableCell => NodeKind::TableCell,
-            NodeKind::Part(part) => NodeKind::Part(*part),
         })
     }
 }

@@ -4,7 +4,7 @@ ghost use Rattle.std.specs.Prelude.{◌≡◌, Some, replicate};
 ghost use Rattle.std.specs.Fmt.{WritesOnOk};
 ghost use Rattle.html_render_nodes.specs.Dump.{dump, kind_name, line};
 
-use super::{Emphasis, NodeKind, Part, RenderTree};
+use super::{Emphasis, NodeKind, RenderTree};
 use std::fmt;
 
 /// Writes a name behind so many spaces, and a line feed.
@@ -54,11 +54,9 @@ impl NodeKind {
             NodeKind::Image(_) => "Img",
             NodeKind::Svg(_) => "Svg",
             NodeKind::FragmentStart(_) => "FragStart",
-            NodeKind::Table(_) | NodeKind::Part(Part::Table) => "Table",
-            NodeKind::Part(Part::Body | Part::Foot) => "TableBody",
-            NodeKind::TableRow | NodeKind::Part(Part::Row) => "TableRow",
-            NodeKind::TableCell | NodeKind::Part(Part::Cell(_)) => "TableCell",
-            NodeKind::Part(Part::Caption) => "Container",
+            NodeKind::Table(_) => "Table",
+            NodeKind::TableRow => "TableRow",
+            NodeKind::TableCell => "TableCell",
         }
     }
 }

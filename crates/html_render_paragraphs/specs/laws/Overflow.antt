@@ -1,5 +1,6 @@
 -- With overflow on a paragraph is never too narrow, and where overflow off gives lines, overflow on gives the same.
 use Rattle.std.proofs.Common.{◌≡◌, ℕ, ◌+◌, Bool, true, false, cond, ◌||◌, List, [], ◌∷◌, Option, Some, None, refl, sym, ap, ◌∙◌, leb, IsSome, option_and_then}
+use Rattle.std.specs.Option.{option_or}
 use Rattle.html_render_lines.specs.declared.character.Kind.{Kind}
 use Rattle.html_render_lines.specs.declared.character.Kind.TheVariants.{Letter, Space, Divider, Dropped, Preserved, Newline, Tab, SoftSpace, SoftTab}
 use Rattle.html_render_lines.specs.declared.character.Character.{Character}
@@ -9,7 +10,7 @@ use Rattle.html_render_lines.specs.Character.{width_of}
 use Rattle.html_render_lines.specs.Line.{columns}
 use Rattle.html_render_paragraphs.specs.Paragraph.{Piece, Word, Gap, Cut, Single, Loose, pieces, Page, without_overflow, with_overflow, with_waiting_mark}
 use Rattle.html_render_paragraphs.specs.Paragraph.{put_character, put_characters, put_items, put_word, put_single, page_for_word, page_for_single}
-use Rattle.html_render_paragraphs.specs.Paragraph.{put_fitting, put_all_fitting, tab_spaces, place, paragraph, blank_page, first_of}
+use Rattle.html_render_paragraphs.specs.Paragraph.{put_fitting, put_all_fitting, tab_spaces, place, paragraph, blank_page}
 
 same_then : {A B : Type 0} (f g : A → Option B) (o p : Option A) (y : B) → option_and_then f o ≡ Some y →
     ((x : A) → o ≡ Some x → p ≡ Some x) → ((x : A) → f x ≡ Some y → g x ≡ Some y) → option_and_then g p ≡ Some y
@@ -67,7 +68,7 @@ place_same {T} {M} w page pending (Word k x ∷ ps) q e =
     same_then (λ (p : Page T M). place (without_overflow w) p None ps) (λ (p : Page T M). place (with_overflow w) p None ps)
     (put_word (without_overflow w) page pending x) (put_word (with_overflow w) page pending x) q e
     (λ p. put_items_same w (page_for_word (without_overflow w) page pending x) x p) (λ p. place_same w p None ps q)
-place_same w page pending (Gap c ∷ ps) q e = place_same w page (first_of pending c) ps q e
+place_same w page pending (Gap c ∷ ps) q e = place_same w page (option_or pending (Some c)) ps q e
 place_same w page pending (Cut ∷ ps) q e = place_same w page pending ps q e
 place_same {T} {M} w page pending (Single k c ∷ ps) q e =
     same_then (λ (p : Page T M). place (without_overflow w) p None ps) (λ (p : Page T M). place (with_overflow w) p None ps)
@@ -125,7 +126,7 @@ place_some w page pending [] = refl
 place_some {T} {M} w page pending (Word k x ∷ ps) =
     some_then (λ (p : Page T M). place (with_overflow w) p None ps) (put_word (with_overflow w) page pending x)
     (put_items_some w (page_for_word (with_overflow w) page pending x) x) (λ p. place_some w p None ps)
-place_some w page pending (Gap c ∷ ps) = place_some w page (first_of pending c) ps
+place_some w page pending (Gap c ∷ ps) = place_some w page (option_or pending (Some c)) ps
 place_some w page pending (Cut ∷ ps) = place_some w page pending ps
 place_some {T} {M} w page pending (Single k c ∷ ps) =
     some_then (λ (p : Page T M). place (with_overflow w) p None ps)

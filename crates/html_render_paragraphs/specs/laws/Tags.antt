@@ -3,6 +3,7 @@ use Rattle.std.proofs.Common.{◌≡◌, ℕ, ◌+◌, ◌-◌, ◌%◌, Bool, t
 use Rattle.std.proofs.Common.{Option, None, Some, ap, ◌∙◌, option_and_then, suc, zero}
 use Rattle.std.proofs.lemmas.List.{map-append}
 use Rattle.std.specs.List.{fold}
+use Rattle.std.specs.Option.{option_or}
 use Rattle.html_render_values.specs.WhiteSpace.{preserves}
 use Rattle.html_render_lines.specs.declared.character.Kind.{Kind}
 use Rattle.html_render_lines.specs.declared.character.Kind.TheVariants.{Letter, Space, Divider, Dropped, Preserved, Newline, Tab, SoftSpace, SoftTab}
@@ -17,7 +18,7 @@ use Rattle.html_render_lines.specs.Line.{Line, columns, element_width, item_widt
 use Rattle.html_render_paragraphs.specs.Paragraph.{Page, Setting, with_waiting_mark, with_character, with_space, with_line, with_line_break}
 use Rattle.html_render_paragraphs.specs.Paragraph.{put_character, put_characters, put_items, put_fitting, put_all_fitting, put_word, put_single}
 use Rattle.html_render_paragraphs.specs.Paragraph.{page_for_word, with_due_space_by, continued, continued_by, with_fitting_space, page_for_single}
-use Rattle.html_render_paragraphs.specs.Paragraph.{first_of, gap_width, gap_width_of, tab_spaces, fits, all_lines}
+use Rattle.html_render_paragraphs.specs.Paragraph.{gap_width, gap_width_of, tab_spaces, fits, all_lines}
 use Rattle.html_render_lines.specs.Tags.{element_with, line_with, lines_with}
 use Rattle.html_render_lines.specs.laws.Tags.{if_with, then_with, map_with, sum_same, columns-with, marks-with}
 use Rattle.html_render_paragraphs.specs.Stream.{State, end_word_by, end_word, joins, begin_word, letter_step, single_step, then_single, with_pending}
@@ -221,8 +222,8 @@ module _ {T U M : Type 0} (f : T → U) where
       (end_word st) _ (end_word-with st) (λ t. single_step-with t k c)
 
   pending-with : (st : State T M) (c : Character T) (o : Option (Character T)) →
-      record (state_with st) { pending = first_of (option_map (character_with f) o) (character_with f c) }
-      ≡ state_with (record st { pending = first_of o c })
+      record (state_with st) { pending = option_or (option_map (character_with f) o) (Some (character_with f c)) }
+      ≡ state_with (record st { pending = option_or o (Some c) })
   pending-with st c None = refl
   pending-with st c (Some d) = refl
 

@@ -4,6 +4,7 @@ use Rattle.std.proofs.Common.{sym, ap, ◌∙◌, leb, eqb, replicate, append_as
 use Rattle.std.specs.Char.{is_whitespace}
 use Rattle.std.proofs.lemmas.Bool.{eqb-true}
 use Rattle.std.proofs.lemmas.Option.{IfSome_then}
+use Rattle.std.specs.Option.{option_or}
 use Rattle.html_render_values.specs.declared.white_space.WhiteSpace.{WhiteSpace}
 use Rattle.html_render_values.specs.declared.white_space.WhiteSpace.TheVariants.{Normal, Pre, PreWrap}
 use Rattle.html_render_values.specs.WhiteSpace.{preserves}
@@ -19,7 +20,7 @@ use Rattle.html_render_paragraphs.specs.Paragraph.{Piece, Word, Gap, Cut, Single
 use Rattle.html_render_paragraphs.specs.Paragraph.{with_waiting_mark, with_character, with_line, with_line_break, put_character, put_characters}
 use Rattle.html_render_paragraphs.specs.Paragraph.{put_items, put_word, put_single, page_for_word, with_due_space, with_due_space_by, continued}
 use Rattle.html_render_paragraphs.specs.Paragraph.{continued_by, with_fitting_space, page_for_single, put_fitting, put_all_fitting, tab_spaces, place}
-use Rattle.html_render_paragraphs.specs.Paragraph.{paragraph, blank_page, all_lines, first_of, is_same, gap_width}
+use Rattle.html_render_paragraphs.specs.Paragraph.{paragraph, blank_page, all_lines, is_same, gap_width}
 use Rattle.html_render_lines.specs.laws.Visible.{visible_in_line-append, visible_in_lines-push, visible_in_line-marks}
 use Rattle.html_render_lines.specs.Visible.{is_visible, if_visible, visible_in_items, visible_in_line, visible_in_lines}
 use Rattle.html_render_lines.specs.laws.Cases.{bind_some, if_cases}
@@ -190,7 +191,7 @@ place_adds {T} {M} s page pending (Word k w ∷ ps) h =
     bind_some (Adds page (visible_in_items w)) (Adds page (visible_in_items w ++ in_pieces ps)) (λ (p : Page T M). place s p None ps)
     (put_word s page pending w) (put_word_adds s page pending w)
     (λ p f. IfSome_then (place s p None ps) (place_adds s p None ps h) (λ q g. adds_then page p q (visible_in_items w) (in_pieces ps) f g))
-place_adds s page pending (Gap c ∷ ps) h = place_adds s page (first_of pending c) ps h
+place_adds s page pending (Gap c ∷ ps) h = place_adds s page (option_or pending (Some c)) ps h
 place_adds s page pending (Cut ∷ ps) h = place_adds s page pending ps h
 place_adds {T} {M} s page pending (Single k c ∷ ps) h =
     let e : seen (page_for_single s page pending k) ≡ seen page =

@@ -4,6 +4,7 @@ use Rattle.std.proofs.lemmas.List.Sums.{sum_by-append}
 use Rattle.std.proofs.lemmas.List.Elements.{All-push, All-nil}
 use Rattle.std.proofs.lemmas.Bool.{leb-true}
 use Rattle.std.proofs.lemmas.Option.{IfSome_then}
+use Rattle.std.specs.Option.{option_or}
 use Rattle.html_render_lines.specs.declared.character.Kind.{Kind}
 use Rattle.html_render_lines.specs.declared.character.Kind.TheVariants.{Letter, Space, Divider, Dropped, Preserved, Newline, Tab, SoftSpace, SoftTab}
 use Rattle.html_render_lines.specs.declared.character.Character.{Character}
@@ -18,7 +19,7 @@ use Rattle.html_render_paragraphs.specs.Paragraph.{Piece, Word, Gap, Cut, Single
 use Rattle.html_render_paragraphs.specs.Paragraph.{with_character, with_line, put_character, put_characters, put_items, put_word, put_single}
 use Rattle.html_render_paragraphs.specs.Paragraph.{page_for_word, with_due_space, with_due_space_by, continued, continued_by, with_fitting_space}
 use Rattle.html_render_paragraphs.specs.Paragraph.{page_for_single, put_fitting, put_all_fitting, tab_spaces, place, paragraph, blank_page, all_lines}
-use Rattle.html_render_paragraphs.specs.Paragraph.{first_of, gap_width, gap_width_of}
+use Rattle.html_render_paragraphs.specs.Paragraph.{gap_width, gap_width_of}
 use Rattle.html_render_lines.specs.laws.Cases.{bind_some, if_cases}
 use Rattle.html_render_paragraphs.specs.laws.Cases.{page_for_single_cases}
 
@@ -157,7 +158,7 @@ place_within w page pending [] h = h
 place_within {T} {M} w page pending (Word k x ∷ ps) h =
     bind_some (IsWithin w) (IsWithin w) (λ (p : Page T M). place (without_overflow w) p None ps)
     (put_word (without_overflow w) page pending x) (put_word_within w page pending x h) (λ p k. place_within w p None ps k)
-place_within w page pending (Gap c ∷ ps) h = place_within w page (first_of pending c) ps h
+place_within w page pending (Gap c ∷ ps) h = place_within w page (option_or pending (Some c)) ps h
 place_within w page pending (Cut ∷ ps) h = place_within w page pending ps h
 place_within {T} {M} w page pending (Single k c ∷ ps) h =
     bind_some (IsWithin w) (IsWithin w) (λ (p : Page T M). place (without_overflow w) p None ps)

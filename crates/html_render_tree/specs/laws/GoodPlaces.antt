@@ -6,9 +6,9 @@ use Rattle.html_render_parts.specs.TableCells.{on_columns}
 use Rattle.html_render_parts.specs.declared.table.Span.{Span}
 use Rattle.html_render_parts.specs.declared.table.cells.GridCell.{GridCell}
 use Rattle.html_render_parts.specs.declared.table.placement.Standing.{Standing}
-use Rattle.html_render_nodes.specs.declared.tree.CellSpan.{CellSpan}
+use Rattle.html_render_conversion.specs.declared.tables.CellSpan.{CellSpan}
 use Rattle.html_render_nodes.specs.declared.tree.NodeKind.{NodeKind}
-use Rattle.html_render_nodes.specs.declared.tree.NodeKind.TheVariants.{Table, TableRow, TableCell, Part}
+use Rattle.html_render_nodes.specs.declared.tree.NodeKind.TheVariants.{Table, TableRow, TableCell}
 use Rattle.html_render_nodes.specs.declared.tree.RenderNode.{RenderNode}
 use Rattle.html_render_conversion.specs.Tables.{spanned, spanned_in, width_of}
 use Rattle.html_render_conversion.specs.Results.{Nodes, in_first_cell, in_first_row}
@@ -84,7 +84,6 @@ at-anywhere (Table grid) below others others' outer h =
     (outer (and-right (below (InTable rows)) (others Anywhere) h))
 at-anywhere TableRow below others others' outer h = cc
 at-anywhere TableCell below others others' outer h = cc
-at-anywhere (Part p) below others others' outer h = cc
 at-anywhere kind below others others' outer h =
     and-both (below Anywhere) (others' Anywhere) (and-left (below Anywhere) (others Anywhere) h) (outer (and-right (below Anywhere) (others Anywhere) h))
 

@@ -19,9 +19,14 @@ use Rattle.html_render_tree.specs.GoodTrees.{Place, Anywhere, InTable, InRow, ar
 use Rattle.html_render_tree.specs.laws.GoodPlaces.{and-left, and-right, and-both, some_cell, cells_like, rows_like, spanned_in-alike}
 use Rattle.html_render_tree.specs.laws.GoodPlaces.{at-row, at-table, first-anywhere, first-cell, first-row, followed-anywhere, followed-rows, rows-good-alike}
 use Rattle.html_render_tree.specs.laws.GoodPlaces.{between-good, in_first_cell-good, in_first_row-good}
-use Rattle.html_render_tree.specs.laws.TreeResults.{a_result, a_node}
 
 -- ---- results
+
+abbrev a_result : Role → RenderNode → (has_children : Bool) → Option Nodes → Result
+a_result role n has_children below = record { role = role; node = n; has_children = has_children; below = below }
+
+abbrev a_node : NodeKind → NodeStyle → Estimate → RenderNode
+a_node kind style estimate = record { kind = kind; style = style; estimate = estimate }
 
 -- a node that is no table and no part of one
 abbrev pub IsPlain : NodeKind → Type 0

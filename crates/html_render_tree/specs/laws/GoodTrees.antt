@@ -1,8 +1,9 @@
 -- THE RENDER TREE of a document is good where its tables stand.
-use Rattle.std.proofs.Common.{◌≡◌, ℕ, Bool, true, false, if◌then◌else◌, List, [], ◌∷◌, ◌++◌, map, flat_map, filter, Option, Some, None}
+use Rattle.std.proofs.Common.{◌≡◌, ℕ, Bool, true, false, ◌&&◌, if◌then◌else◌, List, [], ◌∷◌, ◌++◌, map, flat_map, filter, Option, Some, None}
 use Rattle.std.proofs.Common.{is_some, option_map, option_to_list, refl, subst}
-use Rattle.std.specs.Prelude.{option_and_then}
+use Rattle.std.specs.Prelude.{codes, option_and_then}
 use Rattle.std.specs.List.{list_any}
+use Rattle.std.specs.Str.{bytes_eq}
 use Rattle.html_render_values.specs.Forest.{Forest, none, node}
 use Rattle.html_render_values.specs.Outcome.{◌>>=◌}
 use Rattle.html_render_dom.specs.Cascade.{value_of}
@@ -10,28 +11,32 @@ use Rattle.html_render_dom.specs.Content.{Content, document, doctype, text, comm
 use Rattle.html_render_dom.specs.Dom.{Dom, tree_of}
 use Rattle.html_render_dom.specs.ElementStyle.{ElementStyle}
 use Rattle.html_render_dom.specs.Rules.{Rule as StyleRule}
+use Rattle.html_render_dom.specs.Selectors.{is_filled}
 use Rattle.html_render_parts.specs.Grid.{edges_of, positions_fit}
 use Rattle.html_render_parts.specs.Placement.{placed_rows, own_rows_from}
 use Rattle.html_render_parts.specs.TableCells.{CellGrid, on_columns}
 use Rattle.html_render_parts.specs.declared.table.Span.{Span}
 use Rattle.html_render_nodes.specs.Tables.{TableParts, unmeasured_table}
 use Rattle.html_render_nodes.specs.declared.tree.NodeKind.{NodeKind}
-use Rattle.html_render_nodes.specs.declared.tree.NodeKind.TheVariants.{Container, Table, TableRow, TableCell, Part}
+use Rattle.html_render_nodes.specs.declared.tree.NodeKind.TheVariants.{Container, Table, TableRow, TableCell}
 use Rattle.html_render_nodes.specs.declared.tree.NodeStyle.{NodeStyle}
-use Rattle.html_render_nodes.specs.declared.tree.Part.TheVariants as part
+use Rattle.html_render_conversion.specs.declared.mapping.ElementKind.{ElementKind}
+use Rattle.html_render_conversion.specs.declared.mapping.ElementKind.TheVariants.{Node, Part}
+use Rattle.html_render_conversion.specs.declared.tables.Part.TheVariants as part
 use Rattle.html_render_nodes.specs.declared.tree.RenderNode.{RenderNode}
 use Rattle.html_render_nodes.specs.RenderNodes.{no_style, without_style}
+use Rattle.html_render_conversion.specs.declared.mapping.IfEmpty.{IfEmpty}
 use Rattle.html_render_conversion.specs.declared.mapping.Mapping.{Mapping}
 use Rattle.html_render_conversion.specs.declared.mapping.Mapping.TheVariants.{Nothing, Leaf, Parent}
 use Rattle.html_render_conversion.specs.Conversion.{element_mapping, own_style, node_style, vanishes}
 use Rattle.html_render_conversion.specs.Marks.{mark_of}
-use Rattle.html_render_conversion.specs.Results.{Nodes, Result, Role, Contents, Caption, Rows, Row, Cell, beside, joined, has_any, trees_of, of_role}
+use Rattle.html_render_conversion.specs.Results.{Nodes, Result, Role, Contents, Caption, Rows, Row, Cell, beside, joined, trees_of, of_role}
 use Rattle.html_render_conversion.specs.Results.{stands_alone, is_caption, is_row, is_cell, are_rows, in_style, over, cell_spans, row_spans}
 use Rattle.html_render_conversion.specs.Results.{row_over, rows_over, with_rows, spans_of, table_over, as_block, have_rows, captioned, table_of}
 use Rattle.html_render_conversion.specs.Results.{keeps, counts, built, mapped, completed, styled, result_of, results, render_tree_of}
+use Rattle.html_render_building.specs.Order.{is_html}
+use Rattle.html_render_building.specs.laws.Mappings.{fits_kind, stands_as_is, fits, element_fits}
 use Rattle.html_render_tree.specs.GoodTrees.{Anywhere, InTable, InRow, are_good}
-use Rattle.html_render_tree.specs.laws.Conversion.{is_made_by, made-element}
-use Rattle.html_render_tree.specs.laws.ElementResults.{is_made}
 use Rattle.html_render_tree.specs.laws.GoodPlaces.{and-both, cells_like, rows_like, AreRowsAlike, own_rows-alike, rows-good-alike}
 use Rattle.html_render_tree.specs.laws.GoodResults.{IsGoodIn, IsGoodResult, IsGoodIfAny, AllGood, AllGoodOf, AreGoodIn, filter-good, of_role-good}
 use Rattle.html_render_tree.specs.laws.GoodResults.{AllGoodOf-append, AllGoodOf-more, plain-good, alone-good, trees_of-good}
@@ -94,8 +99,8 @@ table_of-good style captions parts c g = by (positions_fit (placed_rows spans))
     by : (b : Bool) →
         IsGoodIfAny (do
           grid ← option_map unmeasured_table (if b then Some cells else None)
-          Some (if has_any captions then captioned style grid captions parts else table_over style grid parts))
-    by true = either (has_any captions)
+          Some (if is_filled captions then captioned style grid captions parts else table_over style grid parts))
+    by true = either (is_filled captions)
     by false = tt
 
 -- the parts of a table that hold rows
@@ -125,20 +130,24 @@ row_over-good style rs g =
     below-good (InRow (cells_like spans)) (Row spans) (in_style style TableRow)
     (λ t h. and-both (are_good (InRow (cells_like spans)) t) true h refl) (beside rs) (cells-good rs g)
 
-built-good : (kind : NodeKind) (style : NodeStyle) (rs : List Result) → is_made kind ≡ true → AllGood rs → IsGoodIfAny (built kind style rs)
-built-good (Table grid) style rs m g = cc
-built-good TableRow style rs m g = cc
-built-good TableCell style rs m g = cc
-built-good (Part part.Table) style rs m g =
+built-good : (caption foot : Bool) (if_empty : IfEmpty) (kind : ElementKind) (style : NodeStyle) (rs : List Result) →
+    fits_kind caption foot if_empty kind ≡ true → AllGood rs → IsGoodIfAny (built kind style rs)
+built-good caption foot if_empty (Part part.Table) style rs m g =
     table_of-good style (of_role is_caption rs) (with_rows rs) (of_role-good is_caption rs g) (with_rows-good rs g)
-built-good (Part part.Body) style rs m g = rows_over-good false (of_role is_row rs) (of_role-good is_row rs g)
-built-good (Part part.Foot) style rs m g = rows_over-good true (of_role is_row rs) (of_role-good is_row rs g)
-built-good (Part part.Row) style rs m g = row_over-good style (of_role is_cell rs) (of_role-good is_cell rs g)
-built-good (Part (part.Cell span)) style rs m g =
+built-good caption foot if_empty (Part part.Body) style rs m g = rows_over-good false (of_role is_row rs) (of_role-good is_row rs g)
+built-good caption foot if_empty (Part part.Foot) style rs m g = rows_over-good true (of_role is_row rs) (of_role-good is_row rs g)
+built-good caption foot if_empty (Part part.Row) style rs m g = row_over-good style (of_role is_cell rs) (of_role-good is_cell rs g)
+built-good caption foot if_empty (Part (part.Cell span)) style rs m g =
     below-good Anywhere (Cell span) (in_style style TableCell) (λ t h. and-both (are_good Anywhere t) true h refl) (trees_of rs) (trees_of-good rs g)
-built-good (Part part.Caption) style rs m g =
+built-good caption foot if_empty (Part part.Caption) style rs m g =
     below-good Anywhere Caption (in_style style Container) (λ t h. (refl, h)) (trees_of rs) (trees_of-good rs g)
-built-good kind style rs m g = over-good (in_style style kind) (filter (keeps kind) rs) refl (filter-good (keeps kind) rs g)
+built-good caption foot if_empty (Node kind) style rs m g = by kind m
+  where
+    by : (kind : NodeKind) → stands_as_is kind ≡ true → IsGoodResult (over (in_style style kind) (filter (λ r. keeps kind r.node.kind) rs))
+    by (Table grid) m = cc
+    by TableRow m = cc
+    by TableCell m = cc
+    by kind m = over-good (in_style style kind) (filter (λ r. keeps kind r.node.kind) rs) refl (filter-good (λ r. keeps kind r.node.kind) rs g)
 
 -- what an element becomes, if that is known
 abbrev IsGoodIfKnown : Option (Option Result) → Type 0
@@ -149,20 +158,19 @@ abbrev AllGoodIn : Option (List Result) → Type 0
 AllGoodIn None = Unit {0}
 AllGoodIn (Some rs) = AllGood rs
 
-leaf-good : (kind : NodeKind) (style : NodeStyle) → is_made_by (Leaf kind) ≡ true → IsGoodResult (over (in_style style kind) [])
+leaf-good : (kind : NodeKind) (style : NodeStyle) → stands_as_is kind ≡ true → IsGoodResult (over (in_style style kind) [])
 leaf-good (Table grid) style m = cc
 leaf-good TableRow style m = cc
 leaf-good TableCell style m = cc
-leaf-good (Part p) style m = cc
 leaf-good kind style m = refl
 
-mapped-good : (mapping : Mapping) (style : NodeStyle) (inside : Option (List Result)) → is_made_by mapping ≡ true → AllGoodIn inside →
-    IsGoodIfKnown (mapped mapping style inside)
-mapped-good Nothing style inside m g = tt
-mapped-good (Leaf kind) style inside m g = leaf-good kind style m
-mapped-good (Parent kind if_empty) style None m g = tt
-mapped-good (Parent kind if_empty) style (Some rs) m g =
-    by (vanishes if_empty (list_any (counts kind) rs)) (built kind style rs) (built-good kind style rs m g)
+mapped-good : (caption foot : Bool) (mapping : Mapping) (style : NodeStyle) (inside : Option (List Result)) →
+    fits caption foot mapping ≡ true → AllGoodIn inside → IsGoodIfKnown (mapped mapping style inside)
+mapped-good caption foot Nothing style inside m g = tt
+mapped-good caption foot (Leaf kind) style inside m g = leaf-good kind style m
+mapped-good caption foot (Parent kind if_empty) style None m g = tt
+mapped-good caption foot (Parent kind if_empty) style (Some rs) m g =
+    by (vanishes if_empty (list_any (counts kind) rs)) (built kind style rs) (built-good caption foot if_empty kind style rs m g)
   where
     by : (b : Bool) (o : Option Result) → IsGoodIfAny o →
         IsGoodIfKnown (do
@@ -172,10 +180,10 @@ mapped-good (Parent kind if_empty) style (Some rs) m g =
     by true (Some r) h = tt
     by false (Some r) h = h
 
-styled-good : (mapping : Mapping) (mark : Option (List ℕ)) (style : ElementStyle) (inside : Option (List Result)) →
-    is_made_by mapping ≡ true → AllGoodIn inside → IsGoodIfKnown (styled mapping mark style inside)
-styled-good mapping mark style inside m g =
-    by (is_some style.display) (mapped mapping (node_style style) inside) (mapped-good mapping (node_style style) inside m g)
+styled-good : (caption foot : Bool) (mapping : Mapping) (mark : Option (List ℕ)) (style : ElementStyle) (inside : Option (List Result)) →
+    fits caption foot mapping ≡ true → AllGoodIn inside → IsGoodIfKnown (styled mapping mark style inside)
+styled-good caption foot mapping mark style inside m g =
+    by (is_some style.display) (mapped mapping (node_style style) inside) (mapped-good caption foot mapping (node_style style) inside m g)
   where
     by : (hidden : Bool) (o : Option (Option Result)) → IsGoodIfKnown o →
         IsGoodIfKnown (if hidden then Some None
@@ -194,8 +202,9 @@ node-good rules document below None g = tt
 node-good rules document below (Some rs) g = over-good (without_style Container) rs refl g
 node-good rules (text contents) below inside g = refl
 node-good rules (element name properties template_contents integration_point) below inside g =
-    styled-good (element_mapping name.space name.local properties below) (mark_of name properties) (own_style rules name properties) inside
-    (made-element name.space name.local properties below) g
+    styled-good (is_html name.space && bytes_eq name.local (codes "caption")) (is_html name.space && bytes_eq name.local (codes "tfoot"))
+    (element_mapping name.space name.local properties below) (mark_of name properties) (own_style rules name properties) inside
+    (element_fits name.space name.local properties below) g
 node-good rules (doctype name public_id system_id) below inside g = tt
 node-good rules (comment contents) below inside g = tt
 node-good rules (instruction target contents) below inside g = tt

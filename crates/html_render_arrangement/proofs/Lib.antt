@@ -1,6 +1,0 @@
-mod Placing
-mod Picking
-mod Inserting
-mod Grids
-mod Captions
-mod Stacking

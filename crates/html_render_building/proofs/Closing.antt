@@ -1,0 +1,207 @@
+-- An element that is closed: what it becomes has come to the element that it stands in.
+use Rattle.std.proofs.Common.{◌≡◌, ℕ, ◌+◌, ◌≤◌, ◌<◌, Bool, true, false, if◌then◌else◌, List, [], ◌∷◌, ◌++◌, length, take, get_or, Option, Some, None}
+use Rattle.std.proofs.Common.{refl, sym, ap, subst, ◌∙◌, arith, length-append, option_map}
+use Rattle.std.proofs.lemmas.List.{same_from_push}
+use Rattle.html_render_values.specs.Forest.{Forest, none, count, followed_by}
+use Rattle.html_render_values.specs.Outcome.{◌>>=◌}
+use Rattle.html_render_dom.specs.Dom.{Dom, IsNode, trees_of}
+use Rattle.html_render_dom.specs.Rules.{Rule as StyleRule}
+use Rattle.html_render_values.specs.declared.errors.Error.{Error}
+use Rattle.html_render_values.specs.declared.errors.Error.TheVariants.{TooNarrow, Fail, OutOfMemory}
+use Rattle.html_render_parts.specs.Refusal.{Fails}
+use Rattle.html_render_parts.specs.TableCells.{cell_grid_of}
+use Rattle.html_render_nodes.specs.Splits.{SplitAt}
+use Rattle.html_render_nodes.specs.Tables.{TableParts, unmeasured_table}
+use Rattle.html_render_nodes.specs.laws.Splits.{followed_by-none}
+use Rattle.html_render_conversion.specs.declared.tables.CellSpan.{CellSpan}
+use Rattle.html_render_insertions.specs.declared.drafts.Draft.{Draft}
+use Rattle.html_render_building.specs.declared.building.Open.{Open}
+use Rattle.html_render_building.specs.Building.{Arrival, Holding, arrivals, arrive_any, closed, closed_by, closed_into, document_drafts, document_of, is_captioned, rows_of, table_stands}
+use Rattle.html_render_building.specs.Opened.{Closed, IsAfter, IsLast}
+use Rattle.html_render_building.specs.declared.order.Pick.TheVariants.{All}
+use Rattle.html_render_building.specs.Order.{children_in}
+use Rattle.html_render_building.specs.Spans.{spans_of_parts}
+use Rattle.html_render_building.proofs.Coming.{arrive-before, before}
+use Rattle.html_render_building.proofs.Paths.{AreSound, Converting, Converting-after, Path, Step, ahead_of, elements_of, holding, made_of_path}
+use Rattle.html_render_building.proofs.Paths.{remaining, resumed, resumed_from}
+
+-- what stands behind an element is of no matter to what is closed in it
+closed_into-before : (h p : Holding) (rest : Forest Draft) → closed_into h (before rest p) ≡ option_map (before rest) (closed_into h p)
+closed_into-before h p rest = by (rows_of h.element.kind)
+  where
+    any : (a : Option Arrival) → arrive_any a (before rest p) ≡ before rest (arrive_any a p)
+    any None = refl
+    any (Some a) = arrive-before a p rest
+
+    stands : (b : Bool) (grid : TableParts) →
+        table_stands grid b h.element.is_stray h.drafts (before rest p) ≡ before rest (table_stands grid b h.element.is_stray h.drafts p)
+    stands true grid = refl
+    stands false grid = refl
+
+    table : (o : Option TableParts) →
+        (o >>= (λ grid. Some (table_stands grid h.element.has_results h.element.is_stray h.drafts (before rest p))))
+        ≡ option_map (before rest) (o >>= (λ grid. Some (table_stands grid h.element.has_results h.element.is_stray h.drafts p)))
+    table None = refl
+    table (Some grid) = ap Some (stands h.element.has_results grid)
+
+    by : (o : Option (List (List (List CellSpan)))) → closed_by o h (before rest p) ≡ option_map (before rest) (closed_by o h p)
+    by None = ap Some (any (closed (is_captioned p.element.kind) h))
+    by (Some parts) = table (option_map unmeasured_table (cell_grid_of (spans_of_parts parts)))
+
+none_of_some : {X : Type 0} {x : X} → None ≡ Some x → ⊥
+none_of_some e = cc
+
+some_same : (a b : Holding) → Some a ≡ Some b → a ≡ b
+some_same a b e = cc
+
+-- where the innermost element is to be closed
+pub record Ending (rules : List StyleRule) (dom : Dom) (elements : List Open) (o : Open) (drafts : Forest Draft) : Type 0 where
+  pub path : Path
+  pub top : Step
+  pub elements_are : elements ≡ elements_of path
+  pub drafts_are : drafts ≡ made_of_path (top ∷ path)
+  pub top_is : top.opened ≡ o
+  pub result : resumed_from rules dom (holding top) path ≡ document_drafts rules dom
+  pub sound : AreSound dom (top ∷ path)
+
+module _ (rules : List StyleRule) (dom : Dom) where
+  ending_at : (elements : List Open) (o : Open) (drafts : Forest Draft) (path : Path) → o.ahead ≡ 0 →
+      elements ++ o ∷ [] ≡ elements_of path → drafts ≡ made_of_path path → resumed rules dom path ≡ document_drafts rules dom → AreSound dom path →
+      Ending rules dom elements o drafts
+  ending_at elements o drafts [] ahead elements_are drafts_are result sound =
+      absurd (omega (arith, ap length elements_are, length-append elements (o ∷ [])))
+  ending_at elements o drafts (x ∷ path) ahead elements_are drafts_are result sound =
+      let same = same_from_push elements (elements_of path) o x.opened elements_are in
+      let over : remaining dom x.opened ≡ [] =
+      ap (λ (e : Open). remaining dom e) (sym same.1) ∙ ap (λ k. take k (children_in dom o.handle o.order)) ahead in
+      record {
+        path = path;
+        top = x;
+        elements_are = same.0;
+        drafts_are = drafts_are;
+        top_is = sym same.1;
+        result = sym (nothing_ahead x over) ∙ result;
+        sound = sound;
+      }
+    where
+      nothing_ahead : (x : Step) → remaining dom x.opened ≡ [] →
+          (ahead_of rules dom x.opened (holding x) >>= (λ h. resumed_from rules dom h path)) ≡ resumed_from rules dom (holding x) path
+      nothing_ahead x over = ap (λ hs. arrivals rules (trees_of dom hs) All (holding x) >>= (λ h. resumed_from rules dom h path)) over
+
+  pub Converting-ending : (elements : List Open) (o : Open) (drafts : Forest Draft) → o.ahead ≡ 0 →
+      Converting rules dom (elements ++ o ∷ []) drafts → Ending rules dom elements o drafts
+  Converting-ending elements o drafts ahead c =
+      ending_at elements o drafts c.path ahead c.elements_are c.drafts_are c.result c.sound
+
+  -- what was kept of the element
+  pub Ending-split : (elements : List Open) (o : Open) (drafts : Forest Draft) → Ending rules dom elements o drafts → SplitAt drafts o.start
+  Ending-split elements o drafts e = record {
+    children = e.top.drafts;
+    beside = made_of_path e.path;
+    is = e.drafts_are;
+    mark_is = ap (λ (p : Open). p.start) (sym e.top_is) ∙ e.sound.0.start_is;
+  }
+
+  -- ---- an element that stands in another
+
+  module _ (elements : List Open) (o : Open) (drafts : Forest Draft) (es_now : List Open) (ds_now : Forest Draft) where
+    -- the element has become what this says
+    abbrev pub ClosesAs : Type 0
+    ClosesAs = (below : List Open) (p : Open) → IsLast elements below p → (s : SplitAt drafts o.start) →
+        Closed below p es_now ds_now (closed_into (record { element = o.element; drafts = s.children })
+        (record { element = p.element; drafts = s.beside }))
+
+    closes : (top y : Step) (path : Path) (c : Option Holding) → c ≡ closed_into (holding top) (holding y) →
+        AreSound dom (y ∷ path) → (w : Option Holding) → w ≡ option_map (before (made_of_path path)) c →
+        Closed (elements_of path) y.opened es_now ds_now w →
+        (c >>= (λ p. ahead_of rules dom y.opened p >>= (λ q. resumed_from rules dom q path))) ≡ document_drafts rules dom →
+        Converting rules dom es_now ds_now
+    closes top y path None c_is sound w w_is d result = absurd (none_of_some (sym w_is ∙ d.wanted_is))
+    closes top y path (Some g) c_is sound w w_is d result =
+        let same : d.holding ≡ before (made_of_path path) g = some_same d.holding (before (made_of_path path) g) (sym d.wanted_is ∙ w_is) in
+        Converting-after rules dom path y sound es_now ds_now g (subst (IsAfter (elements_of path) y.opened es_now ds_now) same d.after) result
+
+    close_at : (e : Ending rules dom elements o drafts) → ClosesAs → (path : Path) → elements ≡ elements_of path →
+        drafts ≡ followed_by e.top.drafts (made_of_path path) → o.start ≡ count (made_of_path path) →
+        resumed_from rules dom (holding e.top) path ≡ document_drafts rules dom → AreSound dom path → 0 < length elements →
+        Converting rules dom es_now ds_now
+    close_at e c [] elements_are drafts_are start_is result sound some = absurd (omega (arith, some, ap length elements_are))
+    close_at e c (y ∷ path) elements_are drafts_are start_is result sound some =
+        let s : SplitAt drafts o.start = record {
+          children = e.top.drafts;
+          beside = made_of_path (y ∷ path);
+          is = drafts_are;
+          mark_is = start_is;
+        } in
+        let h : Holding = record { element = o.element; drafts = e.top.drafts } in
+        let top_is : h ≡ holding e.top = ap (λ (p : Open). (let q : Holding = record { element = p.element; drafts = e.top.drafts } in q)) (sym e.top_is) in
+        closes e.top y path (closed_into (holding e.top) (holding y)) refl sound
+        (closed_into h (before (made_of_path path) (holding y)))
+        (closed_into-before h (holding y) (made_of_path path)
+        ∙ ap (λ x. option_map (before (made_of_path path)) (closed_into x (holding y))) top_is)
+        (c (elements_of path) y.opened elements_are s) result
+
+    pub Converting-closed : Ending rules dom elements o drafts → ClosesAs → 0 < length elements → Converting rules dom es_now ds_now
+    Converting-closed e c some =
+        close_at e c e.path e.elements_are e.drafts_are (ap (λ (p : Open). p.start) (sym e.top_is) ∙ e.sound.0.start_is) e.result e.sound.1 some
+
+  -- where that fails, there are no drafts
+  fails_at : (elements : List Open) (o : Open) (drafts : Forest Draft) (e : Ending rules dom elements o drafts) (r : Error) →
+      ((p : Holding) (kept : Forest Draft) → Fails r (closed_into (record { element = o.element; drafts = kept }) p)) →
+      (path : Path) → elements ≡ elements_of path → resumed_from rules dom (holding e.top) path ≡ document_drafts rules dom → 0 < length elements →
+      Fails r (document_drafts rules dom)
+  fails_at elements o drafts e TooNarrow h [] elements_are result some = absurd (omega (arith, some, ap length elements_are))
+  fails_at elements o drafts e TooNarrow h (y ∷ path) elements_are result some = h (holding y) e.top.drafts
+  fails_at elements o drafts e Fail h [] elements_are result some = absurd (omega (arith, some, ap length elements_are))
+  fails_at elements o drafts e Fail h (y ∷ path) elements_are result some =
+      sym result
+      ∙ ap (λ (p : Open). closed_into (record { element = p.element; drafts = e.top.drafts }) (holding y)
+      >>= (λ q. ahead_of rules dom y.opened q >>= (λ g. resumed_from rules dom g path))) e.top_is
+      ∙ ap (λ c. c >>= (λ q. ahead_of rules dom y.opened q >>= (λ g. resumed_from rules dom g path))) (h (holding y) e.top.drafts)
+  fails_at elements o drafts e OutOfMemory h path elements_are result some = tt
+
+  pub Ending-fails : (elements : List Open) (o : Open) (drafts : Forest Draft) → Ending rules dom elements o drafts → 0 < length elements →
+      (r : Error) → ((p : Holding) (kept : Forest Draft) → Fails r (closed_into (record { element = o.element; drafts = kept }) p)) →
+      Fails r (document_drafts rules dom)
+  Ending-fails elements o drafts e some r h = fails_at elements o drafts e r h e.path e.elements_are e.result some
+
+  -- ---- the document itself
+
+  last_at : (elements : List Open) (o : Open) (drafts : Forest Draft) (e : Ending rules dom elements o drafts) → length elements ≡ 0 →
+      (path : Path) → elements ≡ elements_of path → drafts ≡ followed_by e.top.drafts (made_of_path path) →
+      resumed_from rules dom (holding e.top) path ≡ document_drafts rules dom →
+      document_of (record { element = o.element; drafts = drafts }) ≡ document_drafts rules dom
+  last_at elements o drafts e none_left [] elements_are drafts_are result =
+      ap (λ d. document_of (record { element = o.element; drafts = d })) (drafts_are ∙ followed_by-none e.top.drafts)
+      ∙ ap (λ (p : Open). document_of (record { element = p.element; drafts = e.top.drafts })) (sym e.top_is) ∙ result
+  last_at elements o drafts e none_left (y ∷ path) elements_are drafts_are result =
+      absurd (omega (arith, none_left, ap length elements_are, length-append (elements_of path) (y.opened ∷ [])))
+
+  pub Ending-last : (elements : List Open) (o : Open) (drafts : Forest Draft) → Ending rules dom elements o drafts → length elements ≡ 0 →
+      document_of (record { element = o.element; drafts = drafts }) ≡ document_drafts rules dom
+  Ending-last elements o drafts e none_left = last_at elements o drafts e none_left e.path e.elements_are e.drafts_are e.result
+
+  -- where no element is open, there are none
+  none_at : (elements : List Open) (path : Path) → length elements ≡ 0 → elements ≡ elements_of path →
+      resumed rules dom path ≡ document_drafts rules dom → document_drafts rules dom ≡ None
+  none_at elements [] empty elements_are result = sym result
+  none_at elements (x ∷ path) empty elements_are result =
+      absurd (omega (arith, empty, ap length elements_are, length-append (elements_of path) (x.opened ∷ [])))
+
+  pub Converting-none : (elements : List Open) (drafts : Forest Draft) → length elements ≡ 0 → Converting rules dom elements drafts →
+      document_drafts rules dom ≡ None
+  Converting-none elements drafts empty c = none_at elements c.path empty c.elements_are c.result
+
+  -- ---- the innermost element
+
+  top_at : (elements : List Open) (o : Open) (path : Path) → elements ++ o ∷ [] ≡ elements_of path → AreSound dom path →
+      IsNode dom o.handle × (o.ahead ≤ length (children_in dom o.handle o.order))
+  top_at elements o [] elements_are sound = absurd (omega (arith, ap length elements_are, length-append elements (o ∷ [])))
+  top_at elements o (x ∷ path) elements_are sound =
+      let same = same_from_push elements (elements_of path) o x.opened elements_are in
+      subst (λ (e : Open). IsNode dom e.handle × (e.ahead ≤ length (children_in dom e.handle e.order))) (sym same.1)
+      (sound.0.is_node, sound.0.ahead_within)
+
+  pub Converting-top : (elements : List Open) (o : Open) (drafts : Forest Draft) → Converting rules dom (elements ++ o ∷ []) drafts →
+      IsNode dom o.handle × (o.ahead ≤ length (children_in dom o.handle o.order))
+  Converting-top elements o drafts c = top_at elements o c.path c.elements_are c.sound
