@@ -1,8 +1,8 @@
 -- An element that is closed: what it becomes has come to the element that it stands in.
-use Rattle.std.proofs.Common.{◌≡◌, ℕ, ◌+◌, ◌≤◌, ◌<◌, Bool, true, false, if◌then◌else◌, List, [], ◌∷◌, ◌++◌, length, take, get_or, Option, Some, None}
+use Rattle.std.proofs.Common.{◌≡◌, ◌≤◌, ◌<◌, Bool, true, false, List, [], ◌∷◌, ◌++◌, length, take, Option, Some, None}
 use Rattle.std.proofs.Common.{refl, sym, ap, subst, ◌∙◌, arith, length-append, option_map}
 use Rattle.std.proofs.lemmas.List.{same_from_push}
-use Rattle.html_render_values.specs.Forest.{Forest, none, count, followed_by}
+use Rattle.html_render_values.specs.Forest.{Forest, count, followed_by}
 use Rattle.html_render_values.specs.Outcome.{◌>>=◌}
 use Rattle.html_render_dom.specs.Dom.{Dom, IsNode, trees_of}
 use Rattle.html_render_dom.specs.Rules.{Rule as StyleRule}
@@ -73,7 +73,7 @@ module _ (rules : List StyleRule) (dom : Dom) where
   ending_at elements o drafts (x ∷ path) ahead elements_are drafts_are result sound =
       let same = same_from_push elements (elements_of path) o x.opened elements_are in
       let over : remaining dom x.opened ≡ [] =
-      ap (λ (e : Open). remaining dom e) (sym same.1) ∙ ap (λ k. take k (children_in dom o.handle o.order)) ahead in
+      ap (λ (e : Open). remaining dom e) (sym same.1) ∙ ap (λ k. take k (children_in dom o.children)) ahead in
       record {
         path = path;
         top = x;
@@ -195,13 +195,13 @@ module _ (rules : List StyleRule) (dom : Dom) where
   -- ---- the innermost element
 
   top_at : (elements : List Open) (o : Open) (path : Path) → elements ++ o ∷ [] ≡ elements_of path → AreSound dom path →
-      IsNode dom o.handle × (o.ahead ≤ length (children_in dom o.handle o.order))
+      IsNode dom o.children.element × (o.ahead ≤ length (children_in dom o.children))
   top_at elements o [] elements_are sound = absurd (omega (arith, ap length elements_are, length-append elements (o ∷ [])))
   top_at elements o (x ∷ path) elements_are sound =
       let same = same_from_push elements (elements_of path) o x.opened elements_are in
-      subst (λ (e : Open). IsNode dom e.handle × (e.ahead ≤ length (children_in dom e.handle e.order))) (sym same.1)
+      subst (λ (e : Open). IsNode dom e.children.element × (e.ahead ≤ length (children_in dom e.children))) (sym same.1)
       (sound.0.is_node, sound.0.ahead_within)
 
   pub Converting-top : (elements : List Open) (o : Open) (drafts : Forest Draft) → Converting rules dom (elements ++ o ∷ []) drafts →
-      IsNode dom o.handle × (o.ahead ≤ length (children_in dom o.handle o.order))
+      IsNode dom o.children.element × (o.ahead ≤ length (children_in dom o.children))
   Converting-top elements o drafts c = top_at elements o c.path c.elements_are c.sound

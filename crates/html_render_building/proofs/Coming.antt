@@ -1,16 +1,16 @@
 -- What comes of trees beside each other, of some that are picked, and to an element beside which others stand.
-use Rattle.std.proofs.Common.{◌≡◌, ℕ, ◌+◌, ◌≤◌, Bool, true, false, not, ◌&&◌, ◌||◌, List, [], ◌∷◌, ◌++◌, length, take, Option, Some, None, refl, sym, ap, ◌∙◌, arith}
-use Rattle.std.proofs.Common.{if◌then◌else◌, option_map, filter}
-use Rattle.html_render_values.specs.Forest.{Forest, none, node, count, followed_by}
+use Rattle.std.proofs.Common.{◌≡◌, ℕ, Bool, true, false, List, [], ◌∷◌, ◌++◌, Option, Some, None, refl, sym, ap, ◌∙◌}
+use Rattle.std.proofs.Common.{if◌then◌else◌}
+use Rattle.html_render_values.specs.Forest.{Forest, none, node, followed_by}
 use Rattle.html_render_values.specs.Outcome.{◌>>=◌}
 use Rattle.html_render_dom.specs.Content.{Content}
-use Rattle.html_render_dom.specs.Dom.{Dom, IsForest, IsNode, node_count, content_at, children_at, below, trees_of, tree_of}
+use Rattle.html_render_dom.specs.Dom.{Dom, node_count, content_at, below, trees_of}
 use Rattle.html_render_dom.specs.Rules.{Rule as StyleRule}
-use Rattle.html_render_nodes.specs.laws.Splits.{followed_by-none, followed_by-followed_by}
+use Rattle.html_render_nodes.specs.laws.Splits.{followed_by-followed_by}
 use Rattle.html_render_insertions.specs.declared.drafts.Draft.{Draft}
 use Rattle.html_render_conversion.specs.Outlines.{outline_of}
 use Rattle.html_render_building.specs.declared.order.Pick.{Pick}
-use Rattle.html_render_building.specs.declared.order.Pick.TheVariants.{All, Captions, Feet, Others}
+use Rattle.html_render_building.specs.declared.order.Pick.TheVariants.{All}
 use Rattle.html_render_building.specs.Building.{Arrival, Holding, arrive, come, arrivals}
 use Rattle.html_render_building.specs.Elements.{keeps}
 use Rattle.html_render_building.specs.Order.{picks, picked}

@@ -1,16 +1,14 @@
 -- A node that is opened: an element is open then, whose children are still ahead, and anything else has come to the innermost one.
-use Rattle.std.proofs.Common.{◌≡◌, ℕ, ◌+◌, ◌≤◌, ◌<◌, Bool, true, false, not, ◌&&◌, ◌||◌, if◌then◌else◌, List, [], ◌∷◌, ◌++◌, length, take, Option, Some, None}
+use Rattle.std.proofs.Common.{◌≡◌, ℕ, ◌≤◌, Bool, true, false, not, ◌&&◌, ◌||◌, if◌then◌else◌, List, [], ◌∷◌, ◌++◌, length, take, Option, Some, None}
 use Rattle.std.proofs.Common.{refl, sym, ap, subst, ◌∙◌, arith, append_assoc}
 use Rattle.std.specs.Prelude.{codes}
 use Rattle.std.specs.List.{All}
 use Rattle.std.proofs.Math.Seq.{take-length}
 use Rattle.std.proofs.lemmas.List.Elements.{All-append, All-filter, Contains-get_or}
-use Rattle.html_render_values.specs.Forest.{Forest, none, count, followed_by}
+use Rattle.html_render_values.specs.Forest.{Forest, none, count}
 use Rattle.html_render_values.specs.Outcome.{◌>>=◌}
-use Rattle.html_render_dom.specs.Content.{Content}
 use Rattle.html_render_dom.specs.Dom.{Dom, IsForest, IsNode, content_at, children_at, trees_of}
 use Rattle.html_render_dom.specs.Rules.{Rule as StyleRule}
-use Rattle.html_render_nodes.specs.declared.tree.RenderNode.{RenderNode}
 use Rattle.html_render_insertions.specs.declared.drafts.Draft.{Draft}
 use Rattle.html_render_insertions.specs.declared.drafts.Insertions.{Insertions}
 use Rattle.html_render_insertions.specs.Drafts.{draft_of, inserted_of}
@@ -25,10 +23,10 @@ use Rattle.html_render_building.specs.declared.elements.OpenKind.{OpenKind}
 use Rattle.html_render_building.specs.declared.elements.OpenKind.TheVariants.{Captioned}
 use Rattle.html_render_building.specs.declared.order.Pick.{Pick}
 use Rattle.html_render_building.specs.declared.order.Pick.TheVariants.{All as Every, Captions, Feet, Others}
-use Rattle.html_render_building.specs.Building.{Arrival, Holding, arrive, arrivals, closed_into, come, come_of, document_drafts, document_of, document_start, fresh, leaf_arrival, table_start}
+use Rattle.html_render_building.specs.Building.{Holding, arrive, arrivals, closed_into, come, come_of, document_drafts, document_of, document_start, fresh, leaf_arrival, table_start}
 use Rattle.html_render_building.specs.Elements.{opened_kind}
-use Rattle.html_render_building.specs.Opened.{IsAfter, IsLast, IsOpened, opened_elements, other_elements, own_count, table_elements}
-use Rattle.html_render_building.specs.Order.{caption_order, children_in, has_own_order, is_named, part_order, picked, picks}
+use Rattle.html_render_building.specs.Opened.{IsAfter, IsOpened, opened_elements, other_elements, own_count, table_elements}
+use Rattle.html_render_building.specs.Order.{caption_order, has_own_order, is_named, listed_in, part_order, picked, picks}
 use Rattle.html_render_building.proofs.Coming.{arrivals-followed_by, arrivals-picked, arrive-before, before, bind-bind, bind-same, chain, trees_of-append}
 use Rattle.html_render_building.proofs.Paths.{AreSound, Converting, Converting-after, Opening, Path, Step, ahead_of, come_at, elements_of, holding}
 use Rattle.html_render_building.proofs.Paths.{made_of_path, resumed_from}
@@ -67,7 +65,7 @@ module _ (rules : List StyleRule) (dom : Dom) (f : IsForest dom) (h : ℕ) (at :
   -- the feet come before the others below a table
   parts_told : (b : Bool) → has_own_order dom children ≡ b → (p : Holding) →
       let order : Option (List ℕ) = if b then Some (picked Others dom children ++ picked Feet dom children) else None in
-      all_of (take (length (children_in dom h order)) (children_in dom h order)) p ≡ (inside Feet p >>= (λ q. inside Others q))
+      all_of (take (length (listed_in dom h order)) (listed_in dom h order)) p ≡ (inside Feet p >>= (λ q. inside Others q))
   parts_told true e p =
       let others = picked Others dom children in
       let feet = picked Feet dom children in
@@ -86,7 +84,7 @@ module _ (rules : List StyleRule) (dom : Dom) (f : IsForest dom) (h : ℕ) (at :
   -- and the captions last
   captions_told : (b : Bool) → has_own_order dom children ≡ b → (p : Holding) →
       let order : Option (List ℕ) = if b then Some (picked Captions dom children) else None in
-      all_of (take (own_count order) (children_in dom h order)) p ≡ inside Captions p
+      all_of (take (own_count order) (listed_in dom h order)) p ≡ inside Captions p
   captions_told true e p =
       ap (λ hs. all_of hs p) (take-length (picked Captions dom children)) ∙ arrivals-picked rules dom Captions children p
   captions_told false e p =
@@ -96,19 +94,19 @@ module _ (rules : List StyleRule) (dom : Dom) (f : IsForest dom) (h : ℕ) (at :
   children_are : All (IsNode dom) children
   children_are k d lt = f.child_is_node h _ (Contains-get_or children k d lt)
 
-  captions_are : (b : Bool) → All (IsNode dom) (children_in dom h (if b then Some (picked Captions dom children) else None))
+  captions_are : (b : Bool) → All (IsNode dom) (listed_in dom h (if b then Some (picked Captions dom children) else None))
   captions_are true = All-filter (λ c. picks Captions (content_at dom c)) (IsNode dom) children children_are
   captions_are false = children_are
 
   parts_are : (b : Bool) → All (IsNode dom)
-      (children_in dom h (if b then Some (picked Others dom children ++ picked Feet dom children) else None))
+      (listed_in dom h (if b then Some (picked Others dom children ++ picked Feet dom children) else None))
   parts_are true = All-append (IsNode dom) (picked Others dom children) (picked Feet dom children)
       (All-filter (λ c. picks Others (content_at dom c)) (IsNode dom) children children_are)
       (All-filter (λ c. picks Feet (content_at dom c)) (IsNode dom) children children_are)
   parts_are false = children_are
 
   own_within : (b : Bool) → let order : Option (List ℕ) = if b then Some (picked Captions dom children) else None in
-      own_count order ≤ length (children_in dom h order)
+      own_count order ≤ length (listed_in dom h order)
   own_within true = omega arith
   own_within false = omega arith
 
@@ -125,7 +123,7 @@ module _ (rules : List StyleRule) (dom : Dom) (f : IsForest dom) (h : ℕ) (at :
         (((if hc then inside Every start else Some start) >>= (λ g. closed_into g (holding top))) >>= rest) ≡ document_drafts rules dom) →
         Converting rules dom es_now ds_now
     opened_other hc e es_is ds_is result =
-        let o : Open = record { handle = h; order = None; ahead = if hc then length children else 0; start = count ds; element = e } in
+        let o : Open = record { children = record { element = h; order = None }; ahead = if hc then length children else 0; start = count ds; element = e } in
         let x : Step = record { opened = o; drafts = none } in
         record {
           path = x ∷ (top ∷ path);
@@ -160,11 +158,10 @@ module _ (rules : List StyleRule) (dom : Dom) (f : IsForest dom) (h : ℕ) (at :
         let b = has_own_order dom children in
         let captions = caption_order dom children in
         let parts = part_order dom children in
-        let outer : Open = record { handle = h; order = captions; ahead = own_count captions; start = count ds; element = around } in
+        let outer : Open = record { children = record { element = h; order = captions }; ahead = own_count captions; start = count ds; element = around } in
         let inner : Open = record {
-          handle = h;
-          order = parts;
-          ahead = length (children_in dom h parts);
+          children = record { element = h; order = parts };
+          ahead = length (listed_in dom h parts);
           start = count ds;
           element = table_start.element;
         } in
@@ -229,7 +226,7 @@ Converting-opened rules dom f h es ds es_now ds_now m i =
 pub Converting-start : (rules : List StyleRule) (dom : Dom) → IsForest dom → (es : List Open) (ds : Forest Draft) →
     es ≡ other_elements dom 0 0 true document_start.element → ds ≡ none → Converting rules dom es ds
 Converting-start rules dom f es ds es_is ds_is =
-    let o : Open = record { handle = 0; order = None; ahead = length (children_at dom 0); start = 0; element = document_start.element } in
+    let o : Open = record { children = record { element = 0; order = None }; ahead = length (children_at dom 0); start = 0; element = document_start.element } in
     let x : Step = record { opened = o; drafts = none } in
     record {
       path = x ∷ [];

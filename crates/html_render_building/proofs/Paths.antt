@@ -1,15 +1,13 @@
 -- What a conversion in one pass keeps true: what has come so far, with what is still ahead, gives the document's drafts.
-use Rattle.std.proofs.Common.{◌≡◌, ℕ, suc, ◌+◌, ◌*◌, ◌<◌, ◌≤◌, Bool, true, false, if◌then◌else◌, List, [], ◌∷◌, ◌++◌, length, take, get_or, Option, Some, None}
-use Rattle.std.proofs.Common.{refl, sym, ap, subst, ◌∙◌, arith, length-append, option_map}
+use Rattle.std.proofs.Common.{◌≡◌, ℕ, suc, ◌<◌, ◌≤◌, List, [], ◌∷◌, ◌++◌, length, take, get_or, Option, None}
+use Rattle.std.proofs.Common.{sym, ap, subst, ◌∙◌, arith, length-append}
 use Rattle.std.proofs.lemmas.List.{same_from_push}
-use Rattle.std.proofs.Math.Seq.{take-suc, take-length}
-use Rattle.html_render_values.specs.Forest.{Forest, none, node, count, followed_by}
+use Rattle.std.proofs.Math.Seq.{take-suc}
+use Rattle.html_render_values.specs.Forest.{Forest, none, count, followed_by}
 use Rattle.html_render_values.specs.Outcome.{◌>>=◌}
-use Rattle.html_render_dom.specs.Dom.{Dom, IsForest, IsNode, node_count, content_at, children_at, below, trees_of, tree_of}
+use Rattle.html_render_dom.specs.Dom.{Dom, IsForest, IsNode, content_at, children_at, trees_of, tree_of}
 use Rattle.html_render_dom.specs.Rules.{Rule as StyleRule}
 use Rattle.html_render_dom.specs.laws.Trees.{below-children}
-use Rattle.html_render_nodes.specs.Splits.{SplitAt}
-use Rattle.html_render_nodes.specs.laws.Splits.{followed_by-none, followed_by-followed_by}
 use Rattle.html_render_insertions.specs.declared.drafts.Draft.{Draft}
 use Rattle.html_render_building.specs.declared.building.Open.{Open}
 use Rattle.html_render_building.specs.declared.order.Pick.TheVariants.{All}
@@ -41,7 +39,7 @@ made_of_path (x ∷ path) = followed_by x.drafts (made_of_path path)
 
 -- the children of an open element that are still ahead, and what comes of them
 abbrev pub remaining : Dom → Open → List ℕ
-remaining dom o = take o.ahead (children_in dom o.handle o.order)
+remaining dom o = take o.ahead (children_in dom o.children)
 
 abbrev pub ahead_of : List StyleRule → Dom → Open → Holding → Option Holding
 ahead_of rules dom o h = arrivals rules (trees_of dom (remaining dom o)) All h
@@ -62,10 +60,10 @@ resumed rules dom (x ∷ path) = do
 
 -- an open element of the document, whose drafts begin where its own mark says
 pub record IsSound (dom : Dom) (x : Step) (path : Path) : Type 0 where
-  pub is_node : IsNode dom x.opened.handle
-  pub ahead_within : x.opened.ahead ≤ length (children_in dom x.opened.handle x.opened.order)
-  pub are_nodes : (n d : ℕ) → n < length (children_in dom x.opened.handle x.opened.order) →
-      IsNode dom (get_or (children_in dom x.opened.handle x.opened.order) n d)
+  pub is_node : IsNode dom x.opened.children.element
+  pub ahead_within : x.opened.ahead ≤ length (children_in dom x.opened.children)
+  pub are_nodes : (n d : ℕ) → n < length (children_in dom x.opened.children) →
+      IsNode dom (get_or (children_in dom x.opened.children) n d)
   pub start_is : x.opened.start ≡ count (made_of_path path)
 
 abbrev pub AreSound : Dom → Path → Type 0
@@ -129,11 +127,11 @@ module _ (rules : List StyleRule) (dom : Dom) (f : IsForest dom) where
       ap (λ t. come (outline_of rules (content_at dom h) t) (λ k q. arrivals rules t k q) p) (below-children dom f h at)
 
   -- the last of the children ahead comes first
-  ahead-last : (o : Open) (n h : ℕ) (p : Holding) → o.ahead ≡ suc n → n < length (children_in dom o.handle o.order) →
-      h ≡ get_or (children_in dom o.handle o.order) n h →
+  ahead-last : (o : Open) (n h : ℕ) (p : Holding) → o.ahead ≡ suc n → n < length (children_in dom o.children) →
+      h ≡ get_or (children_in dom o.children) n h →
       ahead_of rules dom o p ≡ (arrivals rules (tree_of dom h) All p >>= (λ q. ahead_of rules dom (record o { ahead = n }) q))
   ahead-last o n h p ahead within at =
-      let children = children_in dom o.handle o.order in
+      let children = children_in dom o.children in
       let last : remaining dom o ≡ take n children ++ h ∷ [] = ap (λ k. take k children) ahead ∙ take-suc children n h within
       ∙ ap (λ c. take n children ++ c ∷ []) (sym at) in
       ap (λ hs. arrivals rules (trees_of dom hs) All p) last
@@ -141,7 +139,7 @@ module _ (rules : List StyleRule) (dom : Dom) (f : IsForest dom) where
       ∙ arrivals-followed_by rules All (trees_of dom (take n children)) (tree_of dom h) p
 
   child_at : (elements : List Open) (o : Open) (n : ℕ) (drafts : Forest Draft) (h : ℕ) (path : Path) → o.ahead ≡ suc n →
-      h ≡ get_or (children_in dom o.handle o.order) n h → elements ++ o ∷ [] ≡ elements_of path → drafts ≡ made_of_path path →
+      h ≡ get_or (children_in dom o.children) n h → elements ++ o ∷ [] ≡ elements_of path → drafts ≡ made_of_path path →
       resumed rules dom path ≡ document_drafts rules dom → AreSound dom path → Opening rules dom h (elements ++ record o { ahead = n } ∷ []) drafts
   child_at elements o n drafts h [] ahead at elements_are drafts_are result sound =
       absurd (omega (arith, ap length elements_are, length-append elements (o ∷ [])))
@@ -149,8 +147,8 @@ module _ (rules : List StyleRule) (dom : Dom) (f : IsForest dom) where
       let same = same_from_push elements (elements_of path) o x.opened elements_are in
       let shorter : Open = record o { ahead = n } in
       let top : Step = record { opened = shorter; drafts = x.drafts } in
-      let within : n < length (children_in dom o.handle o.order) =
-      omega (arith, ahead, subst (λ (e : Open). e.ahead ≤ length (children_in dom e.handle e.order)) (sym same.1) sound.0.ahead_within) in
+      let within : n < length (children_in dom o.children) =
+      omega (arith, ahead, subst (λ (e : Open). e.ahead ≤ length (children_in dom e.children)) (sym same.1) sound.0.ahead_within) in
       record {
         path = path;
         top = top;
@@ -163,21 +161,21 @@ module _ (rules : List StyleRule) (dom : Dom) (f : IsForest dom) where
             ∙ result;
         sound = (
           record {
-            is_node = subst (λ (e : Open). IsNode dom e.handle) (sym same.1) sound.0.is_node;
+            is_node = subst (λ (e : Open). IsNode dom e.children.element) (sym same.1) sound.0.is_node;
             ahead_within = omega (arith, within);
-            are_nodes = subst (λ (e : Open). (k d : ℕ) → k < length (children_in dom e.handle e.order) →
-                IsNode dom (get_or (children_in dom e.handle e.order) k d)) (sym same.1) sound.0.are_nodes;
+            are_nodes = subst (λ (e : Open). (k d : ℕ) → k < length (children_in dom e.children) →
+                IsNode dom (get_or (children_in dom e.children) k d)) (sym same.1) sound.0.are_nodes;
             start_is = ap (λ (e : Open). e.start) same.1 ∙ sound.0.start_is;
           },
           sound.1,
         );
         is_node = subst (λ c. IsNode dom c) (sym at)
-            ((subst (λ (e : Open). (k d : ℕ) → k < length (children_in dom e.handle e.order) →
-            IsNode dom (get_or (children_in dom e.handle e.order) k d)) (sym same.1) sound.0.are_nodes) n h within);
+            ((subst (λ (e : Open). (k d : ℕ) → k < length (children_in dom e.children) →
+            IsNode dom (get_or (children_in dom e.children) k d)) (sym same.1) sound.0.are_nodes) n h within);
       }
 
   pub Converting-child : (elements : List Open) (o : Open) (n : ℕ) (drafts : Forest Draft) (h : ℕ) →
-      o.ahead ≡ suc n → h ≡ get_or (children_in dom o.handle o.order) n h → Converting rules dom (elements ++ o ∷ []) drafts →
+      o.ahead ≡ suc n → h ≡ get_or (children_in dom o.children) n h → Converting rules dom (elements ++ o ∷ []) drafts →
       Opening rules dom h (elements ++ record o { ahead = n } ∷ []) drafts
   Converting-child elements o n drafts h ahead at c =
       child_at elements o n drafts h c.path ahead at c.elements_are c.drafts_are c.result c.sound

@@ -14,10 +14,10 @@ use Rattle.html_render_conversion.specs.declared.mapping.Outline.TheVariants.{No
 use Rattle.html_render_building.specs.declared.building.Open.{Open}
 use Rattle.html_render_building.specs.declared.elements.Element.{Element}
 use Rattle.html_render_building.specs.declared.order.Pick.TheVariants.{Captions, Feet, Others}
-use Rattle.html_render_building.specs.Building.{Holding, arrive, fresh, is_captioned, leaf_arrival}
+use Rattle.html_render_building.specs.Building.{arrive, fresh, is_captioned, leaf_arrival}
 use Rattle.html_render_building.specs.Elements.{opened_kind}
 use Rattle.html_render_building.specs.Opened.{IsOpened, opened_elements, other_elements, own_count, table_elements}
-use Rattle.html_render_building.specs.Order.{children_in, has_own_order, is_named, picked}
+use Rattle.html_render_building.specs.Order.{children_in, has_own_order, is_named, listed_in, picked}
 use Rattle.html_render_building.specs.laws.Parting.{one_name}
 use Rattle.html_render_building.proofs.Coming.{trees_of-append}
 use Rattle.html_render_building.proofs.Paths.{remaining}
@@ -31,12 +31,18 @@ work-append : (dom : Dom) (xs ys : List Open) → work dom (xs ++ ys) ≡ work d
 work-append dom [] ys = omega arith
 work-append dom (x ∷ xs) ys = omega (arith, work-append dom xs ys)
 
-pub work-close : (dom : Dom) (elements : List Open) (o : Open) → work dom elements < work dom (elements ++ o ∷ [])
+work-close : (dom : Dom) (elements : List Open) (o : Open) → work dom elements < work dom (elements ++ o ∷ [])
 work-close dom elements o = omega (arith, work-append dom elements (o ∷ []))
 
 -- an element that changes has as much ahead
-pub work-same : (dom : Dom) (below : List Open) (p : Open) (e : Element) → work dom (below ++ record p { element = e } ∷ []) ≡ work dom (below ++ p ∷ [])
+work-same : (dom : Dom) (below : List Open) (p : Open) (e : Element) → work dom (below ++ record p { element = e } ∷ []) ≡ work dom (below ++ p ∷ [])
 work-same dom below p e = work-append dom below (record p { element = e } ∷ []) ∙ sym (work-append dom below (p ∷ []))
+
+-- an element is closed into the one that it stands in
+pub work-closed : (dom : Dom) (es es_now below old : List Open) (p o : Open) (e : Element) → es_now ≡ below ++ record p { element = e } ∷ [] →
+    es ≡ below ++ p ∷ [] → old ≡ es ++ o ∷ [] → work dom es_now < work dom old
+work-closed dom es es_now below old p o e now_is es_is old_is =
+    omega (arith, ap (work dom) now_is, work-same dom below p e, ap (work dom) es_is, work-close dom es o, ap (work dom) old_is)
 
 module _ (dom : Dom) where
   abbrev pub all_under : List ℕ → ℕ
@@ -66,8 +72,8 @@ module _ (dom : Dom) where
     table_ahead : (b : Bool) →
         let captions : Option (List ℕ) = if b then Some (picked Captions dom children) else None in
         let parts : Option (List ℕ) = if b then Some (picked Others dom children ++ picked Feet dom children) else None in
-        all_under (take (own_count captions) (children_in dom h captions))
-        + all_under (take (length (children_in dom h parts)) (children_in dom h parts)) ≤ all_under children
+        all_under (take (own_count captions) (listed_in dom h captions))
+        + all_under (take (length (listed_in dom h parts)) (listed_in dom h parts)) ≤ all_under children
     table_ahead true =
         let captions = picked Captions dom children in
         let others = picked Others dom children in
@@ -108,10 +114,10 @@ module _ (dom : Dom) where
 
 -- a child that is opened was ahead
 pub work-child : (dom : Dom) → IsForest dom → (below : List Open) (o : Open) (n h : ℕ) (r : Outline) (es_now : List Open) (ds ds_now : Forest Draft) →
-    IsNode dom h → o.ahead ≡ suc n → n < length (children_in dom o.handle o.order) → h ≡ get_or (children_in dom o.handle o.order) n h →
+    IsNode dom h → o.ahead ≡ suc n → n < length (children_in dom o.children) → h ≡ get_or (children_in dom o.children) n h →
     IsOpened dom h r (below ++ record o { ahead = n } ∷ []) ds es_now ds_now → work dom es_now < work dom (below ++ o ∷ [])
 work-child dom f below o n h r es_now ds ds_now at ahead within is i =
-    let hs = children_in dom o.handle o.order in
+    let hs = children_in dom o.children in
     let shorter : Open = record o { ahead = n } in
     let last : remaining dom o ≡ take n hs ++ h ∷ [] = ap (λ k. take k hs) ahead ∙ take-suc hs n h within ∙ ap (λ c. take n hs ++ c ∷ []) (sym is) in
     omega (

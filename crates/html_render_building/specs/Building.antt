@@ -11,7 +11,6 @@ use Rattle.html_render_nodes.specs.declared.tree.NodeKind.{NodeKind}
 use Rattle.html_render_nodes.specs.declared.tree.NodeKind.TheVariants.{Container, Block, TableRow, TableCell, FragmentStart}
 use Rattle.html_render_nodes.specs.declared.tree.NodeKind.TheVariants as kind
 use Rattle.html_render_nodes.specs.declared.tree.NodeStyle.{NodeStyle}
-use Rattle.html_render_nodes.specs.declared.tree.RenderNode.{RenderNode}
 use Rattle.html_render_nodes.specs.RenderNodes.{no_style}
 use Rattle.html_render_nodes.specs.Tables.{TableParts, unmeasured_table}
 use Rattle.html_render_insertions.specs.declared.drafts.Draft.{Draft}

@@ -2,6 +2,7 @@
 pub mod Spans
 pub mod Kinds
 pub mod Elements
+pub mod ChildLists
 pub mod Order
 pub mod Building
 pub mod Opened

@@ -3,11 +3,8 @@ use Rattle.std.specs.Prelude.{◌≡◌, ℕ, ◌+◌, List, [], ◌∷◌, ◌+
 use Rattle.html_render_values.specs.Forest.{Forest}
 use Rattle.html_render_dom.specs.Dom.{Dom, children_at}
 use Rattle.html_render_nodes.specs.Splits.{SplitAt}
-use Rattle.html_render_nodes.specs.declared.tree.NodeStyle.{NodeStyle}
 use Rattle.html_render_insertions.specs.declared.drafts.Draft.{Draft}
-use Rattle.html_render_insertions.specs.declared.drafts.Insertions.{Insertions}
 use Rattle.html_render_insertions.specs.Drafts.{draft_of, inserted_of}
-use Rattle.html_render_conversion.specs.declared.mapping.IfEmpty.{IfEmpty}
 use Rattle.html_render_conversion.specs.declared.mapping.Outline.{Outline}
 use Rattle.html_render_conversion.specs.declared.mapping.Outline.TheVariants.{Nothing, Alone, Over}
 use Rattle.html_render_building.specs.declared.elements.Element.{Element}
@@ -15,7 +12,7 @@ use Rattle.html_render_building.specs.Elements.{opened_kind}
 use Rattle.html_render_values.specs.Forest.{count}
 use Rattle.html_render_building.specs.declared.building.Open.{Open}
 use Rattle.html_render_building.specs.Building.{Holding, arrive, fresh, is_captioned, leaf_arrival, table_start}
-use Rattle.html_render_building.specs.Order.{caption_order, children_in, part_order}
+use Rattle.html_render_building.specs.Order.{caption_order, children_in, listed_in, part_order}
 
 -- how many children are in an order of their own, if there is one
 abbrev pub own_count : Option (List ℕ) → ℕ
@@ -27,11 +24,10 @@ abbrev pub table_elements : Dom → (handle start : ℕ) → (around : Element) 
 table_elements dom handle start around =
     let captions = caption_order dom (children_at dom handle) in
     let parts = part_order dom (children_at dom handle) in
-    record { handle = handle; order = captions; ahead = own_count captions; start = start; element = around }
+    record { children = record { element = handle; order = captions }; ahead = own_count captions; start = start; element = around }
     ∷ record {
-      handle = handle;
-      order = parts;
-      ahead = length (children_in dom handle parts);
+      children = record { element = handle; order = parts };
+      ahead = length (listed_in dom handle parts);
       start = start;
       element = table_start.element;
     } ∷ []
@@ -39,8 +35,7 @@ table_elements dom handle start around =
 -- any other element, with its children ahead, if these count
 abbrev pub other_elements : Dom → (handle start : ℕ) → (has_children : Bool) → Element → List Open
 other_elements dom handle start has_children e = record {
-  handle = handle;
-  order = None;
+  children = record { element = handle; order = None };
   ahead = if has_children then length (children_at dom handle) else 0;
   start = start;
   element = e;
@@ -67,7 +62,7 @@ pub record NextChild (dom : Dom) (old new : List Open) (child : ℕ) : Type 0 wh
   pub left : ℕ
   pub old_is : old ≡ below ++ element ∷ []
   pub ahead_is : element.ahead ≡ left + 1
-  pub child_is : child ≡ slice_index_or (children_in dom element.handle element.order) left child
+  pub child_is : child ≡ slice_index_or (children_in dom element.children) left child
   pub new_is : new ≡ below ++ record element { ahead = left } ∷ []
 
 -- what was kept since there were `start` drafts comes to the innermost open element, which it changes so

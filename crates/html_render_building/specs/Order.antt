@@ -4,6 +4,7 @@ use Rattle.std.specs.List.{list_any}
 use Rattle.std.specs.Str.{bytes_eq}
 use Rattle.html_render_dom.specs.Content.{Space, html, Content, element}
 use Rattle.html_render_dom.specs.Dom.{Dom, content_at, children_at}
+use Rattle.html_render_building.specs.ChildLists.{InOrder}
 use Rattle.html_render_building.specs.declared.order.Pick.{Pick}
 use Rattle.html_render_building.specs.declared.order.Pick.TheVariants.{All, Captions, Feet, Others}
 
@@ -38,7 +39,10 @@ abbrev pub part_order : Dom → List ℕ → Option (List ℕ)
 part_order dom children =
     if has_own_order dom children then Some (picked Others dom children ++ picked Feet dom children) else None
 
--- the children of a node in an order of their own, if they have one
-abbrev pub children_in : Dom → (handle : ℕ) → Option (List ℕ) → List ℕ
-children_in dom handle None = children_at dom handle
-children_in dom handle (Some own) = own
+-- these children of an element
+abbrev pub listed_in : Dom → (handle : ℕ) → Option (List ℕ) → List ℕ
+listed_in dom handle None = children_at dom handle
+listed_in dom handle (Some own) = own
+
+abbrev pub children_in : Dom → InOrder → List ℕ
+children_in dom c = listed_in dom c.element c.order

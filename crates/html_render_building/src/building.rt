@@ -2,6 +2,7 @@
 
 ghost use Rattle.std.specs.Prelude.{◌≡◌, ◌||◌, ◌≤◌, ◌∷◌, ◌++◌, List, [], length, Some, None, IfSome, IfNone, IfOk, OnOk, IfErr, map, option_map, false, true};
 ghost use Rattle.html_render_dom.specs.Dom.{IsForest, IsNode};
+ghost use Rattle.html_render_dom.specs.NameKeys.{Tells};
 ghost use Rattle.html_render_dom.specs.Rules.{rule_of};
 ghost use Rattle.html_render_conversion.specs.Outlines.{outline_at};
 ghost use Rattle.html_render_conversion.specs.Results.{render_tree_of};
@@ -22,12 +23,12 @@ ghost use Rattle.html_render_building.specs.declared.elements.Role.TheVariants a
 
 use crate::elements::{Element, OpenKind, Role};
 use crate::kinds::holds_insertions;
-use crate::order::{Order, table_orders};
+use crate::order::{Children, table_orders};
 use crate::spans::{Gathered, PartRows, RowCells, grid_over};
 use html_render_conversion::mapping::{IfEmpty, Outline, outline_of, text_node};
 use html_render_conversion::tables::CellSpan;
 use html_render_dom::dom::{Handle, NodeData, RcDom};
-use html_render_dom::style::StyleRule;
+use html_render_dom::style::{SelectedNames, StyleRule};
 use html_render_insertions::drafts::{Draft, Drafts, Inserted};
 use html_render_nodes::tree::{Flat, Grid, NodeKind, NodeStyle, RenderNode};
 use html_render_values::Error;
@@ -36,10 +37,8 @@ use std::alloc::Global;
 /// An element that is open: its children are being converted, from the last to the first.
 #[derive(Drop)]
 pub struct Open {
-    /// The element.
-    pub handle: Handle,
-    /// In which order its children are converted.
-    pub order: Order,
+    /// Its children, in the order in which they are converted.
+    pub children: Children,
     /// How many of them are still to be converted.
     pub ahead: usize,
     /// How many drafts had been made before anything of it.
@@ -659,17 +658,15 @@ fn open_table(
 {
     let (captions, parts) = table_orders(alloc, dom, handle)?;
     let caption_count = captions.own_count();
-    let part_count = parts.children(dom, handle).len();
+    let part_count = parts.in_order(dom).len();
     elements.push(Open {
-        handle,
-        order: captions,
+        children: captions,
         ahead: caption_count,
         start,
         element: around,
     })?;
     elements.push(Open {
-        handle,
-        order: parts,
+        children: parts,
         ahead: part_count,
         start,
         element: Element::table(alloc),
@@ -696,8 +693,7 @@ fn open_other(
         0
     };
     elements.push(Open {
-        handle,
-        order: Order::of_document(),
+        children: Children::of_document(handle),
         ahead,
         start,
         element,
@@ -730,11 +726,13 @@ fn open_element(
 fn open_node(
     alloc: Global,
     rules: &[StyleRule],
+    names: &SelectedNames,
     dom: &RcDom,
     handle: Handle,
     elements: &mut Vec<Open>,
     drafts: &mut Drafts,
 ) -> Result<(), Error>
+    requires names { Tells names.now (map rule_of rules.now) }
     requires forest { IsForest dom.now }
     requires node { IsNode dom.now handle }
     ensures ok { OnOk result (IsOpened dom.now handle (outline_at (map rule_of rules.now) dom.now handle)
@@ -749,7 +747,7 @@ fn open_node(
             drafts,
         );
     }
-    match outline_of(alloc, rules, dom, handle)? {
+    match outline_of(alloc, rules, names, dom, handle)? {
         Outline::Nothing => Ok(()),
         Outline::Alone(node) => put_alone(Draft::from(node), elements, drafts),
         Outline::Over {
@@ -775,7 +773,7 @@ fn open_node(
 #[inline(always)]
 fn next_child(dom: &RcDom, elements: &mut Vec<Open>) -> Option<Handle>
     requires { (below : List Open) (o : Open) → IsLast elements.old.items below o →
-        IsNode dom.now o.handle × (o.ahead ≤ length (children_in dom.now o.handle o.order)) }
+        IsNode dom.now o.children.element × (o.ahead ≤ length (children_in dom.now o.children)) }
     ensures next { IfSome result (NextChild dom.now elements.old.items elements.new.items) }
     ensures same { IfNone result (elements.new.items ≡ elements.old.items) }
     ensures over { IfNone result ((below : List Open) (o : Open) → IsLast elements.old.items below o → o.ahead ≡ 0) }
@@ -783,8 +781,7 @@ fn next_child(dom: &RcDom, elements: &mut Vec<Open>) -> Option<Handle>
     let last = elements.len().checked_sub(1)?;
     let ahead = elements[last].ahead.checked_sub(1)?;
     elements[last].ahead = ahead;
-    let handle = elements[last].handle;
-    Some(elements[last].order.children(dom, handle)[ahead])
+    Some(elements[last].children.in_order(dom)[ahead])
 }
 
 impl Open {
@@ -836,12 +833,13 @@ fn drafts_of(alloc: Global, rules: &[StyleRule], dom: &RcDom) -> Result<Drafts, 
     ensures ok { IfOk result (λ drafts. render_tree_of (map rule_of rules.now) dom.now ≡ Some (expanded drafts)) }
     ensures err { IfErr result (λ e. Fails e (render_tree_of (map rule_of rules.now) dom.now)) }
 {
+    let names = SelectedNames::of(alloc, rules)?;
     let mut elements = Vec::new(alloc);
     let mut drafts = Drafts::with_capacity(alloc, dom.node_count())?;
     open_other(dom, dom.get_document(), 0, true, document(), &mut elements)?;
     'converting: loop {
         if let Some(child) = next_child(dom, &mut elements) {
-            open_node(alloc, rules, dom, child, &mut elements, &mut drafts)?;
+            open_node(alloc, rules, &names, dom, child, &mut elements, &mut drafts)?;
         } else if let Some(open) = elements.pop() {
             let start = open.start;
             let element = open.into_element();

@@ -84,55 +84,78 @@ fn push_picked(
     Ok(())
 }
 
-/// Children in an order of their own, or those of the document in theirs. It takes one word.
+/// Children in an order of their own.
 #[derive(Drop)]
-pub struct Order {
-    own: Option<Box<Vec<Handle>>>,
+pub struct OwnOrder {
+    /// The element that they stand in, for contracts to speak of.
+    pub element: Handle,
+    /// The children.
+    pub children: Vec<Handle>,
 }
 
-impl Model for Order {
-    ghost use Rattle.std.specs.Prelude.{ℕ, List, Option, option_map};
-
-    ghost Value = { Option (List ℕ) };
-
-    ghost view = { λ o. option_map (λ b. b.value.items) o.own };
+/// The children of an element. It is two words, since there is one for each open element.
+#[derive(Drop)]
+enum ChildList {
+    /// All of them, as in the document.
+    OfDocument(Handle),
+    /// These.
+    Own(Box<OwnOrder>),
 }
 
-impl Order {
-    /// The order of the document.
-    pub fn of_document() -> Order
-        ensures { result ≡ None }
+/// Which children of an element are converted, and in which order: in one of their own, or as in the document.
+#[derive(Drop)]
+pub struct Children {
+    list: ChildList,
+}
+
+impl Model for Children {
+    ghost use Rattle.html_render_building.specs.ChildLists.{InOrder, in_order};
+
+    ghost Value = { InOrder };
+
+    ghost view = { λ c. in_order c.list };
+}
+
+impl Children {
+    /// All children of an element, as in the document.
+    pub fn of_document(element: Handle) -> Children
+        ensures { result ≡ record { element = element; order = None } }
     {
-        Order { own: None }
+        Children {
+            list: ChildList::OfDocument(element),
+        }
     }
 
-    /// These children, in this order.
-    fn of(alloc: Global, children: Vec<Handle>) -> Result<Order, Error>
-        ensures ok { IfOk result (λ o. o ≡ Some children.items) }
+    /// These children of an element, in this order.
+    fn own(alloc: Global, element: Handle, children: Vec<Handle>) -> Result<Children, Error>
+        ensures ok { IfOk result (λ c. c ≡ record { element = element; order = Some children.items }) }
         ensures err { IfErr result (λ e. e ≡ Error.OutOfMemory) }
     {
-        let own = Some(Box::new(alloc, children)?);
-        Ok(Order { own })
+        let own = Box::new(alloc, OwnOrder { element, children })?;
+        Ok(Children {
+            list: ChildList::Own(own),
+        })
     }
 
-    /// How many children there are in an order of their own.
+    /// How many there are, if they have an order of their own.
     pub fn own_count(&self) -> usize
-        ensures { result ≡ own_count self.now }
+        ensures { result ≡ own_count self.now.order }
     {
-        match &self.own {
-            Some(children) => children.len(),
-            None => 0,
+        match &self.list {
+            ChildList::OfDocument(_) => 0,
+            ChildList::Own(own) => own.children.len(),
         }
     }
 
     /// The children in this order.
-    pub fn children<'a>(&'a self, dom: &'a RcDom, element: Handle) -> &'a [Handle]
-        requires { IsNode dom.now element }
-        ensures { result.now ≡ children_in dom.now element self.now }
+    #[inline]
+    pub fn in_order<'a>(&'a self, dom: &'a RcDom) -> &'a [Handle]
+        requires { IsNode dom.now self.now.element }
+        ensures { result.now ≡ children_in dom.now self.now }
     {
-        match &self.own {
-            Some(children) => children.as_slice(),
-            None => dom.child_list(element),
+        match &self.list {
+            ChildList::OfDocument(element) => dom.child_list(*element),
+            ChildList::Own(own) => own.children.as_slice(),
         }
     }
 }
@@ -143,19 +166,29 @@ impl Order {
 /// # Errors
 ///
 /// `OutOfMemory`.
-pub fn table_orders(alloc: Global, dom: &RcDom, element: Handle) -> Result<(Order, Order), Error>
+pub fn table_orders(
+    alloc: Global,
+    dom: &RcDom,
+    element: Handle,
+) -> Result<(Children, Children), Error>
     requires { IsNode dom.now element }
-    ensures captions { IfOk result (λ orders. orders.0 ≡ caption_order dom.now (children_at dom.now element)) }
-    ensures parts { IfOk result (λ orders. orders.1 ≡ part_order dom.now (children_at dom.now element)) }
+    ensures captions { IfOk result (λ orders. orders.0 ≡ record { element = element; order = caption_order dom.now (children_at dom.now element) }) }
+    ensures parts { IfOk result (λ orders. orders.1 ≡ record { element = element; order = part_order dom.now (children_at dom.now element) }) }
     ensures err { IfErr result (λ e. e ≡ Error.OutOfMemory) }
 {
     if !has_own_order(dom, element) {
-        return Ok((Order::of_document(), Order::of_document()));
+        return Ok((
+            Children::of_document(element),
+            Children::of_document(element),
+        ));
     }
     let mut captions = Vec::new(alloc);
     push_picked(Pick::Captions, dom, element, &mut captions)?;
     let mut parts = Vec::new(alloc);
     push_picked(Pick::Others, dom, element, &mut parts)?;
     push_picked(Pick::Feet, dom, element, &mut parts)?;
-    Ok((Order::of(alloc, captions)?, Order::of(alloc, parts)?))
+    Ok((
+        Children::own(alloc, element, captions)?,
+        Children::own(alloc, element, parts)?,
+    ))
 }

@@ -1,4 +1,4 @@
--- The number that a text is, and what `parse` reads; and the first item's number of an ordered list.
+-- The number that a text is, and what `parse` reads.
 use Rattle.std.proofs.Common.{◌≡◌, ℕ, ◌^◌, ◌<◌, reverse, inl, inr, Bool, true, false, ◌&&◌, if◌then◌else◌, List, [], ◌∷◌, length, map, find, option_map, Some}
 use Rattle.std.proofs.Common.{None, Result, Ok, Err, unwrap_or, refl, sym, ap, ◌∙◌, ◌++◌, nat_lt}
 use Rattle.std.proofs.lemmas.Bool.{cases_Bool, ltb-true, lt-ltb}
@@ -6,14 +6,14 @@ use Rattle.std.proofs.lemmas.List.{reverse-append, map-append}
 use Rattle.std.proofs.lemmas.Str.Parse.{numerals_by_value, tells_all_ascii_digits}
 use Rattle.std.specs.Int.{w64}
 use Rattle.std.specs.Int.RustNames.{FitsSigned}
-use Rattle.std.specs.Prelude.{ℤ, pos, negsuc, codes, option_and_then, string_bytes}
+use Rattle.std.specs.Prelude.{ℤ, pos, negsuc, option_and_then, string_bytes}
 use Rattle.std.specs.Result.{result_unwrap_or}
 use Rattle.std.specs.Str.{all_ascii_digits, bytes_eq}
 use Rattle.std.specs.Str.Parse.{IsNumeral, ParsesSigned, ParsesUnsigned, digits_value, without_leading_plus, without_leading_sign, signed_digits_value}
 use Rattle.html_render_dom.specs.Content.{Property, property_of}
 use Rattle.html_render_dom.specs.declared.dom.names.Attribute.{Attribute}
 use Rattle.html_render_dom.specs.Selectors.{first_value}
-use Rattle.html_render_conversion.specs.Conversion.{fits_i64, number_of, start_of}
+use Rattle.html_render_conversion.specs.Conversion.{fits_i64, number_of}
 use Rattle.html_render_conversion.specs.Tables.{size_of, size_or_one}
 
 fits : (z : ℤ) → fits_i64 z ≡ true → FitsSigned w64 z
@@ -137,11 +137,3 @@ size-absent attributes name e =
     ap (λ ps. unwrap_or (option_and_then size_of (first_value name ps)) 1) (sym (map-reverse property_of attributes))
     ∙ ap (λ o. unwrap_or (option_and_then size_of (option_map (λ (p : Property). p.value) o)) 1)
     (find-map property_of (λ p. bytes_eq p.name.local name) (reverse attributes) ∙ ap (option_map property_of) e)
-
--- where an attribute says with which number the list starts
-pub start_of-found : (attributes : List Attribute) (start : Attribute) →
-    find (λ a. bytes_eq (string_bytes a.name.local) (codes "start")) attributes ≡ Some start →
-    start_of (map property_of attributes) ≡ unwrap_or (number_of (string_bytes start.value)) (pos 1)
-start_of-found attributes start e =
-    ap (λ o. unwrap_or (option_and_then number_of (option_map (λ (p : Property). p.value) o)) (pos 1))
-    (find-map property_of (λ p. bytes_eq p.name.local (codes "start")) attributes ∙ ap (option_map property_of) e)

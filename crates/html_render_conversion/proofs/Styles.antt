@@ -1,15 +1,16 @@
--- What the style of an element says where there are no rules, where it is preformatted, and where it isn't displayed.
-use Rattle.std.proofs.Common.{◌≡◌, ℕ, Bool, true, false, if◌then◌else◌, List, [], ◌∷◌, ◌++◌, length, map, Option, is_some, option_to_list}
-use Rattle.std.proofs.Common.{sym, ap, ◌∙◌, arith}
+-- What the style of an element says where no rule selects it, where it is preformatted, and where it isn't displayed.
+use Rattle.std.proofs.Common.{◌≡◌, ℕ, Bool, true, false, if◌then◌else◌, List, [], ◌∷◌, ◌++◌, map, Option, is_some, option_to_list}
+use Rattle.std.proofs.Common.{sym, ap, ◌∙◌}
 use Rattle.html_render_dom.specs.Content.{Name, Property}
 use Rattle.html_render_dom.specs.Cascade.{value_of, winner}
-use Rattle.html_render_dom.specs.ElementStyle.{ElementStyle, style_by}
+use Rattle.html_render_dom.specs.ElementStyle.{ElementStyle, element_style, is_selected, style_by, subject_of}
 use Rattle.html_render_dom.specs.Rules.{rule_of}
 use Rattle.html_render_dom.specs.Specificities.{no_specificity}
 use Rattle.html_render_values.specs.declared.white_space.WhiteSpace.{WhiteSpace}
 use Rattle.html_render_dom.specs.declared.style.rules.StyleRule.{StyleRule}
 use Rattle.html_render_dom.specs.declared.style.specificities.Specificity.{Specificity}
 use Rattle.html_render_dom.specs.declared.style.updates.Update.{Update}
+use Rattle.html_render_dom.specs.laws.Unselected.{unselected-style}
 use Rattle.html_render_dom.specs.laws.Winners.{winner-one}
 use Rattle.html_render_conversion.specs.declared.mapping.ElementKind.{ElementKind}
 use Rattle.html_render_conversion.specs.declared.mapping.ElementKind.TheVariants.{Node}
@@ -22,10 +23,12 @@ use Rattle.html_render_conversion.specs.declared.mapping.Outline.TheVariants as 
 use Rattle.html_render_conversion.specs.Conversion.{is_preformatted, last_white_space, preformatted_style, own_style, node_style}
 use Rattle.html_render_conversion.specs.Outlines.{mark_alone, displayed_outline, styled_outline}
 
-pub without_rules : (rules : List StyleRule) (name : Name) (properties : List Property) → length rules ≡ 0 →
+pub unselected : (rules : List StyleRule) (name : Name) (properties : List Property) →
+    is_selected (map rule_of rules) (subject_of name.local properties) ≡ false →
     is_preformatted name.space name.local ≡ false → own_style (map rule_of rules) name properties ≡ style_by []
-without_rules [] name properties e other = ap (λ b. preformatted_style b (style_by [])) other
-without_rules (rule ∷ rules) name properties e other = absurd (omega (arith, e))
+unselected rules name properties e other =
+    ap (λ b. preformatted_style b (element_style (map rule_of rules) name.local properties)) other
+    ∙ unselected-style (map rule_of rules) name.local properties e
 
 -- `pre` gives its style an update of the least specificity behind those of all rules
 pub preformatted : (style : ElementStyle) (least : Specificity) (new : Option (Update WhiteSpace)) → least ≡ no_specificity →

@@ -22,13 +22,11 @@ use Rattle.html_render_nodes.specs.declared.tree.NodeKind.TheVariants.{Text, Con
 use Rattle.html_render_nodes.specs.declared.tree.NodeKind.TheVariants.{BlockQuote, Ul, Ol, ListItem, Dl, Dt, Dd}
 use Rattle.html_render_nodes.specs.declared.tree.NodeKind.TheVariants.{Strikeout, Superscript, Link, Image, Svg}
 use Rattle.html_render_nodes.specs.declared.tree.NodeStyle.{NodeStyle}
-use Rattle.html_render_nodes.specs.declared.tree.NodeKind.{NodeKind}
 use Rattle.html_render_conversion.specs.declared.mapping.ElementKind.TheVariants.{Node, Part}
 use Rattle.html_render_conversion.specs.declared.mapping.IfEmpty.{IfEmpty}
 use Rattle.html_render_conversion.specs.declared.mapping.IfEmpty.TheVariants.{Stands, Vanishes}
 use Rattle.html_render_conversion.specs.declared.mapping.Mapping.{Mapping}
 use Rattle.html_render_conversion.specs.declared.mapping.Mapping.TheVariants.{Nothing, Leaf, Parent}
-use Rattle.html_render_conversion.specs.declared.tables.Part.{Part as TablePart}
 use Rattle.html_render_conversion.specs.declared.tables.Part.TheVariants as part
 use Rattle.html_render_conversion.specs.Images.{image_parts, drawing_title}
 use Rattle.html_render_conversion.specs.Tables.{span_of}

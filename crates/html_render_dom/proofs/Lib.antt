@@ -4,6 +4,7 @@ pub mod Forests
 pub mod Keeps
 pub mod Lists
 pub mod Moves
+pub mod NameKeys
 pub mod Names
 pub mod Outcomes
 pub mod Words

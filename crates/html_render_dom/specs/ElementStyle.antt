@@ -1,6 +1,6 @@
 -- The style of an element: for each property the winner among the declarations of the rules that select it.
 use Rattle.std.specs.Prelude.{ℕ, Bool, false, List, ◌++◌, codes, Option, Some, None, map, filter, option_map, option_to_list}
-use Rattle.std.specs.List.{filter_map, flat_map}
+use Rattle.std.specs.List.{filter_map, flat_map, list_any}
 use Rattle.html_render_values.specs.declared.colours.Colour.{Colour}
 use Rattle.html_render_dom.specs.declared.style.origins.StyleOrigin.{StyleOrigin}
 use Rattle.html_render_dom.specs.declared.style.specificities.Specificity.{Specificity}
@@ -78,15 +78,18 @@ pub record ElementStyle : Type 0 where
   pub content_after : Option (Update (List ℕ))
   pub internal_pre : Bool
 
+-- an element of this local name and these attributes, as rules see it
+abbrev pub subject_of : (name : List ℕ) → List Property → Subject
+subject_of name properties =
+    record { name = name; id = first_value (codes "id") properties; classes = first_value (codes "class") properties }
+
+-- whether one of these rules selects an element
+abbrev pub is_selected : List Rule → Subject → Bool
+is_selected rules subject = list_any (λ rule. selects rule subject) rules
+
 -- the declarations of the rules that select an element, in the order in which the rules were added
 abbrev pub declarations_for : List Rule → (name : List ℕ) → List Property → List Applied
-declarations_for rules name properties =
-    let subject : Subject = record {
-      name = name;
-      id = first_value (codes "id") properties;
-      classes = first_value (codes "class") properties;
-    } in
-    flat_map applied (filter (λ rule. selects rule subject) rules)
+declarations_for rules name properties = flat_map applied (filter (λ rule. selects rule (subject_of name properties)) rules)
 
 -- the style that declarations give
 abbrev pub style_by : List Applied → ElementStyle

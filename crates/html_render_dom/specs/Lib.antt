@@ -16,6 +16,7 @@ pub mod Rules
 pub mod Selectors
 pub mod TextUpdates
 pub mod ElementStyle
+pub mod NameKeys
 -- what the functions inside the crate promise each other
 pub mod Room
 pub mod Frames

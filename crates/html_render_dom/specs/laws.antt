@@ -4,3 +4,4 @@ pub mod Names
 pub mod Orders
 pub mod Trees
 pub mod Winners
+pub mod Unselected

@@ -8,6 +8,7 @@
 
 mod computed;
 mod laws;
+mod names;
 mod origins;
 mod rules;
 mod selectors;
@@ -15,9 +16,10 @@ mod specificities;
 mod updates;
 mod winners;
 
-pub use computed::{ComputedStyle, computed_style};
+pub use computed::{ComputedStyle, computed_style, is_selected};
 pub use html_render_values::colours::Colour;
 pub use html_render_values::white_space::WhiteSpace;
+pub use names::SelectedNames;
 pub use origins::StyleOrigin;
 pub use rules::{Declaration, Display, PseudoElement, Style, StyleRule};
 pub use specificities::Specificity;

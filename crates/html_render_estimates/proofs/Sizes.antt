@@ -1,13 +1,14 @@
 -- The size of a text that is read from its front on.
-use Rattle.std.proofs.Common.{◌≡◌, ℕ, ◌+◌, ◌-◌, ◌^◌, ◌<◌, ◌≤◌, min, Bool, true, false, cond, List, [], ◌∷◌, length, drop}
-use Rattle.std.proofs.Common.{get_or, zero, suc, refl, sym, ap, ◌∙◌, arith}
+use Rattle.std.proofs.Common.{◌≡◌, ℕ, ◌+◌, ◌-◌, ◌<◌, ◌≤◌, min, Bool, true, false, cond, List, [], ◌∷◌, length, drop}
+use Rattle.std.proofs.Common.{get_or, zero, suc, refl, sym, ap, subst, ◌∙◌, arith}
+use Rattle.std.specs.List.{AllWithin}
 use Rattle.std.proofs.lemmas.List.{drop_more, drop_all}
 use Rattle.std.proofs.lemmas.Str.{chars-nil}
 use Rattle.std.proofs.lemmas.Grind.{common_steps}
 use Rattle.std.specs.Str.{chars}
 use Rattle.html_render_lines.specs.Character.{is_collapsible, width_of}
 use Rattle.html_render_lines.specs.laws.Characters.{plain_width}
-use Rattle.html_render_estimates.specs.TextSize.{saturated, columns_of, inner_columns, with_space, size_of}
+use Rattle.html_render_estimates.specs.TextSize.{columns_of, inner_columns, with_space, size_of}
 
 -- ---- characters
 
@@ -101,6 +102,27 @@ Sized-letter bs at k n spaced s w within low high is_n is_s = rw (is_n, is_s) (r
     few true h = omega (arith, h)
     few false h = omega (arith, h)
 
+-- letters behind which no white space stands
+Sized-letters : (bs : List ℕ) (at k n : ℕ) → Sized bs at k false → at + n ≤ length bs →
+    AllWithin (λ b. (33 ≤ b) × (b ≤ 126)) bs at (at + n) → Sized bs (at + n) (k + n) false
+Sized-letters bs at k zero w within letters = subst (λ m. Sized bs m (k + 0) false) (omega arith) (subst (λ m. Sized bs at m false) (omega arith) w)
+Sized-letters bs at k (suc n) w within letters =
+    let so_far = Sized-letters bs at k n w (omega (arith, within)) (λ i d low high. letters i d low (omega (arith, high))) in
+    let letter = letters (at + n) 0 (omega arith) (omega arith) in
+    let more = Sized-letter bs (at + n) (k + n) (k + suc n) false false so_far (omega (arith, within)) letter.0 letter.1 (omega arith) refl in
+    subst (λ m. Sized bs m (k + suc n) false) (omega arith) more
+
+-- a letter and those behind it
+pub Sized-run : (bs : List ℕ) (at k end n : ℕ) (spaced s : Bool) → Sized bs at k spaced → at < length bs →
+    33 ≤ get_or bs at 0 → get_or bs at 0 ≤ 126 → at + 1 ≤ end → end ≤ length bs →
+    AllWithin (λ b. (33 ≤ b) × (b ≤ 126)) bs (at + 1) end → n ≡ k + cond spaced 2 1 + (end - (at + 1)) → s ≡ false → Sized bs end n s
+Sized-run bs at k end n spaced s w within low high behind inside letters is_n is_s =
+    let first = Sized-letter bs at k (k + cond spaced 2 1) spaced false w within low high refl refl in
+    let is_end : at + 1 + (end - (at + 1)) ≡ end = omega (arith, behind) in
+    let all = Sized-letters bs (at + 1) (k + cond spaced 2 1) (end - (at + 1)) first (omega (arith, inside, is_end))
+    (subst (λ m. AllWithin (λ b. (33 ≤ b) × (b ≤ 126)) bs (at + 1) m) (sym is_end) letters) in
+    rw (is_n, is_s) (subst (λ m. Sized bs m (k + cond spaced 2 1 + (end - (at + 1))) false) is_end all)
+
 pub Sized-space : (bs : List ℕ) (at k n : ℕ) (spaced s : Bool) → Sized bs at k spaced → at < length bs →
     is_collapsible (get_or bs at 0) ≡ true → get_or bs at 0 < 128 → n ≡ k → s ≡ true → Sized bs (at + 1) n s
 Sized-space bs at k n spaced s w within space small is_n is_s = rw (is_n, is_s) (record {
@@ -121,18 +143,34 @@ pub Sized-reached : (bs : List ℕ) (at k limit : ℕ) (spaced : Bool) → Sized
     min k limit ≡ min (size_of (chars bs)) limit
 Sized-reached bs at k limit spaced w reached = omega (arith, size_on-least k spaced (chars (drop at bs)), w.size, reached)
 
--- ---- columns up to a limit, where the text at hand is a character and others
+-- ---- letters in front of a text
 
-pub columns-after_space : (text cs : List ℕ) (k limit c : ℕ) (spaced : Bool) → chars text ≡ c ∷ cs → is_collapsible c ≡ true →
-    min (k + columns_of true cs) limit ≡ min (k + columns_of spaced (chars text)) limit
-columns-after_space text cs k limit c spaced e collapsible =
-    let front : columns_of spaced (chars text) ≡ columns_of true cs = ap (columns_of spaced) e ∙ columns_of-space c cs spaced collapsible in
-    omega (arith, front)
+-- one letter
+one-letter : (bs : List ℕ) (at : ℕ) (spaced : Bool) → at < length bs → 33 ≤ get_or bs at 0 → get_or bs at 0 ≤ 126 →
+    columns_of spaced (chars (drop at bs)) ≡ cond spaced 1 0 + 1 + columns_of false (chars (drop (at + 1) bs))
+one-letter bs at spaced within low high =
+    let b = get_or bs at 0 in
+    ap (columns_of spaced) (next-chars bs at within (omega (arith, high)))
+    ∙ columns_of-other b (chars (drop (at + 1) bs)) spaced (letter-collapsible b low high)
+    ∙ omega (arith, plain_width b low high)
 
-pub columns-after_other : (text cs : List ℕ) (k limit c width sum : ℕ) (spaced : Bool) → chars text ≡ c ∷ cs → is_collapsible c ≡ false →
-    limit < 2 ^ 64 → width ≡ saturated (cond spaced 1 0 + width_of c) → sum ≡ min (k + width) (2 ^ 64 - 1) →
-    min (sum + columns_of false cs) limit ≡ min (k + columns_of spaced (chars text)) limit
-columns-after_other text cs k limit c width sum spaced e collapsible small is_width is_sum =
-    let front : columns_of spaced (chars text) ≡ cond spaced 1 0 + width_of c + columns_of false cs =
-    ap (columns_of spaced) e ∙ columns_of-other c cs spaced collapsible in
-    omega (arith, front, small, is_width, is_sum)
+-- and more
+more-letters : (bs : List ℕ) (spaced : Bool) (n : ℕ) → n + 1 ≤ length bs → AllWithin (λ b. (33 ≤ b) × (b ≤ 126)) bs 0 (n + 1) →
+    columns_of spaced (chars bs) ≡ cond spaced 1 0 + (n + 1) + columns_of false (chars (drop (n + 1) bs))
+more-letters bs spaced zero within letters =
+    let letter = letters 0 0 (omega arith) (omega arith) in
+    one-letter bs 0 spaced (omega (arith, within)) letter.0 letter.1
+more-letters bs spaced (suc n) within letters =
+    let letter = letters (n + 1) 0 (omega arith) (omega arith) in
+    let before = more-letters bs spaced n (omega (arith, within)) (λ i d low high. letters i d low (omega (arith, high))) in
+    let next : columns_of false (chars (drop (n + 1) bs)) ≡ 1 + columns_of false (chars (drop (suc n + 1) bs)) =
+    one-letter bs (n + 1) false (omega (arith, within)) letter.0 letter.1
+    ∙ ap (λ k. 0 + 1 + columns_of false (chars (drop k bs))) (omega arith) in
+    omega (arith, before, next)
+
+pub letters-columns : (bs : List ℕ) (spaced : Bool) (n : ℕ) → 0 < n → n ≤ length bs → AllWithin (λ b. (33 ≤ b) × (b ≤ 126)) bs 0 n →
+    columns_of spaced (chars bs) ≡ cond spaced 1 0 + n + columns_of false (chars (drop n bs))
+letters-columns bs spaced zero some within letters = absurd (omega (arith, some))
+letters-columns bs spaced (suc n) some within letters =
+    subst (λ k. columns_of spaced (chars bs) ≡ cond spaced 1 0 + k + columns_of false (chars (drop k bs))) (omega arith)
+    (more-letters bs spaced n (omega (arith, within)) (λ i d low high. letters i d low (omega (arith, high))))

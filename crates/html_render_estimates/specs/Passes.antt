@@ -1,14 +1,10 @@
 -- What the passes of the code compute: sizes are left out of trees without a table, where nothing asks for them.
-use Rattle.std.specs.Prelude.{◌≡◌, ℕ, List, Bool, true, false, ◌||◌, if◌then◌else◌}
+use Rattle.std.specs.Prelude.{Bool, true, false, ◌||◌, if◌then◌else◌}
 use Rattle.html_render_values.specs.Forest.{Forest, none, node}
-use Rattle.html_render_parts.specs.Decoration.{Decoration}
-use Rattle.html_render_nodes.specs.declared.tree.Entry.{Entry}
 use Rattle.html_render_nodes.specs.declared.tree.Estimate.{Estimate}
 use Rattle.html_render_nodes.specs.declared.tree.NodeKind.{NodeKind}
 use Rattle.html_render_nodes.specs.declared.tree.NodeKind.TheVariants.{Table}
 use Rattle.html_render_nodes.specs.declared.tree.RenderNode.{RenderNode}
-use Rattle.html_render_nodes.specs.Preorder.{flatten, forest_of}
-use Rattle.html_render_estimates.specs.Estimates.{measured}
 
 -- whether one of the nodes is a table
 abbrev pub is_table : NodeKind → Bool
@@ -31,9 +27,3 @@ without_sizes (node n children beside) =
 -- THE ANSWER of the code, of measured trees: they have their sizes if one of the nodes is a table
 abbrev pub with_needed_sizes : Forest RenderNode → Forest RenderNode
 with_needed_sizes t = if has_table t then t else without_sizes t
-
--- nodes of a forest that is measured as this one
-pub record MeasuresAs {D A : Type 0} (decoration : Decoration D A) (decorator : D) (min_wrap_width : ℕ) (t : Forest RenderNode)
-    (es : List (Entry RenderNode)) : Type 0 where
-  pub kept : flatten (forest_of es) ≡ es
-  pub same : measured decoration decorator min_wrap_width (forest_of es) ≡ measured decoration decorator min_wrap_width t

@@ -7,7 +7,7 @@ ghost use Rattle.std.specs.Prelude.{◌≡◌, max, min, true, false, IfOk, IfEr
 ghost use Rattle.html_render_nodes.specs.Preorder.{flatten, forest_of};
 ghost use Rattle.html_render_estimates.specs.Estimates.{trees, greatest_least, image_size, prefix_of, last_number};
 ghost use Rattle.html_render_estimates.specs.Estimates.{needs_of, with_needs, estimate_of, measured};
-ghost use Rattle.html_render_estimates.specs.Passes.{is_table, has_table, without_size, without_sizes, with_needed_sizes, MeasuresAs};
+ghost use Rattle.html_render_estimates.specs.Passes.{is_table, has_table, without_size, without_sizes, with_needed_sizes};
 
 use crate::sized::{Measure, measure_table, total_size};
 use crate::text::{columns, size_within};
@@ -252,20 +252,30 @@ fn is_table(kind: &NodeKind) -> bool
     matches!(kind, NodeKind::Table(_))
 }
 
-/// Gives nodes their estimates without sizes, from the last node to the first. Before a table, whose estimate asks for sizes, it
-/// stops and answers no.
+/// Whether one of the nodes is a table.
+fn any_table(entries: &[Entry<RenderNode>]) -> bool
+    requires { flatten (forest_of entries.now) ≡ entries.now }
+    ensures { result ≡ has_table (forest_of entries.now) }
+{
+    for entry in entries {
+        if is_table(&entry.node.kind) {
+            return true;
+        }
+    }
+    false
+}
+
+/// Gives nodes of which none is a table their estimates without sizes, from the last node to the first.
 fn measure_without_sizes<D: TextDecorator>(
     alloc: Global,
     decorator: &D,
     min_wrap_width: usize,
     entries: &mut Vec<Entry<RenderNode>>,
-) -> Result<bool, Error>
-    requires { flatten (forest_of entries.old.items) ≡ entries.old.items }
-    ensures ok { IfOk result (λ all. MatchBool all
-        ((has_table (measured D.decoration decorator.now min_wrap_width (forest_of entries.old.items)) ≡ false)
-        × (entries.new.items ≡ flatten (without_sizes (measured D.decoration decorator.now min_wrap_width (forest_of entries.old.items)))))
-        ((has_table (measured D.decoration decorator.now min_wrap_width (forest_of entries.old.items)) ≡ true)
-        × MeasuresAs D.decoration decorator.now min_wrap_width (forest_of entries.old.items) entries.new.items)) }
+) -> Result<(), Error>
+    requires kept { flatten (forest_of entries.old.items) ≡ entries.old.items }
+    requires plain { has_table (forest_of entries.old.items) ≡ false }
+    ensures ok { OnOk result (entries.new.items
+        ≡ flatten (without_sizes (measured D.decoration decorator.now min_wrap_width (forest_of entries.old.items)))) }
     ensures err { IfErr result (λ e. e ≡ Error.OutOfMemory) }
 {
     let mut at = entries.len();
@@ -274,13 +284,10 @@ fn measure_without_sizes<D: TextDecorator>(
         let all = entries.as_slice();
         let entry = &all[at];
         let below = &all[at + 1..at + entry.size];
-        if is_table(&entry.node.kind) {
-            return Ok(false);
-        }
         let estimate = estimate_of(alloc, decorator, min_wrap_width, &entry.node.kind, below)?;
         entries[at].node.estimate = estimate;
     }
-    Ok(true)
+    Ok(())
 }
 
 /// Gives nodes their estimates with sizes, from the last node to the first.
@@ -318,10 +325,10 @@ fn measure_nodes<D: TextDecorator>(
         ≡ flatten (with_needed_sizes (measured D.decoration decorator.now min_wrap_width (forest_of entries.old.items)))) }
     ensures err { IfErr result (λ e. e ≡ Error.OutOfMemory) }
 {
-    if measure_without_sizes(alloc, decorator, min_wrap_width, entries)? {
-        return Ok(());
+    if any_table(entries) {
+        return measure_with_sizes(alloc, decorator, min_wrap_width, entries);
     }
-    measure_with_sizes(alloc, decorator, min_wrap_width, entries)
+    measure_without_sizes(alloc, decorator, min_wrap_width, entries)
 }
 
 /// The tree with each node's estimate. Without a table in the tree its size is left out, as 0.

@@ -2,8 +2,9 @@
 //!
 //! `size_within(" Hello  wide\n", 80)` is 11: the white space in front is one column, and so is that between the words.
 
-ghost use Rattle.std.specs.Prelude.{◌≡◌, ◌+◌, if◌then◌else◌, [], ◌∷◌, ◌<◌, ◌≤◌, length, min, true, false, IfSome, MatchOption};
+ghost use Rattle.std.specs.Prelude.{◌≡◌, ◌+◌, Bool, if◌then◌else◌, [], ◌∷◌, ◌<◌, ◌≤◌, length, min, true, false, IfNone, IfSome, MatchOption};
 ghost use Rattle.std.specs.Bool.{OnTrue};
+ghost use Rattle.std.specs.List.{AllWithin};
 ghost use Rattle.std.specs.Str.{chars, IsUtf8};
 ghost use Rattle.html_render_lines.specs.Character.{is_collapsible, width_of};
 ghost use Rattle.html_render_lines.specs.TaggedText.{text_columns};
@@ -22,7 +23,7 @@ pub fn columns(text: &str) -> usize
     columns
 }
 
-/// The lesser of a text's size and `limit`. Nothing is read behind the characters that reach the limit.
+/// The lesser of a text's size and `limit`. Nothing is read behind the word that reaches the limit.
 pub fn size_within(text: &str, limit: usize) -> usize
     ensures { result ≡ min (size_of (chars text.now)) limit }
 {
@@ -37,26 +38,39 @@ pub fn size_within(text: &str, limit: usize) -> usize
 fn ascii_size_within(text: &[u8], limit: usize) -> Option<usize>
     ensures { IfSome result (λ size. size ≡ min (size_of (chars text.now)) limit) }
 {
-    let enough = text.len().min(limit);
     let mut at = 0;
-    while at < enough && is_letter(text[at]) {
-        at += 1;
-    }
-    let mut columns = at;
+    let mut columns = 0;
     let mut spaced = false;
     while columns < limit && at < text.len() {
         let byte = text[at];
         if is_letter(byte) {
+            let end = letters_end(text, at + 1);
             columns += if spaced { 2 } else { 1 };
+            columns += end - (at + 1);
             spaced = false;
+            at = end;
         } else if is_space(byte) {
             spaced = true;
+            at += 1;
         } else {
             return None;
         }
-        at += 1;
     }
     Some(columns.min(limit))
+}
+
+/// Where the letters end that stand in a text from a place on: printable ASCII characters other than the space.
+#[inline]
+fn letters_end(text: &[u8], start: usize) -> usize
+    requires { start ≤ length text.now }
+    ensures within { (start ≤ result) × (result ≤ length text.now) }
+    ensures letters { AllWithin (λ b. (33 ≤ b) × (b ≤ 126)) text.now start result }
+{
+    let mut end = start;
+    while end < text.len() && is_letter(text[end]) {
+        end += 1;
+    }
+    end
 }
 
 /// Whether a byte is a printable ASCII character other than the space.
@@ -113,25 +127,60 @@ fn columns_within(text: &str, limit: usize) -> usize
     let mut columns: usize = 0;
     let mut spaced = false;
     while columns < limit {
+        if let Some((letters, behind)) = split_letters(rest) {
+            columns = columns.saturating_add(spaced_width(spaced, letters));
+            spaced = false;
+            rest = behind;
+            continue;
+        }
         let Some((c, behind)) = first_character(rest) else {
             break;
         };
-        if is_collapsible(c) {
-            spaced = true;
-        } else {
-            columns = columns.saturating_add(spaced_width(spaced, c));
-            spaced = false;
+        match shown_width(c) {
+            Some(width) => {
+                columns = columns.saturating_add(spaced_width(spaced, width));
+                spaced = false;
+            }
+            None => spaced = true,
         }
         rest = behind;
     }
     columns.min(limit)
 }
 
-/// The columns of a character, and of white space if it stands in front.
-fn spaced_width(spaced: bool, c: char) -> usize
-    ensures { result ≡ saturated ((if spaced then 1 else 0) + width_of c) }
+/// How many letters a text begins with, and what stands behind them; none where it begins with another character.
+#[inline]
+fn split_letters(text: &str) -> Option<(usize, &str)>
+    ensures columns { IfSome result (λ r. (spaced : Bool) →
+        columns_of spaced (chars text.now) ≡ (if spaced then 1 else 0) + r.0 + columns_of false (chars r.1.now)) }
+    ensures shorter { IfSome result (λ r. length r.1.now < length text.now) }
+    ensures text { IfSome result (λ r. IsUtf8 r.1.now) }
 {
-    let width = width_of(c);
+    let letters = letters_end(text.as_bytes(), 0);
+    if letters == 0 {
+        return None;
+    }
+    let (_, behind) = text.split_at_checked(letters)?;
+    Some((letters, behind))
+}
+
+/// The columns of a character that isn't collapsible white space.
+#[inline]
+fn shown_width(c: char) -> Option<usize>
+    ensures shown { IfSome result (λ width. (is_collapsible c ≡ false) × (width ≡ width_of c)) }
+    ensures space { IfNone result (is_collapsible c ≡ true) }
+{
+    match c {
+        '!'..='~' => Some(1),
+        _ if is_collapsible(c) => None,
+        _ => Some(width_of(c)),
+    }
+}
+
+/// The columns of a character that has so many, and of white space if it stands in front.
+fn spaced_width(spaced: bool, width: usize) -> usize
+    ensures { result ≡ saturated ((if spaced then 1 else 0) + width) }
+{
     if spaced {
         width.saturating_add(1)
     } else {

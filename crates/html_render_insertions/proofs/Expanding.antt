@@ -1,13 +1,13 @@
 -- How the nodes of drafts are written.
-use Rattle.std.proofs.Common.{◌≡◌, Option, Some, None, option_to_list, ◌≢◌, ℕ, ◌+◌, ◌-◌, ◌≤◌, ◌<◌, List, [], ◌∷◌, ◌++◌, length, take, drop, get_or, set, reverse, subst, sym, ap, ◌∙◌, arith}
-use Rattle.std.proofs.Common.{append_assoc, append-nil, length-append, refl, suc, zero}
-use Rattle.std.proofs.lemmas.List.{reverse-append, reverse-reverse, length-reverse, same_from_push}
+use Rattle.std.proofs.Common.{◌≡◌, Option, Some, None, option_to_list, ◌≢◌, ℕ, ◌+◌, ◌-◌, ◌≤◌, ◌<◌, List, [], ◌∷◌, ◌++◌, length, drop, get_or, set, reverse, subst, sym, ap, ◌∙◌, arith}
+use Rattle.std.proofs.Common.{append_assoc, append-nil, length-append, refl}
+use Rattle.std.proofs.lemmas.List.{reverse-append, length-reverse, same_from_push}
 use Rattle.std.proofs.Math.Seq.{get_or-append_seam, set-append_seam}
-use Rattle.html_render_values.specs.Forest.{Forest, none, node, count, followed_by}
+use Rattle.html_render_values.specs.Forest.{Forest, none, node, followed_by}
 use Rattle.html_render_nodes.specs.declared.tree.Entry.{Entry}
 use Rattle.html_render_nodes.specs.declared.tree.RenderNode.{RenderNode}
-use Rattle.html_render_nodes.specs.Preorder.{flatten, forest_of}
-use Rattle.html_render_nodes.specs.laws.Preorder.{length-flatten, flatten-followed_by, forest_of-flatten, IsForest, IsForest-flatten}
+use Rattle.html_render_nodes.specs.Preorder.{flatten}
+use Rattle.html_render_nodes.specs.laws.Preorder.{flatten-followed_by, IsForest, IsForest-flatten}
 use Rattle.html_render_insertions.specs.declared.drafts.Draft.{Draft}
 use Rattle.html_render_insertions.specs.declared.drafts.Insertions.{Insertions}
 use Rattle.html_render_insertions.specs.declared.drafts.expansion.Opened.{Opened}

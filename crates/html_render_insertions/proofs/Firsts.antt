@@ -1,5 +1,5 @@
 -- The way down the first children of drafts.
-use Rattle.std.proofs.Common.{◌≡◌, ℕ, ◌+◌, ◌-◌, ◌≤◌, ◌<◌, List, [], ◌∷◌, ◌++◌, length, take, drop, get_or, set, reverse, Some, subst, sym, ap, ◌∙◌, arith}
+use Rattle.std.proofs.Common.{◌≡◌, ℕ, ◌+◌, ◌-◌, ◌≤◌, ◌<◌, List, [], ◌∷◌, ◌++◌, length, get_or, set, reverse, Some, subst, sym, ap, ◌∙◌, arith}
 use Rattle.std.proofs.Common.{append_assoc, append-nil, zero-add, length-append, refl, suc, zero}
 use Rattle.std.proofs.lemmas.List.{reverse-append, reverse-reverse, length-reverse}
 use Rattle.std.proofs.Math.Seq.{get_or-append_seam, set-append_seam}
@@ -90,21 +90,6 @@ reached_entry t entries steps place e r at =
     at ∙ ap (λ l. get_or l place e) (r.is ∙ parted r.draft r.children r.others r.low r.high)
     ∙ ap (λ n. get_or (front ++ one ∷ r.high) n e) (low_length r.draft r.children r.others r.low place r.place_is)
     ∙ get_or-append_seam front one r.high e
-
--- it is within the entries
-pub reached_within : (t : Forest Draft) (entries : List (Entry Draft)) (steps place : ℕ) → Reached t entries steps place →
-    place < length entries
-reached_within t entries steps place r =
-    let whole = reverse (flatten (node r.draft r.children r.others)) in
-    omega (
-      arith,
-      r.place_is,
-      ap length r.is,
-      length-append r.low (whole ++ r.high),
-      length-append whole r.high,
-      length-reverse (flatten (node r.draft r.children r.others)),
-      length-flatten (node r.draft r.children r.others),
-    )
 
 -- a draft with children has a first one, a step further down, in the place before it
 pub reached_down : (t : Forest Draft) (entries : List (Entry Draft)) (steps place below : ℕ) (e : Entry Draft)

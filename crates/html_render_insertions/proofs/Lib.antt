@@ -1,3 +1,4 @@
+pub mod Bare
 pub mod Drafting
 pub mod Expanding
 pub mod Firsts

@@ -29,7 +29,7 @@ pub struct Insertions {
     pub after: Option<NodeText>,
 }
 
-/// What elements insert among the children of a node, the innermost element first. It takes one word where there is nothing.
+/// What elements insert among the children of a node, the innermost element first. It takes two words where there is nothing.
 #[derive(Drop)]
 pub struct Inserted {
     rounds: Option<Box<Vec<Insertions>>>,

@@ -116,16 +116,17 @@ impl<T: Tag, M: Copy> Paragraph<T, M> {
         self.feed(text, style)
     }
 
-    /// Makes room on an empty line for a text of so many bytes and a prefix in front of it. Short texts need none.
+    /// Makes room on an empty line for a text of so many bytes and a prefix in front of it; behind a short text for others.
     #[inline]
     fn make_room(&mut self, bytes: usize) -> Result<(), AllocError>
         ensures { self.new ≡ self.old }
     {
-        if bytes < 16 {
-            return Ok(());
-        }
-        self.line
-            .reserve_at_start(bytes.min(self.width).saturating_add(16))
+        let room = if bytes < 16 {
+            self.width.min(32).saturating_add(8)
+        } else {
+            bytes.min(self.width).saturating_add(16)
+        };
+        self.line.reserve_at_start(room)
     }
 
     /// Moves the finished lines behind the given ones.

@@ -1,6 +1,6 @@
 -- The edges, sorted and without repeats, and the numbers that they get.
 use Rattle.std.proofs.Common.{◌≡◌, ℕ, ◌+◌, ◌-◌, ◌<◌, ◌≤◌, true, false, cond, List, [], ◌∷◌, ◌++◌, length, get_or, All, Contains, nat_lt, refl, sym, subst}
-use Rattle.std.proofs.Common.{arith, inl, inr, ◌⊎◌, suc, zero}
+use Rattle.std.proofs.Common.{arith, inl, inr, ◌⊎◌, suc, zero, ◌∙◌}
 use Rattle.std.specs.List.{AllPairs, AllWithin}
 use Rattle.std.specs.List.Sorted.{IsNonDecreasingBy, IsStrictlyIncreasing}
 use Rattle.std.proofs.lemmas.Bool.{cases_lt}
@@ -166,6 +166,14 @@ rising-more ms ns = rising-same (rising ms ++ ns) (ms ++ ns)
       | inr b ↦ Contains-append_right (rising ms) ns n b
     ])
 
+-- those that were there come to nothing new
+pub rising-known : (front ns : List ℕ) → rising (rising (front ++ ns) ++ ns) ≡ rising (front ++ ns)
+rising-known front ns =
+    rising-more (front ++ ns) ns
+    ∙ rising-same ((front ++ ns) ++ ns) (front ++ ns)
+    (λ n h. elim (Contains-append_cases (front ++ ns) ns n h) [ inl a ↦ a | inr b ↦ Contains-append_right front ns n b ])
+    (λ n h. Contains-append_left (front ++ ns) ns n h)
+
 pub IsStrictlyIncreasing-rising : (ns : List ℕ) → IsStrictlyIncreasing (rising ns)
 IsStrictlyIncreasing-rising ns = λ k inside. Rise-rising ns k (k + 1) 0 (omega arith) inside
 
@@ -281,6 +289,18 @@ IsNonDecreasing-rising xs h = λ i j d le inside. elim (cases_lt i j) [
   | inl less ↦ let t = AllPairs-from_increasing xs h i j d less inside in omega arith
   | inr ge ↦ let e : i ≡ j = omega arith in rw e (omega arith)
 ]
+
+-- a position that is not behind the first edge
+pub rank-first : (xs : List ℕ) (t i : ℕ) → IsStrictlyIncreasing xs → i ≡ 0 → i < length xs → t ≤ get_or xs i 0 → rank xs t ≡ 0
+rank-first xs t i h none some behind =
+    let rises = IsNonDecreasing-rising xs h in
+    let first : t ≤ get_or xs 0 0 = subst (λ k. t ≤ get_or xs k 0) none behind in
+    rank-split xs t 0 (omega arith)
+    (λ k d a b. absurd (omega arith))
+    (λ k d a b.
+    let le : get_or xs 0 0 ≤ get_or xs k 0 = rises 0 k 0 a b in
+    let same : get_or xs k d ≡ get_or xs k 0 = get_or_default xs k d 0 b in
+    rw same (elim (ltb-tells (get_or xs k 0) t) [ inl u ↦ absurd (omega arith) | inr u ↦ u.0 ]))
 
 -- a position behind an edge, and not behind the next one
 pub rank-between : (xs : List ℕ) (t i : ℕ) → IsStrictlyIncreasing xs → 0 < i → i < length xs → get_or xs (i - 1) 0 < t → t ≤ get_or xs i 0 →

@@ -164,6 +164,7 @@ impl<T: Tag, M: Copy> Block<T, M> {
 
     /// An empty block for the next cell of the row that is open, as wide as the cell's place; none where the cell is skipped,
     /// since it has no columns. Where no row is open and where cells stand one below another, it is as wide as this block.
+    #[inline(always)]
     pub fn cell_block(&self) -> Option<Block<T, M>>
         ensures { result ≡ machine.cell_block self.now }
     {
@@ -203,6 +204,7 @@ impl<T: Tag, M: Copy> Block<T, M> {
     }
 
     /// A flushed block as a cell.
+    #[inline(always)]
     fn into_cell(mut self) -> Cell<T, M>
         ensures { result ≡ machine.kept_cell self }
     {
@@ -307,6 +309,7 @@ impl<T: Tag, M: Copy> Block<T, M> {
     }
 
     /// Adds a cell that is flushed.
+    #[inline(always)]
     #[tactic(auto, using(html_render_values::specs::laws::Outcome::refusals, crate::proofs::Cells::cells_added))]
     fn add_flushed(&mut self, cell: Block<T, M>) -> Result<(), Error>
         ensures ok { OnOk result (machine.cell_added self.old self.old.table cell ≡ Some self.new) }
@@ -332,6 +335,7 @@ impl<T: Tag, M: Copy> Block<T, M> {
     /// # Errors
     ///
     /// `TooNarrow`, as in [`flush`](Block::flush) of either block. `OutOfMemory`.
+    #[inline(always)]
     #[tactic(auto, using(html_render_values::specs::laws::Outcome::refusals))]
     pub fn add_cell(&mut self, mut cell: Block<T, M>) -> Result<(), Error>
         ensures ok { OnOk result (machine.add_cell self.old cell ≡ Some self.new) }

@@ -10,9 +10,7 @@ use Rattle.html_render_conversion.specs.declared.mapping.ElementKind.{ElementKin
 use Rattle.html_render_conversion.specs.declared.mapping.ElementKind.TheVariants as becomes
 use Rattle.html_render_conversion.specs.declared.mapping.ElementKind.TheVariants.{Part}
 use Rattle.html_render_conversion.specs.declared.tables.CellSpan.{CellSpan}
-use Rattle.html_render_nodes.specs.declared.tree.NodeKind.{NodeKind}
 use Rattle.html_render_conversion.specs.declared.tables.Part.TheVariants as part
-use Rattle.html_render_nodes.specs.declared.tree.RenderNode.{RenderNode}
 use Rattle.html_render_nodes.specs.RenderNodes.{no_style}
 use Rattle.html_render_nodes.specs.Tables.{TableParts, unmeasured_table}
 use Rattle.html_render_parts.specs.TableCells.{cell_grid_of}

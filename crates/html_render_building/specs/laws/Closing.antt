@@ -5,7 +5,7 @@ use Rattle.std.specs.List.{list_any, list_all}
 use Rattle.html_render_values.specs.Forest.{Forest, none, node}
 use Rattle.html_render_values.specs.Outcome.{◌>>=◌}
 use Rattle.html_render_nodes.specs.declared.tree.NodeKind.{NodeKind}
-use Rattle.html_render_nodes.specs.declared.tree.NodeKind.TheVariants.{Dl, Link, Ol}
+use Rattle.html_render_nodes.specs.declared.tree.NodeKind.TheVariants.{Link}
 use Rattle.html_render_nodes.specs.declared.tree.NodeStyle.{NodeStyle}
 use Rattle.html_render_nodes.specs.laws.Splits.{followed_by-none}
 use Rattle.html_render_insertions.specs.declared.drafts.Draft.{Draft}

@@ -3,7 +3,7 @@ use Rattle.std.proofs.Common.{◌≡◌, ℕ, Bool, true, false, if◌then◌els
 use Rattle.std.specs.Prelude.{filter}
 use Rattle.std.specs.List.{list_any}
 use Rattle.html_render_values.specs.Outcome.{◌>>=◌}
-use Rattle.html_render_nodes.specs.declared.tree.NodeKind.TheVariants.{Container, TableRow, TableCell}
+use Rattle.html_render_nodes.specs.declared.tree.NodeKind.TheVariants.{Container, TableCell}
 use Rattle.html_render_nodes.specs.declared.tree.NodeStyle.{NodeStyle}
 use Rattle.html_render_insertions.specs.Drafts.{inserted_of}
 use Rattle.html_render_conversion.specs.declared.mapping.ElementKind.{ElementKind}
@@ -11,7 +11,6 @@ use Rattle.html_render_conversion.specs.declared.mapping.ElementKind.TheVariants
 use Rattle.html_render_conversion.specs.declared.mapping.ElementKind.TheVariants.{Part}
 use Rattle.html_render_conversion.specs.declared.mapping.IfEmpty.{IfEmpty}
 use Rattle.html_render_conversion.specs.Conversion.{vanishes}
-use Rattle.html_render_dom.specs.Selectors.{is_filled}
 use Rattle.html_render_conversion.specs.Results as new
 use Rattle.html_render_conversion.specs.Results.{Nodes, Result, beside, completed, in_first_cell, in_first_row, in_style, over, row_over, rows_over, trees_of}
 use Rattle.html_render_building.specs.declared.elements.OpenKind.{OpenKind}
@@ -20,13 +19,11 @@ use Rattle.html_render_building.specs.Building.{Arrival, Holding, closed, fresh}
 use Rattle.html_render_building.specs.laws.Arrivals.{all_arrive}
 use Rattle.html_render_building.specs.laws.Shown.{AllShow}
 use Rattle.html_render_building.specs.laws.Closing.{ShowsIn}
-use Rattle.html_render_nodes.specs.declared.tree.NodeKind.TheVariants as kind
 use Rattle.html_render_conversion.specs.declared.mapping.IfEmpty.TheVariants.{Vanishes}
 use Rattle.html_render_conversion.specs.Results.{as_block, captioned, have_rows, joined, table_over}
 use Rattle.html_render_building.specs.declared.elements.OpenKind.TheVariants.{Captioned}
 use Rattle.html_render_building.specs.Building.{closed_into}
 use Rattle.html_render_conversion.specs.Results.{built}
-use Rattle.html_render_nodes.specs.declared.tree.NodeKind.TheVariants.{Block}
 use Rattle.std.specs.Prelude.{is_some}
 use Rattle.html_render_conversion.specs.declared.tables.Part.TheVariants as part
 use Rattle.html_render_conversion.specs.Results.{of_role, table_of, with_rows}

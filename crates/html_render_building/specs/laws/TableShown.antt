@@ -8,7 +8,6 @@ use Rattle.html_render_conversion.specs.declared.tables.CellSpan.{CellSpan}
 use Rattle.html_render_nodes.specs.declared.tree.RenderNode.{RenderNode}
 use Rattle.html_render_nodes.specs.laws.Splits.{followed_by-none}
 use Rattle.html_render_insertions.specs.declared.drafts.Draft.{Draft}
-use Rattle.html_render_dom.specs.Selectors.{is_filled}
 use Rattle.html_render_conversion.specs.Results as new
 use Rattle.html_render_conversion.specs.Results.{Nodes, Result, beside, completed, in_first_cell, in_first_row, in_style, over, row_over, rows_over, trees_of}
 use Rattle.html_render_building.specs.declared.elements.Role.{Role}

@@ -1,13 +1,13 @@
 -- What follows from the definitions of drafts.
 use Rattle.std.specs.Prelude.{ℕ, ◌+◌, ◌≡◌, List, [], ◌∷◌, ◌++◌, refl}
-use Rattle.std.proofs.Common.{suc, zero, arith, ap, ◌∙◌, sym}
+use Rattle.std.proofs.Common.{suc, zero, ap, ◌∙◌, sym}
 use Rattle.html_render_values.specs.Forest.{Forest, none, node, count, followed_by}
 use Rattle.html_render_nodes.specs.declared.tree.RenderNode.{RenderNode}
 use Rattle.html_render_nodes.specs.Splits.{SplitAt}
 use Rattle.html_render_nodes.specs.laws.Splits.{followed_by-none, followed_by-followed_by, SplitAt-none}
 use Rattle.html_render_insertions.specs.declared.drafts.Draft.{Draft}
 use Rattle.html_render_insertions.specs.declared.drafts.Insertions.{Insertions}
-use Rattle.html_render_insertions.specs.Drafts.{front_of, back_of, front, back, wrapped, node_of, expanded, with_inserted, at_first, insert_first}
+use Rattle.html_render_insertions.specs.Drafts.{front_of, back_of, front, back, wrapped, node_of, expanded, at_first, insert_first}
 
 -- ---- what is inserted
 
@@ -40,13 +40,6 @@ expanded-followed_by none u = refl
 expanded-followed_by (node d children others) u =
     ap (λ w. node (node_of d) (wrapped d.inserted (expanded children)) w) (expanded-followed_by others u)
 
--- nothing is inserted, nothing changes
-pub expanded-alone : (d : Draft) (children : Forest Draft) → d.inserted ≡ [] →
-    expanded (node d children none) ≡ node (node_of d) (expanded children) none
-expanded-alone d children nothing =
-    ap (λ i. node (node_of d) (wrapped i (expanded children)) none) nothing
-    ∙ ap (λ t. node (node_of d) t none) (wrapped-none (expanded children))
-
 -- ---- changes of a draft
 
 pub at_first-followed_by : (depth : ℕ) (change : Draft → Draft) (d : Draft) (children others u : Forest Draft) →
@@ -61,17 +54,6 @@ count-at_first zero change (node d children others) = refl
 count-at_first (suc depth) change (node d children others) =
     ap (λ n. 1 + n + count others) (count-at_first depth change children)
 
--- an insertion into the first tree of a forest that has one leaves the trees that follow
-pub insert_first-followed_by : (depth : ℕ) (inserted : List Insertions) (d : Draft) (children others u : Forest Draft) →
-    insert_first depth inserted (followed_by (node d children others) u)
-    ≡ followed_by (insert_first depth inserted (node d children others)) u
-insert_first-followed_by depth inserted d children others u =
-    at_first-followed_by depth (with_inserted inserted) d children others u
-
--- the number of drafts stays
-pub count-insert_first : (depth : ℕ) (inserted : List Insertions) (t : Forest Draft) → count (insert_first depth inserted t) ≡ count t
-count-insert_first depth inserted t = count-at_first depth (with_inserted inserted) t
-
 -- ---- where an insertion shows
 
 -- it stands inside the first tree's top
@@ -80,34 +62,6 @@ pub expanded-insert_top : (inserted : List Insertions) (d : Draft) (children oth
     ≡ node (node_of d) (wrapped inserted (wrapped d.inserted (expanded children))) (expanded others)
 expanded-insert_top inserted d children others =
     ap (λ t. node (node_of d) t (expanded others)) (wrapped-append d.inserted inserted (expanded children))
-
--- one step further down, it stands where it would in the children
-pub expanded-insert_below : (depth : ℕ) (inserted : List Insertions) (d : Draft) (children others : Forest Draft) →
-    expanded (insert_first (depth + 1) inserted (node d children others))
-    ≡ node (node_of d) (wrapped d.inserted (expanded (insert_first depth inserted children))) (expanded others)
-expanded-insert_below depth inserted d children others =
-    let deeper : depth + 1 ≡ suc depth = omega arith in
-    ap (λ n. expanded (insert_first n inserted (node d children others))) deeper
-
--- inside the first child of the first tree's top
-pub expanded-insert_child : (inserted : List Insertions) (d e : Draft) (below beside others : Forest Draft) →
-    expanded (insert_first 1 inserted (node d (node e below beside) others))
-    ≡ node (node_of d)
-    (wrapped d.inserted (node (node_of e) (wrapped inserted (wrapped e.inserted (expanded below))) (expanded beside)))
-    (expanded others)
-expanded-insert_child inserted d e below beside others =
-    ap (λ t. node (node_of d) (wrapped d.inserted t) (expanded others)) (expanded-insert_top inserted e below beside)
-
--- inside the first child of that
-pub expanded-insert_grandchild : (inserted : List Insertions) (d e f : Draft) (below beside next others : Forest Draft) →
-    expanded (insert_first 2 inserted (node d (node e (node f below beside) next) others))
-    ≡ node (node_of d)
-    (wrapped d.inserted (node (node_of e)
-    (wrapped e.inserted (node (node_of f) (wrapped inserted (wrapped f.inserted (expanded below))) (expanded beside)))
-    (expanded next)))
-    (expanded others)
-expanded-insert_grandchild inserted d e f below beside next others =
-    ap (λ t. node (node_of d) (wrapped d.inserted t) (expanded others)) (expanded-insert_child inserted e f below beside next)
 
 -- ---- where drafts can be parted
 

@@ -1,14 +1,16 @@
 //! The nodes that drafts become: each is moved once, and what is inserted at the end of a node's children waits until they
 //! are written.
 
-ghost use Rattle.std.specs.Prelude.{◌≡◌, ◌≢◌, ◌+◌, ◌≤◌, ◌<◌, OnOk, IfOk, IfErr, IfSome, IfNone, List, [], ◌∷◌, ◌++◌, length, reverse, option_to_list};
+ghost use Rattle.std.specs.Prelude.{◌≡◌, ◌≢◌, ◌+◌, ◌≤◌, ◌<◌, OnOk, IfOk, IfErr, IfSome, IfNone, List, [], ◌∷◌, ◌++◌, length, map, reverse, option_to_list};
+ghost use Rattle.std.specs.Bool.{OnTrue};
+ghost use Rattle.std.specs.List.{All};
 ghost use Rattle.html_render_values.specs.Forest as forest;
 ghost use Rattle.html_render_values.specs.Forest.{none};
 ghost use Rattle.html_render_nodes.specs.Preorder.{flatten};
 ghost use Rattle.html_render_nodes.specs.RenderNodes.{unmeasured, without_style};
 ghost use Rattle.html_render_insertions.specs.declared.drafts.expansion.Opened.{Opened};
 ghost use Rattle.html_render_insertions.specs.Drafts.{front_of, front, back, node_of, expanded};
-ghost use Rattle.html_render_insertions.specs.Expansion.{leaves, Closes};
+ghost use Rattle.html_render_insertions.specs.Expansion.{leaves, Closes, bare, IsBare};
 
 use super::{Draft, Drafts, Inserted, Insertions};
 use html_render_nodes::text::NodeText;
@@ -104,12 +106,12 @@ fn push_node(
     Ok(())
 }
 
-/// Writes the node of a draft into which nothing is inserted, and that has no children.
-fn push_bare(nodes: &mut Vec<Entry<RenderNode>>, draft: Draft) -> Result<(), Error>
-    ensures ok { OnOk result (nodes.new.items ≡ nodes.old.items ++ record { node = node_of draft; size = 1 } ∷ []) }
+/// Writes the node of a draft into which nothing is inserted, over as many nodes as the draft stands over.
+fn push_bare(nodes: &mut Vec<Entry<RenderNode>>, draft: Draft, size: usize) -> Result<(), Error>
+    ensures ok { OnOk result (nodes.new.items ≡ nodes.old.items ++ record { node = node_of draft; size = size } ∷ []) }
     ensures err { IfErr result (λ e. e ≡ Error.OutOfMemory) }
 {
-    push_node(nodes, draft.kind, draft.style, 1)
+    push_node(nodes, draft.kind, draft.style, size)
 }
 
 /// Writes the node of a draft, and what is inserted at its front; so many drafts are left.
@@ -172,6 +174,27 @@ fn pop_done(opened: &mut Vec<Opened>, left: usize) -> Option<Opened>
     opened.pop()
 }
 
+/// Whether nothing is inserted into any of the drafts.
+fn are_bare(drafts: &[Entry<Draft>]) -> bool
+    ensures { OnTrue result (All IsBare drafts.now) }
+{
+    drafts.iter().all(|entry| entry.node.inserted.is_empty())
+}
+
+/// The nodes of drafts into which nothing is inserted: these come from the last to the first.
+fn bare_nodes(alloc: Global, drafts: Vec<Entry<Draft>>) -> Result<Vec<Entry<RenderNode>>, Error>
+    ensures ok { IfOk result (λ nodes. nodes.items ≡ map bare (reverse drafts.items)) }
+    ensures err { IfErr result (λ e. e ≡ Error.OutOfMemory) }
+{
+    let mut drafts = drafts;
+    let mut nodes = Vec::with_capacity(alloc, drafts.len())?;
+    while let Some(entry) = drafts.pop() {
+        let Entry { node, size } = entry;
+        push_bare(&mut nodes, node, size)?;
+    }
+    Ok(nodes)
+}
+
 impl Drafts {
     /// The nodes of the drafts, with what is inserted into them.
     ///
@@ -179,6 +202,17 @@ impl Drafts {
     ///
     /// `OutOfMemory`.
     pub fn into_nodes(self, alloc: Global) -> Result<Flat<RenderNode>, Error>
+        ensures ok { IfOk result (λ nodes. nodes ≡ expanded self) }
+        ensures err { IfErr result (λ e. e ≡ Error.OutOfMemory) }
+    {
+        if are_bare(self.entries.as_slice()) {
+            return Ok(Flat::from_entries(bare_nodes(alloc, self.entries)?));
+        }
+        self.into_expanded(alloc)
+    }
+
+    /// The same, where something may be inserted.
+    fn into_expanded(self, alloc: Global) -> Result<Flat<RenderNode>, Error>
         ensures ok { IfOk result (λ nodes. nodes ≡ expanded self) }
         ensures err { IfErr result (λ e. e ≡ Error.OutOfMemory) }
     {
@@ -193,7 +227,7 @@ impl Drafts {
             match drafts.pop() {
                 Some(entry) => {
                     if entry.size == 1 && entry.node.inserted.is_empty() {
-                        push_bare(&mut nodes, entry.node)?;
+                        push_bare(&mut nodes, entry.node, 1)?;
                     } else {
                         let node = open(alloc, &mut nodes, entry, drafts.len())?;
                         opened.push(node)?;

@@ -213,6 +213,7 @@ impl<D: Drop, B: Drop> InterruptedTable<D, B> {
     /// # Errors
     ///
     /// `OutOfMemory`.
+    #[inline(always)]
     pub fn new(alloc: Global, outer: OuterTable<D, B>) -> Result<InterruptedTable<D, B>, Error>
         ensures ok { IfOk result (λ i. i ≡ outer) }
         ensures err { IfErr result (λ e. e ≡ Error.OutOfMemory) }
@@ -222,6 +223,7 @@ impl<D: Drop, B: Drop> InterruptedTable<D, B> {
     }
 
     /// Gives it back.
+    #[inline(always)]
     pub fn into_outer(self) -> OuterTable<D, B>
         ensures { result ≡ self }
     {

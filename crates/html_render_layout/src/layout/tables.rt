@@ -116,6 +116,7 @@ pub fn end_table<D: TextDecorator, G: Tagging<D::Annotation>>(
 /// # Errors
 ///
 /// `OutOfMemory`.
+#[inline(always)]
 pub fn begin_cell<D: TextDecorator, G: Tagging<D::Annotation>>(
     alloc: Global,
     cell: Block<G::Tag, usize>,
@@ -139,6 +140,7 @@ pub fn begin_cell<D: TextDecorator, G: Tagging<D::Annotation>>(
 /// # Errors
 ///
 /// As where a table begins.
+#[inline(always)]
 #[tactic(auto, using(html_render_values::specs::laws::Outcome::refusals))]
 pub fn end_cell<D: TextDecorator, G: Tagging<D::Annotation>>(
     outer: InterruptedTable<D, Block<G::Tag, usize>>,

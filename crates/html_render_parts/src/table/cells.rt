@@ -60,14 +60,18 @@ fn place_cells(alloc: Global, rows: &[Vec<Span>]) -> Result<PlacedCells, Error>
     Ok(PlacedCells { edges, own })
 }
 
-/// A cell on the columns of its grid.
-fn cell_on(edges: &[u128], cell: &Standing) -> GridCell
+/// A cell on the columns of its grid, the first of which is guessed.
+fn cell_on(edges: &[u128], cell: &Standing, guess: usize) -> GridCell
     requires rising { IsStrictlyIncreasing edges.now }
     requires fits { cell.now.column + cell.now.span.colspan < 2 ^ 128 }
     ensures { result ≡ on_columns edges.now cell.now }
 {
-    let first = numbering::rank(edges, cell.column);
-    let end = numbering::rank(edges, cell.column + cell.span.colspan);
+    let first = numbering::rank_near(edges, cell.column, guess);
+    let end = numbering::rank_near(
+        edges,
+        cell.column + cell.span.colspan,
+        first.saturating_add(1),
+    );
     GridCell {
         rowspan: cell.span.rowspan,
         first,
@@ -82,8 +86,11 @@ fn row_on(alloc: Global, edges: &[u128], cells: &[Standing]) -> Result<Vec<GridC
     ensures { IfOk result (λ v. v.items ≡ map (on_columns edges.now) cells.now) }
 {
     let mut row = Vec::with_capacity(alloc, cells.len())?;
+    let mut behind: usize = 0;
     for cell in cells {
-        row.push(cell_on(edges, cell))?;
+        let placed = cell_on(edges, cell, behind);
+        behind = placed.first.saturating_add(placed.columns);
+        row.push(placed)?;
     }
     Ok(row)
 }

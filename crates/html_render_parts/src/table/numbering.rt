@@ -59,14 +59,20 @@ pub(crate) fn rank(edges: &[u128], position: u128) -> usize
 }
 
 /// How many edges are below a position. They are searched only where a guess is wrong.
-fn rank_near(edges: &[u128], position: u128, guess: usize) -> usize
+pub(crate) fn rank_near(edges: &[u128], position: u128, guess: usize) -> usize
     requires { IsStrictlyIncreasing edges.now }
     ensures { result ≡ rank edges.now position }
 {
-    if guess == 0 || guess >= edges.len() {
+    if guess >= edges.len() {
         return rank(edges, position);
     }
-    if edges[guess - 1] < position && position <= edges[guess] {
+    if position > edges[guess] {
+        return rank(edges, position);
+    }
+    if guess == 0 {
+        return 0;
+    }
+    if edges[guess - 1] < position {
         return guess;
     }
     rank(edges, position)

@@ -1,5 +1,5 @@
-use Rattle.std.proofs.Common.{rules as known, ◌≡◌, ◌<◌, suc, [], ◌∷◌, ◌++◌, length, arith, sym, ap, subst, ◌∙◌, map, Option, Some, None, Result, Ok, Err, IfErr}
-use Rattle.std.proofs.Common.{option_map, ◌+◌, ◌-◌, take, get_or}
+use Rattle.std.proofs.Common.{rules as known, ◌≡◌, ◌<◌, suc, [], ◌∷◌, ◌++◌, length, arith, sym, ap, subst, ◌∙◌, map, Option, Result, Ok, Err, IfErr}
+use Rattle.std.proofs.Common.{option_map, ◌-◌, take, get_or}
 use Rattle.std.specs.Result.{IsErrAnd}
 use Rattle.std.proofs.lemmas.Result.{IfOk-weaker}
 use Rattle.html_render_dom.specs.Rules.{rule_of}
@@ -19,7 +19,7 @@ use Rattle.html_render_building.proofs.Closing.{Ending, Converting-closed, Conve
 use Rattle.html_render_building.proofs.Lasts.{last_of}
 use Rattle.html_render_building.proofs.Opening.{Converting-opened, Converting-start}
 use Rattle.html_render_building.proofs.Paths.{Converting, Converting-child, Opening}
-use Rattle.html_render_building.proofs.Working.{work, work-child, work-close, work-same}
+use Rattle.html_render_building.proofs.Working.{work, work-child, work-closed}
 use Rattle.html_render_building.proofs.building.drafts_of.Goals as goal
 use Rattle.html_render_building.proofs.building.drafts_of.Goals.{In-Some, In-Some-pop}
 
@@ -52,19 +52,22 @@ next_child-requires c = λ below o is.
 pub open_node-requires-clause-forest : goal.open_node-requires-clause-forest
 open_node-requires-clause-forest c = c.get_document.ensures.forest
 
+pub open_node-requires-clause-names : goal.open_node-requires-clause-names
+open_node-requires-clause-names c = c.in_ok-names.ensures.ok
+
 pub open_node-requires-clause-node : goal.open_node-requires-clause-node
 open_node-requires-clause-node c = (opening-child (goal.at.open_node-requires-clause-node c).In-Some).is_node
 
-pub converting-preserved-in-Continue-branch-3 : goal.converting-preserved-in-Continue-branch-3
-converting-preserved-in-Continue-branch-3 c =
+pub converting-preserved-in-Continue-branch-4 : goal.converting-preserved-in-Continue-branch-4
+converting-preserved-in-Continue-branch-4 c =
     let dom = c.args.dom.now in
     let rules = map rule_of c.args.rules.now in
     Converting-opened rules dom c.get_document.ensures.forest c.in-Some.child c.next_child.new.elements.items c.converting.drafts
-    c.open_node.new.elements.items c.open_node.new.drafts (opening-child (goal.at.converting-preserved-in-Continue-branch-3 c).In-Some)
+    c.open_node.new.elements.items c.open_node.new.drafts (opening-child (goal.at.converting-preserved-in-Continue-branch-4 c).In-Some)
     c.in_ok-open_node.ensures.ok
 
-pub converting-smaller-in-Continue-branch-3 : goal.converting-smaller-in-Continue-branch-3
-converting-smaller-in-Continue-branch-3 c =
+pub converting-smaller-in-Continue-branch-4 : goal.converting-smaller-in-Continue-branch-4
+converting-smaller-in-Continue-branch-4 c =
     let dom = c.args.dom.now in
     let rules = map rule_of c.args.rules.now in
     let h = c.in-Some.child in
@@ -76,8 +79,8 @@ converting-smaller-in-Continue-branch-3 c =
     let ahead : next.element.ahead ≡ suc next.left = omega (arith, next.ahead_is) in
     let top = Converting-top rules dom next.below next.element drafts
     (subst (λ es. Converting rules dom es drafts) next.old_is c.converting.invariant) in
-    let within : next.left < length (children_in dom next.element.handle next.element.order) = omega (arith, top.1, ahead) in
-    let m = opening-child (goal.at.converting-smaller-in-Continue-branch-3 c).In-Some in
+    let within : next.left < length (children_in dom next.element.children) = omega (arith, top.1, ahead) in
+    let m = opening-child (goal.at.converting-smaller-in-Continue-branch-4 c).In-Some in
     let less = work-child dom f next.below next.element next.left h (outline_at rules dom h) now drafts drafts_now m.is_node ahead within next.child_is
     (subst (λ es. IsOpened dom h (outline_at rules dom h) es drafts now drafts_now) next.new_is c.in_ok-open_node.ensures.ok) in
     omega (arith, less, ap (work dom) next.old_is)
@@ -178,14 +181,8 @@ converting-smaller c =
     let is : es ≡ below ++ p ∷ [] = last_of es n o (omega (arith, some)) in
     let done = (rw c.into_element-element.ensures at c.in_ok-close_element.ensures.ok) below p is
     (Ending-split (map rule_of c.args.rules.now) dom es o c.converting.drafts (ending at)) in
-    omega (
-      arith,
-      ap (work dom) done.after.elements_are,
-      work-same dom below p done.holding.element,
-      ap (work dom) is,
-      work-close dom es o,
-      ap (work dom) (opened-are at),
-    )
+    work-closed dom es c.close_element.new.elements.items below c.converting.elements.items p o done.holding.element done.after.elements_are is
+    (opened-are at)
 
 -- no element is open
 pub returns-in_default-pop-clause-err : goal.returns-in_default-pop-clause-err

@@ -1,13 +1,13 @@
 -- The innermost element stands last.
-use Rattle.std.proofs.Common.{◌≡◌, ◌<◌, ◌+◌, [], ◌∷◌, ◌++◌, length, take, get_or, set, arith, sym, ◌∙◌, ap, subst}
-use Rattle.std.proofs.lemmas.List.{get_or_default, get_or-set_same, length-set}
+use Rattle.std.proofs.Common.{◌≡◌, ◌<◌, ◌+◌, [], ◌∷◌, ◌++◌, length, take, arith, sym, ◌∙◌, ap, subst}
+use Rattle.std.proofs.lemmas.List.{get_or-set_same}
 use Rattle.html_render_dom.specs.Dom.{IsNode}
 use Rattle.html_render_building.specs.declared.building.Open.{Open}
 use Rattle.html_render_building.proofs.Lasts.{last_of}
 use Rattle.html_render_building.proofs.building.next_child.Goals as goal
 
-pub children-requires : goal.children-requires
-children-requires c =
+pub in_order-requires : goal.in_order-requires
+in_order-requires c =
     let old = c.args.elements.now.items in
     let n = c.in_ok-last.last in
     let o = c.index_mut.result.now in
@@ -17,4 +17,4 @@ children-requires c =
     let new : Open = record o { ahead = c.in_ok-ahead.ahead } in
     let named : c.index-2.result.now ≡ new =
     c.index-2.ensures ∙ get_or-set_same old n new c.index-2.result.now within in
-    subst (λ (x : Open). IsNode c.args.dom.now x.handle) (sym named) (c.requires (take n old) o is).0
+    subst (λ (x : Open). IsNode c.args.dom.now x.children.element) (sym named) (c.requires (take n old) o is).0

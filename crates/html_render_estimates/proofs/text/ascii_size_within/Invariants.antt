@@ -1,12 +1,6 @@
-use Rattle.std.proofs.Common.{◌-◌, false, length}
+use Rattle.std.proofs.Common.{◌-◌, length}
 use Rattle.html_render_estimates.proofs.Sizes.{Sized}
 use Rattle.html_render_estimates.proofs.text.ascii_size_within.Given as goal
-
-abbrev pub invariant-loop-at : goal.invariant-loop-at
-invariant-loop-at l = Sized l.text l.at l.at false
-
-abbrev pub decreases-loop-at : goal.decreases-loop-at
-decreases-loop-at l = length l.text - l.at
 
 abbrev pub invariant-loop-columns : goal.invariant-loop-columns
 invariant-loop-columns l = Sized l.text l.at l.columns l.spaced

@@ -1,4 +1,4 @@
-use Rattle.std.proofs.Common.{◌≡◌, ◌++◌, OnOk, Result, Ok, Err, set, reverse, sym, ap, ◌∙◌, arith, refl}
+use Rattle.std.proofs.Common.{OnOk, Result, Ok, Err, sym, ap, ◌∙◌, arith, refl}
 use Rattle.html_render_values.specs.declared.errors.Error.{Error}
 use Rattle.html_render_nodes.specs.Preorder.{flatten}
 use Rattle.html_render_insertions.specs.declared.drafts.Draft.{Draft}

@@ -1,8 +1,6 @@
-use Rattle.std.proofs.Common.{◌≡◌, set, reverse, sym, ap, ◌∙◌, arith, refl}
+use Rattle.std.proofs.Common.{sym, ap, ◌∙◌, arith, refl}
 use Rattle.html_render_nodes.specs.Preorder.{flatten}
-use Rattle.html_render_nodes.specs.laws.Preorder.{IsForest}
-use Rattle.html_render_nodes.specs.Splits.{Reversed}
-use Rattle.html_render_insertions.specs.Drafts.{with_style, with_first_style, FirstAt}
+use Rattle.html_render_insertions.specs.Drafts.{with_style}
 use Rattle.html_render_insertions.proofs.Firsts.{reversed_of, within_in, changed_in}
 use Rattle.html_render_insertions.proofs.drafts.Drafts.set_first_style.Goals as goal
 

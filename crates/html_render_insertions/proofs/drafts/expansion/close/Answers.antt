@@ -1,4 +1,4 @@
-use Rattle.std.proofs.Common.{◌≡◌, ◌-◌, ◌++◌, reverse, arith}
+use Rattle.std.proofs.Common.{reverse, arith}
 use Rattle.html_render_nodes.specs.Preorder.{flatten}
 use Rattle.html_render_insertions.specs.Expansion.{leaves}
 use Rattle.html_render_insertions.proofs.Expanding.{closing}

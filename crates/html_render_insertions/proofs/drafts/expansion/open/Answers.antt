@@ -1,4 +1,4 @@
-use Rattle.std.proofs.Common.{◌≡◌, ◌++◌, [], ◌∷◌, ap, ◌∙◌, append_assoc}
+use Rattle.std.proofs.Common.{◌++◌, ap, ◌∙◌, append_assoc}
 use Rattle.html_render_nodes.specs.Preorder.{flatten}
 use Rattle.html_render_insertions.specs.Drafts.{front}
 use Rattle.html_render_insertions.proofs.drafts.expansion.open.Goals as goal

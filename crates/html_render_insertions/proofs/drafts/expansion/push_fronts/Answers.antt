@@ -1,4 +1,3 @@
-use Rattle.std.proofs.Common.{◌≡◌, ◌∙◌, sym}
 use Rattle.html_render_insertions.proofs.Expanding.{pushed}
 use Rattle.html_render_insertions.proofs.drafts.expansion.push_fronts.Goals as goal
 

@@ -1,5 +1,8 @@
-use Rattle.std.proofs.Common.{◌++◌, sym, ◌∙◌}
-use Rattle.html_render_parts.proofs.EdgeRanks.{rising-more, rising-rising}
+use Rattle.std.proofs.Common.{◌≡◌, ◌-◌, ◌++◌, length, take, drop, sym, ap, subst, ◌∙◌}
+use Rattle.std.proofs.lemmas.List.{take-append-drop}
+use Rattle.std.proofs.lemmas.Slice.Eq.{bytes_eq-Decides}
+use Rattle.html_render_parts.specs.Placement.{rising}
+use Rattle.html_render_parts.proofs.EdgeRanks.{rising-known, rising-more, rising-rising}
 use Rattle.html_render_parts.proofs.table.gathering.Positions.add.Goals as goal
 
 pub returns-in_ok-make_rising : goal.returns-in_ok-make_rising
@@ -14,3 +17,13 @@ returns-else-len-self c =
     let old = c.self.inside.gathered.items in
     let more = c.args.positions.now in
     rw (c.in_ok-extend_from_slice.ensures.items, ← c.self.view_is) (sym (rising-more old more))
+
+pub returns-then-ends_with : goal.returns-then-ends_with
+returns-then-ends_with c =
+    let old = c.self.inside.gathered.items in
+    let ends = c.args.positions.now in
+    let front = take (length old - length ends) old in
+    let same : ends ≡ drop (length old - length ends) old =
+    (bytes_eq-Decides ends (drop (length old - length ends) old)).0 (sym (rw c.as_slice.ensures.value at c.ends_with.ensures.value) ∙ c.if-ends_with.true) in
+    let is : front ++ ends ≡ old = ap (λ l. front ++ l) same ∙ take-append-drop (length old - length ends) old in
+    rw (← c.self.view_is) (sym (subst (λ l. rising (rising l ++ ends) ≡ rising l) is (rising-known front ends)))

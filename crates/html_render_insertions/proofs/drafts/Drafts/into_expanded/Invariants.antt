@@ -2,7 +2,7 @@ use Rattle.std.proofs.Common.{◌+◌, ◌*◌, length}
 use Rattle.html_render_nodes.specs.Preorder.{flatten}
 use Rattle.html_render_insertions.specs.Drafts.{expanded}
 use Rattle.html_render_insertions.proofs.Expanding.{Writing}
-use Rattle.html_render_insertions.proofs.drafts.Drafts.into_nodes.Given as goal
+use Rattle.html_render_insertions.proofs.drafts.Drafts.into_expanded.Given as goal
 
 -- what is written so far
 abbrev pub invariant-writing : goal.invariant-writing
