@@ -25,11 +25,12 @@ use crate::elements::{Element, OpenKind, Role};
 use crate::kinds::holds_insertions;
 use crate::order::{Children, table_orders};
 use crate::spans::{Gathered, PartRows, RowCells, grid_over};
-use html_render_conversion::mapping::{IfEmpty, Outline, outline_of, text_node};
+use html_render_conversion::mapping::{IfEmpty, Outline, outline_of};
 use html_render_conversion::tables::CellSpan;
 use html_render_dom::dom::{Handle, NodeData, RcDom};
 use html_render_dom::style::{SelectedNames, StyleRule};
 use html_render_insertions::drafts::{Draft, Drafts, Inserted};
+use html_render_nodes::text::NodeText;
 use html_render_nodes::tree::{Flat, Grid, NodeKind, NodeStyle, RenderNode};
 use html_render_values::Error;
 use std::alloc::Global;
@@ -741,11 +742,8 @@ fn open_node(
 {
     // most nodes are texts, so these take the shortest way
     if let NodeData::Text { contents } = dom.data(handle) {
-        return put_alone(
-            Draft::from(text_node(alloc, contents.as_str())?),
-            elements,
-            drafts,
-        );
+        let text = NodeText::from_str(alloc, contents.as_str())?;
+        return put_alone(Draft::from(NodeKind::Text(text)), elements, drafts);
     }
     match outline_of(alloc, rules, names, dom, handle)? {
         Outline::Nothing => Ok(()),

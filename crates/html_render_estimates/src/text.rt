@@ -2,7 +2,7 @@
 //!
 //! `size_within(" Hello  wide\n", 80)` is 11: the white space in front is one column, and so is that between the words.
 
-ghost use Rattle.std.specs.Prelude.{◌≡◌, ◌+◌, Bool, if◌then◌else◌, [], ◌∷◌, ◌<◌, ◌≤◌, length, min, true, false, IfNone, IfSome, MatchOption};
+ghost use Rattle.std.specs.Prelude.{◌≡◌, ◌+◌, Bool, if◌then◌else◌, [], ◌∷◌, ◌<◌, ◌≤◌, drop, length, min, true, false, IfOk, IfErr, IfNone, IfSome, MatchOption};
 ghost use Rattle.std.specs.Bool.{OnTrue};
 ghost use Rattle.std.specs.List.{AllWithin};
 ghost use Rattle.std.specs.Str.{chars, IsUtf8};
@@ -28,15 +28,48 @@ pub fn size_within(text: &str, limit: usize) -> usize
     ensures { result ≡ min (size_of (chars text.now)) limit }
 {
     match ascii_size_within(text.as_bytes(), limit) {
-        Some(size) => size,
-        None => any_size_within(text, limit),
+        Ok(size) => size,
+        Err(counted) => match counted.rest_of(text) {
+            Some(rest) => columns_within(rest, counted.columns, counted.spaced, limit),
+            None => any_size_within(text, limit),
+        },
     }
 }
 
-/// The lesser of a text's size and `limit`, where the bytes that are read are printable ASCII, spaces and newlines.
+/// What was counted of a text before its first byte that isn't printable ASCII, a space or a newline.
+#[derive(Clone, Copy)]
+struct Counted {
+    /// Where that byte stands.
+    at: usize,
+    /// The columns before it.
+    columns: usize,
+    /// Whether white space stands behind these.
+    spaced: bool,
+}
+
+impl Counted {
+    /// The rest of the text, if a column was counted before it.
+    #[inline]
+    fn rest_of<'a>(&self, text: &'a str) -> Option<&'a str>
+        ensures some { IfSome result (λ rest. 1 ≤ self.now.columns) }
+        ensures rest { IfSome result (λ rest. rest.now ≡ drop self.now.at text.now) }
+        ensures text { IfSome result (λ rest. IsUtf8 rest.now) }
+    {
+        if self.columns == 0 {
+            return None;
+        }
+        let (_, rest) = text.split_at_checked(self.at)?;
+        Some(rest)
+    }
+}
+
+/// The lesser of a text's size and `limit`, where the bytes that are read are printable ASCII, spaces and newlines; what was
+/// counted before another byte.
 #[inline]
-fn ascii_size_within(text: &[u8], limit: usize) -> Option<usize>
-    ensures { IfSome result (λ size. size ≡ min (size_of (chars text.now)) limit) }
+fn ascii_size_within(text: &[u8], limit: usize) -> Result<usize, Counted>
+    ensures ok { IfOk result (λ size. size ≡ min (size_of (chars text.now)) limit) }
+    ensures counted { IfErr result (λ c. 1 ≤ c.columns →
+        c.columns + columns_of c.spaced (chars (drop c.at text.now)) ≡ size_of (chars text.now)) }
 {
     let mut at = 0;
     let mut columns = 0;
@@ -53,10 +86,14 @@ fn ascii_size_within(text: &[u8], limit: usize) -> Option<usize>
             spaced = true;
             at += 1;
         } else {
-            return None;
+            return Err(Counted {
+                at,
+                columns,
+                spaced,
+            });
         }
     }
-    Some(columns.min(limit))
+    Ok(columns.min(limit))
 }
 
 /// Where the letters end that stand in a text from a place on: printable ASCII characters other than the space.
@@ -97,10 +134,10 @@ fn any_size_within(text: &str, limit: usize) -> usize
 {
     match first_character(text) {
         Some((c, behind)) if is_collapsible(c) => {
-            let columns = columns_within(without_leading_space(behind), limit);
+            let columns = columns_within(without_leading_space(behind), 0, false, limit);
             columns.saturating_add(columns.min(1)).min(limit)
         }
-        _ => columns_within(text, limit),
+        _ => columns_within(text, 0, false, limit),
     }
 }
 
@@ -119,13 +156,14 @@ fn without_leading_space(text: &str) -> &str
     rest
 }
 
-/// The lesser of the columns of a text and `limit`, where white space behind others is one column if others follow it.
-fn columns_within(text: &str, limit: usize) -> usize
-    ensures { result ≡ min (columns_of false (chars text.now)) limit }
+/// The lesser of the columns of a text, behind others, and `limit`, where white space behind others is one column if others
+/// follow it.
+fn columns_within(text: &str, before: usize, space_before: bool, limit: usize) -> usize
+    ensures { result ≡ min (before + columns_of space_before (chars text.now)) limit }
 {
     let mut rest = text;
-    let mut columns: usize = 0;
-    let mut spaced = false;
+    let mut columns = before;
+    let mut spaced = space_before;
     while columns < limit {
         if let Some((letters, behind)) = split_letters(rest) {
             columns = columns.saturating_add(spaced_width(spaced, letters));

@@ -47,6 +47,7 @@ impl Model for Inserted {
 
 impl Inserted {
     /// Nothing.
+    #[inline]
     pub fn none() -> Inserted
         ensures { result ≡ [] }
     {
@@ -54,6 +55,7 @@ impl Inserted {
     }
 
     /// Whether no element inserts anything.
+    #[inline]
     pub fn is_empty(&self) -> bool
         ensures { IsTrue result ↔ (self.now ≡ []) }
     {
@@ -174,6 +176,7 @@ impl From<NodeKind> for Draft {
     ghost from_gives = { λ k d. d ≡ plain_draft k };
 
     /// A draft without a style, into which nothing is inserted.
+    #[inline]
     fn from(kind: NodeKind) -> Draft {
         Draft {
             kind,
@@ -189,6 +192,7 @@ impl From<RenderNode> for Draft {
     ghost from_gives = { λ n d. d ≡ draft_of n };
 
     /// The draft of a node, into which nothing is inserted.
+    #[inline]
     fn from(node: RenderNode) -> Draft {
         Draft {
             kind: node.kind,
@@ -238,6 +242,7 @@ impl Drafts {
     }
 
     /// How many drafts there are: the mark for a later [`Drafts::enclose`] or [`Drafts::truncate`].
+    #[inline]
     pub fn len(&self) -> usize
         ensures { result ≡ count self.now }
     {
@@ -249,6 +254,7 @@ impl Drafts {
     /// # Errors
     ///
     /// `OutOfMemory`. The trees are then as they were.
+    #[inline]
     pub fn put(&mut self, draft: Draft) -> Result<(), Error>
         ensures ok { OnOk result (self.new ≡ forest.node draft none self.old) }
         ensures unchanged { OnErr result (self.new ≡ self.old) }
@@ -266,6 +272,7 @@ impl Drafts {
     /// # Errors
     ///
     /// `OutOfMemory`. The trees are then as they were.
+    #[inline]
     pub fn enclose(&mut self, draft: Draft, mark: usize) -> Result<(), Error>
         requires { SplitAt self.old mark }
         ensures ok { OnOk result ((s : SplitAt self.old mark) → self.new ≡ forest.node draft s.children s.beside) }
@@ -278,6 +285,7 @@ impl Drafts {
     }
 
     /// Takes back all trees that came since there were `mark` drafts.
+    #[inline]
     pub fn truncate(&mut self, mark: usize)
         requires { SplitAt self.old mark }
         ensures { (s : SplitAt self.old mark) → self.new ≡ s.beside }

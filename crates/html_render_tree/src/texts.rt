@@ -3,7 +3,7 @@
 ghost use Rattle.std.specs.Prelude.{◌≡◌, ◌++◌, IfOk, OnOk, string_bytes};
 ghost use Rattle.html_render_tree.specs.Texts.{line_bytes, text_of};
 
-use html_render_lines::line::Line;
+use html_render_lines::line::{Line, Parts};
 use html_render_lines::tag::Tag;
 use std::alloc::{AllocError, Global};
 
@@ -15,12 +15,17 @@ fn push_line<T: Tag, M: Copy>(text: &mut String, line: &Line<T, M>) -> Result<()
     text.push('\n')
 }
 
-/// About as many bytes as the string of some lines takes: one for each column, and a few for each line.
+/// About as many bytes as the string of some lines takes: those of each line's text, one for each character before that, and a
+/// newline.
 fn room_for<T: Tag, M: Copy>(lines: &[Line<T, M>]) -> usize {
     let mut room = 0usize;
     for line in lines {
-        let columns = line.columns().unwrap_or(0);
-        room = room.saturating_add(columns).saturating_add(4);
+        let Parts { front, text } = line.parts();
+        room = room
+            .saturating_add(front.len())
+            .saturating_add(text.closed_text.len())
+            .saturating_add(text.open_text.len())
+            .saturating_add(1);
     }
     room
 }

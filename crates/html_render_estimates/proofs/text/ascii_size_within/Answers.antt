@@ -22,8 +22,8 @@ pub loop-columns-preserved : goal.loop-columns-preserved
 loop-columns-preserved c =
     Sized-space _ _ _ _ _ _ c.loop-columns.invariant c.if-at-text.true c.if-is_space.ensures.collapsible c.if-is_space.ensures.ascii refl refl
 
-pub returns : goal.returns
-returns c =
+pub returns-clause-ok : goal.returns-clause-ok
+returns-clause-ok c =
     elim c.loop-columns-test.branch [
       | then-loop-columns-test+else-at-text w ↦ c.min.ensures ∙ Sized-end _ _ _ _ _ c.loop-columns.invariant w.if-at-text.false
       | else-loop-columns-test w ↦ c.min.ensures ∙ Sized-reached _ _ _ _ _ c.loop-columns.invariant w.loop-columns-test.false

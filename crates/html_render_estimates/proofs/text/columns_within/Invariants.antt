@@ -1,4 +1,4 @@
-use Rattle.std.proofs.Common.{◌≡◌, ◌+◌, length, min, false}
+use Rattle.std.proofs.Common.{◌≡◌, ◌+◌, length, min}
 use denote.Text.{Utf8}
 use denote.Shadow.{shadow}
 use Rattle.std.specs.Str.{chars}
@@ -7,7 +7,7 @@ use Rattle.html_render_estimates.proofs.text.columns_within.Given as goal
 
 abbrev pub invariant-loop-columns : goal.invariant-loop-columns
 invariant-loop-columns l =
-    shadow (Utf8 l.rest) × (min (l.columns + columns_of l.spaced (chars l.rest)) l.limit ≡ min (columns_of false (chars l.text)) l.limit)
+    shadow (Utf8 l.rest) × (min (l.columns + columns_of l.spaced (chars l.rest)) l.limit ≡ min (l.before + columns_of l.space_before (chars l.text)) l.limit)
 
 abbrev pub decreases-loop-columns : goal.decreases-loop-columns
 decreases-loop-columns l = length l.rest

@@ -1,5 +1,4 @@
-use Rattle.std.proofs.Common.{◌≡◌, ◌+◌, cond, false, drop, length, sym, ap, ◌∙◌, arith}
-use Rattle.std.specs.List.{AllWithin}
+use Rattle.std.proofs.Common.{◌+◌, cond, false, sym, ap, ◌∙◌, arith}
 use Rattle.std.specs.Str.{chars}
 use Rattle.html_render_estimates.specs.TextSize.{columns_of}
 use Rattle.html_render_estimates.proofs.Sizes.{letters-columns}
