@@ -6,8 +6,8 @@ use Rattle.html_render_blocks.specs.Joined.{prefixed, fitting, moved}
 use Rattle.html_render_paragraphs.specs.Paragraph.{Page, all_lines}
 use Rattle.html_render_paragraphs.specs.Stream.{State, start, finished}
 use Rattle.html_render_pictures.specs.Padding.{filled}
-use Rattle.html_render_blocks.specs.BlockMachine as machine
-use Rattle.html_render_blocks.specs.BlockMachine.{MachineBlock}
+use Rattle.html_render_blocks.specs.Block.{flush, add_page}
+use Rattle.html_render_blocks.specs.Machine.{machine, MachineBlock}
 
 -- so many lines stand before others and before these with more behind them
 pub length_append : {X : Type 0} (xs ys : List X) → length (xs ++ ys) ≡ length xs + length ys
@@ -30,15 +30,15 @@ pub padded_flush : {T M : Type 0} (b c : MachineBlock T M) (p : Option (State T 
     record c { lines = front ++ last; paragraph = p } ≡ b → p ≡ Some q →
     option_map {U = List (Line T M) × State T M}
     (λ (g : Page T M). (last ++ filled c.padding c.setting.width (all_lines g), start q.setting g.waiting)) (finished q) ≡ Some (new, r) →
-    machine.flush b ≡ Some (record c { lines = front ++ new; paragraph = Some r })
+    flush machine b ≡ Some (record c { lines = front ++ new; paragraph = Some r })
 padded_flush {T} {M} b c p q r front last new same is_some h =
-    sym (ap machine.flush same)
-    ∙ ap (λ (o : Option (State T M)). machine.flush (record c { lines = front ++ last; paragraph = o })) is_some
+    sym (ap (flush machine) same)
+    ∙ ap (λ (o : Option (State T M)). flush machine (record c { lines = front ++ last; paragraph = o })) is_some
     ∙ by (finished q) h
   where
     by : (o : Option (Page T M)) → option_map {U = List (Line T M) × State T M}
         (λ (g : Page T M). (last ++ filled c.padding c.setting.width (all_lines g), start q.setting g.waiting)) o ≡ Some (new, r) →
-        option_map (λ (g : Page T M). machine.add_page (record c { lines = front ++ last; paragraph = Some q }) q g) o
+        option_map (λ (g : Page T M). add_page machine (record c { lines = front ++ last; paragraph = Some q }) g) o
         ≡ Some (record c { lines = front ++ new; paragraph = Some r })
     by None e = cc
     by (Some g) e =

@@ -1,11 +1,14 @@
--- the block: the definition on whole lists, and the machine that is fed character by character
+-- the block, over what a paragraph and a picture offer
 pub mod Operations
 pub mod Joined
 pub mod Closing
 pub mod OpenRows
 pub mod Tables
+pub mod Parts
 pub mod Block
-pub mod BlockMachine
+-- its definition on whole lists, and the machine that is fed character by character
+pub mod Definition
+pub mod Machine
 -- its visible characters
 pub mod Visible
 -- laws of the definitions

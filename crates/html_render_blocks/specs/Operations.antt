@@ -4,10 +4,10 @@ use Rattle.html_render_parts.specs.declared.widths.shares.ColumnNeed.{ColumnNeed
 use Rattle.html_render_parts.specs.TableCells.{CellGrid}
 use Rattle.html_render_lines.specs.declared.character.TextStyle.{TextStyle}
 
--- B are the blocks and T the tags; marks are numbers; none is "too narrow"
-pub record Operations (B T : Type 0) : Type 0 where
+-- B are the blocks, T the tags and M the marks; none is "too narrow"
+pub record OperationsOn (B T M : Type 0) : Type 0 where
   pub add_inline_text : B → TextStyle T → List ℕ → Option B
-  pub add_mark : B → ℕ → B
+  pub add_mark : B → M → B
   pub new_line : B → Option B
   pub new_line_hard : B → Option B
   pub start_block : B → Option B
@@ -21,6 +21,10 @@ pub record Operations (B T : Type 0) : Type 0 where
   pub skip_cell : B → B
   pub end_row : B → Option B
   pub end_table : B → B
+
+-- in a layout marks are numbers
+abbrev pub Operations : Type 0 → Type 0 → Type 0
+Operations B T = OperationsOn B T ℕ
 
 -- none is "too narrow"
 pub record Ending (B T : Type 0) : Type 0 where

@@ -6,7 +6,7 @@ use Rattle.html_render_blocks.specs.declared.block.tables.OpenTable.{OpenTable}
 use Rattle.html_render_blocks.specs.declared.block.tables.OpenTable.TheVariants.{Across, Stacked}
 use Rattle.html_render_blocks.specs.OpenRows.{OpenRow}
 use Rattle.html_render_blocks.specs.Tables.{Rows}
-use Rattle.html_render_blocks.specs.Block.{DefinedBlock}
+use Rattle.html_render_blocks.specs.Definition.{DefinedBlock}
 
 -- the visible characters of a text, in order
 abbrev pub visible_in_text : List ℕ → List ℕ
@@ -14,7 +14,7 @@ visible_in_text cs = flat_map if_visible cs
 
 -- those of a block, its open table aside: of its lines, and of all that was fed to its open paragraph
 abbrev pub visible_in_block : {T M : Type 0} → DefinedBlock T M → List ℕ
-visible_in_block d = visible_in_lines d.lines ++ visible_in_items d.fed
+visible_in_block d = visible_in_lines d.lines ++ visible_in_items d.paragraph.items
 
 -- how often a visible character stands in a text, and in a block
 abbrev pub text_count : ℕ → List ℕ → ℕ

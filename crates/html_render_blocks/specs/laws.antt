@@ -2,11 +2,10 @@
 pub mod Operations
 -- facts on values that may be missing, and on choices
 pub mod Cases
--- the operations don't depend on the tags
-pub mod TableTags
-pub mod BlockTags
--- a block that was fed is the definition's
-pub mod TableFed
+-- the operations commute with maps of what a block is made of
+pub mod TableMaps
+pub mod BlockMaps
+-- so a block that was fed is the definition's, and the operations don't depend on the tags
 pub mod BlockFed
 -- without overflow no line passes the width, and with it no operation refuses
 pub mod TableWithin

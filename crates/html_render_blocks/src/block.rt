@@ -3,18 +3,21 @@
 //! `block.add_inline_text("a", style)?`, `block.new_line_hard()?` and `block.add_inline_text("b", style)?` make the
 //! lines `a` and `b`, once the block is flushed.
 
-ghost use Rattle.std.specs.Prelude.{◌≡◌, ◌==◌, ◌||◌, cond, length, nat_le, [], ◌++◌, ◌∷◌, Some, None, map, option_map};
+ghost use Rattle.std.specs.Prelude.{◌≡◌, ◌==◌, ◌||◌, cond, not, length, nat_le, [], ◌++◌, ◌∷◌, Some, None, map, option_map};
 ghost use Rattle.std.specs.Prelude.{OnOk, IfOk, IfErr, IsTrue};
 ghost use Rattle.std.specs.List.{list_all};
 ghost use Rattle.std.specs.Str.{chars};
 ghost use Rattle.html_render_values.specs.Outcome.{Refuses};
 ghost use Rattle.html_render_lines.specs.Character.{is_collapsible};
 ghost use Rattle.html_render_lines.specs.Line.{columns, marks_line};
-ghost use Rattle.html_render_paragraphs.specs.Stream.{after};
+ghost use Rattle.html_render_paragraphs.specs.Stream.{after, styled};
 ghost use Rattle.html_render_lines.specs.TaggedText.{counted, text_columns, under};
+ghost use Rattle.html_render_pictures.specs.Picture.{is_empty};
 ghost use Rattle.html_render_blocks.specs.Joined.{moved};
 ghost use Rattle.html_render_blocks.specs.Block.{is_blank, mark_items, wrap_width, inner_width};
-ghost use Rattle.html_render_blocks.specs.BlockMachine as machine;
+ghost use Rattle.html_render_blocks.specs.Block as block;
+ghost use Rattle.html_render_blocks.specs.Machine as machine;
+ghost use Rattle.html_render_blocks.specs.Machine.{machine};
 
 use html_render_lines::character::{TextStyle, is_collapsible};
 use html_render_lines::line::{Line, text_columns};
@@ -71,7 +74,7 @@ pub struct Block<T, M> {
 
 impl<T, M> Model for Block<T, M> {
     ghost use Rattle.std.specs.Prelude.{option_map};
-    ghost use Rattle.html_render_blocks.specs.BlockMachine.{MachineBlock};
+    ghost use Rattle.html_render_blocks.specs.Machine.{MachineBlock};
 
     ghost Value = { MachineBlock T M };
 
@@ -164,7 +167,7 @@ impl<T: Tag, M: Copy> Block<T, M> {
     /// An empty block. Where a character is wider than a line, it stands alone on one with overflow; without, the block is
     /// too narrow. With padding the lines of its paragraphs are filled up to its width with spaces under this tag.
     pub fn new(alloc: Global, setting: BlockSetting, padding: Option<T>) -> Block<T, M>
-        ensures { result ≡ machine.empty_block setting padding }
+        ensures { result ≡ block.empty_block machine setting padding }
     {
         let width = wrap_width(setting.width, setting.max_wrap_width);
         let paragraph = Some(Paragraph::new(alloc, width, setting.overflow));
@@ -185,9 +188,10 @@ impl<T: Tag, M: Copy> Block<T, M> {
     ///
     /// `TooNarrow`, where these columns aren't there, with overflow off.
     #[inline]
+    #[tactic(auto, unfolding(crate::specs::Machine::operations))]
     pub fn sub_block(&self, prefix: usize, inner: usize) -> Result<Block<T, M>, Error>
-        ensures ok { IfOk result (λ sub. machine.sub_block self.now prefix inner ≡ Some sub) }
-        ensures err { IfErr result (λ e. Refuses e (machine.sub_block self.now prefix inner)) }
+        ensures ok { IfOk result (λ sub. machine.operations.sub_block self.now prefix inner ≡ Some sub) }
+        ensures err { IfErr result (λ e. Refuses e (machine.operations.sub_block self.now prefix inner)) }
     {
         match inner_width(self.setting, prefix, inner) {
             Some(width) => Ok(Block::new(
@@ -231,7 +235,7 @@ impl<T: Tag, M: Copy> Block<T, M> {
 
     /// Takes a text. Where a character is too wide, the next flush says so.
     fn feed(&mut self, text: &str, style: TextStyle<T>) -> Result<(), Error>
-        ensures ok { OnOk result (self.new ≡ machine.feed self.old style (chars text.now)) }
+        ensures ok { OnOk result (self.new ≡ block.feed machine self.old (styled style (chars text.now))) }
         ensures err { IfErr result (λ e. e ≡ Error.OutOfMemory) }
     {
         let Some(paragraph) = &mut self.paragraph else {
@@ -250,9 +254,9 @@ impl<T: Tag, M: Copy> Block<T, M> {
     /// Flushes the open paragraph, and says whether it had no line.
     #[tactic(auto, using(html_render_values::specs::laws::Outcome::refusals, crate::proofs::Behind::flushed))]
     fn flush_paragraph(&mut self) -> Result<bool, Error>
-        ensures ok { OnOk result (machine.flush self.old ≡ Some self.new) }
+        ensures ok { OnOk result (block.flush machine self.old ≡ Some self.new) }
         ensures none { IfOk result (λ none. none ≡ (length self.new.lines == length self.old.lines)) }
-        ensures err { IfErr result (λ e. Refuses e (machine.flush self.old)) }
+        ensures err { IfErr result (λ e. Refuses e (block.flush machine self.old)) }
     {
         let padding = self.padding;
         let width = self.setting.width;
@@ -271,8 +275,8 @@ impl<T: Tag, M: Copy> Block<T, M> {
     ///
     /// `TooNarrow`, where a character of the paragraph is wider than a line, with overflow off. `OutOfMemory`.
     pub fn flush(&mut self) -> Result<(), Error>
-        ensures ok { OnOk result (machine.flush self.old ≡ Some self.new) }
-        ensures err { IfErr result (λ e. Refuses e (machine.flush self.old)) }
+        ensures ok { OnOk result (block.flush machine self.old ≡ Some self.new) }
+        ensures err { IfErr result (λ e. Refuses e (block.flush machine self.old)) }
     {
         self.flush_paragraph()?;
         Ok(())
@@ -281,7 +285,7 @@ impl<T: Tag, M: Copy> Block<T, M> {
     /// Takes out the marks that wait.
     fn take_waiting(&mut self) -> Vec<M>
         ensures marks { result.items ≡ machine.waiting self.old.paragraph }
-        ensures after { self.new ≡ record self.old { paragraph = machine.take_waiting self.old.paragraph } }
+        ensures after { self.new ≡ record self.old { paragraph = machine.without_waiting self.old.paragraph } }
     {
         match &mut self.paragraph {
             Some(paragraph) => paragraph.take_waiting(),
@@ -307,7 +311,7 @@ impl<T: Tag, M: Copy> Block<T, M> {
 
     /// Adds a line that is empty but for the marks that wait.
     fn add_empty_line(&mut self) -> Result<(), AllocError>
-        ensures { OnOk result (self.new ≡ machine.add_empty_line self.old) }
+        ensures { OnOk result (self.new ≡ block.add_lines machine self.old ([] ∷ [])) }
     {
         let marks = self.take_waiting();
         let line = marks_line(self.alloc, marks.as_slice())?;
@@ -316,7 +320,7 @@ impl<T: Tag, M: Copy> Block<T, M> {
 
     /// Adds an empty line behind the lines, if there are any.
     fn separate(&mut self) -> Result<(), AllocError>
-        ensures { OnOk result (self.new ≡ machine.separate self.old) }
+        ensures { OnOk result (self.new ≡ cond (not (is_empty self.old.lines)) (block.add_lines machine self.old ([] ∷ [])) self.old) }
     {
         if self.lines.is_empty() {
             return Ok(());
@@ -337,10 +341,10 @@ impl<T: Tag, M: Copy> Block<T, M> {
     /// # Errors
     ///
     /// `TooNarrow`, as in [`flush`](Block::flush). `OutOfMemory`.
-    #[tactic(auto, using(html_render_values::specs::laws::Outcome::refusals))]
+    #[tactic(auto, using(html_render_values::specs::laws::Outcome::refusals), unfolding(crate::specs::Machine::operations))]
     pub fn start_block(&mut self) -> Result<(), Error>
-        ensures ok { OnOk result (machine.start_block self.old ≡ Some self.new) }
-        ensures err { IfErr result (λ e. Refuses e (machine.start_block self.old)) }
+        ensures ok { OnOk result (machine.operations.start_block self.old ≡ Some self.new) }
+        ensures err { IfErr result (λ e. Refuses e (machine.operations.start_block self.old)) }
     {
         self.flush()?;
         self.separate()?;
@@ -349,8 +353,9 @@ impl<T: Tag, M: Copy> Block<T, M> {
     }
 
     /// Ends a block: what is added next starts another.
+    #[tactic(auto, unfolding(crate::specs::Machine::operations))]
     pub fn end_block(&mut self)
-        ensures { self.new ≡ machine.end_block self.old }
+        ensures { self.new ≡ machine.operations.end_block self.old }
     {
         self.at_block_end = true;
     }
@@ -360,9 +365,10 @@ impl<T: Tag, M: Copy> Block<T, M> {
     /// # Errors
     ///
     /// `TooNarrow`, as in [`flush`](Block::flush). `OutOfMemory`.
+    #[tactic(auto, unfolding(crate::specs::Machine::operations))]
     pub fn new_line(&mut self) -> Result<(), Error>
-        ensures ok { OnOk result (machine.new_line self.old ≡ Some self.new) }
-        ensures err { IfErr result (λ e. Refuses e (machine.new_line self.old)) }
+        ensures ok { OnOk result (machine.operations.new_line self.old ≡ Some self.new) }
+        ensures err { IfErr result (λ e. Refuses e (machine.operations.new_line self.old)) }
     {
         self.flush()
     }
@@ -372,10 +378,10 @@ impl<T: Tag, M: Copy> Block<T, M> {
     /// # Errors
     ///
     /// `TooNarrow`, as in [`flush`](Block::flush). `OutOfMemory`.
-    #[tactic(auto, using(html_render_values::specs::laws::Outcome::refusals))]
+    #[tactic(auto, using(html_render_values::specs::laws::Outcome::refusals), unfolding(crate::specs::Machine::operations))]
     pub fn new_line_hard(&mut self) -> Result<(), Error>
-        ensures ok { OnOk result (machine.new_line_hard self.old ≡ Some self.new) }
-        ensures err { IfErr result (λ e. Refuses e (machine.new_line_hard self.old)) }
+        ensures ok { OnOk result (machine.operations.new_line_hard self.old ≡ Some self.new) }
+        ensures err { IfErr result (λ e. Refuses e (machine.operations.new_line_hard self.old)) }
     {
         if self.flush_paragraph()? {
             self.add_empty_line()?;
@@ -390,10 +396,10 @@ impl<T: Tag, M: Copy> Block<T, M> {
     /// # Errors
     ///
     /// `TooNarrow`, as in [`flush`](Block::flush), where the text starts a block. `OutOfMemory`.
-    #[tactic(auto, using(html_render_values::specs::laws::Outcome::refusals))]
+    #[tactic(auto, using(html_render_values::specs::laws::Outcome::refusals), unfolding(crate::specs::Machine::operations))]
     pub fn add_inline_text(&mut self, text: &str, style: TextStyle<T>) -> Result<(), Error>
-        ensures ok { OnOk result (machine.add_inline_text self.old style (chars text.now) ≡ Some self.new) }
-        ensures err { IfErr result (λ e. Refuses e (machine.add_inline_text self.old style (chars text.now))) }
+        ensures ok { OnOk result (machine.operations.add_inline_text self.old style (chars text.now) ≡ Some self.new) }
+        ensures err { IfErr result (λ e. Refuses e (machine.operations.add_inline_text self.old style (chars text.now))) }
     {
         if has_no_character(text) {
             return Ok(());
@@ -414,8 +420,9 @@ impl<T: Tag, M: Copy> Block<T, M> {
     /// # Errors
     ///
     /// `OutOfMemory`.
+    #[tactic(auto, unfolding(crate::specs::Machine::operations))]
     pub fn add_mark(&mut self, mark: M) -> Result<(), Error>
-        ensures ok { OnOk result (self.new ≡ machine.add_mark self.old mark) }
+        ensures ok { OnOk result (self.new ≡ machine.operations.add_mark self.old mark) }
         ensures err { IfErr result (λ e. e ≡ Error.OutOfMemory) }
     {
         let Some(paragraph) = &mut self.paragraph else {
@@ -426,7 +433,7 @@ impl<T: Tag, M: Copy> Block<T, M> {
 
     /// Adds marks to the open paragraph.
     fn add_marks(&mut self, marks: &[M]) -> Result<(), Error>
-        ensures ok { OnOk result (self.new ≡ machine.add_marks self.old marks.now) }
+        ensures ok { OnOk result (self.new ≡ block.feed machine self.old (mark_items marks.now)) }
         ensures err { IfErr result (λ e. e ≡ Error.OutOfMemory) }
     {
         let Some(paragraph) = &mut self.paragraph else {
@@ -470,9 +477,9 @@ impl<T: Tag, M: Copy> Block<T, M> {
         first: &str,
         later: &str,
     ) -> Result<(), Error>
-        ensures ok { OnOk result (machine.append_lines self.old (under tag (chars first.now)) (under tag (chars later.now))
+        ensures ok { OnOk result (block.append_lines machine self.old (under tag (chars first.now)) (under tag (chars later.now))
             lines.items end.now ≡ Some self.new) }
-        ensures err { IfErr result (λ e. Refuses e (machine.append_lines self.old (under tag (chars first.now)) (under tag (chars later.now))
+        ensures err { IfErr result (λ e. Refuses e (block.append_lines machine self.old (under tag (chars first.now)) (under tag (chars later.now))
             lines.items end.now)) }
     {
         if lines.is_empty() {
@@ -498,7 +505,7 @@ impl<T: Tag, M: Copy> Block<T, M> {
     ///
     /// `TooNarrow`, as in [`flush`](Block::flush) of either block, and where a line behind its prefix passes the width,
     /// with overflow off. `OutOfMemory`.
-    #[tactic(auto, using(html_render_values::specs::laws::Outcome::refusals, crate::proofs::Appending::append_unflushed))]
+    #[tactic(auto, using(html_render_values::specs::laws::Outcome::refusals, crate::proofs::Appending::append_unflushed), unfolding(crate::specs::Machine::operations))]
     pub fn append(
         &mut self,
         mut sub: Block<T, M>,
@@ -506,8 +513,8 @@ impl<T: Tag, M: Copy> Block<T, M> {
         first: &str,
         later: &str,
     ) -> Result<(), Error>
-        ensures ok { OnOk result (machine.append self.old sub tag (chars first.now) (chars later.now) ≡ Some self.new) }
-        ensures err { IfErr result (λ e. Refuses e (machine.append self.old sub tag (chars first.now) (chars later.now))) }
+        ensures ok { OnOk result (machine.operations.append self.old sub tag (chars first.now) (chars later.now) ≡ Some self.new) }
+        ensures err { IfErr result (λ e. Refuses e (machine.operations.append self.old sub tag (chars first.now) (chars later.now))) }
     {
         self.flush()?;
         sub.flush_whole()?;

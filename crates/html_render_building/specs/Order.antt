@@ -39,7 +39,7 @@ abbrev pub part_order : Dom → List ℕ → Option (List ℕ)
 part_order dom children =
     if has_own_order dom children then Some (picked Others dom children ++ picked Feet dom children) else None
 
--- these children of an element
+-- the children of an element in an order of their own, or, without one, as in the document
 abbrev pub listed_in : Dom → (handle : ℕ) → Option (List ℕ) → List ℕ
 listed_in dom handle None = children_at dom handle
 listed_in dom handle (Some own) = own

@@ -343,11 +343,7 @@ fn element_outline(
 }
 
 /// What becomes of a text.
-///
-/// # Errors
-///
-/// `OutOfMemory`.
-pub fn text_node(alloc: Global, contents: &str) -> Result<RenderNode, Error>
+fn text_node(alloc: Global, contents: &str) -> Result<RenderNode, Error>
     ensures ok { IfOk result (λ node. node ≡ text_node contents.now) }
     ensures err { IfErr result (λ e. e ≡ Error.OutOfMemory) }
 {

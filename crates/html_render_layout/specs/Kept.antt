@@ -10,7 +10,7 @@ use Rattle.html_render_nodes.specs.declared.tree.NodeKind.{NodeKind}
 use Rattle.html_render_nodes.specs.declared.tree.NodeKind.TheVariants.{Text}
 use Rattle.html_render_nodes.specs.declared.tree.RenderNode.{RenderNode}
 use Rattle.html_render_nodes.specs.Pass.{unskipped}
-use Rattle.html_render_blocks.specs.Block as definition
+use Rattle.html_render_blocks.specs.Definition as definition
 use Rattle.html_render_blocks.specs.Operations.{Operations}
 use Rattle.html_render_blocks.specs.Visible.{text_count}
 use Rattle.html_render_pictures.specs.Visible.{count}

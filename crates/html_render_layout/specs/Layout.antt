@@ -31,8 +31,9 @@ use Rattle.html_render_parts.specs.TableCells.{CellGrid}
 use Rattle.html_render_nodes.specs.Pass.{Steps, Inside, run}
 use Rattle.html_render_blocks.specs.declared.block.BlockSetting.{BlockSetting}
 use Rattle.html_render_blocks.specs.Operations.{Operations, Ending}
-use Rattle.html_render_blocks.specs.Block as definition
-use Rattle.html_render_blocks.specs.Block.{DefinedBlock}
+use Rattle.html_render_blocks.specs.Block.{empty_block}
+use Rattle.html_render_blocks.specs.Definition as definition
+use Rattle.html_render_blocks.specs.Definition.{definition as defined_parts, DefinedBlock}
 use Rattle.html_render_estimates.specs.Estimates.{prefix_columns, prefix_of, measured}
 use Rattle.html_render_layout.specs.declared.layout.state.Around.{Around}
 use Rattle.html_render_layout.specs.declared.layout.state.Around.TheVariants.{Plain, Bullets, Numbers, Cells}
@@ -498,7 +499,7 @@ padding settings tag = if settings.pad_block_width then Some tag else None
 -- an empty block in the decorator's sub-block, without annotations
 abbrev pub empty_state : {S A : Type 0} → Decoration S A → LayoutSettings → S → (width : ℕ) → (overflow : Bool) → Defined S A
 empty_state d settings decorator width overflow =
-    begin_with settings (d.subblock decorator) tt [] (definition.empty_block (block_setting settings width overflow) (padding settings []))
+    begin_with settings (d.subblock decorator) tt [] (empty_block defined_parts (block_setting settings width overflow) (padding settings []))
 
 -- a tree with the estimate of each node, whose prefixes are those of the decorator of a block inside the root's: a text needs
 -- its own columns, or as many as it is wrapped to at least

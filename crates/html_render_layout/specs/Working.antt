@@ -8,8 +8,8 @@ use Rattle.html_render_lines.specs.Tags.{lines_with}
 use Rattle.html_render_nodes.specs.declared.tree.RenderNode.{RenderNode}
 use Rattle.html_render_layout.specs.declared.layout.state.LayoutState.{LayoutState}
 use Rattle.html_render_layout.specs.declared.layout.LaidOut.{LaidOut}
-use Rattle.html_render_blocks.specs.BlockMachine as machine
-use Rattle.html_render_blocks.specs.BlockMachine.{MachineBlock}
+use Rattle.html_render_blocks.specs.Machine as machine
+use Rattle.html_render_blocks.specs.Machine.{MachineBlock}
 use Rattle.html_render_layout.specs.Stacks.{stack_at}
 use Rattle.html_render_layout.specs.Layout.{shown_after}
 

@@ -4,7 +4,9 @@
 
 ghost use Rattle.std.specs.Prelude.{◌≡◌, ◌≢◌, ◌≤◌, ◌<◌, Some, ℕ, true, Err, OnOk, OnErr, IfOk, IfErr};
 ghost use Rattle.html_render_values.specs.Outcome.{Refuses};
-ghost use Rattle.html_render_blocks.specs.BlockMachine as machine;
+ghost use Rattle.html_render_blocks.specs.Block.{empty_block};
+ghost use Rattle.html_render_blocks.specs.Machine as machine;
+ghost use Rattle.html_render_blocks.specs.Machine.{machine};
 ghost use Rattle.html_render_nodes.specs.Counts.{CountsNodes};
 ghost use Rattle.html_render_nodes.specs.Pass.{inside_of};
 ghost use Rattle.html_render_estimates.specs.Estimates.{measured};
@@ -224,7 +226,7 @@ fn outermost<T: Tag>(
     overflow: bool,
     tag: T,
 ) -> Block<T, usize>
-    ensures { result ≡ machine.empty_block (block_setting settings.now width overflow) (padding settings.now tag) }
+    ensures { result ≡ empty_block machine (block_setting settings.now width overflow) (padding settings.now tag) }
 {
     let setting = BlockSetting {
         width,

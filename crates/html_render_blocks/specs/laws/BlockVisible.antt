@@ -18,7 +18,7 @@ use Rattle.html_render_lines.specs.TaggedText.{under}
 use Rattle.html_render_lines.specs.Visible.{is_visible, if_visible, visible_in_items, visible_in_line, visible_in_lines}
 use Rattle.html_render_lines.specs.laws.Cases.{if_cases}
 use Rattle.html_render_paragraphs.specs.laws.Visible.{paragraph_keeps}
-use Rattle.html_render_lines.specs.laws.Visible.{visible_in_line-append, visible_in_line-marks, visible_in_lines-push}
+use Rattle.html_render_lines.specs.laws.Visible.{visible_in_line-append, visible_in_line-marks}
 use Rattle.html_render_blocks.specs.laws.Operations.{Counts}
 use Rattle.html_render_pictures.specs.laws.Padding.{filled-visible}
 use Rattle.html_render_pictures.specs.laws.Lines.{lines-append, marked_behind_same, count-append}
@@ -26,11 +26,10 @@ use Rattle.html_render_pictures.specs.Padding.{filled}
 use Rattle.html_render_blocks.specs.laws.Cases.{map_if, then_if, any}
 use Rattle.html_render_blocks.specs.Joined.{behind, prefixed, are_within, fitting, joined}
 use Rattle.html_render_pictures.specs.Marked.{marked_behind, marked_before}
-use Rattle.html_render_blocks.specs.Block.{DefinedBlock, paragraph_setting, empty_block, flush, add_page, add_empty_line}
-use Rattle.html_render_blocks.specs.Block.{separate_behind, start_block, new_line_hard, add_inline_text, feed, is_blank, add_mark, inner_width, mark_items}
-use Rattle.html_render_blocks.specs.Block.{sub_block, append_lines, append, operations}
-use Rattle.html_render_blocks.specs.Block.{with_picture, end_open, end_table, add_lines, add_border, table_begun, begin_table}
-use Rattle.html_render_blocks.specs.Block.{add_marks, kept_cell, put_lines, put_below, put_stacked, cell_added, cell_block, add_cell, row_ended}
+use Rattle.html_render_blocks.specs.Block.{flush, add_page, add_lines, unended, start_block, feed, is_blank, mark_items, inner_width, inner_block}
+use Rattle.html_render_blocks.specs.Block.{append_lines, append, with_picture, end_open, end_table, add_border, table_begun, kept_cell, put_lines}
+use Rattle.html_render_blocks.specs.Block.{put_below, put_stacked, cell_added, add_cell, row_ended, operations as operations_of}
+use Rattle.html_render_blocks.specs.Definition.{definition, DefinedBlock, operations}
 use Rattle.html_render_blocks.specs.declared.block.tables.OpenTable.{OpenTable}
 use Rattle.html_render_blocks.specs.declared.block.tables.OpenTable.TheVariants.{Across, Stacked}
 use Rattle.html_render_blocks.specs.declared.block.rows.RowPlace.{RowPlace}
@@ -65,39 +64,42 @@ items-marks T (m ∷ ms) = items-marks T ms
 abbrev pub Same : {T M : Type 0} → DefinedBlock T M → DefinedBlock T M → Type 0
 Same d e = (visible_in_block e ≡ visible_in_block d) × (e.table ≡ d.table)
 
-pub flush_same : {T M : Type 0} (d : DefinedBlock T M) → IfSome (flush d) (Same d)
+pub flush_same : {T M : Type 0} (d : DefinedBlock T M) → IfSome (flush definition d) (Same d)
 flush_same {T} {M} d =
-    map_if (λ (p : Page T M). visible_in_lines (all_lines p) ≡ visible_in_items d.fed) (Same d) (λ (p : Page T M). add_page d p)
-    (paragraph (paragraph_setting d.setting) d.marks d.fed) (paragraph_keeps (paragraph_setting d.setting) d.marks d.fed)
+    let q = d.paragraph in
+    map_if (λ (p : Page T M). visible_in_lines (all_lines p) ≡ visible_in_items q.items) (Same d) (λ (p : Page T M). add_page definition d p)
+    (paragraph q.setting q.waiting q.items) (paragraph_keeps q.setting q.waiting q.items)
     (λ p h. let ls = filled d.padding d.setting.width (all_lines p) in (
       append-nil (visible_in_lines (d.lines ++ ls)) ∙ lines-append d.lines ls
           ∙ ap (λ r. visible_in_lines d.lines ++ r) (filled-visible d.padding d.setting.width (all_lines p) ∙ h),
       refl,
     ))
 
-add_empty_line_same : {T M : Type 0} (d : DefinedBlock T M) → Same d (add_empty_line d)
-add_empty_line_same {T} {M} d = (
-  ap (λ r. r ++ visible_in_items d.fed) (visible_in_lines-push d.lines (marks_line d.marks)
-      ∙ ap (λ r. visible_in_lines d.lines ++ r) (visible_in_line-marks T d.marks) ∙ append-nil (visible_in_lines d.lines)),
-  refl,
-)
+marked_before_same : {T M : Type 0} (ms : List M) (ls : List (Line T M)) → visible_in_lines (marked_before ms ls) ≡ visible_in_lines ls
+marked_before_same ms [] = refl
+marked_before_same {T} ms (l ∷ ls) = ap (λ r. r ++ visible_in_lines ls)
+    (visible_in_line-append (marks_line ms) l ∙ ap (λ r. r ++ visible_in_line l) (visible_in_line-marks T ms))
 
 -- one after another
 pub then_same : {T M : Type 0} (d e f : DefinedBlock T M) → Same e f → Same d e → Same d f
 then_same d e f h k = (h.0 ∙ k.0, h.1 ∙ k.1)
 
-separate_same : {T M : Type 0} (d : DefinedBlock T M) (ls : List (Line T M)) → Same d (separate_behind d ls)
-separate_same d [] = (refl, refl)
-separate_same d (l ∷ ls) = add_empty_line_same d
+unended_same : {T M : Type 0} (gap : Bool) (d : DefinedBlock T M) → Same d (unended definition gap d)
+unended_same {T} {M} true d =
+    let ls = marked_before d.paragraph.waiting ([] ∷ []) in (
+      ap (λ r. r ++ visible_in_items d.paragraph.items) (lines-append d.lines ls
+          ∙ ap (λ r. visible_in_lines d.lines ++ r) (marked_before_same {T = T} d.paragraph.waiting ([] ∷ [])) ∙ append-nil (visible_in_lines d.lines)),
+      refl,
+    )
+unended_same false d = (refl, refl)
 
-pub start_block_same : {T M : Type 0} (d : DefinedBlock T M) → IfSome (start_block d) (Same d)
-start_block_same d = map_if (Same d) (Same d) _ (flush d) (flush_same d)
-    (λ e h. then_same d e (separate_behind e e.lines) (separate_same e e.lines) h)
+pub start_block_same : {T M : Type 0} (d : DefinedBlock T M) → IfSome (start_block definition d) (Same d)
+start_block_same d = map_if (Same d) (Same d) _ (flush definition d) (flush_same d)
+    (λ e h. let gap = not (is_empty e.lines) in then_same d e (unended definition gap e) (unended_same gap e) h)
 
-new_line_hard_same : {T M : Type 0} (d : DefinedBlock T M) → IfSome (new_line_hard d) (Same d)
-new_line_hard_same d = map_if (Same d) (Same d) _ (flush d) (flush_same d)
-    (λ e h. if_cases (Same d) (eqb (length e.lines) (length d.lines)) (add_empty_line e) e
-    (λ _. then_same d e (add_empty_line e) (add_empty_line_same e) h) (λ _. h))
+new_line_hard_same : {T M : Type 0} (d : DefinedBlock T M) → IfSome ((operations_of definition).new_line_hard d) (Same d)
+new_line_hard_same d = map_if (Same d) (Same d) _ (flush definition d) (flush_same d)
+    (λ e h. let gap = eqb (length e.lines) (length d.lines) in then_same d e (unended definition gap e) (unended_same gap e) h)
 
 -- the block e has what the block d has, and these behind it, and the same table
 abbrev pub Adds : {T M : Type 0} → List ℕ → DefinedBlock T M → DefinedBlock T M → Type 0
@@ -106,11 +108,11 @@ Adds cs d e = (visible_in_block e ≡ visible_in_block d ++ cs) × (e.table ≡ 
 adds_none : {T M : Type 0} (d e : DefinedBlock T M) (cs : List ℕ) → Same d e → cs ≡ [] → Adds cs d e
 adds_none d e cs h none = (h.0 ∙ sym (append-nil (visible_in_block d)) ∙ ap (λ r. visible_in_block d ++ r) (sym none), h.1)
 
-feed_adds : {T M : Type 0} (d : DefinedBlock T M) (style : TextStyle T) (cs : List ℕ) → Adds (visible_in_text cs) d (feed d style cs)
+feed_adds : {T M : Type 0} (d : DefinedBlock T M) (style : TextStyle T) (cs : List ℕ) → Adds (visible_in_text cs) d (feed definition d (styled style cs))
 feed_adds {T} {M} d style cs = (
-  ap (λ r. visible_in_lines d.lines ++ r) (items-append d.fed (styled style cs)
-      ∙ ap (λ r. visible_in_items d.fed ++ r) (items-styled M style cs))
-      ∙ sym (append_assoc (visible_in_lines d.lines) (visible_in_items d.fed) (visible_in_text cs)),
+  ap (λ r. visible_in_lines d.lines ++ r) (items-append d.paragraph.items (styled style cs)
+      ∙ ap (λ r. visible_in_items d.paragraph.items ++ r) (items-styled M style cs))
+      ∙ sym (append_assoc (visible_in_lines d.lines) (visible_in_items d.paragraph.items) (visible_in_text cs)),
   refl,
 )
 
@@ -142,13 +144,14 @@ blank_hidden Pre cs e = cc
 blank_hidden PreWrap cs e = cc
 
 add_inline_text_adds : {T M : Type 0} (d : DefinedBlock T M) (style : TextStyle T) (cs : List ℕ) →
-    IfSome (add_inline_text d style cs) (Adds (visible_in_text cs) d)
+    IfSome ((operations_of definition).add_inline_text d style cs) (Adds (visible_in_text cs) d)
 add_inline_text_adds {T} {M} d style cs =
     let Has : Option (DefinedBlock T M) → Type 0 = λ o. IfSome o (Adds (visible_in_text cs) d) in
     if_cases Has (eqb (length cs) 0) _ _ (λ e. adds_none d d (visible_in_text cs) (refl, refl) (no_character cs e))
     (λ _. if_cases Has (not d.at_block_end) _ _ (λ _. feed_adds d style cs)
     (λ _. if_cases Has (is_blank style.mode cs) _ _ (λ e. adds_none d d (visible_in_text cs) (refl, refl) (blank_hidden style.mode cs e))
-    (λ _. map_if (Same d) (Adds (visible_in_text cs) d) (λ (e : DefinedBlock T M). feed e style cs) (start_block d) (start_block_same d)
+    (λ _. map_if (Same d) (Adds (visible_in_text cs) d) (λ (e : DefinedBlock T M). feed definition e (styled style cs)) (start_block definition d)
+    (start_block_same d)
     (λ e h. let k = feed_adds e style cs in (k.0 ∙ ap (λ r. r ++ visible_in_text cs) h.0, k.1 ∙ h.1)))))
 
 -- ---- how often
@@ -196,22 +199,23 @@ joined_count {T} {M} c w o ns p q ls ms =
     (prefixed_count c (marks_line ns ++ p) q marked)))
 
 append_lines_count : {T M : Type 0} (c : ℕ) (d : DefinedBlock T M) (p q : Line T M) (ls : List (Line T M)) (ms : List M) →
-    IfSome (append_lines d p q ls ms) (λ e. visible_count c d + count c (visible_in_lines ls) ≤ visible_count c e)
+    IfSome (append_lines definition d p q ls ms) (λ e. visible_count c d + count c (visible_in_lines ls) ≤ visible_count c e)
 append_lines_count {T} {M} c d p q [] ms =
     let marks = mark_items {T = T} ms in
-    let fed : count c (visible_in_items (d.fed ++ marks)) ≡ count c (visible_in_items d.fed) =
-    ap (count c) (items-append d.fed marks ∙ ap (λ r. visible_in_items d.fed ++ r) (items-marks T ms) ∙ append-nil (visible_in_items d.fed)) in
+    let fed : count c (visible_in_items (d.paragraph.items ++ marks)) ≡ count c (visible_in_items d.paragraph.items) =
+    ap (count c) (items-append d.paragraph.items marks ∙ ap (λ r. visible_in_items d.paragraph.items ++ r) (items-marks T ms)
+    ∙ append-nil (visible_in_items d.paragraph.items)) in
     omega (
       arith,
       fed,
-      count-append c (visible_in_lines d.lines) (visible_in_items d.fed),
-      count-append c (visible_in_lines d.lines) (visible_in_items (d.fed ++ marks)),
+      count-append c (visible_in_lines d.lines) (visible_in_items d.paragraph.items),
+      count-append c (visible_in_lines d.lines) (visible_in_items (d.paragraph.items ++ marks)),
     )
 append_lines_count {T} {M} c d p q (l ∷ ls) ms =
     map_if (λ (all : List (Line T M)). count c (visible_in_lines (l ∷ ls)) ≤ count c (visible_in_lines all))
     (λ (e : DefinedBlock T M). visible_count c d + count c (visible_in_lines (l ∷ ls)) ≤ visible_count c e) _
-    (joined d.setting.width d.setting.overflow d.marks p q (l ∷ ls) ms)
-    (joined_count c d.setting.width d.setting.overflow d.marks p q (l ∷ ls) ms)
+    (joined d.setting.width d.setting.overflow d.paragraph.waiting p q (l ∷ ls) ms)
+    (joined_count c d.setting.width d.setting.overflow d.paragraph.waiting p q (l ∷ ls) ms)
     (λ all h.
     let lines : count c (visible_in_lines (d.lines ++ all)) ≡ count c (visible_in_lines d.lines) + count c (visible_in_lines all) =
     ap (count c) (lines-append d.lines all) ∙ count-append c (visible_in_lines d.lines) (visible_in_lines all) in
@@ -219,20 +223,17 @@ append_lines_count {T} {M} c d p q (l ∷ ls) ms =
       arith,
       h,
       lines,
-      count-append c (visible_in_lines d.lines) (visible_in_items d.fed),
-      count-append c (visible_in_lines (d.lines ++ all)) (visible_in_items d.fed),
+      count-append c (visible_in_lines d.lines) (visible_in_items d.paragraph.items),
+      count-append c (visible_in_lines (d.lines ++ all)) (visible_in_items d.paragraph.items),
     ))
 
 -- nothing is fed to a block that is flushed
-pub flush_empties : {T M : Type 0} (d : DefinedBlock T M) → IfSome (flush d) (λ e. e.fed ≡ [])
-flush_empties {T} {M} d = by (paragraph (paragraph_setting d.setting) d.marks d.fed)
-  where
-    by : (o : Option (Page T M)) → IfSome (option_map (λ (p : Page T M). add_page d p) o) (λ e. e.fed ≡ [])
-    by None = tt
-    by (Some p) = refl
+pub flush_empties : {T M : Type 0} (d : DefinedBlock T M) → IfSome (flush definition d) (λ e. e.paragraph.items ≡ [])
+flush_empties {T} {M} d = map_if (λ (p : Page T M). Unit {0}) (λ e. e.paragraph.items ≡ []) (λ (p : Page T M). add_page definition d p)
+    (definition.finish d.paragraph) (any (definition.finish d.paragraph)) (λ p _. refl)
 
 -- where nothing is fed and no table is open, the lines have all
-pub lines_count : {T M : Type 0} (c : ℕ) (d : DefinedBlock T M) → d.fed ≡ [] → d.table ≡ None →
+pub lines_count : {T M : Type 0} (c : ℕ) (d : DefinedBlock T M) → d.paragraph.items ≡ [] → d.table ≡ None →
     visible_count c d ≡ count c (visible_in_lines d.lines)
 lines_count {T} {M} c d h k =
     let fed = ap (λ (xs : List (Item T M)). count c (visible_in_lines d.lines ++ visible_in_items xs)) h in
@@ -311,22 +312,23 @@ with_ahead_count {T} {M} c p widths (cells ∷ rest) =
 
 -- a picture behind the lines
 with_picture_count : {T M : Type 0} (c : ℕ) (d : DefinedBlock T M) (ls : List (Line T M)) (ms : List M) →
-    visible_count c (with_picture d (ls, ms)) ≡ count c (visible_in_block d) + count c (visible_in_lines ls)
+    visible_count c (with_picture definition d (ls, ms)) ≡ count c (visible_in_block d) + count c (visible_in_lines ls)
 with_picture_count {T} {M} c d ls ms =
     let marks = mark_items {T = T} ms in
-    let fed : count c (visible_in_items (d.fed ++ marks)) ≡ count c (visible_in_items d.fed) =
-    ap (count c) (items-append d.fed marks ∙ ap (λ r. visible_in_items d.fed ++ r) (items-marks T ms) ∙ append-nil (visible_in_items d.fed)) in
+    let fed : count c (visible_in_items (d.paragraph.items ++ marks)) ≡ count c (visible_in_items d.paragraph.items) =
+    ap (count c) (items-append d.paragraph.items marks ∙ ap (λ r. visible_in_items d.paragraph.items ++ r) (items-marks T ms)
+    ∙ append-nil (visible_in_items d.paragraph.items)) in
     omega (
       arith,
       fed,
       ap (count c) (lines-append d.lines ls),
       count-append c (visible_in_lines d.lines) (visible_in_lines ls),
-      count-append c (visible_in_lines (d.lines ++ ls)) (visible_in_items (d.fed ++ marks)),
-      count-append c (visible_in_lines d.lines) (visible_in_items d.fed),
+      count-append c (visible_in_lines (d.lines ++ ls)) (visible_in_items (d.paragraph.items ++ marks)),
+      count-append c (visible_in_lines d.lines) (visible_in_items d.paragraph.items),
     )
 
 end_open_count : {T M : Type 0} (c : ℕ) (d : DefinedBlock T M) (o : Option (OpenTable (Rows T M) T M)) →
-    d.table ≡ o → visible_count c d ≤ visible_count c (end_open d o)
+    d.table ≡ o → visible_count c d ≤ visible_count c (end_open definition d o)
 end_open_count c d None e = omega arith
 end_open_count {T} {M} c d (Some (Across p widths ahead row)) e =
     let own : Rows T M = with_open defined_pictures p row in
@@ -342,23 +344,23 @@ end_open_count {T} {M} c d (Some (Across p widths ahead row)) e =
     )
 end_open_count c d (Some (Stacked border has_lines)) e = let same = ap (table_count c) e in omega (arith, same)
 
-pub end_table_count : {T M : Type 0} (c : ℕ) (d : DefinedBlock T M) → visible_count c d ≤ visible_count c (end_table d)
+pub end_table_count : {T M : Type 0} (c : ℕ) (d : DefinedBlock T M) → visible_count c d ≤ visible_count c (end_table definition d)
 end_table_count c d = end_open_count c d d.table refl
 
-pub ended_none : {T M : Type 0} (d : DefinedBlock T M) → (end_table d).table ≡ None
+pub ended_none : {T M : Type 0} (d : DefinedBlock T M) → (end_table definition d).table ≡ None
 ended_none {T} {M} d = by d.table refl
   where
-    by : (o : Option (OpenTable (Rows T M) T M)) → d.table ≡ o → (end_open d o).table ≡ None
+    by : (o : Option (OpenTable (Rows T M) T M)) → d.table ≡ o → (end_open definition d o).table ≡ None
     by None e = e
     by (Some (Across p widths ahead row)) e = refl
     by (Some (Stacked border has_lines)) e = refl
 
 -- a flushed block, without its table: the lines have all
 pub flushed_count : {T M : Type 0} (c : ℕ) (d : DefinedBlock T M) →
-    IfSome (flush (end_table d)) (λ e. visible_count c d ≤ count c (visible_in_lines e.lines))
-flushed_count {T} {M} c d = by (flush (end_table d)) (flush_same (end_table d)) (flush_empties (end_table d))
+    IfSome (flush definition (end_table definition d)) (λ e. visible_count c d ≤ count c (visible_in_lines e.lines))
+flushed_count {T} {M} c d = by (flush definition (end_table definition d)) (flush_same (end_table definition d)) (flush_empties (end_table definition d))
   where
-    by : (o : Option (DefinedBlock T M)) → IfSome o (Same (end_table d)) → IfSome o (λ e. e.fed ≡ []) →
+    by : (o : Option (DefinedBlock T M)) → IfSome o (Same (end_table definition d)) → IfSome o (λ e. e.paragraph.items ≡ []) →
         IfSome o (λ e. visible_count c d ≤ count c (visible_in_lines e.lines))
     by None h k = tt
     by (Some e) h k =
@@ -368,14 +370,15 @@ flushed_count {T} {M} c d = by (flush (end_table d)) (flush_same (end_table d)) 
         omega (arith, block, all, before, end_table_count c d)
 
 append_count : {T M : Type 0} (c : ℕ) (d e : DefinedBlock T M) (t : T) (first later : List ℕ) →
-    IfSome (append d e t first later) (λ f. visible_count c d + visible_count c e ≤ visible_count c f)
+    IfSome (append definition d e t first later) (λ f. visible_count c d + visible_count c e ≤ visible_count c f)
 append_count {T} {M} c d e t first later =
     let More : DefinedBlock T M → Type 0 = λ f. visible_count c d + visible_count c e ≤ visible_count c f in
-    then_if (Same d) More _ (flush d) (flush_same d)
+    then_if (Same d) More _ (flush definition d) (flush_same d)
     (λ b h. then_if (λ (g : DefinedBlock T M). visible_count c e ≤ count c (visible_in_lines g.lines)) More
-    (λ (g : DefinedBlock T M). append_lines b (under t first) (under t later) g.lines g.marks) (flush (end_table e)) (flushed_count c e)
-    (λ g k. IfSome_then (append_lines b (under t first) (under t later) g.lines g.marks)
-    (append_lines_count c b (under t first) (under t later) g.lines g.marks)
+    (λ (g : DefinedBlock T M). append_lines definition b (under t first) (under t later) g.lines g.paragraph.waiting)
+    (flush definition (end_table definition e)) (flushed_count c e)
+    (λ g k. IfSome_then (append_lines definition b (under t first) (under t later) g.lines g.paragraph.waiting)
+    (append_lines_count c b (under t first) (under t later) g.lines g.paragraph.waiting)
     (λ f n. let same = ap (count c) h.0 in let table = ap (table_count c) h.1 in omega (arith, n, k, same, table))))
 
 -- the same in counts
@@ -385,57 +388,53 @@ same_count c d o h =
     IfSome_then o h (λ e k. let block = ap (count c) k.0 in let table = ap (table_count c) k.1 in omega (arith, block, table))
 
 add_inline_text_count : {T M : Type 0} (c : ℕ) (d : DefinedBlock T M) (style : TextStyle T) (cs : List ℕ) →
-    IfSome (add_inline_text d style cs) (λ e. visible_count c e ≡ visible_count c d + text_count c cs)
+    IfSome ((operations_of definition).add_inline_text d style cs) (λ e. visible_count c e ≡ visible_count c d + text_count c cs)
 add_inline_text_count c d style cs =
-    IfSome_then (add_inline_text d style cs) (add_inline_text_adds d style cs)
+    IfSome_then ((operations_of definition).add_inline_text d style cs) (add_inline_text_adds d style cs)
     (λ e h.
     let block = ap (count c) h.0 in
     let table = ap (table_count c) h.1 in
     omega (arith, block, table, count-append c (visible_in_block d) (visible_in_text cs)))
 
-add_mark_same : {T M : Type 0} (d : DefinedBlock T M) (m : M) → Same d (add_mark d m)
-add_mark_same d m = (ap (λ r. visible_in_lines d.lines ++ r) (items-append d.fed (Mark m ∷ []) ∙ append-nil (visible_in_items d.fed)), refl)
+add_mark_same : {T M : Type 0} (d : DefinedBlock T M) (m : M) → Same d (feed definition d (mark_items (m ∷ [])))
+add_mark_same d m =
+    (ap (λ r. visible_in_lines d.lines ++ r) (items-append d.paragraph.items (Mark m ∷ []) ∙ append-nil (visible_in_items d.paragraph.items)), refl)
 
 sub_block_count : {T M : Type 0} (c : ℕ) (d : DefinedBlock T M) (prefix inner : ℕ) →
-    IfSome (sub_block d prefix inner) (λ e. visible_count c e ≡ 0)
+    IfSome ((operations_of definition).sub_block d prefix inner) (λ e. visible_count c e ≡ 0)
 sub_block_count {T} {M} c d prefix inner =
-    map_if (λ v. Unit {0}) (λ e. visible_count c e ≡ 0) (λ (w : ℕ). empty_block {T = T} {M = M} (record d.setting { width = w }) d.padding)
+    map_if (λ v. Unit {0}) (λ e. visible_count c e ≡ 0) (λ (w : ℕ). inner_block definition d w)
     (inner_width d.setting prefix inner) (any (inner_width d.setting prefix inner)) (λ w _. refl)
 
-marked_before_same : {T M : Type 0} (ms : List M) (ls : List (Line T M)) → visible_in_lines (marked_before ms ls) ≡ visible_in_lines ls
-marked_before_same ms [] = refl
-marked_before_same {T} ms (l ∷ ls) = ap (λ r. r ++ visible_in_lines ls)
-    (visible_in_line-append (marks_line ms) l ∙ ap (λ r. r ++ visible_in_line l) (visible_in_line-marks T ms))
-
 add_lines_gains : {T M : Type 0} (c : ℕ) (d : DefinedBlock T M) (ls : List (Line T M)) →
-    visible_count c d + count c (visible_in_lines ls) ≤ visible_count c (add_lines d ls)
+    visible_count c d + count c (visible_in_lines ls) ≤ visible_count c (add_lines definition d ls)
 add_lines_gains c d ls =
-    let more = marked_before d.marks ls in
-    let same = ap (count c) (marked_before_same d.marks ls) in
+    let more = marked_before d.paragraph.waiting ls in
+    let same = ap (count c) (marked_before_same d.paragraph.waiting ls) in
     let e : count c (visible_in_lines (d.lines ++ more)) ≡ count c (visible_in_lines d.lines) + count c (visible_in_lines more) =
     ap (count c) (lines-append d.lines more) ∙ count-append c (visible_in_lines d.lines) (visible_in_lines more) in
     omega (
       arith,
       e,
       same,
-      count-append c (visible_in_lines d.lines) (visible_in_items d.fed),
-      count-append c (visible_in_lines (d.lines ++ more)) (visible_in_items d.fed),
+      count-append c (visible_in_lines d.lines) (visible_in_items d.paragraph.items),
+      count-append c (visible_in_lines (d.lines ++ more)) (visible_in_items d.paragraph.items),
     )
 
-pub add_lines_count : {T M : Type 0} (c : ℕ) (d : DefinedBlock T M) (ls : List (Line T M)) → visible_count c d ≤ visible_count c (add_lines d ls)
+pub add_lines_count : {T M : Type 0} (c : ℕ) (d : DefinedBlock T M) (ls : List (Line T M)) → visible_count c d ≤ visible_count c (add_lines definition d ls)
 add_lines_count c d ls = let gains = add_lines_gains c d ls in omega (arith, gains)
 
 add_border_count : {T M : Type 0} (c : ℕ) (d : DefinedBlock T M) (border : Option T) (character : ℕ) →
-    visible_count c d ≤ visible_count c (add_border d border character)
+    visible_count c d ≤ visible_count c (add_border definition d border character)
 add_border_count c d None character = omega arith
 add_border_count c d (Some tag) character = add_lines_count c d (rule tag character d.setting.width ∷ [])
 
-border_table : {T M : Type 0} (d : DefinedBlock T M) (border : Option T) (character : ℕ) → (add_border d border character).table ≡ d.table
+border_table : {T M : Type 0} (d : DefinedBlock T M) (border : Option T) (character : ℕ) → (add_border definition d border character).table ≡ d.table
 border_table d None character = refl
 border_table d (Some tag) character = refl
 
 table_begun_count : {T M : Type 0} (c : ℕ) (d : DefinedBlock T M) (tag : T) (borders : Bool) (ahead : List (List PlacedCell)) (o : Option (List ℕ)) →
-    d.table ≡ None → visible_count c d ≤ visible_count c (table_begun d tag borders ahead o)
+    d.table ≡ None → visible_count c d ≤ visible_count c (table_begun definition d tag borders ahead o)
 table_begun_count c d tag borders ahead None none =
     let border = stacked_border tag borders d.setting.width in
     let table = ap (table_count c) (border_table d border 0x2500) in
@@ -444,9 +443,11 @@ table_begun_count c d tag borders ahead None none =
 table_begun_count c d tag borders ahead (Some ws) none = let own = ap (table_count c) none in omega (arith, own)
 
 begin_table_count : {T M : Type 0} (c : ℕ) (d : DefinedBlock T M) (tag : T) (borders stacked : Bool) (grid : CellGrid)
-    (needs : List ColumnNeed) → IfSome (begin_table d tag borders stacked grid needs) (λ e. visible_count c d ≤ visible_count c e)
+    (needs : List ColumnNeed) → IfSome ((operations_of definition).begin_table d tag borders stacked grid needs)
+    (λ e. visible_count c d ≤ visible_count c e)
 begin_table_count {T} {M} c d tag borders stacked grid needs =
-    map_if (Same (end_table d)) (λ (e : DefinedBlock T M). visible_count c d ≤ visible_count c e) _ (flush (end_table d)) (flush_same (end_table d))
+    map_if (Same (end_table definition d)) (λ (e : DefinedBlock T M). visible_count c d ≤ visible_count c e) _
+    (flush definition (end_table definition d)) (flush_same (end_table definition d))
     (λ e h.
     let block = ap (count c) h.0 in
     let table = ap (table_count c) h.1 in
@@ -466,9 +467,9 @@ skip_cell_count c (Some (Across p widths ahead None)) = refl
 skip_cell_count c (Some (Across p widths ahead (Some row))) = omega (arith, with_cell_count c row [])
 skip_cell_count c (Some (Stacked border has_lines)) = refl
 
-cell_block_count : {T M : Type 0} (c : ℕ) (d : DefinedBlock T M) → IfSome (cell_block d) (λ e. visible_count c e ≡ 0)
+cell_block_count : {T M : Type 0} (c : ℕ) (d : DefinedBlock T M) → IfSome ((operations_of definition).cell_block d) (λ e. visible_count c e ≡ 0)
 cell_block_count {T} {M} c d =
-    map_if (λ v. Unit {0}) (λ e. visible_count c e ≡ 0) (λ (w : ℕ). empty_block {T = T} {M = M} (record d.setting { width = w }) d.padding)
+    map_if (λ v. Unit {0}) (λ e. visible_count c e ≡ 0) (λ (w : ℕ). inner_block definition d w)
     (next_cell_width d.setting.width d.table) (any (next_cell_width d.setting.width d.table)) (λ w _. refl)
 
 -- the block e has what the block d has, and as many more
@@ -476,19 +477,19 @@ abbrev Gains : {T M : Type 0} → (c n : ℕ) → DefinedBlock T M → DefinedBl
 Gains c n d e = visible_count c d + n ≤ visible_count c e
 
 -- marks that are fed to a block are nothing
-add_marks_count : {T M : Type 0} (c : ℕ) (d : DefinedBlock T M) (ms : List M) → visible_count c (add_marks d ms) ≡ visible_count c d
+add_marks_count : {T M : Type 0} (c : ℕ) (d : DefinedBlock T M) (ms : List M) → visible_count c (feed definition d (mark_items ms)) ≡ visible_count c d
 add_marks_count {T} {M} c d ms =
-    let fed = ap (count c) (items-append d.fed (mark_items {T = T} ms)
-    ∙ ap (λ r. visible_in_items d.fed ++ r) (items-marks T ms) ∙ append-nil (visible_in_items d.fed)) in
+    let fed = ap (count c) (items-append d.paragraph.items (mark_items {T = T} ms)
+    ∙ ap (λ r. visible_in_items d.paragraph.items ++ r) (items-marks T ms) ∙ append-nil (visible_in_items d.paragraph.items)) in
     omega (
       arith,
       fed,
-      count-append c (visible_in_lines d.lines) (visible_in_items d.fed),
-      count-append c (visible_in_lines d.lines) (visible_in_items (d.fed ++ mark_items {T = T} ms)),
+      count-append c (visible_in_lines d.lines) (visible_in_items d.paragraph.items),
+      count-append c (visible_in_lines d.lines) (visible_in_items (d.paragraph.items ++ mark_items {T = T} ms)),
     )
 
 put_lines_count : {T M : Type 0} (c : ℕ) (d : DefinedBlock T M) (ls : List (Line T M)) (ms : List M) →
-    Gains c (count c (visible_in_lines ls)) d (put_lines d ls ms)
+    Gains c (count c (visible_in_lines ls)) d (put_lines definition d ls ms)
 put_lines_count c d [] ms = let same = add_marks_count c d ms in omega (arith, same)
 put_lines_count c d (l ∷ ls) ms =
     let same = ap (count c) (marked_behind_same ms (l ∷ ls)) in
@@ -496,67 +497,70 @@ put_lines_count c d (l ∷ ls) ms =
     omega (arith, same, gains)
 
 -- the open table of a block whose cells stand one below another has nothing
-put_lines_table : {T M : Type 0} (d : DefinedBlock T M) (ls : List (Line T M)) (ms : List M) → (put_lines d ls ms).table ≡ d.table
+put_lines_table : {T M : Type 0} (d : DefinedBlock T M) (ls : List (Line T M)) (ms : List M) → (put_lines definition d ls ms).table ≡ d.table
 put_lines_table d [] ms = refl
 put_lines_table d (l ∷ ls) ms = refl
 
 put_stacked_count : {T M : Type 0} (c : ℕ) (d cell : DefinedBlock T M) (border : Option T) (has_lines more : Bool) → table_count c d.table ≡ 0 →
-    Gains c (count c (visible_in_lines cell.lines)) d (put_stacked d border has_lines more cell)
+    Gains c (count c (visible_in_lines cell.lines)) d (put_stacked definition d border has_lines more cell)
 put_stacked_count {T} {M} c d cell border has_lines more none = by (has_lines && more)
   where
     put : (e : DefinedBlock T M) → visible_count c d ≤ visible_count c e → table_count c e.table ≡ 0 →
-        Gains c (count c (visible_in_lines cell.lines)) d (record (put_below e cell) { table = Some (Stacked border (has_lines || more)) })
+        Gains c (count c (visible_in_lines cell.lines)) d (record (put_below definition e cell) { table = Some (Stacked border (has_lines || more)) })
     put e le empty =
-        let gains = put_lines_count c e cell.lines cell.marks in
-        let table = ap (table_count c) (put_lines_table e cell.lines cell.marks) in
+        let gains = put_lines_count c e cell.lines cell.paragraph.waiting in
+        let table = ap (table_count c) (put_lines_table e cell.lines cell.paragraph.waiting) in
         omega (arith, gains, table, le, empty)
 
     by : (b : Bool) → Gains c (count c (visible_in_lines cell.lines)) d
-        (record (put_below (cond b (add_border d border 0x2F) d) cell) { table = Some (Stacked border (has_lines || more)) })
-    by true = put (add_border d border 0x2F) (add_border_count c d border 0x2F) (ap (table_count c) (border_table d border 0x2F) ∙ none)
+        (record (put_below definition (cond b (add_border definition d border 0x2F) d) cell) { table = Some (Stacked border (has_lines || more)) })
+    by true = put (add_border definition d border 0x2F) (add_border_count c d border 0x2F) (ap (table_count c) (border_table d border 0x2F) ∙ none)
     by false = put d (omega arith) none
 
 -- what a flush is followed by
 flushed_gains : {T M : Type 0} (c n : ℕ) (d : DefinedBlock T M) (f : DefinedBlock T M → DefinedBlock T M) →
-    ((e : DefinedBlock T M) → e.table ≡ d.table → Gains c n e (f e)) → IfSome (option_map f (flush d)) (Gains c n d)
+    ((e : DefinedBlock T M) → e.table ≡ d.table → Gains c n e (f e)) → IfSome (option_map f (flush definition d)) (Gains c n d)
 flushed_gains {T} {M} c n d f next =
-    map_if (Same d) (Gains c n d) f (flush d) (flush_same d) (λ e h.
+    map_if (Same d) (Gains c n d) f (flush definition d) (flush_same d) (λ e h.
     let gains = next e h.1 in
     let block = ap (count c) h.0 in
     let table = ap (table_count c) h.1 in
     omega (arith, gains, block, table))
 
 cell_added_count : {T M : Type 0} (c : ℕ) (d : DefinedBlock T M) (o : Option (OpenTable (Rows T M) T M)) (cell : DefinedBlock T M) →
-    d.table ≡ o → IfSome (cell_added d o cell) (Gains c (count c (visible_in_lines cell.lines)) d)
+    d.table ≡ o → IfSome (cell_added definition d o cell) (Gains c (count c (visible_in_lines cell.lines)) d)
 cell_added_count c d None cell e =
-    flushed_gains c (count c (visible_in_lines cell.lines)) d (λ b. put_below b cell) (λ b _. put_lines_count c b cell.lines cell.marks)
+    flushed_gains c (count c (visible_in_lines cell.lines)) d (λ b. put_below definition b cell)
+    (λ b _. put_lines_count c b cell.lines cell.paragraph.waiting)
 cell_added_count c d (Some (Across p widths ahead None)) cell e =
-    flushed_gains c (count c (visible_in_lines cell.lines)) d (λ b. put_below b cell) (λ b _. put_lines_count c b cell.lines cell.marks)
+    flushed_gains c (count c (visible_in_lines cell.lines)) d (λ b. put_below definition b cell)
+    (λ b _. put_lines_count c b cell.lines cell.paragraph.waiting)
 cell_added_count c d (Some (Across p widths ahead (Some row))) cell e =
     omega (
       arith,
       ap (table_count c) e,
-      with_cell_count c row (kept_cell cell ∷ []),
+      with_cell_count c row (kept_cell definition cell ∷ []),
       ap (count c) (append-nil (visible_in_lines cell.lines)),
     )
 cell_added_count c d (Some (Stacked border has_lines)) cell e =
-    flushed_gains c (count c (visible_in_lines cell.lines)) d (λ b. put_stacked b border has_lines (not (is_empty cell.lines)) cell)
+    flushed_gains c (count c (visible_in_lines cell.lines)) d (λ b. put_stacked definition b border has_lines (not (is_empty cell.lines)) cell)
     (λ b h. put_stacked_count c b cell border has_lines (not (is_empty cell.lines)) (ap (table_count c) (h ∙ e)))
 
 add_cell_count : {T M : Type 0} (c : ℕ) (d cell : DefinedBlock T M) →
-    IfSome (add_cell d cell) (λ e. visible_count c d + visible_count c cell ≤ visible_count c e)
+    IfSome (add_cell definition d cell) (λ e. visible_count c d + visible_count c cell ≤ visible_count c e)
 add_cell_count {T} {M} c d cell =
     then_if (λ (f : DefinedBlock T M). visible_count c cell ≤ count c (visible_in_lines f.lines))
-    (λ (e : DefinedBlock T M). visible_count c d + visible_count c cell ≤ visible_count c e) (cell_added d d.table) (flush (end_table cell))
+    (λ (e : DefinedBlock T M). visible_count c d + visible_count c cell ≤ visible_count c e) (cell_added definition d d.table)
+    (flush definition (end_table definition cell))
     (flushed_count c cell)
-    (λ f h. IfSome_then (cell_added d d.table f) (cell_added_count c d d.table f refl) (λ e k. omega (arith, h, k)))
+    (λ f h. IfSome_then (cell_added definition d d.table f) (cell_added_count c d d.table f refl) (λ e k. omega (arith, h, k)))
 
 row_ended_count : {T M : Type 0} (c : ℕ) (d : DefinedBlock T M) (o : Option (OpenTable (Rows T M) T M)) → d.table ≡ o →
-    IfSome (row_ended d o) (λ e. visible_count c d ≤ visible_count c e)
+    IfSome (row_ended definition d o) (λ e. visible_count c d ≤ visible_count c e)
 row_ended_count c d None e = omega arith
 row_ended_count c d (Some (Across p widths ahead row)) e = omega (arith, ap (table_count c) e, with_open_count c p row)
 row_ended_count {T} {M} c d (Some (Stacked border true)) e =
-    map_if (Same d) (λ (f : DefinedBlock T M). visible_count c d ≤ visible_count c f) _ (flush d) (flush_same d)
+    map_if (Same d) (λ (f : DefinedBlock T M). visible_count c d ≤ visible_count c f) _ (flush definition d) (flush_same d)
     (λ f h.
     let block = ap (count c) h.0 in
     let table = ap (table_count c) (h.1 ∙ e) in
@@ -567,12 +571,13 @@ row_ended_count c d (Some (Stacked border false)) e = omega arith
 
 -- THE LAW: a visible character stands in a block as often as it was fed, or more often
 pub operations_keep_visible : {T : Type 0} (c : ℕ) → Counts (visible_count c) (text_count c) (operations {T = T})
+unfolding operations
 operations_keep_visible c = record {
   add_inline_text = add_inline_text_count c;
   add_mark = λ d m. let same = add_mark_same d m in ap (λ cs. count c cs + table_count c d.table) same.0;
-  new_line = λ d. same_count c d (flush d) (flush_same d);
-  new_line_hard = λ d. same_count c d (new_line_hard d) (new_line_hard_same d);
-  start_block = λ d. same_count c d (start_block d) (start_block_same d);
+  new_line = λ d. same_count c d (flush definition d) (flush_same d);
+  new_line_hard = λ d. same_count c d ((operations_of definition).new_line_hard d) (new_line_hard_same d);
+  start_block = λ d. same_count c d (start_block definition d) (start_block_same d);
   end_block = λ d. refl;
   sub_block = sub_block_count c;
   append = append_count c;

@@ -1,12 +1,10 @@
 -- What is said of all operations on blocks.
-use Rattle.std.specs.Prelude.{◌≡◌, ℕ, ◌+◌, ◌≤◌, Bool, List, Option, Some, None, option_map, IfSome, IsSomeAnd}
-use Rattle.std.proofs.Common.{refl, ap, ◌∙◌}
+use Rattle.std.specs.Prelude.{◌≡◌, ℕ, ◌+◌, ◌≤◌, Bool, List, Some, option_map, IfSome, IsSomeAnd}
 use Rattle.html_render_parts.specs.declared.widths.shares.ColumnNeed.{ColumnNeed}
 use Rattle.html_render_lines.specs.declared.character.TextStyle.{TextStyle}
 use Rattle.html_render_paragraphs.specs.laws.Tags.{style_with}
-use Rattle.html_render_parts.specs.declared.table.PlacedCell.{PlacedCell}
 use Rattle.html_render_parts.specs.TableCells.{CellGrid}
-use Rattle.html_render_blocks.specs.Operations.{Operations}
+use Rattle.html_render_blocks.specs.Operations.{Operations, Ending}
 
 -- each operation keeps what P i says of a block, where it has an answer; a block inside it has an i of its own
 pub record Keeps {B T I : Type 0} (o : Operations B T) (P : I → B → Type 0) : Type 0 where
@@ -67,6 +65,12 @@ pub record Commutes {A B T U : Type 0} (f : A → B) (g : T → U) (o : Operatio
   pub end_row : (a : A) → p.end_row (f a) ≡ option_map f (o.end_row a)
   pub end_table : (a : A) → p.end_table (f a) ≡ f (o.end_table a)
 
+-- and so are those that a document ends with
+pub record EndsAlike {A B T U : Type 0} (f : A → B) (g : T → U) (o : Ending A T) (p : Ending B U) : Type 0 where
+  pub finish : (a : A) → p.finish (f a) ≡ option_map f (o.finish a)
+  pub add_closing_lines : (a : A) (cut : Bool) (t : T) (ts : List (List ℕ)) →
+      p.add_closing_lines (f a) cut (g t) ts ≡ option_map f (o.add_closing_lines a cut t ts)
+
 -- where an operation has an answer, it has the same after the map f
 pub record Refines {B T : Type 0} (f : B → B) (o : Operations B T) : Type 0 where
   pub add_inline_text : (b : B) (s : TextStyle T) (cs : List ℕ) →
@@ -106,33 +110,3 @@ pub record Counts {B T : Type 0} (v : B → ℕ) (w : List ℕ → ℕ) (o : Ope
   pub skip_cell : (b : B) → v (o.skip_cell b) ≡ v b
   pub end_row : (b : B) → IfSome (o.end_row b) (λ c. v b ≤ v c)
   pub end_table : (b : B) → v b ≤ v (o.end_table b)
-
--- one map after another
-pub map_map : {X Y Z : Type 0} (f : X → Y) (g : Y → Z) (o : Option X) → option_map g (option_map f o) ≡ option_map (λ x. g (f x)) o
-map_map f g None = refl
-map_map f g (Some x) = refl
-
--- one pair of maps after another
-pub Commutes-then : {A B C T U V : Type 0} (f : A → B) (g : T → U) (h : B → C) (k : U → V) (o : Operations A T) (p : Operations B U)
-    (q : Operations C V) →
-    Commutes f g o p → Commutes h k p q → Commutes (λ a. h (f a)) (λ t. k (g t)) o q
-Commutes-then f g h k o p q c d = record {
-  add_inline_text = λ a s cs. d.add_inline_text (f a) (style_with g s) cs ∙ ap (option_map h) (c.add_inline_text a s cs)
-      ∙ map_map f h (o.add_inline_text a s cs);
-  add_mark = λ a m. d.add_mark (f a) m ∙ ap h (c.add_mark a m);
-  new_line = λ a. d.new_line (f a) ∙ ap (option_map h) (c.new_line a) ∙ map_map f h (o.new_line a);
-  new_line_hard = λ a. d.new_line_hard (f a) ∙ ap (option_map h) (c.new_line_hard a) ∙ map_map f h (o.new_line_hard a);
-  start_block = λ a. d.start_block (f a) ∙ ap (option_map h) (c.start_block a) ∙ map_map f h (o.start_block a);
-  end_block = λ a. d.end_block (f a) ∙ ap h (c.end_block a);
-  sub_block = λ a n k. d.sub_block (f a) n k ∙ ap (option_map h) (c.sub_block a n k) ∙ map_map f h (o.sub_block a n k);
-  append = λ a b t cs ds. d.append (f a) (f b) (g t) cs ds ∙ ap (option_map h) (c.append a b t cs ds)
-      ∙ map_map f h (o.append a b t cs ds);
-  begin_table = λ a t borders stacked grid needs. d.begin_table (f a) (g t) borders stacked grid needs
-      ∙ ap (option_map h) (c.begin_table a t borders stacked grid needs) ∙ map_map f h (o.begin_table a t borders stacked grid needs);
-  begin_row = λ a. d.begin_row (f a) ∙ ap h (c.begin_row a);
-  cell_block = λ a. d.cell_block (f a) ∙ ap (option_map h) (c.cell_block a) ∙ map_map f h (o.cell_block a);
-  add_cell = λ a b. d.add_cell (f a) (f b) ∙ ap (option_map h) (c.add_cell a b) ∙ map_map f h (o.add_cell a b);
-  skip_cell = λ a. d.skip_cell (f a) ∙ ap h (c.skip_cell a);
-  end_row = λ a. d.end_row (f a) ∙ ap (option_map h) (c.end_row a) ∙ map_map f h (o.end_row a);
-  end_table = λ a. d.end_table (f a) ∙ ap h (c.end_table a);
-}

@@ -5,7 +5,9 @@ ghost use Rattle.html_render_values.specs.Outcome.{Refuses};
 ghost use Rattle.html_render_pictures.specs.Picture.{is_empty};
 ghost use Rattle.html_render_blocks.specs.OpenRows.{open_row};
 ghost use Rattle.html_render_blocks.specs.Tables.{drawn_pictures, with_row_open, next_cell_width, skipped, with_next, with_row_over, cell_place};
-ghost use Rattle.html_render_blocks.specs.BlockMachine as machine;
+ghost use Rattle.html_render_blocks.specs.Block as block;
+ghost use Rattle.html_render_blocks.specs.Machine as machine;
+ghost use Rattle.html_render_blocks.specs.Machine.{machine};
 
 use super::rows::{OpenRow, Widths};
 use super::tables::OpenTable;
@@ -141,8 +143,9 @@ impl<T: Tag, M: Copy> Block<T, M> {
     /// # Errors
     ///
     /// `OutOfMemory`.
+    #[tactic(auto, unfolding(crate::specs::Machine::operations))]
     pub fn begin_row(&mut self) -> Result<(), Error>
-        ensures ok { OnOk result (self.new ≡ machine.begin_row self.old) }
+        ensures ok { OnOk result (self.new ≡ machine.operations.begin_row self.old) }
         ensures err { IfErr result (λ e. e ≡ Error.OutOfMemory) }
     {
         let alloc = self.alloc;
@@ -165,8 +168,9 @@ impl<T: Tag, M: Copy> Block<T, M> {
     /// An empty block for the next cell of the row that is open, as wide as the cell's place; none where the cell is skipped,
     /// since it has no columns. Where no row is open and where cells stand one below another, it is as wide as this block.
     #[inline(always)]
+    #[tactic(auto, unfolding(crate::specs::Machine::operations))]
     pub fn cell_block(&self) -> Option<Block<T, M>>
-        ensures { result ≡ machine.cell_block self.now }
+        ensures { result ≡ machine.operations.cell_block self.now }
     {
         let width = self.next_cell_width()?;
         let setting = BlockSetting {
@@ -182,8 +186,9 @@ impl<T: Tag, M: Copy> Block<T, M> {
     /// # Errors
     ///
     /// `OutOfMemory`.
+    #[tactic(auto, unfolding(crate::specs::Machine::operations))]
     pub fn skip_cell(&mut self) -> Result<(), Error>
-        ensures ok { OnOk result (self.new ≡ machine.skip_cell self.old) }
+        ensures ok { OnOk result (self.new ≡ machine.operations.skip_cell self.old) }
         ensures err { IfErr result (λ e. e ≡ Error.OutOfMemory) }
     {
         let alloc = self.alloc;
@@ -206,7 +211,7 @@ impl<T: Tag, M: Copy> Block<T, M> {
     /// A flushed block as a cell.
     #[inline(always)]
     fn into_cell(mut self) -> Cell<T, M>
-        ensures { result ≡ machine.kept_cell self }
+        ensures { result ≡ block.kept_cell machine self }
     {
         let marks = self.take_waiting();
         Cell {
@@ -241,7 +246,7 @@ impl<T: Tag, M: Copy> Block<T, M> {
 
     /// Adds lines and the marks that wait behind them. Where there are no lines, all marks wait.
     fn put_lines(&mut self, mut lines: Lines<T, M>, marks: &[M]) -> Result<(), Error>
-        ensures ok { OnOk result (self.new ≡ machine.put_lines self.old lines marks.now) }
+        ensures ok { OnOk result (self.new ≡ block.put_lines machine self.old lines marks.now) }
         ensures err { IfErr result (λ e. e ≡ Error.OutOfMemory) }
     {
         if lines.is_empty() {
@@ -255,7 +260,7 @@ impl<T: Tag, M: Copy> Block<T, M> {
 
     /// Adds the lines of a flushed block, as this one is.
     fn put_below(&mut self, cell: Block<T, M>) -> Result<(), Error>
-        ensures ok { OnOk result (self.new ≡ machine.put_below self.old cell) }
+        ensures ok { OnOk result (self.new ≡ block.put_below machine self.old cell) }
         ensures err { IfErr result (λ e. e ≡ Error.OutOfMemory) }
     {
         let Cell { lines, marks, .. } = cell.into_cell();
@@ -269,7 +274,7 @@ impl<T: Tag, M: Copy> Block<T, M> {
         has_lines: bool,
         cell: Block<T, M>,
     ) -> Result<(), Error>
-        ensures ok { OnOk result (self.new ≡ machine.put_stacked self.old border has_lines (not (is_empty cell.lines)) cell) }
+        ensures ok { OnOk result (self.new ≡ block.put_stacked machine self.old border has_lines (not (is_empty cell.lines)) cell) }
         ensures err { IfErr result (λ e. e ≡ Error.OutOfMemory) }
     {
         let more = !cell.lines.is_empty();
@@ -284,8 +289,8 @@ impl<T: Tag, M: Copy> Block<T, M> {
     /// Adds a cell that is flushed below the lines of this block.
     #[tactic(auto, using(html_render_values::specs::laws::Outcome::refusals))]
     fn flush_and_put_below(&mut self, cell: Block<T, M>) -> Result<(), Error>
-        ensures ok { OnOk result (option_map (λ e. machine.put_below e cell) (machine.flush self.old) ≡ Some self.new) }
-        ensures err { IfErr result (λ e. Refuses e (option_map (λ e. machine.put_below e cell) (machine.flush self.old))) }
+        ensures ok { OnOk result (option_map (λ e. block.put_below machine e cell) (block.flush machine self.old) ≡ Some self.new) }
+        ensures err { IfErr result (λ e. Refuses e (option_map (λ e. block.put_below machine e cell) (block.flush machine self.old))) }
     {
         self.flush()?;
         self.put_below(cell)
@@ -299,10 +304,10 @@ impl<T: Tag, M: Copy> Block<T, M> {
         has_lines: bool,
         cell: Block<T, M>,
     ) -> Result<(), Error>
-        ensures ok { OnOk result (option_map (λ e. machine.put_stacked e border has_lines (not (is_empty cell.lines)) cell) (machine.flush self.old)
+        ensures ok { OnOk result (option_map (λ e. block.put_stacked machine e border has_lines (not (is_empty cell.lines)) cell) (block.flush machine self.old)
             ≡ Some self.new) }
-        ensures err { IfErr result (λ e. Refuses e (option_map (λ e. machine.put_stacked e border has_lines (not (is_empty cell.lines)) cell)
-            (machine.flush self.old))) }
+        ensures err { IfErr result (λ e. Refuses e (option_map (λ e. block.put_stacked machine e border has_lines (not (is_empty cell.lines)) cell)
+            (block.flush machine self.old))) }
     {
         self.flush()?;
         self.put_stacked(border, has_lines, cell)
@@ -312,8 +317,8 @@ impl<T: Tag, M: Copy> Block<T, M> {
     #[inline(always)]
     #[tactic(auto, using(html_render_values::specs::laws::Outcome::refusals, crate::proofs::Cells::cells_added))]
     fn add_flushed(&mut self, cell: Block<T, M>) -> Result<(), Error>
-        ensures ok { OnOk result (machine.cell_added self.old self.old.table cell ≡ Some self.new) }
-        ensures err { IfErr result (λ e. Refuses e (machine.cell_added self.old self.old.table cell)) }
+        ensures ok { OnOk result (block.cell_added machine self.old self.old.table cell ≡ Some self.new) }
+        ensures err { IfErr result (λ e. Refuses e (block.cell_added machine self.old self.old.table cell)) }
     {
         match self.cell_place() {
             CellPlace::InRow => {
@@ -336,10 +341,10 @@ impl<T: Tag, M: Copy> Block<T, M> {
     ///
     /// `TooNarrow`, as in [`flush`](Block::flush) of either block. `OutOfMemory`.
     #[inline(always)]
-    #[tactic(auto, using(html_render_values::specs::laws::Outcome::refusals))]
+    #[tactic(auto, using(html_render_values::specs::laws::Outcome::refusals), unfolding(crate::specs::Machine::operations))]
     pub fn add_cell(&mut self, mut cell: Block<T, M>) -> Result<(), Error>
-        ensures ok { OnOk result (machine.add_cell self.old cell ≡ Some self.new) }
-        ensures err { IfErr result (λ e. Refuses e (machine.add_cell self.old cell)) }
+        ensures ok { OnOk result (machine.operations.add_cell self.old cell ≡ Some self.new) }
+        ensures err { IfErr result (λ e. Refuses e (machine.operations.add_cell self.old cell)) }
     {
         cell.flush_whole()?;
         self.add_flushed(cell)
@@ -348,8 +353,8 @@ impl<T: Tag, M: Copy> Block<T, M> {
     /// Draws a border below a row of cells one below another.
     #[tactic(auto, using(html_render_values::specs::laws::Outcome::refusals))]
     fn end_stacked_row(&mut self, border: Option<T>) -> Result<(), Error>
-        ensures ok { OnOk result (option_map (λ e. machine.stacked_begun e border) (machine.flush self.old) ≡ Some self.new) }
-        ensures err { IfErr result (λ e. Refuses e (option_map (λ e. machine.stacked_begun e border) (machine.flush self.old))) }
+        ensures ok { OnOk result (option_map (λ e. block.stacked_begun machine e border) (block.flush machine self.old) ≡ Some self.new) }
+        ensures err { IfErr result (λ e. Refuses e (option_map (λ e. block.stacked_begun machine e border) (block.flush machine self.old))) }
     {
         self.flush()?;
         self.begin_stacked(border)?;
@@ -362,10 +367,10 @@ impl<T: Tag, M: Copy> Block<T, M> {
     /// # Errors
     ///
     /// `TooNarrow`, as in [`flush`](Block::flush). `OutOfMemory`.
-    #[tactic(auto, using(html_render_values::specs::laws::Outcome::refusals, crate::proofs::Cells::rows_ended))]
+    #[tactic(auto, using(html_render_values::specs::laws::Outcome::refusals, crate::proofs::Cells::rows_ended), unfolding(crate::specs::Machine::operations))]
     pub fn end_row(&mut self) -> Result<(), Error>
-        ensures ok { OnOk result (machine.end_row self.old ≡ Some self.new) }
-        ensures err { IfErr result (λ e. Refuses e (machine.end_row self.old)) }
+        ensures ok { OnOk result (machine.operations.end_row self.old ≡ Some self.new) }
+        ensures err { IfErr result (λ e. Refuses e (machine.operations.end_row self.old)) }
     {
         match self.cell_place() {
             CellPlace::InRow => self.draw_row(),

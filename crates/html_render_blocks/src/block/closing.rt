@@ -9,7 +9,9 @@ ghost use Rattle.html_render_paragraphs.specs.CutText.{text_lines};
 ghost use Rattle.html_render_lines.specs.TaggedText.{under};
 ghost use Rattle.html_render_pictures.specs.Marked.{marked_behind};
 ghost use Rattle.html_render_blocks.specs.Closing.{line_setting, unbroken, on_one_line, closing_lines};
-ghost use Rattle.html_render_blocks.specs.BlockMachine as machine;
+ghost use Rattle.html_render_blocks.specs.Block as block;
+ghost use Rattle.html_render_blocks.specs.Machine as machine;
+ghost use Rattle.html_render_blocks.specs.Machine.{machine};
 
 use super::{Block, BlockSetting};
 use html_render_lines::line::{Line, text_columns};
@@ -29,7 +31,7 @@ impl<T: Tag, M: Copy> Block<T, M> {
 
     /// Puts the marks that wait at the end of the last line. Where there is no line, they wait on.
     fn mark_end(&mut self) -> Result<(), AllocError>
-        ensures { OnOk result (self.new ≡ machine.end_behind self.old self.old.lines) }
+        ensures { OnOk result (self.new ≡ block.end_behind machine self.old self.old.lines) }
     {
         if self.lines.is_empty() {
             return Ok(());
@@ -44,10 +46,10 @@ impl<T: Tag, M: Copy> Block<T, M> {
     /// # Errors
     ///
     /// `TooNarrow`, as in [`flush`](Block::flush). `OutOfMemory`.
-    #[tactic(auto, using(html_render_values::specs::laws::Outcome::refusals))]
+    #[tactic(auto, using(html_render_values::specs::laws::Outcome::refusals), unfolding(crate::specs::Machine::ending))]
     pub fn finish(&mut self) -> Result<(), Error>
-        ensures ok { OnOk result (machine.finish self.old ≡ Some self.new) }
-        ensures err { IfErr result (λ e. Refuses e (machine.finish self.old)) }
+        ensures ok { OnOk result (machine.ending.finish self.old ≡ Some self.new) }
+        ensures err { IfErr result (λ e. Refuses e (machine.ending.finish self.old)) }
     {
         self.flush_whole()?;
         self.mark_end()?;
@@ -64,7 +66,7 @@ impl<T: Tag, M: Copy> Block<T, M> {
 
     /// Adds lines as they are, the first one behind the marks that wait.
     pub(super) fn add_lines(&mut self, mut lines: Lines<T, M>) -> Result<(), AllocError>
-        ensures { OnOk result (self.new ≡ machine.add_lines self.old lines) }
+        ensures { OnOk result (self.new ≡ block.add_lines machine self.old lines) }
     {
         let marks = self.take_waiting();
         lines.mark_first(marks.as_slice())?;
@@ -80,10 +82,10 @@ impl<T: Tag, M: Copy> Block<T, M> {
     ///
     /// `TooNarrow`, as in [`flush`](Block::flush), and where a text that is cut has a character wider than the block, with
     /// overflow off. `OutOfMemory`.
-    #[tactic(auto, using(html_render_values::specs::laws::Outcome::refusals))]
+    #[tactic(auto, using(html_render_values::specs::laws::Outcome::refusals), unfolding(crate::specs::Machine::operations, crate::specs::Machine::ending))]
     pub fn add_closing_lines(&mut self, texts: &[String], tag: T, cut: bool) -> Result<(), Error>
-        ensures ok { OnOk result (machine.add_closing_lines self.old cut tag (map (λ t. chars (string_bytes t)) texts.now) ≡ Some self.new) }
-        ensures err { IfErr result (λ e. Refuses e (machine.add_closing_lines self.old cut tag (map (λ t. chars (string_bytes t)) texts.now))) }
+        ensures ok { OnOk result (machine.ending.add_closing_lines self.old cut tag (map (λ t. chars (string_bytes t)) texts.now) ≡ Some self.new) }
+        ensures err { IfErr result (λ e. Refuses e (machine.ending.add_closing_lines self.old cut tag (map (λ t. chars (string_bytes t)) texts.now))) }
     {
         if texts.is_empty() {
             return Ok(());

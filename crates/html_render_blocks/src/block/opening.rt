@@ -7,7 +7,9 @@ ghost use Rattle.html_render_parts.specs.Shares.{widths_across};
 ghost use Rattle.html_render_parts.specs.TableCells.{rows_on};
 ghost use Rattle.html_render_blocks.specs.declared.block.tables.OpenTable.TheVariants.{Stacked};
 ghost use Rattle.html_render_blocks.specs.Tables.{frame_of, rule, stacked_border};
-ghost use Rattle.html_render_blocks.specs.BlockMachine as machine;
+ghost use Rattle.html_render_blocks.specs.Block as block;
+ghost use Rattle.html_render_blocks.specs.Machine as machine;
+ghost use Rattle.html_render_blocks.specs.Machine.{machine};
 ghost use Rattle.html_render_pictures.specs.Padding.{character_of};
 
 use super::Block;
@@ -91,7 +93,7 @@ fn rule<T: Tag, M: Copy>(
 impl<T: Tag, M: Copy> Block<T, M> {
     /// Draws a border, if borders are drawn, of one character. The marks that wait stand at its front.
     pub(super) fn add_border(&mut self, border: Option<T>, filler: Filler) -> Result<(), AllocError>
-        ensures { OnOk result (self.new ≡ machine.add_border self.old border (character_of filler)) }
+        ensures { OnOk result (self.new ≡ block.add_border machine self.old border (character_of filler)) }
     {
         let Some(tag) = border else {
             return Ok(());
@@ -120,7 +122,7 @@ impl<T: Tag, M: Copy> Block<T, M> {
 
     /// Begins a table, or another row of one, whose cells stand one below another: below a border, if borders are drawn.
     pub(super) fn begin_stacked(&mut self, border: Option<T>) -> Result<(), AllocError>
-        ensures { OnOk result (self.new ≡ machine.stacked_begun self.old border) }
+        ensures { OnOk result (self.new ≡ block.stacked_begun machine self.old border) }
     {
         self.add_border(border, Filler::Dash)?;
         self.set_stacked(border, false)
@@ -134,7 +136,7 @@ impl<T: Tag, M: Copy> Block<T, M> {
         grid: &TableCells,
         widths: Widths,
     ) -> Result<(), Error>
-        ensures ok { OnOk result (self.new ≡ machine.table_begun self.old tag borders (rows_on grid.now) (Some widths)) }
+        ensures ok { OnOk result (self.new ≡ block.table_begun machine self.old tag borders (rows_on grid.now) (Some widths)) }
         ensures err { IfErr result (λ e. e ≡ Error.OutOfMemory) }
     {
         let ahead = rows_of(self.alloc, grid)?;
@@ -159,7 +161,7 @@ impl<T: Tag, M: Copy> Block<T, M> {
         grid: &TableCells,
         widths: Option<Widths>,
     ) -> Result<(), Error>
-        ensures ok { OnOk result (self.new ≡ machine.table_begun self.old tag borders (rows_on grid.now) widths) }
+        ensures ok { OnOk result (self.new ≡ block.table_begun machine self.old tag borders (rows_on grid.now) widths) }
         ensures err { IfErr result (λ e. e ≡ Error.OutOfMemory) }
     {
         match widths {
@@ -178,7 +180,7 @@ impl<T: Tag, M: Copy> Block<T, M> {
     /// # Errors
     ///
     /// `TooNarrow`, as in [`flush`](Block::flush). `OutOfMemory`.
-    #[tactic(auto, using(html_render_values::specs::laws::Outcome::refusals))]
+    #[tactic(auto, using(html_render_values::specs::laws::Outcome::refusals), unfolding(crate::specs::Machine::operations))]
     pub fn begin_table(
         &mut self,
         tag: T,
@@ -187,8 +189,8 @@ impl<T: Tag, M: Copy> Block<T, M> {
         grid: &TableCells,
         needs: &[ColumnNeed],
     ) -> Result<(), Error>
-        ensures ok { OnOk result (machine.begin_table self.old tag borders stacked grid.now needs.now ≡ Some self.new) }
-        ensures err { IfErr result (λ e. Refuses e (machine.begin_table self.old tag borders stacked grid.now needs.now)) }
+        ensures ok { OnOk result (machine.operations.begin_table self.old tag borders stacked grid.now needs.now ≡ Some self.new) }
+        ensures err { IfErr result (λ e. Refuses e (machine.operations.begin_table self.old tag borders stacked grid.now needs.now)) }
     {
         self.flush_whole()?;
         let widths = column_widths(self.alloc, self.setting.width, stacked, needs)?;

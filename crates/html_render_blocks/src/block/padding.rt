@@ -6,7 +6,6 @@ ghost use Rattle.html_render_lines.specs.Line.{Line};
 ghost use Rattle.html_render_paragraphs.specs.Paragraph.{Page, all_lines};
 ghost use Rattle.html_render_paragraphs.specs.Stream.{State, start, finished};
 ghost use Rattle.html_render_pictures.specs.Padding.{filled};
-ghost use Rattle.html_render_blocks.specs.BlockMachine.{flushed_filled};
 
 use html_render_lines::line::Line;
 use html_render_lines::tag::Tag;
@@ -26,7 +25,8 @@ fn flush_filled<T: Tag, M: Copy>(
     width: usize,
     tag: T,
 ) -> Result<(), Error>
-    ensures ok { OnOk result (option_map (flushed_filled tag width paragraph.old.setting to.old.items) (finished paragraph.old)
+    ensures ok { OnOk result (option_map {U = List (Line T M) × State T M}
+        (λ (p : Page T M). (to.old.items ++ filled (Some tag) width (all_lines p), start paragraph.old.setting p.waiting)) (finished paragraph.old)
         ≡ Some (to.new.items, paragraph.new)) }
     ensures err { IfErr result (λ e. Refuses e (finished paragraph.old)) }
 {

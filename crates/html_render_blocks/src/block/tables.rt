@@ -4,7 +4,9 @@ ghost use Rattle.std.specs.Prelude.{◌≡◌, ◌++◌, Some, OnOk, IfOk, IfErr
 ghost use Rattle.html_render_values.specs.Outcome.{Refuses};
 ghost use Rattle.html_render_pictures.specs.Picture.{TableRow};
 ghost use Rattle.html_render_blocks.specs.Tables.{drawn_pictures, with_open, with_ahead, picture_of};
-ghost use Rattle.html_render_blocks.specs.BlockMachine as machine;
+ghost use Rattle.html_render_blocks.specs.Block as block;
+ghost use Rattle.html_render_blocks.specs.Machine as machine;
+ghost use Rattle.html_render_blocks.specs.Machine.{machine};
 
 use super::Block;
 use super::rows::{OpenRow, Widths};
@@ -94,7 +96,7 @@ fn picture_of<T: Tag, M: Copy>(
 impl<T: Tag, M: Copy> Block<T, M> {
     /// Adds a picture's lines; the marks that wait behind it wait on.
     fn add_drawn(&mut self, drawn: Drawn<T, M>) -> Result<(), Error>
-        ensures ok { OnOk result (self.new ≡ machine.with_picture self.old (drawn.lines, drawn.waiting.items)) }
+        ensures ok { OnOk result (self.new ≡ block.with_picture machine self.old (drawn.lines, drawn.waiting.items)) }
         ensures err { IfErr result (λ e. e ≡ Error.OutOfMemory) }
     {
         let Drawn { lines, waiting } = drawn;
@@ -108,8 +110,9 @@ impl<T: Tag, M: Copy> Block<T, M> {
     /// # Errors
     ///
     /// `OutOfMemory`.
+    #[tactic(auto, unfolding(crate::specs::Machine::operations))]
     pub fn end_table(&mut self) -> Result<(), Error>
-        ensures ok { OnOk result (self.new ≡ machine.end_table self.old) }
+        ensures ok { OnOk result (self.new ≡ machine.operations.end_table self.old) }
         ensures err { IfErr result (λ e. e ≡ Error.OutOfMemory) }
     {
         let Some(table) = self.table.take() else {
@@ -134,10 +137,10 @@ impl<T: Tag, M: Copy> Block<T, M> {
     /// # Errors
     ///
     /// `TooNarrow`, as in [`flush`](Block::flush). `OutOfMemory`.
-    #[tactic(auto, using(html_render_values::specs::laws::Outcome::refusals))]
+    #[tactic(auto, using(html_render_values::specs::laws::Outcome::refusals), unfolding(crate::specs::Machine::operations))]
     pub fn flush_whole(&mut self) -> Result<(), Error>
-        ensures ok { OnOk result (machine.flush (machine.end_table self.old) ≡ Some self.new) }
-        ensures err { IfErr result (λ e. Refuses e (machine.flush (machine.end_table self.old))) }
+        ensures ok { OnOk result (block.flush machine (block.end_table machine self.old) ≡ Some self.new) }
+        ensures err { IfErr result (λ e. Refuses e (block.flush machine (block.end_table machine self.old))) }
     {
         self.end_table()?;
         self.flush()

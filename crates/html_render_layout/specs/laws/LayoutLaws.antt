@@ -9,8 +9,8 @@ use Rattle.html_render_lines.specs.Line.{Line, AllWithinWidth}
 use Rattle.html_render_nodes.specs.declared.tree.RenderNode.{RenderNode}
 use Rattle.html_render_nodes.specs.Pass.{run}
 use Rattle.html_render_nodes.specs.laws.Runs.{IfSome-then}
-use Rattle.html_render_blocks.specs.Block as definition
-use Rattle.html_render_blocks.specs.Block.{DefinedBlock}
+use Rattle.html_render_blocks.specs.Definition as definition
+use Rattle.html_render_blocks.specs.Definition.{DefinedBlock}
 use Rattle.html_render_blocks.specs.laws.BlockLaws.{IsWithin, Overflows, empty_within, operations_within, operations_succeed}
 use Rattle.html_render_blocks.specs.laws.Closing.{finish_within, add_closing_lines_within, finish_succeeds, add_closing_lines_succeeds}
 use Rattle.html_render_layout.specs.declared.settings.LayoutSettings.{LayoutSettings}
@@ -55,7 +55,7 @@ module _ {S A : Type 0} (d : Decoration S A) (settings : LayoutSettings) where
   lines-succeed t decorator w =
       then_some (λ (r : Defined S A). Overflows w r.block) (run (defined d) t (empty_state d settings decorator w true)) _
       (layout-succeeds d onto definition.operations Overflows operations_succeed t w (empty_state d settings decorator w true)
-      (record { width = refl; overflow = refl })) (λ r k.
+      (record { width = refl; overflow = refl; lenient = refl })) (λ r k.
       then_some (λ (q : Defined S A). Overflows w q.block)
       (ended d definition.ending settings.link_footnotes settings.wrap_links [] r) _
       (ended-succeeds d definition.ending settings.link_footnotes settings.wrap_links [] (Overflows w) r (finish_succeeds w r.block k)

@@ -22,7 +22,7 @@ use Rattle.html_render_parts.specs.TableCells.{CellGrid}
 use Rattle.html_render_nodes.specs.Pass.{run}
 use Rattle.html_render_nodes.specs.laws.Images.{Image, image-then, NodesImage, run-image}
 use Rattle.html_render_blocks.specs.Operations.{Operations, Ending}
-use Rattle.html_render_blocks.specs.Block as definition
+use Rattle.html_render_blocks.specs.Definition as definition
 use Rattle.html_render_blocks.specs.laws.Operations.{Refines}
 use Rattle.html_render_blocks.specs.laws.BlockOverflow.{overflowing, operations_refine}
 use Rattle.html_render_blocks.specs.laws.Closing.{finish_stays, add_closing_lines_stays}

@@ -23,8 +23,8 @@ use Rattle.html_render_parts.specs.TableCells.{CellGrid}
 use Rattle.html_render_nodes.specs.Pass.{Steps, Inside, run, from, count_from, unskipped}
 use Rattle.html_render_nodes.specs.laws.Runs.{IfSome-then, IfSome-weaken}
 use Rattle.html_render_blocks.specs.Operations.{Operations}
-use Rattle.html_render_blocks.specs.Block as definition
-use Rattle.html_render_blocks.specs.Block.{DefinedBlock}
+use Rattle.html_render_blocks.specs.Definition as definition
+use Rattle.html_render_blocks.specs.Definition.{DefinedBlock}
 use Rattle.html_render_blocks.specs.Visible.{visible_in_text, text_count, visible_count}
 use Rattle.html_render_pictures.specs.Visible.{count}
 use Rattle.html_render_blocks.specs.laws.Operations.{Counts}
@@ -523,7 +523,7 @@ module _ {S A : Type 0} (d : Decoration S A) where
           (λ b. visible_count c r.block ≤ count c (visible_in_lines b.lines)) r (finish_count c r.block)
           (λ b ts h. IfSome-weaken (λ (e : DefinedBlock (List A) ℕ). visible_count c b ≤ count c (visible_in_lines e.lines))
           (λ (e : DefinedBlock (List A) ℕ). visible_count c r.block ≤ count c (visible_in_lines e.lines))
-          (definition.add_closing_lines b settings.wrap_links [] ts) (closed_count c b settings.wrap_links [] ts h.0)
+          (definition.ending.add_closing_lines b settings.wrap_links [] ts) (closed_count c b settings.wrap_links [] ts h.0)
           (λ e k. let le = h.1 in omega (arith, le, k))))
           (λ q e. omega (arith, a, e, texts_count c (visited_nodes d settings t decorator w o))))
 

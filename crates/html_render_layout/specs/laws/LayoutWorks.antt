@@ -14,10 +14,12 @@ use Rattle.html_render_lines.specs.Line.{Line}
 use Rattle.html_render_lines.specs.Tags.{element_with, line_with, lines_with}
 use Rattle.html_render_nodes.specs.declared.tree.RenderNode.{RenderNode}
 use Rattle.html_render_estimates.specs.Passes.{with_needed_sizes}
-use Rattle.html_render_blocks.specs.Block as definition
-use Rattle.html_render_blocks.specs.BlockMachine as machine
-use Rattle.html_render_blocks.specs.laws.BlockFed.{block_of}
-use Rattle.html_render_blocks.specs.laws.BlockTags.{block_with}
+use Rattle.html_render_blocks.specs.Block.{empty_block}
+use Rattle.html_render_blocks.specs.Definition as definition
+use Rattle.html_render_blocks.specs.Definition.{definition}
+use Rattle.html_render_blocks.specs.Machine as machine
+use Rattle.html_render_blocks.specs.Machine.{machine}
+use Rattle.html_render_blocks.specs.laws.BlockFed.{block_with, block_of}
 use Rattle.html_render_layout.specs.Stacks.{stack_at}
 use Rattle.html_render_nodes.specs.Counts.{CountsNodes}
 use Rattle.html_render_nodes.specs.Pass.{visited, most_open, inside_of}
@@ -84,18 +86,18 @@ module _ {S A : Type 0} (d : Decoration S A) (settings : LayoutSettings) where
 
   -- a block that begins, with what is seen of its padding's tag
   shows-empty : {T V : Type 0} (f : T → V) (seen : List A → V) (tag : T) (stack : List A) (w : ℕ) (o : Bool) → f tag ≡ seen stack →
-      block_with {M = ℕ} f (machine.empty_block (block_setting settings w o) (padding settings tag))
-      ≡ block_with seen (block_of (definition.empty_block (block_setting settings w o) (padding settings stack)))
+      block_with f (empty_block machine (block_setting settings w o) (padding settings tag))
+      ≡ block_of seen (empty_block definition (block_setting settings w o) (padding settings stack))
   shows-empty {T} {V} f seen tag stack w o same = by settings.pad_block_width
     where
-      by : (p : Bool) → block_with {M = ℕ} f (machine.empty_block (block_setting settings w o) (cond p (Some tag) None))
-          ≡ block_with seen (block_of (definition.empty_block (block_setting settings w o) (cond p (Some stack) None)))
-      by true = ap (λ v. machine.empty_block (block_setting settings w o) (Some v)) same
+      by : (p : Bool) → block_with f (empty_block machine (block_setting settings w o) (cond p (Some tag) None))
+          ≡ block_of seen (empty_block definition (block_setting settings w o) (cond p (Some stack) None))
+      by true = ap (λ v. empty_block machine (block_setting settings w o) (Some v)) same
       by false = refl
 
   abbrev pub empty_worked : S → (width : ℕ) → (overflow : Bool) → Worked S A
   empty_worked decorator w o =
-      begin_with settings (d.subblock decorator) ([] ∷ []) 0 (machine.empty_block (block_setting settings w o) (padding settings 0))
+      begin_with settings (d.subblock decorator) ([] ∷ []) 0 (empty_block machine (block_setting settings w o) (padding settings 0))
 
   begins : (decorator : S) (w : ℕ) (o : Bool) →
       Represents d tabled stack_at (λ (s : List A). s) Pushed (λ k. ([], sym (append-nil k))) Pushed-goes
@@ -184,7 +186,7 @@ module _ {S A : Type 0} (d : Decoration S A) (settings : LayoutSettings) where
 
   abbrev pub empty_untagged : {K : Type 0} → K → S → (width : ℕ) → (overflow : Bool) → Untagged S K
   empty_untagged k decorator w o =
-      begin_with settings (d.subblock decorator) k tt (machine.empty_block (block_setting settings w o) (padding settings tt))
+      begin_with settings (d.subblock decorator) k tt (empty_block machine (block_setting settings w o) (padding settings tt))
 
   untagged_work-wanted : {K : Type 0} (t : Forest RenderNode) (decorator : S) (w : ℕ) (o : Bool) (k : K) →
       untagged_work d t (empty_untagged k decorator w o) ≡ option_map (lines_with (λ (s : List A). tt)) (wanted t decorator w o)

@@ -28,14 +28,12 @@ use Rattle.html_render_nodes.specs.laws.Agree.{Agree, Agree-then, Agree-weaken, 
 use Rattle.html_render_nodes.specs.laws.Visits.{visited-same, most_open-same}
 use Rattle.html_render_nodes.specs.Pass.{run, visited, most_open, inside_of}
 use Rattle.html_render_blocks.specs.Operations.{Operations}
-use Rattle.html_render_blocks.specs.Block as definition
-use Rattle.html_render_blocks.specs.Block.{DefinedBlock}
-use Rattle.html_render_blocks.specs.laws.BlockFed.{block_of, block_of-commutes}
-use Rattle.html_render_blocks.specs.BlockMachine as machine
-use Rattle.html_render_blocks.specs.BlockMachine.{MachineBlock}
-use Rattle.html_render_blocks.specs.laws.BlockTags.{block_with, block_with-commutes}
-use Rattle.html_render_blocks.specs.laws.Closing.{finish-with, finish-block, add_closing_lines-with, add_closing_lines-block}
-use Rattle.html_render_blocks.specs.laws.Operations.{Commutes, Commutes-then, map_map}
+use Rattle.html_render_blocks.specs.Definition as definition
+use Rattle.html_render_blocks.specs.Definition.{DefinedBlock}
+use Rattle.html_render_blocks.specs.laws.BlockFed.{block_with, block_with-commutes, block_with-ends, block_of, block_of-commutes, block_of-ends}
+use Rattle.html_render_blocks.specs.Machine as machine
+use Rattle.html_render_blocks.specs.Machine.{MachineBlock}
+use Rattle.html_render_blocks.specs.laws.Operations.{Commutes}
 use Rattle.html_render_layout.specs.declared.layout.state.Around.{Around}
 use Rattle.html_render_layout.specs.declared.layout.state.Around.TheVariants.{Plain, Bullets, Numbers, Cells}
 use Rattle.html_render_layout.specs.declared.layout.state.LayoutState.{LayoutState}
@@ -81,11 +79,10 @@ fence o s = option_and_then (λ q. on_block o.new_line q) (fence_text o s)
 module _ {I T A V : Type 0} (f : I → T → V) (seen : List A → V) (now : I) where
   -- the block to which all was fed, with what is seen of its stacks
   abbrev seen_block : DefinedBlock (List A) ℕ → MachineBlock V ℕ
-  seen_block e = block_with seen (block_of e)
+  seen_block e = block_of seen e
 
   seen-commutes : Commutes seen_block seen definition.operations machine.operations
-  seen-commutes = Commutes-then block_of (λ t. t) (block_with seen)
-      seen definition.operations machine.operations machine.operations block_of-commutes (block_with-commutes seen)
+  seen-commutes = block_of-commutes seen
 
   -- the block, with what is seen of its tags, is that block
   abbrev pub Shows : MachineBlock T ℕ → DefinedBlock (List A) ℕ → Type 0
@@ -116,7 +113,8 @@ module _ {I T A V : Type 0} (f : I → T → V) (seen : List A → V) (now : I) 
 
   end_block-shows : (b : MachineBlock T ℕ) (e : DefinedBlock (List A) ℕ) → Shows b e →
       Shows (machine.operations.end_block b) (definition.operations.end_block e)
-  end_block-shows b e h = λ i. ap machine.operations.end_block (h i)
+  end_block-shows b e h = λ i.
+      sym ((block_with-commutes (f i)).end_block b) ∙ ap machine.operations.end_block (h i) ∙ seen-commutes.end_block e
 
   add_mark-shows : (m n : ℕ) → m ≡ n → (b : MachineBlock T ℕ) (e : DefinedBlock (List A) ℕ) → Shows b e →
       Shows (machine.operations.add_mark b m) (definition.operations.add_mark e n)
@@ -208,21 +206,18 @@ module _ {I T A V : Type 0} (f : I → T → V) (seen : List A → V) (now : I) 
   finish-shows : (b : MachineBlock T ℕ) (e : DefinedBlock (List A) ℕ) → Shows b e →
       Agree Shows (machine.ending.finish b) (definition.ending.finish e)
   finish-shows = operation-shows machine.ending.finish machine.ending.finish definition.ending.finish
-      (λ g b. finish-with g b)
-      (λ e. finish-with seen (block_of e) ∙ ap (option_map (block_with seen)) (finish-block e)
-      ∙ map_map block_of (block_with seen) (definition.finish e))
+      (λ g. (block_with-ends g).finish) (block_of-ends seen).finish
 
   closing-shows : (cut : Bool) (x : T) (y : List A) → ((i : I) → f i x ≡ seen y) → (ts : List (List ℕ)) →
       (b : MachineBlock T ℕ) (e : DefinedBlock (List A) ℕ) → Shows b e →
       Agree Shows (machine.ending.add_closing_lines b cut x ts) (definition.ending.add_closing_lines e cut y ts)
   closing-shows cut x y t ts b e h =
-      Agree-along (λ i. block_with (f i)) seen_block now (machine.add_closing_lines b cut x ts) (definition.add_closing_lines e cut y ts) (λ i.
-      sym (add_closing_lines-with (f i) b cut x ts)
-      ∙ ap (λ z. machine.add_closing_lines (block_with (f i) b) cut z ts) (t i)
-      ∙ ap (λ z. machine.add_closing_lines z cut (seen y) ts) (h i)
-      ∙ add_closing_lines-with seen (block_of e) cut y ts
-      ∙ ap (option_map (block_with seen)) (add_closing_lines-block e cut y ts)
-      ∙ map_map block_of (block_with seen) (definition.add_closing_lines e cut y ts))
+      Agree-along (λ i. block_with (f i)) seen_block now (machine.ending.add_closing_lines b cut x ts)
+      (definition.ending.add_closing_lines e cut y ts) (λ i.
+      sym ((block_with-ends (f i)).add_closing_lines b cut x ts)
+      ∙ ap (λ z. machine.ending.add_closing_lines (block_with (f i) b) cut z ts) (t i)
+      ∙ ap (λ z. machine.ending.add_closing_lines z cut (seen y) ts) (h i)
+      ∙ (block_of-ends seen).add_closing_lines e cut y ts)
 
 -- ---- states
 

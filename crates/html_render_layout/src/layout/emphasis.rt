@@ -2,7 +2,7 @@
 
 ghost use Rattle.std.specs.Prelude.{◌≡◌, Some, OnOk, IfOk, IfErr, string_bytes};
 ghost use Rattle.html_render_values.specs.Outcome.{Refuses};
-ghost use Rattle.html_render_blocks.specs.BlockMachine as machine;
+ghost use Rattle.html_render_blocks.specs.Machine as machine;
 ghost use Rattle.html_render_layout.specs.Layout.{emphasis_decoration, under, add_text, begun};
 
 use super::state::LayoutState;

@@ -3,7 +3,7 @@
 ghost use Rattle.std.specs.Prelude.{◌≡◌, ◌+◌, length, Some, OnOk, IfOk, IfErr};
 ghost use Rattle.html_render_values.specs.Outcome.{Refuses};
 ghost use Rattle.html_render_parts.specs.Decoration.{link};
-ghost use Rattle.html_render_blocks.specs.BlockMachine as machine;
+ghost use Rattle.html_render_blocks.specs.Machine as machine;
 ghost use Rattle.html_render_nodes.specs.Pass.{way};
 ghost use Rattle.html_render_nodes.specs.declared.tree.NodeKind.TheVariants.{Link};
 ghost use Rattle.html_render_layout.specs.Layout.{begun, with_target, marked, link_number};

@@ -3,7 +3,7 @@
 ghost use Rattle.std.specs.Prelude.{◌≡◌, Some, OnOk, IfOk, IfErr};
 ghost use Rattle.std.specs.Str.{chars};
 ghost use Rattle.html_render_values.specs.Outcome.{Refuses};
-ghost use Rattle.html_render_blocks.specs.BlockMachine as machine;
+ghost use Rattle.html_render_blocks.specs.Machine as machine;
 ghost use Rattle.html_render_layout.specs.Layout.{nested, spaces};
 ghost use Rattle.html_render_layout.specs.Opening.{interrupted, indent_closed, quote_closed};
 
@@ -61,8 +61,8 @@ fn append_behind<T: Tag>(
     prefix: &str,
     columns: usize,
 ) -> Result<(), Error>
-    ensures ok { OnOk result (machine.append block.old sub tag (chars prefix.now) (spaces columns) ≡ Some block.new) }
-    ensures err { IfErr result (λ e. Refuses e (machine.append block.old sub tag (chars prefix.now) (spaces columns))) }
+    ensures ok { OnOk result (machine.operations.append block.old sub tag (chars prefix.now) (spaces columns) ≡ Some block.new) }
+    ensures err { IfErr result (λ e. Refuses e (machine.operations.append block.old sub tag (chars prefix.now) (spaces columns))) }
 {
     if columns <= FEW {
         return block.append(sub, tag, prefix, few_spaces(columns));

@@ -2,7 +2,7 @@
 
 ghost use Rattle.std.specs.Prelude.{◌≡◌, Some, OnOk, IfOk, IfErr, string_bytes};
 ghost use Rattle.html_render_values.specs.Outcome.{Refuses};
-ghost use Rattle.html_render_blocks.specs.BlockMachine as machine;
+ghost use Rattle.html_render_blocks.specs.Machine as machine;
 ghost use Rattle.html_render_nodes.specs.Pass.{way};
 ghost use Rattle.html_render_nodes.specs.Preorder.{flatten, forest_of};
 ghost use Rattle.html_render_layout.specs.Layout.{inner_least, numbers, digits_of};
@@ -453,9 +453,9 @@ fn open_cell<D: TextDecorator, G: Tagging<D::Annotation>>(
 ) -> Result<Option<Closing<D, G::Tag, Block<G::Tag, usize>>>, Error>
     requires { flatten (forest_of children.now) ≡ children.now }
     ensures ok { IfOk result (λ c. cell_opened D.decoration G.annotated machine.operations node.now (forest_of children.now)
-        (machine.cell_block state.old.block) state.old ≡ Some (way state.new c)) }
+        (machine.operations.cell_block state.old.block) state.old ≡ Some (way state.new c)) }
     ensures err { IfErr result (λ e. Refuses e (cell_opened D.decoration G.annotated machine.operations node.now (forest_of children.now)
-        (machine.cell_block state.old.block) state.old)) }
+        (machine.operations.cell_block state.old.block) state.old)) }
 {
     let Some(cell) = state.block.cell_block() else {
         state.block.skip_cell()?;

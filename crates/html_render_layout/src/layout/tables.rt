@@ -3,7 +3,7 @@
 ghost use Rattle.std.specs.Prelude.{◌≡◌, Some, OnOk, IfOk, IfErr, codes};
 ghost use Rattle.std.specs.Str.{chars};
 ghost use Rattle.html_render_values.specs.Outcome.{Refuses};
-ghost use Rattle.html_render_blocks.specs.BlockMachine as machine;
+ghost use Rattle.html_render_blocks.specs.Machine as machine;
 ghost use Rattle.html_render_layout.specs.Layout.{fence_style, with_fence, fenced, table_begun, table_ended, in_cell};
 ghost use Rattle.html_render_layout.specs.Opening.{cell_closed};
 

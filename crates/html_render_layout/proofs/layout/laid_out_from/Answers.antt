@@ -1,6 +1,6 @@
 use Rattle.std.proofs.Common.{rules}
 use Rattle.html_render_nodes.specs.Pass.{inside_of}
-use Rattle.html_render_blocks.specs.BlockMachine as machine
+use Rattle.html_render_blocks.specs.Machine as machine
 use Rattle.html_render_layout.proofs.Failing.{counts-failed}
 use Rattle.html_render_layout.specs.Layout.{steps}
 use Rattle.html_render_layout.specs.Opening.{opened}

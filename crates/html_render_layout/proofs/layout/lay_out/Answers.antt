@@ -3,7 +3,7 @@ use Rattle.std.proofs.lemmas.Result.{IfOk-weaker}
 use Rattle.html_render_values.specs.Outcome.{Refuses}
 use Rattle.html_render_nodes.specs.laws.Counts.{none-counted}
 use Rattle.html_render_estimates.specs.Passes.{with_needed_sizes}
-use Rattle.html_render_blocks.specs.Block as definition
+use Rattle.html_render_blocks.specs.Definition as definition
 use Rattle.html_render_layout.specs.Layout.{onto, defined, defined_inside, empty_state, estimated, layout_lines}
 use Rattle.html_render_layout.specs.laws.Opening.{layout-asks}
 use Rattle.html_render_layout.specs.laws.LayoutWorks.{empty_worked, layout_lines-works, mark_names-works, counts-work}

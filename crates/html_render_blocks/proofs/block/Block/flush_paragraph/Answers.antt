@@ -1,6 +1,6 @@
 use Rattle.std.proofs.Common.{ap, ◌∙◌, [], None, option_map}
 use Rattle.html_render_pictures.specs.Stretch.{lines_of}
-use Rattle.html_render_blocks.specs.BlockMachine.{MachineBlock}
+use Rattle.html_render_blocks.specs.Machine.{MachineBlock}
 use Rattle.html_render_blocks.specs.declared.block.Block.TheInside.{Inside}
 use Rattle.html_render_blocks.proofs.Behind.{padded_flush}
 use Rattle.html_render_blocks.proofs.block.Block.flush_paragraph.Goals as goal
