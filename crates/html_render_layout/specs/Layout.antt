@@ -42,6 +42,7 @@ use Rattle.html_render_layout.specs.declared.layout.state.TextContext.{TextConte
 use Rattle.html_render_layout.specs.declared.settings.LayoutSettings.{LayoutSettings}
 use Rattle.html_render_layout.specs.Images.{shown_title}
 use Rattle.html_render_layout.specs.Ending.{ended}
+use Rattle.html_render_layout.specs.NodeLayout.{NodeLayout, Leaf, Pair, laid_out, inner, followed, from_state}
 
 -- what stands round an emphasis
 abbrev pub emphasis_decoration : {S A : Type 0} → Decoration S A → TheEmphasis → Round S A
@@ -54,6 +55,10 @@ abbrev pub on_block : {S K T B : Type 0} → (B → Option B) → LayoutState S 
 on_block f s = do
   b ← f s.block
   Some (record s { block = b })
+
+-- and once its block has ended
+abbrev pub block_ended : {S K T B : Type 0} → Operations B T → LayoutState S K T B → Option (LayoutState S K T B)
+block_ended o s = Some (record s { block = o.end_block s.block })
 
 -- characters that are struck out: U+0336 stands behind each that isn't collapsible white space
 abbrev pub struck : List ℕ → List ℕ
@@ -98,13 +103,6 @@ under x s = record s { stacks = x.0; text = record s.text { tag = x.1 } }
 abbrev pub striking : {S K T B : Type 0} → Bool → LayoutState S K T B → LayoutState S K T B
 striking struck_out s = record s { text = record s.text { struck_out = struck_out } }
 
--- round every node: texts are treated behind it as they were before it
-abbrev pub restored : {S K T B : Type 0} → (LayoutState S K T B → Option (LayoutState S K T B)) → LayoutState S K T B →
-    Option (LayoutState S K T B)
-restored layout s = do
-  r ← layout s
-  Some (record r { text = s.text })
-
 -- ---- blocks in blocks
 
 -- the columns that a node needs behind its prefix
@@ -134,49 +132,47 @@ nested d o prefix least s = do
 abbrev pub resumed : {S K T B : Type 0} → LayoutState S K T B → B → Around → LayoutState S K T B → LayoutState S K T B
 resumed s b behind r = record r { decorator = s.decorator; block = b; around = behind }
 
--- what is laid out in a block of its own: its first line stands behind a prefix, and the later ones behind so many spaces
-abbrev pub indented : {S A K T B : Type 0} → Decoration S A → Operations B T → (prefix : List ℕ) → (columns least : ℕ) →
-    (behind : Around) → (LayoutState S K T B → Option (LayoutState S K T B)) → LayoutState S K T B → Option (LayoutState S K T B)
-indented d o prefix columns least behind layout s = do
-  q ← nested d o columns least s
-  r ← layout q
+-- the lines of the block inside s, behind a node in it: the first behind a prefix, and the later ones behind so many spaces
+abbrev pub appended : {S K T B : Type 0} → Operations B T → LayoutState S K T B → (prefix : List ℕ) → (columns : ℕ) → (behind : Around) →
+    LayoutState S K T B → Option (LayoutState S K T B)
+appended o s prefix columns behind r = do
   b ← o.append s.block r.block s.text.tag (chars prefix) (spaces columns)
   Some (resumed s b behind r)
 
--- what is laid out in a block of its own, that is one of the state's: each line stands behind a prefix
-abbrev pub quoted : {S A K T B : Type 0} → Decoration S A → Operations B T → (prefix : List ℕ) → (least : ℕ) →
-    (LayoutState S K T B → Option (LayoutState S K T B)) → LayoutState S K T B → Option (LayoutState S K T B)
-quoted d o prefix least layout s = do
-  q ← nested d o (prefix_columns prefix) least s
-  r ← layout q
+-- and all of them behind it, as one of the blocks of s
+abbrev pub appended_block : {S K T B : Type 0} → Operations B T → LayoutState S K T B → (prefix : List ℕ) → LayoutState S K T B →
+    Option (LayoutState S K T B)
+appended_block o s prefix r = do
   b ← o.start_block s.block
   c ← o.append b r.block s.text.tag (chars prefix) (chars prefix)
   Some (resumed s (o.end_block c) s.around r)
 
--- nodes that stand in something else, and behind them what the state stands in
-abbrev pub among : {S K T B : Type 0} → Around → (LayoutState S K T B → Option (LayoutState S K T B)) → LayoutState S K T B →
-    Option (LayoutState S K T B)
-among around children s = do
-  r ← children (record s { around = around })
-  Some (record r { around = s.around })
+-- what is laid out in a block of its own: an item of a list
+abbrev pub indented : {S A K T B : Type 0} → Decoration S A → Operations B T → (prefix : List ℕ) → (columns least : ℕ) →
+    (behind : Around) → (LayoutState S K T B → NodeLayout (LayoutState S K T B)) → LayoutState S K T B → NodeLayout (LayoutState S K T B)
+indented d o prefix columns least behind layout s =
+    from_state (nested d o columns least s) (λ q. followed (layout q) (appended o s prefix columns behind))
 
 -- what is laid out as a cell, in this block: that is the row's next cell
 abbrev pub in_cell : {S A K T B : Type 0} → Decoration S A → B → LayoutState S K T B → LayoutState S K T B
 in_cell d cell s = record s { decorator = d.subblock s.decorator; block = cell; around = Plain }
 
--- the next cell of the row, if it has a block; else it is skipped, and nothing in it is laid out
-abbrev pub as_cell : {S A K T B : Type 0} → Decoration S A → Operations B T → (LayoutState S K T B → Option (LayoutState S K T B)) →
-    LayoutState S K T B → Option B → Option (LayoutState S K T B)
-as_cell d o layout s None = Some (record s { block = o.skip_cell s.block })
-as_cell d o layout s (Some cell) = do
-  r ← layout (in_cell d cell s)
+-- the lines of the cell of s, behind a node in it
+abbrev pub added_cell : {S K T B : Type 0} → Operations B T → LayoutState S K T B → LayoutState S K T B → Option (LayoutState S K T B)
+added_cell o s r = do
   b ← o.add_cell s.block r.block
   Some (resumed s b Cells r)
 
+-- the next cell of the row, if it has a block; else it is skipped, and nothing in it is laid out
+abbrev pub as_cell : {S A K T B : Type 0} → Decoration S A → Operations B T → (LayoutState S K T B → NodeLayout (LayoutState S K T B)) →
+    LayoutState S K T B → Option B → NodeLayout (LayoutState S K T B)
+as_cell d o layout s None = Leaf (Some (record s { block = o.skip_cell s.block }))
+as_cell d o layout s (Some cell) = followed (layout (in_cell d cell s)) (added_cell o s)
+
 -- what a node is to what it stands in, whatever it is: an item of a list stands in a block of its own, behind a bullet
 -- or its number, and a cell of a row in its place
-abbrev pub placed : {S A K T B : Type 0} → Decoration S A → Operations B T → (LayoutState S K T B → Option (LayoutState S K T B)) →
-    LayoutState S K T B → Around → Option (LayoutState S K T B)
+abbrev pub placed : {S A K T B : Type 0} → Decoration S A → Operations B T → (LayoutState S K T B → NodeLayout (LayoutState S K T B)) →
+    LayoutState S K T B → Around → NodeLayout (LayoutState S K T B)
 placed d o layout s Plain = layout s
 placed d o layout s (Bullets least) =
     let bullet = d.unordered_item_prefix s.decorator in
@@ -185,6 +181,10 @@ placed d o layout s (Numbers least number columns) =
     indented d o (padded columns (d.ordered_item_prefix s.decorator number)) columns least
     (Numbers least (next_number number) columns) layout s
 placed d o layout s Cells = as_cell d o layout s (o.cell_block s.block)
+
+-- nodes that stand in something else, and behind them what the state stands in
+abbrev pub among : {S K T B : Type 0} → Around → LayoutState S K T B → NodeLayout (LayoutState S K T B)
+among around s = Pair (Some (record s { around = around })) (λ r. Some (record r { around = s.around }))
 
 -- what the items of an ordered list stand in
 abbrev pub numbers : {S A : Type 0} → Decoration S A → Estimate → (first : ℤ) → S → Around
@@ -204,13 +204,18 @@ with_fence o s = do
 abbrev pub fenced : {S K T B : Type 0} → Operations B T → LayoutState S K T B → Option (LayoutState S K T B)
 fenced o s = if s.settings.fence_tables && not s.in_table then with_fence o s else Some s
 
--- a table begins on this grid, as a block; its cells need so much. They stand one below another in raw mode
+-- the cells of a table begin on this grid, and need so much. They stand one below another in raw mode
+abbrev pub cells_begun : {S K T B : Type 0} → Operations B T → CellGrid → List ColumnNeed → LayoutState S K T B → Option (LayoutState S K T B)
+cells_begun o grid needs s = do
+  q ← on_block (λ b. o.begin_table b s.blank s.settings.table_borders s.settings.raw_mode grid needs) s
+  Some (record q { in_table = true })
+
+-- a table begins, as a block
 abbrev pub table_begun : {S K T B : Type 0} → Operations B T → CellGrid → List ColumnNeed → LayoutState S K T B → Option (LayoutState S K T B)
 table_begun o grid needs s = do
   p ← on_block o.start_block s
   q ← fenced o p
-  r ← on_block (λ b. o.begin_table b s.blank s.settings.table_borders s.settings.raw_mode grid needs) q
-  Some (record r { in_table = true })
+  cells_begun o grid needs q
 
 -- a table is over, where it stood in another one or didn't
 abbrev pub table_ended : {S K T B : Type 0} → Operations B T → (in_table : Bool) → LayoutState S K T B → Option (LayoutState S K T B)
@@ -307,12 +312,8 @@ module _ {S A K T B : Type 0} (d : Decoration S A) (push : K → T → A → K �
   begun round s = add_text d push o (round.start s.decorator).text (under (push s.stacks s.text.tag (round.start s.decorator).annotation) s)
 
   -- a part between what stands round it
-  abbrev pub decorated : Round S A → (LayoutState S K T B → Option (LayoutState S K T B)) → LayoutState S K T B →
-      Option (LayoutState S K T B)
-  decorated round children s = do
-    q ← begun round s
-    r ← children q
-    add_text d push o (round.end r.decorator) r
+  abbrev pub decorated : Round S A → LayoutState S K T B → NodeLayout (LayoutState S K T B)
+  decorated round s = Pair (begun round s) (λ r. add_text d push o (round.end r.decorator) r)
 
   -- an image, where it has a title to be written
   abbrev pub titled : (source : List ℕ) → (title : Option (List ℕ)) → LayoutState S K T B → Option (LayoutState S K T B)
@@ -322,130 +323,73 @@ module _ {S A K T B : Type 0} (d : Decoration S A) (push : K → T → A → K �
   abbrev pub image : (source title : List ℕ) → LayoutState S K T B → Option (LayoutState S K T B)
   image source title s = titled source (shown_title s.settings.empty_images source title) s
 
+  -- a heading or a quote stands in a block of its own, each of whose lines stands behind a prefix
+  abbrev pub quoted : (prefix : List ℕ) → (least : ℕ) → LayoutState S K T B → NodeLayout (LayoutState S K T B)
+  quoted prefix least s = Pair (nested d o (prefix_columns prefix) least s) (appended_block o s prefix)
+
   -- a part that is struck out between what stands round it
-  abbrev pub struck_out : (LayoutState S K T B → Option (LayoutState S K T B)) → LayoutState S K T B → Option (LayoutState S K T B)
-  struck_out children s = do
-    q ← begun d.strikeout s
-    r ← children (striking s.settings.unicode_strikeout q)
-    add_text d push o (d.strikeout.end r.decorator) (striking s.text.struck_out r)
-
-  -- a superscript: of digits by their own characters, anything else between what stands round it
-  abbrev pub superscript : (digits : Option (List ℕ)) → (LayoutState S K T B → Option (LayoutState S K T B)) →
-      LayoutState S K T B → Option (LayoutState S K T B)
-  superscript None children s = decorated d.superscript children s
-  superscript (Some digits) children s = add_characters d push o (map raised digits) s
-
-  -- a link between what stands round it, and its number: links are numbered in the order in which they start
-  abbrev pub linked : (target : List ℕ) → (LayoutState S K T B → Option (LayoutState S K T B)) → LayoutState S K T B →
-      Option (LayoutState S K T B)
-  linked target children s = do
-    r ← decorated (link d target) children (with_target target s)
-    link_number d push o s.text (length s.targets + 1) r
-
-  -- WHAT EACH KIND OF NODE DOES to a state, over these trees, where this is what they do to one; none where it is too narrow
-  abbrev pub kind_steps : NodeKind → Estimate → (trees : Forest RenderNode) →
-      (children : LayoutState S K T B → Option (LayoutState S K T B)) → LayoutState S K T B → Option (LayoutState S K T B)
-  kind_steps (Text t) e trees children s = add_text d push o t s
-  kind_steps Container e trees children s = children s
-  kind_steps Break e trees children s = on_block o.new_line_hard s
-  kind_steps Block e trees children s = do
-    q ← on_block o.start_block s
-    r ← children q
-    Some (record r { block = o.end_block r.block })
-  kind_steps Div e trees children s = do
-    q ← on_block o.new_line s
-    r ← children q
-    on_block o.new_line r
-  kind_steps (Emphasis m) e trees children s = decorated (emphasis_decoration d m) children s
-  kind_steps (Header level) e trees children s = quoted d o (d.header_prefix s.decorator level) (inner_least e) children s
-  kind_steps BlockQuote e trees children s = quoted d o (d.quote_prefix s.decorator) (inner_least e) children s
-  kind_steps Ul e trees children s = among (Bullets (inner_least e)) children s
-  kind_steps (Ol first) e trees children s = among (numbers d e first s.decorator) children s
-  kind_steps ListItem e trees children s = do
-    q ← on_block o.start_block s
-    r ← children q
-    Some (record r { block = o.end_block r.block })
-  kind_steps Dl e trees children s = do
-    q ← on_block o.start_block s
-    children q
-  kind_steps Dt e trees children s = do
-    q ← on_block o.new_line s
-    decorated d.em children q
-  kind_steps Dd e trees children s = indented d o (spaces 2) 2 (inner_least e) s.around children s
-  kind_steps Strikeout e trees children s = struck_out children s
-  kind_steps Superscript e trees children s = superscript (digits_of trees) children s
-  kind_steps (Link target) e trees children s = linked target children s
-  kind_steps (Image i) e trees children s = image i.source i.title s
-  kind_steps (Svg title) e trees children s = image [] title s
-  kind_steps (FragmentStart name) e trees children s = Some (marked o name s)
-  kind_steps (Table grid) e trees children s = do
-    q ← table_begun o grid.cells grid.needs s
-    r ← children q
-    table_ended o s.in_table r
-  kind_steps TableRow e trees children s = do
-    r ← among Cells children (row_begun o s)
-    on_block o.end_row r
-  kind_steps TableCell e trees children s = children s
-
-  -- and each node: its kind, in its style
-  abbrev pub node_steps : Steps RenderNode (LayoutState S K T B)
-  node_steps n trees children s = restored (λ q. kind_steps n.kind n.estimate trees children (in_style d push n.style q)) s
-
-  abbrev pub steps : Steps RenderNode (LayoutState S K T B)
-  steps n trees children s = placed d o (node_steps n trees children) s s.around
-
-  -- the state in which a node's children are laid out, by its kind; none where it is too narrow for them, or where they aren't
-  abbrev pub superscript_inside : (digits : Option (List ℕ)) → LayoutState S K T B → Option (LayoutState S K T B)
-  superscript_inside None s = begun d.superscript s
-  superscript_inside (Some digits) s = None
-
-  abbrev pub kind_inside : NodeKind → Estimate → (trees : Forest RenderNode) → LayoutState S K T B → Option (LayoutState S K T B)
-  kind_inside (Text t) e trees s = None
-  kind_inside Container e trees s = Some s
-  kind_inside Break e trees s = None
-  kind_inside Block e trees s = on_block o.start_block s
-  kind_inside Div e trees s = on_block o.new_line s
-  kind_inside (Emphasis m) e trees s = begun (emphasis_decoration d m) s
-  kind_inside (Header level) e trees s = nested d o (prefix_columns (d.header_prefix s.decorator level)) (inner_least e) s
-  kind_inside BlockQuote e trees s = nested d o (prefix_columns (d.quote_prefix s.decorator)) (inner_least e) s
-  kind_inside Ul e trees s = Some (record s { around = Bullets (inner_least e) })
-  kind_inside (Ol first) e trees s = Some (record s { around = numbers d e first s.decorator })
-  kind_inside ListItem e trees s = on_block o.start_block s
-  kind_inside Dl e trees s = on_block o.start_block s
-  kind_inside Dt e trees s = do
-    q ← on_block o.new_line s
-    begun d.em q
-  kind_inside Dd e trees s = nested d o 2 (inner_least e) s
-  kind_inside Strikeout e trees s = do
+  abbrev pub strike : LayoutState S K T B → Option (LayoutState S K T B)
+  strike s = do
     q ← begun d.strikeout s
     Some (striking s.settings.unicode_strikeout q)
-  kind_inside Superscript e trees s = superscript_inside (digits_of trees) s
-  kind_inside (Link target) e trees s = begun (link d target) (with_target target s)
-  kind_inside (Image i) e trees s = None
-  kind_inside (Svg title) e trees s = None
-  kind_inside (FragmentStart name) e trees s = None
-  kind_inside (Table grid) e trees s = table_begun o grid.cells grid.needs s
-  kind_inside TableRow e trees s = Some (record (row_begun o s) { around = Cells })
-  kind_inside TableCell e trees s = Some s
 
-  abbrev pub node_inside : RenderNode → Forest RenderNode → LayoutState S K T B → Option (LayoutState S K T B)
-  node_inside n trees s = kind_inside n.kind n.estimate trees (in_style d push n.style s)
+  abbrev pub struck_out : LayoutState S K T B → NodeLayout (LayoutState S K T B)
+  struck_out s = Pair (strike s) (λ r. add_text d push o (d.strikeout.end r.decorator) (striking s.text.struck_out r))
 
-  -- and by what it stands in
-  abbrev pub placed_inside : RenderNode → Forest RenderNode → LayoutState S K T B → Around → Option (LayoutState S K T B)
-  placed_inside n trees s Plain = node_inside n trees s
-  placed_inside n trees s (Bullets least) = do
-    q ← nested d o (prefix_columns (d.unordered_item_prefix s.decorator)) least s
-    node_inside n trees q
-  placed_inside n trees s (Numbers least number columns) = do
-    q ← nested d o columns least s
-    node_inside n trees q
-  placed_inside n trees s Cells = do
-    cell ← o.cell_block s.block
-    node_inside n trees (in_cell d cell s)
+  -- a superscript: of digits by their own characters, anything else between what stands round it
+  abbrev pub superscript : (digits : Option (List ℕ)) → LayoutState S K T B → NodeLayout (LayoutState S K T B)
+  superscript None s = decorated d.superscript s
+  superscript (Some digits) s = Leaf (add_characters d push o (map raised digits) s)
 
+  -- a link between what stands round it, and its number: links are numbered in the order in which they start
+  abbrev pub linked : (target : List ℕ) → LayoutState S K T B → NodeLayout (LayoutState S K T B)
+  linked target s = followed (decorated (link d target) (with_target target s)) (link_number d push o s.text (length s.targets + 1))
+
+  -- a term of a description list begins on a line of its own
+  abbrev pub term_begun : LayoutState S K T B → Option (LayoutState S K T B)
+  term_begun s = do
+    q ← on_block o.new_line s
+    begun d.em q
+
+  -- EACH KIND OF NODE, over these trees
+  abbrev pub kind_layout : NodeKind → Estimate → (trees : Forest RenderNode) → LayoutState S K T B → NodeLayout (LayoutState S K T B)
+  kind_layout (Text t) e trees s = Leaf (add_text d push o t s)
+  kind_layout Container e trees s = Pair (Some s) (λ r. Some r)
+  kind_layout Break e trees s = Leaf (on_block o.new_line_hard s)
+  kind_layout Block e trees s = Pair (on_block o.start_block s) (block_ended o)
+  kind_layout Div e trees s = Pair (on_block o.new_line s) (on_block o.new_line)
+  kind_layout (Emphasis m) e trees s = decorated (emphasis_decoration d m) s
+  kind_layout (Header level) e trees s = quoted (d.header_prefix s.decorator level) (inner_least e) s
+  kind_layout BlockQuote e trees s = quoted (d.quote_prefix s.decorator) (inner_least e) s
+  kind_layout Ul e trees s = among (Bullets (inner_least e)) s
+  kind_layout (Ol first) e trees s = among (numbers d e first s.decorator) s
+  kind_layout ListItem e trees s = Pair (on_block o.start_block s) (block_ended o)
+  kind_layout Dl e trees s = Pair (on_block o.start_block s) (λ r. Some r)
+  kind_layout Dt e trees s = Pair (term_begun s) (λ r. add_text d push o (d.em.end r.decorator) r)
+  kind_layout Dd e trees s = Pair (nested d o 2 (inner_least e) s) (appended o s (spaces 2) 2 s.around)
+  kind_layout Strikeout e trees s = struck_out s
+  kind_layout Superscript e trees s = superscript (digits_of trees) s
+  kind_layout (Link target) e trees s = linked target s
+  kind_layout (Image i) e trees s = Leaf (image i.source i.title s)
+  kind_layout (Svg title) e trees s = Leaf (image [] title s)
+  kind_layout (FragmentStart name) e trees s = Leaf (Some (marked o name s))
+  kind_layout (Table grid) e trees s = Pair (table_begun o grid.cells grid.needs s) (table_ended o s.in_table)
+  kind_layout TableRow e trees s = followed (among Cells (row_begun o s)) (on_block o.end_row)
+  kind_layout TableCell e trees s = Pair (Some s) (λ r. Some r)
+
+  -- and each node: its kind, in its style. Texts are treated behind it as they were before it
+  abbrev pub node_layout : RenderNode → (trees : Forest RenderNode) → LayoutState S K T B → NodeLayout (LayoutState S K T B)
+  node_layout n trees s = followed (kind_layout n.kind n.estimate trees (in_style d push n.style s)) (λ r. Some (record r { text = s.text }))
+
+  abbrev pub layout_of : RenderNode → (trees : Forest RenderNode) → LayoutState S K T B → NodeLayout (LayoutState S K T B)
+  layout_of n trees s = placed d o (node_layout n trees) s s.around
+
+  abbrev pub steps : Steps RenderNode (LayoutState S K T B)
+  steps n trees children s = laid_out (layout_of n trees s) children
+
+  -- the state in which a node's children are laid out
   abbrev pub inside : Inside RenderNode (LayoutState S K T B)
-  inside n trees s = placed_inside n trees s s.around
+  inside n trees s = inner (layout_of n trees s)
 
   -- what the state shows once all trees are laid out and the document is closed, under the tag that its texts began with
   abbrev pub shown_after : {L : Type 0} → Ending B T → (LayoutState S K T B → L) → Forest RenderNode → LayoutState S K T B → Option L
@@ -506,21 +450,23 @@ empty_state d settings decorator width overflow =
 abbrev pub estimated : {S A : Type 0} → Decoration S A → LayoutSettings → S → Forest RenderNode → Forest RenderNode
 estimated d settings decorator t = measured d (d.subblock (d.subblock decorator)) settings.min_wrap_width t
 
--- THE LINES of a render tree, each character with its stack of annotations; none where it is too narrow
-abbrev pub layout_lines : {S A : Type 0} → Decoration S A → LayoutSettings → Forest RenderNode → S → (width : ℕ) → (overflow : Bool) →
-    Option (List (Line (List A) ℕ))
-layout_lines {S} {A} d settings t decorator width overflow =
+-- THE LAYOUT of a render tree: what is shown of the state behind it; none where it is too narrow
+abbrev pub layout : {S A L : Type 0} → Decoration S A → LayoutSettings → (Defined S A → L) → Forest RenderNode → S → (width : ℕ) →
+    (overflow : Bool) → Option L
+layout d settings shown t decorator width overflow =
     if width == 0 then None
-    else shown_after d onto definition.operations definition.ending (λ (s : Defined S A). s.block.lines) (estimated d settings decorator t)
+    else shown_after d onto definition.operations definition.ending shown (estimated d settings decorator t)
     (empty_state d settings decorator width overflow)
 
--- THE NAMES of its marks: a mark in the lines is the place of one; none where it is too narrow
+-- its lines, each character with its stack of annotations
+abbrev pub layout_lines : {S A : Type 0} → Decoration S A → LayoutSettings → Forest RenderNode → S → (width : ℕ) → (overflow : Bool) →
+    Option (List (Line (List A) ℕ))
+layout_lines {S} {A} d settings = layout d settings (λ (s : Defined S A). s.block.lines)
+
+-- and the names of its marks: a mark in the lines is the place of one
 abbrev pub mark_names : {S A : Type 0} → Decoration S A → LayoutSettings → Forest RenderNode → S → (width : ℕ) → (overflow : Bool) →
     Option (List (List ℕ))
-mark_names {S} {A} d settings t decorator width overflow =
-    if width == 0 then None
-    else shown_after d onto definition.operations definition.ending (λ (s : Defined S A). s.names) (estimated d settings decorator t)
-    (empty_state d settings decorator width overflow)
+mark_names {S} {A} d settings = layout d settings (λ (s : Defined S A). s.names)
 
 -- the same lines without annotations
 abbrev pub unannotated : {A : Type 0} → List (Line (List A) ℕ) → List (Line (Unit {0}) ℕ)

@@ -1,20 +1,16 @@
 -- What the walk does as it opens a node and closes it.
-use Rattle.std.specs.Prelude.{ℕ, ℤ, ◌+◌, List, [], length, map, Option, Some, None}
+use Rattle.std.specs.Prelude.{ℕ, ℤ, ◌+◌, List, length, Option, Some, None}
 use Rattle.std.specs.Str.{chars}
 use Rattle.html_render_values.specs.Forest.{Forest}
 use Rattle.html_render_values.specs.Outcome.{◌>>=◌}
-use Rattle.html_render_parts.specs.Decoration.{Decoration, link}
-use Rattle.html_render_parts.specs.declared.widths.shares.ColumnNeed.{ColumnNeed}
+use Rattle.html_render_parts.specs.Decoration.{Decoration}
 use Rattle.html_render_estimates.specs.Estimates.{prefix_columns}
 use Rattle.html_render_nodes.specs.declared.tree.Emphasis.TheVariants.{Em}
 use Rattle.html_render_nodes.specs.declared.tree.Estimate.{Estimate}
 use Rattle.html_render_nodes.specs.declared.tree.NodeKind.{NodeKind}
-use Rattle.html_render_nodes.specs.declared.tree.NodeKind.TheVariants.{Text, Container, Break, Block, Div, Emphasis}
-use Rattle.html_render_nodes.specs.declared.tree.NodeKind.TheVariants.{Header, BlockQuote, Ul, Ol, ListItem, Dl, Dt, Dd}
-use Rattle.html_render_nodes.specs.declared.tree.NodeKind.TheVariants.{Strikeout, Superscript, Link, Image, Svg, FragmentStart, Table, TableRow}
-use Rattle.html_render_nodes.specs.declared.tree.NodeKind.TheVariants.{TableCell}
+use Rattle.html_render_nodes.specs.declared.tree.NodeKind.TheVariants.{Block, Div, Emphasis, Header, BlockQuote, Ul, Ol, ListItem, Dt, Dd}
+use Rattle.html_render_nodes.specs.declared.tree.NodeKind.TheVariants.{Strikeout, Superscript, Link, Table, TableRow}
 use Rattle.html_render_nodes.specs.declared.tree.RenderNode.{RenderNode}
-use Rattle.html_render_parts.specs.TableCells.{CellGrid}
 use Rattle.html_render_nodes.specs.Pass.{Way, Into, Past, past}
 use Rattle.html_render_blocks.specs.Operations.{Operations}
 use Rattle.html_render_layout.specs.declared.layout.items.Place.{Place}
@@ -31,9 +27,9 @@ use Rattle.html_render_layout.specs.declared.layout.state.LayoutState.{LayoutSta
 use Rattle.html_render_layout.specs.declared.layout.state.Outer.{Outer}
 use Rattle.html_render_layout.specs.declared.layout.state.OuterTable.{OuterTable}
 use Rattle.html_render_layout.specs.declared.layout.state.TextContext.{TextContext}
-use Rattle.html_render_layout.specs.Layout.{on_block, add_characters, add_text, begun, emphasis_decoration, nested, spaces, padded}
-use Rattle.html_render_layout.specs.Layout.{in_cell, table_begun, table_ended, row_begun}
-use Rattle.html_render_layout.specs.Layout.{next_number, inner_least, numbers, striking, raised, digits_of, in_style, image, link_number, with_target, marked}
+use Rattle.html_render_layout.specs.Layout.{on_block, block_ended, add_text, emphasis_decoration, nested, spaces, padded, next_number}
+use Rattle.html_render_layout.specs.Layout.{in_cell, table_ended, striking, in_style, link_number, kind_layout}
+use Rattle.html_render_layout.specs.NodeLayout.{opened_with}
 
 -- what a block inside the state's interrupts, with what the nodes stand in behind it
 abbrev pub interrupted : {S K T B : Type 0} → LayoutState S K T B → Around → (prefix : List ℕ) → (columns : ℕ) → Outer S T B
@@ -118,92 +114,39 @@ abbrev pub keeping : {S K T B : Type 0} → Operations B T → Interruption S T 
 keeping o item text (Into q k) = Some (Into q (record { item = item; text = text; kind = k }))
 keeping o item text (Past r) = past (item_closed o item (record r { text = text }))
 
+-- what is kept of a heading or a quote
+abbrev pub quote_kept : {S K T B : Type 0} → (prefix : List ℕ) → LayoutState S K T B → KindClosing S T B
+quote_kept prefix s = EndQuote (interrupted s s.around prefix (prefix_columns prefix))
+
+-- what is kept of each kind of node until its children are laid out
+abbrev pub kind_kept : {S A K T B : Type 0} → Decoration S A → NodeKind → LayoutState S K T B → KindClosing S T B
+kind_kept d Block s = EndBlock
+kind_kept d ListItem s = EndBlock
+kind_kept d Div s = NewLine
+kind_kept d (Emphasis m) s = EndEmphasis m
+kind_kept d (Header level) s = quote_kept (d.header_prefix s.decorator level) s
+kind_kept d BlockQuote s = quote_kept (d.quote_prefix s.decorator) s
+kind_kept d Ul s = EndList
+kind_kept d (Ol first) s = EndList
+kind_kept d Dt s = EndEmphasis Em
+kind_kept d Dd s = EndIndent (interrupted s s.around (spaces 2) 2)
+kind_kept d Strikeout s = EndStrikeout s.text.struck_out
+kind_kept d Superscript s = EndSuperscript
+kind_kept d (Link target) s = EndLink s.text (length s.targets + 1)
+kind_kept d (Table grid) s = EndTable s.in_table
+kind_kept d TableRow s = EndRow
+kind_kept d _ s = Nothing
+
 module _ {S A K T B : Type 0} (d : Decoration S A) (push : K → T → A → K × T) (o : Operations B T) where
-  abbrev pub quote_opened : (prefix : List ℕ) → Estimate → LayoutState S K T B → Option (Way (LayoutState S K T B) (KindClosing S T B))
-  quote_opened prefix e s = do
-    q ← nested d o (prefix_columns prefix) (inner_least e) s
-    Some (Into q (EndQuote (interrupted s s.around prefix (prefix_columns prefix))))
-
-  -- a term of a description list, and what is said of it
-  abbrev pub term_opened : LayoutState S K T B → Option (Way (LayoutState S K T B) (KindClosing S T B))
-  term_opened s = do
-    p ← on_block o.new_line s
-    q ← begun d push o d.em p
-    Some (Into q (EndEmphasis Em))
-
-  abbrev pub description_opened : Estimate → LayoutState S K T B → Option (Way (LayoutState S K T B) (KindClosing S T B))
-  description_opened e s = do
-    q ← nested d o 2 (inner_least e) s
-    Some (Into q (EndIndent (interrupted s s.around (spaces 2) 2)))
-
-  -- a part that is struck out, and a link
-  abbrev pub strikeout_opened : LayoutState S K T B → Option (Way (LayoutState S K T B) (KindClosing S T B))
-  strikeout_opened s = do
-    q ← begun d push o d.strikeout s
-    Some (Into (striking s.settings.unicode_strikeout q) (EndStrikeout s.text.struck_out))
-
-  abbrev pub link_opened : (target : List ℕ) → LayoutState S K T B → Option (Way (LayoutState S K T B) (KindClosing S T B))
-  link_opened target s = do
-    q ← begun d push o (link d target) (with_target target s)
-    Some (Into q (EndLink s.text (length s.targets + 1)))
-
-  -- a table, and a row of one
-  abbrev pub table_opened : CellGrid → List ColumnNeed → LayoutState S K T B → Option (Way (LayoutState S K T B) (KindClosing S T B))
-  table_opened grid needs s = do
-    q ← table_begun o grid needs s
-    Some (Into q (EndTable s.in_table))
-
-  abbrev pub row_opened : LayoutState S K T B → Option (Way (LayoutState S K T B) (KindClosing S T B))
-  row_opened s = Some (Into (record (row_begun o s) { around = Cells }) EndRow)
-
-  -- a superscript, which is passed where it is of digits
-  abbrev pub superscript_opened : (digits : Option (List ℕ)) → LayoutState S K T B → Option (Way (LayoutState S K T B) (KindClosing S T B))
-  superscript_opened None s = do
-    q ← begun d push o d.superscript s
-    Some (Into q EndSuperscript)
-  superscript_opened (Some digits) s = past (add_characters d push o (map raised digits) s)
-
   -- how each kind of node is opened
   abbrev pub kind_opened : NodeKind → Estimate → (trees : Forest RenderNode) → LayoutState S K T B →
       Option (Way (LayoutState S K T B) (KindClosing S T B))
-  kind_opened (Text t) e trees s = past (add_text d push o t s)
-  kind_opened Container e trees s = Some (Into s Nothing)
-  kind_opened Break e trees s = past (on_block o.new_line_hard s)
-  kind_opened Block e trees s = do
-    q ← on_block o.start_block s
-    Some (Into q EndBlock)
-  kind_opened Div e trees s = do
-    q ← on_block o.new_line s
-    Some (Into q NewLine)
-  kind_opened (Emphasis m) e trees s = do
-    q ← begun d push o (emphasis_decoration d m) s
-    Some (Into q (EndEmphasis m))
-  kind_opened (Header level) e trees s = quote_opened (d.header_prefix s.decorator level) e s
-  kind_opened BlockQuote e trees s = quote_opened (d.quote_prefix s.decorator) e s
-  kind_opened Ul e trees s = Some (Into (record s { around = Bullets (inner_least e) }) EndList)
-  kind_opened (Ol first) e trees s = Some (Into (record s { around = numbers d e first s.decorator }) EndList)
-  kind_opened ListItem e trees s = do
-    q ← on_block o.start_block s
-    Some (Into q EndBlock)
-  kind_opened Dl e trees s = do
-    q ← on_block o.start_block s
-    Some (Into q Nothing)
-  kind_opened Dt e trees s = term_opened s
-  kind_opened Dd e trees s = description_opened e s
-  kind_opened Strikeout e trees s = strikeout_opened s
-  kind_opened Superscript e trees s = superscript_opened (digits_of trees) s
-  kind_opened (Link target) e trees s = link_opened target s
-  kind_opened (Image i) e trees s = past (image d push o i.source i.title s)
-  kind_opened (Svg title) e trees s = past (image d push o [] title s)
-  kind_opened (FragmentStart name) e trees s = past (Some (marked o name s))
-  kind_opened (Table grid) e trees s = table_opened grid.cells grid.needs s
-  kind_opened TableRow e trees s = row_opened s
-  kind_opened TableCell e trees s = Some (Into s Nothing)
+  kind_opened k e trees s = opened_with (kind_layout d push o k e trees s) (kind_kept d k s)
 
   -- what each does once its children are laid out
   abbrev pub kind_closed : KindClosing S T B → LayoutState S K T B → Option (LayoutState S K T B)
   kind_closed Nothing r = Some r
-  kind_closed EndBlock r = Some (record r { block = o.end_block r.block })
+  kind_closed EndBlock r = block_ended o r
   kind_closed NewLine r = on_block o.new_line r
   kind_closed (EndEmphasis m) r = add_text d push o ((emphasis_decoration d m).end r.decorator) r
   kind_closed EndList r = Some (record r { around = Plain })

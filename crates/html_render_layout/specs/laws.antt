@@ -3,8 +3,11 @@ pub mod Styles
 pub mod Opening
 pub mod Sizes
 pub mod Ending
+pub mod Answers
+pub mod Related
 pub mod Representation
 pub mod LayoutKeeps
+pub mod LayoutReturns
 pub mod LayoutLaws
 pub mod LayoutWorks
 pub mod LayoutOverflow

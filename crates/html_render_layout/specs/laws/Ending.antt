@@ -1,10 +1,9 @@
--- A document's end: what is kept of its block, and that overflow gives the same.
-use Rattle.std.proofs.Common.{ℕ, Bool, List, map, Some, refl, IfSome}
+-- A document's end: what is kept of its block.
+use Rattle.std.proofs.Common.{ℕ, Bool, List, map, IfSome}
 use Rattle.std.specs.Option.{IsSomeAnd}
 use Rattle.std.specs.Str.{chars}
 use Rattle.html_render_parts.specs.Decoration.{Decoration}
-use Rattle.html_render_nodes.specs.laws.Images.{Image, image-then}
-use Rattle.html_render_nodes.specs.laws.Runs.{IfSome-then}
+use Rattle.html_render_layout.specs.laws.Answers.{IfSome-then}
 use Rattle.html_render_blocks.specs.Operations.{Ending}
 use Rattle.html_render_blocks.specs.laws.Cases.{then_and}
 use Rattle.html_render_layout.specs.declared.layout.state.LayoutState.{LayoutState}
@@ -31,16 +30,3 @@ module _ {S A K T B : Type 0} (d : Decoration S A) (end : Ending B T) (link_foot
       then_and P (λ (q : LayoutState S K T B). P q.block) _ (end.finish s.block) finished (λ b h.
       then_and P (λ (q : LayoutState S K T B). P q.block) _ (end.add_closing_lines b wrap_links tag (texts s))
       (closed b (texts s) h) (λ c k. k))
-
-  -- the end of an image is the image of the end, where it is that for both parts
-  pub ended-image : (f : B → B) → ((b : B) → Image f (end.finish b) (end.finish (f b))) →
-      ((b : B) (ts : List (List ℕ)) → Image f (end.add_closing_lines b wrap_links tag ts) (end.add_closing_lines (f b) wrap_links tag ts)) →
-      (s : LayoutState S K T B) →
-      Image (λ (r : LayoutState S K T B). record r { block = f r.block }) (ended d end link_footnotes wrap_links tag s)
-      (ended d end link_footnotes wrap_links tag (record s { block = f s.block }))
-  ended-image f finished closed s =
-      let mapped : LayoutState S K T B → LayoutState S K T B = λ r. record r { block = f r.block } in
-      image-then f mapped _ _ (end.finish s.block) (end.finish (f s.block)) (finished s.block) (λ b.
-      image-then f mapped (λ c. Some (record s { block = c })) (λ c. Some (record (mapped s) { block = c }))
-      (end.add_closing_lines b wrap_links tag (texts s)) (end.add_closing_lines (f b) wrap_links tag (texts s)) (closed b (texts s))
-      (λ c. refl))

@@ -8,7 +8,7 @@ use Rattle.html_render_parts.specs.Decoration.{Decoration}
 use Rattle.html_render_lines.specs.Line.{Line, AllWithinWidth}
 use Rattle.html_render_nodes.specs.declared.tree.RenderNode.{RenderNode}
 use Rattle.html_render_nodes.specs.Pass.{run}
-use Rattle.html_render_nodes.specs.laws.Runs.{IfSome-then}
+use Rattle.html_render_layout.specs.laws.Answers.{IfSome-then}
 use Rattle.html_render_blocks.specs.Definition as definition
 use Rattle.html_render_blocks.specs.Definition.{DefinedBlock}
 use Rattle.html_render_blocks.specs.laws.BlockLaws.{IsWithin, Overflows, empty_within, operations_within, operations_succeed}
@@ -17,7 +17,8 @@ use Rattle.html_render_layout.specs.declared.settings.LayoutSettings.{LayoutSett
 use Rattle.html_render_layout.specs.Ending.{ended}
 use Rattle.html_render_layout.specs.Layout.{onto, shown_after, Defined, defined, block_setting, padding, empty_state, estimated, layout_lines}
 use Rattle.html_render_layout.specs.laws.Ending.{ended-keeps, ended-succeeds}
-use Rattle.html_render_layout.specs.laws.LayoutKeeps.{layout-keeps, layout-returns, layout-succeeds}
+use Rattle.html_render_layout.specs.laws.LayoutKeeps.{layout-keeps, layout-succeeds}
+use Rattle.html_render_layout.specs.laws.LayoutReturns.{layout-returns}
 
 then_some : {X Y : Type 0} (P : X → Type 0) (o : Option X) (f : X → Option Y) → IsSomeAnd o P → ((x : X) → P x → IsSome (f x)) →
     IsSome (option_and_then f o)

@@ -16,7 +16,7 @@ use Rattle.html_render_nodes.specs.declared.tree.RenderNode.{RenderNode}
 use Rattle.html_render_estimates.specs.Passes.{with_needed_sizes}
 use Rattle.html_render_blocks.specs.Block.{empty_block}
 use Rattle.html_render_blocks.specs.Definition as definition
-use Rattle.html_render_blocks.specs.Definition.{definition}
+use Rattle.html_render_blocks.specs.Definition.{definition, DefinedBlock}
 use Rattle.html_render_blocks.specs.Machine as machine
 use Rattle.html_render_blocks.specs.Machine.{machine}
 use Rattle.html_render_blocks.specs.laws.BlockFed.{block_with, block_of}
@@ -29,6 +29,7 @@ use Rattle.html_render_layout.specs.Layout.{onto, steps, shown_after, Defined, d
 use Rattle.html_render_layout.specs.Layout.{estimated, layout_lines, mark_names, unannotated}
 use Rattle.html_render_layout.specs.Opening.{opened}
 use Rattle.html_render_layout.specs.laws.Opening.{layout-asks}
+use Rattle.html_render_layout.specs.laws.Related.{Other}
 use Rattle.html_render_layout.specs.laws.Sizes.{shown-needed, counts-needed}
 use Rattle.html_render_layout.specs.Working.{Worked, tabled, tagged, work_lines, work_names, Untagged, untagged, untagged_work}
 use Rattle.html_render_layout.specs.laws.Representation.{Represents, visited-represented, most_open-represented, lines-represented, names-represented}
@@ -99,28 +100,25 @@ module _ {S A : Type 0} (d : Decoration S A) (settings : LayoutSettings) where
   empty_worked decorator w o =
       begin_with settings (d.subblock decorator) ([] ∷ []) 0 (empty_block machine (block_setting settings w o) (padding settings 0))
 
+  -- what differs in the state by stacks
+  abbrev by_stacks : (width : ℕ) → (overflow : Bool) → Other (Unit {0}) (List A) (DefinedBlock (List A) ℕ)
+  by_stacks w o =
+      record { stacks = tt; tag = []; blank = []; block = empty_block definition (block_setting settings w o) (padding settings []) }
+
   begins : (decorator : S) (w : ℕ) (o : Bool) →
       Represents d tabled stack_at (λ (s : List A). s) Pushed (λ k. ([], sym (append-nil k))) Pushed-goes
-      (λ k t a. ((stack_at k t ++ a ∷ []) ∷ [], refl)) tag_pushed (empty_worked decorator w o) (empty_state d settings decorator w o)
-  begins decorator w o = record {
-    settings = refl;
-    decorator = refl;
-    text = record { tag = λ i. ap (λ x. stack_at x 0) i.1.1; mode = refl; preformatted = refl; struck_out = refl };
-    block = λ i. shows-empty (stack_at i.0) (λ s. s) 0 [] w o (ap (λ x. stack_at x 0) i.1.1);
-    around = refl;
-    blank = λ i. ap (λ x. stack_at x 0) i.1.1;
-    in_table = refl;
-    targets = refl;
-    names = refl;
-  }
+      (λ k t a. ((stack_at k t ++ a ∷ []) ∷ [], refl)) tag_pushed (empty_worked decorator w o) (by_stacks w o)
+  begins decorator w o = (
+    λ l g. ap (λ x. stack_at x 0) g.1,
+    (λ l g. ap (λ x. stack_at x 0) g.1, λ l g. shows-empty (stack_at l) (λ s. s) 0 [] w o (ap (λ x. stack_at x 0) g.1)),
+  )
 
   work_lines-wanted : (t : Forest RenderNode) (decorator : S) (w : ℕ) (o : Bool) →
       work_lines d t (empty_worked decorator w o) ≡ wanted t decorator w o
   work_lines-wanted t decorator w o =
       lines-represented d tabled stack_at (λ (s : List A). s) Pushed (λ k. ([], sym (append-nil k))) Pushed-goes
       (λ k t a. ((stack_at k t ++ a ∷ []) ∷ [], refl)) tag_pushed
-      (λ (r : Worked S A). lines_with (stack_at r.stacks) r.block.lines) (λ r. refl) t (empty_worked decorator w o)
-      (empty_state d settings decorator w o)
+      (λ (r : Worked S A). lines_with (stack_at r.stacks) r.block.lines) (λ r. refl) t (empty_worked decorator w o) (by_stacks w o)
       (begins decorator w o)
       ∙ mapped-same (λ (s : List A). s) (λ s. refl) (wanted t decorator w o)
 
@@ -142,7 +140,7 @@ module _ {S A : Type 0} (d : Decoration S A) (settings : LayoutSettings) where
       (estimated d settings decorator t) (empty_worked decorator w o)
       ∙ names-represented d tabled stack_at (λ (s : List A). s) Pushed (λ k. ([], sym (append-nil k))) Pushed-goes
       (λ k t a. ((stack_at k t ++ a ∷ []) ∷ [], refl)) tag_pushed (estimated d settings decorator t) (empty_worked decorator w o)
-      (empty_state d settings decorator w o) (begins decorator w o)
+      (by_stacks w o) (begins decorator w o)
       ∙ by (w == 0) refl
     where
       names : Option (List (List ℕ))
@@ -163,12 +161,10 @@ module _ {S A : Type 0} (d : Decoration S A) (settings : LayoutSettings) where
       (empty_state d settings decorator w o) old other new
       (ap (λ x. visited (steps d tabled machine.operations) (inside_of (opened d tabled machine.operations)) t x) e
       ∙ visited-represented d tabled stack_at (λ (s : List A). s) Pushed (λ k. ([], sym (append-nil k))) Pushed-goes
-      (λ k t a. ((stack_at k t ++ a ∷ []) ∷ [], refl)) tag_pushed t (empty_worked decorator w o) (empty_state d settings decorator w o)
-      (begins decorator w o))
+      (λ k t a. ((stack_at k t ++ a ∷ []) ∷ [], refl)) tag_pushed t (empty_worked decorator w o) (by_stacks w o) (begins decorator w o))
       (ap (λ x. most_open (steps d tabled machine.operations) (inside_of (opened d tabled machine.operations)) t x) e
       ∙ most_open-represented d tabled stack_at (λ (s : List A). s) Pushed (λ k. ([], sym (append-nil k))) Pushed-goes
-      (λ k t a. ((stack_at k t ++ a ∷ []) ∷ [], refl)) tag_pushed t (empty_worked decorator w o) (empty_state d settings decorator w o)
-      (begins decorator w o))
+      (λ k t a. ((stack_at k t ++ a ∷ []) ∷ [], refl)) tag_pushed t (empty_worked decorator w o) (by_stacks w o) (begins decorator w o))
       (layout-asks d onto definition.operations) probes c
 
   -- and it counts what the definition visits
@@ -194,18 +190,8 @@ module _ {S A : Type 0} (d : Decoration S A) (settings : LayoutSettings) where
       lines-represented d untagged (λ k t. tt) (λ (s : List A). tt) (λ k l. Unit {0}) (λ k. tt) (λ k l m a b. tt) (λ k t a. tt)
       (λ k t a s h l g. refl)
       (λ (r : Untagged S K). r.block.lines) (λ r. sym (lines-same (λ (t : Unit {0}). tt) (λ t. refl) r.block.lines)) t
-      (empty_untagged k decorator w o) (empty_state d settings decorator w o)
-      (record {
-        settings = refl;
-        decorator = refl;
-        text = record { tag = λ i. refl; mode = refl; preformatted = refl; struck_out = refl };
-        block = λ i. shows-empty (λ t. t) (λ s. tt) tt [] w o refl;
-        around = refl;
-        blank = λ i. refl;
-        in_table = refl;
-        targets = refl;
-        names = refl;
-      })
+      (empty_untagged k decorator w o) (by_stacks w o)
+      (λ l g. refl, (λ l g. refl, λ l g. shows-empty (λ t. t) (λ s. tt) tt [] w o refl))
 
   -- the same, without what the characters are annotated with
   pub untagged_lines-works : {K : Type 0} (t measured : Forest RenderNode) (decorator : S) (w : ℕ) (o : Bool) (k : K)

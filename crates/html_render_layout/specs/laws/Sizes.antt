@@ -20,9 +20,10 @@ use Rattle.html_render_layout.specs.declared.layout.state.Around.TheVariants.{Pl
 use Rattle.html_render_layout.specs.declared.layout.state.Closing.{Closing}
 use Rattle.html_render_layout.specs.declared.layout.state.Interruption.{Interruption}
 use Rattle.html_render_layout.specs.declared.layout.state.LayoutState.{LayoutState}
-use Rattle.html_render_layout.specs.Layout.{digits_of, in_style, in_cell, steps, shown_after}
+use Rattle.html_render_layout.specs.NodeLayout.{opened_with}
+use Rattle.html_render_layout.specs.Layout.{digits_of, superscript, in_style, in_cell, steps, shown_after}
 use Rattle.html_render_layout.specs.Opening.{item_begun, item_kept, cell_kept, keeping, bullet_place, number_place}
-use Rattle.html_render_layout.specs.Opening.{superscript_opened, kind_opened, opened_in, cell_opened, placed_opened, opened_around}
+use Rattle.html_render_layout.specs.Opening.{kind_kept, kind_opened, opened_in, cell_opened, placed_opened, opened_around}
 use Rattle.html_render_layout.specs.Opening.{opened, closed}
 use Rattle.html_render_layout.specs.laws.Opening.{and_then_same, steps-told}
 
@@ -57,7 +58,7 @@ module _ {S A K T B : Type 0} (d : Decoration S A) (push : K → T → A → K �
   kind-same : (kind : NodeKind) (e : Estimate) (trees : Forest RenderNode) (s : State) → is_table kind ≡ false →
       kind_opened d push o kind (without_size e) (without_sizes trees) s ≡ kind_opened d push o kind e trees s
   kind-same (Table grid) e trees s plain = absurd (true≢false plain)
-  kind-same Superscript e trees s plain = ap (λ x. superscript_opened d push o x s) (digits-same trees)
+  kind-same Superscript e trees s plain = ap (λ x. opened_with (superscript d push o x s) (kind_kept d Superscript s)) (digits-same trees)
   kind-same kind e trees s plain = refl
 
   in-same : (item : Interruption S T B) (n : RenderNode) (trees : Forest RenderNode) (s : State) → is_table n.kind ≡ false →

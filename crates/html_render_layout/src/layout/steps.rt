@@ -5,11 +5,11 @@ ghost use Rattle.html_render_values.specs.Outcome.{Refuses};
 ghost use Rattle.html_render_blocks.specs.Machine as machine;
 ghost use Rattle.html_render_nodes.specs.Pass.{way};
 ghost use Rattle.html_render_nodes.specs.Preorder.{flatten, forest_of};
-ghost use Rattle.html_render_layout.specs.Layout.{inner_least, numbers, digits_of};
-ghost use Rattle.html_render_layout.specs.Opening.{place_of, item_begun, item_kept, item_closed, quote_opened};
-ghost use Rattle.html_render_layout.specs.Opening.{term_opened, description_opened, strikeout_opened, superscript_opened, link_opened};
-ghost use Rattle.html_render_layout.specs.Opening.{table_opened, row_opened, kind_opened, kind_closed, node_opened};
-ghost use Rattle.html_render_layout.specs.Opening.{opened_in, cell_opened, opened, closed};
+ghost use Rattle.html_render_layout.specs.NodeLayout.{opened_with};
+ghost use Rattle.html_render_layout.specs.Layout.{inner_least, spaces, numbers, digits_of, nested, among, row_begun, table_begun};
+ghost use Rattle.html_render_layout.specs.Layout.{quoted, strike, superscript, linked, term_begun};
+ghost use Rattle.html_render_layout.specs.Opening.{interrupted, quote_kept, kind_kept, place_of, item_begun, item_kept, item_closed};
+ghost use Rattle.html_render_layout.specs.Opening.{kind_opened, kind_closed, node_opened, opened_in, cell_opened, opened, closed};
 
 use super::emphasis::{begin_emphasis, begin_strikeout, begin_superscript, end_of};
 use super::images::add_image;
@@ -46,9 +46,12 @@ fn open_quote<D: TextDecorator, G: Tagging<D::Annotation>>(
     estimate: &Estimate,
     state: &mut LayoutState<D, G, G::Tag, Block<G::Tag, usize>>,
 ) -> Result<Option<KindClosing<D, G::Tag, Block<G::Tag, usize>>>, Error>
-    ensures ok { IfOk result (λ c. quote_opened D.decoration G.annotated machine.operations (string_bytes prefix) estimate.now state.old
-        ≡ Some (way state.new c)) }
-    ensures err { IfErr result (λ e. Refuses e (quote_opened D.decoration G.annotated machine.operations (string_bytes prefix) estimate.now state.old)) }
+    ensures ok { IfOk result (λ c. opened_with
+        (quoted D.decoration G.annotated machine.operations (string_bytes prefix) (inner_least estimate.now) state.old)
+        (quote_kept (string_bytes prefix) state.old) ≡ Some (way state.new c)) }
+    ensures err { IfErr result (λ e. Refuses e (opened_with
+        (quoted D.decoration G.annotated machine.operations (string_bytes prefix) (inner_least estimate.now) state.old)
+        (quote_kept (string_bytes prefix) state.old))) }
 {
     let columns = columns(prefix.as_str());
     let prefix = Text::from(prefix);
@@ -83,16 +86,15 @@ fn numbers<D: TextDecorator>(
 
 /// A term of a description list begins on a line of its own, stressed.
 #[tactic(auto, using(html_render_values::specs::laws::Outcome::refusals))]
-fn open_term<D: TextDecorator, G: Tagging<D::Annotation>>(
+fn begin_term<D: TextDecorator, G: Tagging<D::Annotation>>(
     alloc: Global,
     state: &mut LayoutState<D, G, G::Tag, Block<G::Tag, usize>>,
-) -> Result<Option<KindClosing<D, G::Tag, Block<G::Tag, usize>>>, Error>
-    ensures ok { IfOk result (λ c. term_opened D.decoration G.annotated machine.operations state.old ≡ Some (way state.new c)) }
-    ensures err { IfErr result (λ e. Refuses e (term_opened D.decoration G.annotated machine.operations state.old)) }
+) -> Result<(), Error>
+    ensures ok { OnOk result (term_begun D.decoration G.annotated machine.operations state.old ≡ Some state.new) }
+    ensures err { IfErr result (λ e. Refuses e (term_begun D.decoration G.annotated machine.operations state.old)) }
 {
     state.block.new_line()?;
-    begin_emphasis(alloc, Emphasis::Em, state)?;
-    Ok(Some(KindClosing::EndEmphasis(Emphasis::Em)))
+    begin_emphasis(alloc, Emphasis::Em, state)
 }
 
 /// A description begins in a block of its own, behind two spaces.
@@ -102,8 +104,9 @@ fn open_description<D: TextDecorator, G: Tagging<D::Annotation>>(
     estimate: &Estimate,
     state: &mut LayoutState<D, G, G::Tag, Block<G::Tag, usize>>,
 ) -> Result<Option<KindClosing<D, G::Tag, Block<G::Tag, usize>>>, Error>
-    ensures ok { IfOk result (λ c. description_opened D.decoration G.annotated machine.operations estimate.now state.old ≡ Some (way state.new c)) }
-    ensures err { IfErr result (λ e. Refuses e (description_opened D.decoration G.annotated machine.operations estimate.now state.old)) }
+    ensures ok { OnOk result (nested D.decoration machine.operations 2 (inner_least estimate.now) state.old ≡ Some state.new) }
+    ensures kept { IfOk result (λ c. c ≡ Some (KindClosing.EndIndent (interrupted state.old state.old.around (spaces 2) 2))) }
+    ensures err { IfErr result (λ e. Refuses e (nested D.decoration machine.operations 2 (inner_least estimate.now) state.old)) }
 {
     let prefix = Text::from_str(alloc, "  ")?;
     let outer = nest(alloc, prefix, 2, inner_least(estimate), state.around, state)?;
@@ -112,17 +115,16 @@ fn open_description<D: TextDecorator, G: Tagging<D::Annotation>>(
 
 /// A part that is struck out begins.
 #[tactic(auto, using(html_render_values::specs::laws::Outcome::refusals))]
-fn open_strikeout<D: TextDecorator, G: Tagging<D::Annotation>>(
+fn strike<D: TextDecorator, G: Tagging<D::Annotation>>(
     alloc: Global,
     state: &mut LayoutState<D, G, G::Tag, Block<G::Tag, usize>>,
-) -> Result<Option<KindClosing<D, G::Tag, Block<G::Tag, usize>>>, Error>
-    ensures ok { IfOk result (λ c. strikeout_opened D.decoration G.annotated machine.operations state.old ≡ Some (way state.new c)) }
-    ensures err { IfErr result (λ e. Refuses e (strikeout_opened D.decoration G.annotated machine.operations state.old)) }
+) -> Result<(), Error>
+    ensures ok { OnOk result (strike D.decoration G.annotated machine.operations state.old ≡ Some state.new) }
+    ensures err { IfErr result (λ e. Refuses e (strike D.decoration G.annotated machine.operations state.old)) }
 {
-    let before = state.text.struck_out;
     begin_strikeout(alloc, state)?;
     state.text.struck_out = state.settings.unicode_strikeout;
-    Ok(Some(KindClosing::EndStrikeout(before)))
+    Ok(())
 }
 
 /// A superscript begins; one of digits is done.
@@ -133,10 +135,13 @@ fn open_superscript<D: TextDecorator, G: Tagging<D::Annotation>>(
     state: &mut LayoutState<D, G, G::Tag, Block<G::Tag, usize>>,
 ) -> Result<Option<KindClosing<D, G::Tag, Block<G::Tag, usize>>>, Error>
     requires { flatten (forest_of children.now) ≡ children.now }
-    ensures ok { IfOk result (λ c. superscript_opened D.decoration G.annotated machine.operations (digits_of (forest_of children.now)) state.old
+    ensures ok { IfOk result (λ c. opened_with
+        (superscript D.decoration G.annotated machine.operations (digits_of (forest_of children.now)) state.old)
+        (kind_kept D.decoration NodeKind.Superscript state.old)
         ≡ Some (way state.new c)) }
-    ensures err { IfErr result (λ e. Refuses e (superscript_opened D.decoration G.annotated machine.operations
-        (digits_of (forest_of children.now)) state.old)) }
+    ensures err { IfErr result (λ e. Refuses e (opened_with
+        (superscript D.decoration G.annotated machine.operations (digits_of (forest_of children.now)) state.old)
+        (kind_kept D.decoration NodeKind.Superscript state.old))) }
 {
     match digits_of(children) {
         Some(digits) => {
@@ -157,8 +162,10 @@ fn open_link<D: TextDecorator, G: Tagging<D::Annotation>>(
     target: &str,
     state: &mut LayoutState<D, G, G::Tag, Block<G::Tag, usize>>,
 ) -> Result<Option<KindClosing<D, G::Tag, Block<G::Tag, usize>>>, Error>
-    ensures ok { IfOk result (λ c. link_opened D.decoration G.annotated machine.operations target.now state.old ≡ Some (way state.new c)) }
-    ensures err { IfErr result (λ e. Refuses e (link_opened D.decoration G.annotated machine.operations target.now state.old)) }
+    ensures ok { IfOk result (λ c. opened_with (linked D.decoration G.annotated machine.operations target.now state.old)
+        (kind_kept D.decoration (NodeKind.Link target.now) state.old) ≡ Some (way state.new c)) }
+    ensures err { IfErr result (λ e. Refuses e (opened_with (linked D.decoration G.annotated machine.operations target.now state.old)
+        (kind_kept D.decoration (NodeKind.Link target.now) state.old))) }
 {
     let text = state.text;
     begin_link(alloc, target, state)?;
@@ -172,10 +179,9 @@ fn open_table<D: TextDecorator, G: Tagging<D::Annotation>>(
     grid: &Grid,
     state: &mut LayoutState<D, G, G::Tag, Block<G::Tag, usize>>,
 ) -> Result<Option<KindClosing<D, G::Tag, Block<G::Tag, usize>>>, Error>
-    ensures ok { IfOk result (λ c. table_opened D.decoration G.annotated machine.operations grid.now.cells grid.now.needs state.old
-        ≡ Some (way state.new c)) }
-    ensures err { IfErr result (λ e. Refuses e (table_opened D.decoration G.annotated machine.operations grid.now.cells grid.now.needs
-        state.old)) }
+    ensures ok { OnOk result (table_begun machine.operations grid.now.cells grid.now.needs state.old ≡ Some state.new) }
+    ensures kept { IfOk result (λ c. c ≡ Some (KindClosing.EndTable state.old.in_table)) }
+    ensures err { IfErr result (λ e. Refuses e (table_begun machine.operations grid.now.cells grid.now.needs state.old)) }
 {
     let in_table = state.in_table;
     begin_table(grid, state)?;
@@ -186,7 +192,9 @@ fn open_table<D: TextDecorator, G: Tagging<D::Annotation>>(
 fn open_row<D: TextDecorator, G: Tagging<D::Annotation>>(
     state: &mut LayoutState<D, G, G::Tag, Block<G::Tag, usize>>,
 ) -> Result<Option<KindClosing<D, G::Tag, Block<G::Tag, usize>>>, Error>
-    ensures ok { IfOk result (λ c. row_opened D.decoration G.annotated machine.operations state.old ≡ Some (way state.new c)) }
+    ensures ok { IfOk result (λ c. opened_with (among Around.Cells (row_begun machine.operations state.old))
+        (kind_kept D.decoration NodeKind.TableRow state.old)
+        ≡ Some (way state.new c)) }
     ensures err { IfErr result (λ e. e ≡ Error.OutOfMemory) }
 {
     state.block.begin_row()?;
@@ -255,9 +263,16 @@ fn open_kind<D: TextDecorator, G: Tagging<D::Annotation>>(
             state.block.start_block()?;
             Ok(Some(KindClosing::Nothing))
         }
-        NodeKind::Dt => open_term(alloc, state),
+        NodeKind::Dt => {
+            begin_term(alloc, state)?;
+            Ok(Some(KindClosing::EndEmphasis(Emphasis::Em)))
+        }
         NodeKind::Dd => open_description(alloc, estimate, state),
-        NodeKind::Strikeout => open_strikeout(alloc, state),
+        NodeKind::Strikeout => {
+            let before = state.text.struck_out;
+            strike(alloc, state)?;
+            Ok(Some(KindClosing::EndStrikeout(before)))
+        }
         NodeKind::Superscript => open_superscript(alloc, children, state),
         NodeKind::Link(target) => open_link(alloc, target.as_str(), state),
         NodeKind::Image(image) => {

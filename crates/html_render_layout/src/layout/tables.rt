@@ -81,11 +81,11 @@ pub fn begin_table<D: TextDecorator, G: Tagging<D::Annotation>>(
     ensures ok { OnOk result (table_begun machine.operations grid.now.cells grid.now.needs state.old ≡ Some state.new) }
     ensures err { IfErr result (λ e. Refuses e (table_begun machine.operations grid.now.cells grid.now.needs state.old)) }
 {
+    state.block.start_block()?;
+    add_fence(state)?;
     let blank = state.blank;
     let borders = state.settings.table_borders;
     let stacked = state.settings.raw_mode;
-    state.block.start_block()?;
-    add_fence(state)?;
     state
         .block
         .begin_table(blank, borders, stacked, grid.cells(), grid.needs())?;
