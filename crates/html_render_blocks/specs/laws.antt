@@ -1,18 +1,16 @@
--- what is said of all operations on blocks
-pub mod Operations
--- facts on values that may be missing, and on choices
+-- facts on values that may be missing
 pub mod Cases
--- the operations commute with maps of what a block is made of
-pub mod TableMaps
-pub mod BlockMaps
--- so a block that was fed is the definition's, and the operations don't depend on the tags
-pub mod BlockFed
--- without overflow no line passes the width, and with it no operation refuses
+-- THE THEOREM: two blocks whose paragraphs, pictures and lines are related stay so under each operation
+pub mod Related
+-- so what is seen of a machine's block is what is seen of the definition's
+pub mod BlockSeen
+-- and what is said of a block's lines is said of the same block beside it: with overflow off none passes the width; with overflow on no operation
+-- refuses, and the lines are the same
+pub mod Beside
 pub mod TableWithin
-pub mod BlockLaws
--- overflow gives the same lines
-pub mod BlockOverflow
+pub mod BlockHolds
 -- no visible character is lost
+pub mod Operations
 pub mod BlockVisible
 -- a block's end, and closing lines
 pub mod Closing

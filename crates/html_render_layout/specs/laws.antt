@@ -6,10 +6,8 @@ pub mod Ending
 pub mod Answers
 pub mod Related
 pub mod Representation
-pub mod LayoutKeeps
 pub mod LayoutReturns
 pub mod LayoutLaws
 pub mod LayoutWorks
-pub mod LayoutOverflow
 pub mod LayoutVisible
 pub mod Promises

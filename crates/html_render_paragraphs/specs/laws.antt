@@ -4,6 +4,10 @@ pub mod Cases
 pub mod Kept
 -- what is fed piece by piece is the paragraph of all of it
 pub mod Whole
+-- two answers
+pub mod Answers
+-- what is said of a page is said of the same page beside it, where overflow may be on
+pub mod Beside
 -- without overflow no line passes the width
 pub mod Within
 -- with overflow no paragraph is too narrow, and its lines are those without

@@ -1,19 +1,17 @@
 -- The rows of a table whose cells stand side by side keep to its block's width.
 use Rattle.std.proofs.Common.{◌≡◌, ℕ, ◌+◌, ◌-◌, ◌≤◌, ◌==◌, Bool, true, false, not, cond, List, [], ◌∷◌, ◌++◌, length, sum, take, drop, Option, Some, None}
-use Rattle.std.proofs.Common.{refl, ap, arith, All, slice_index_or, sum_by, length-append}
+use Rattle.std.proofs.Common.{refl, ap, arith, All, sum_by, length-append}
 use Rattle.std.proofs.lemmas.List.{take-append-drop}
-use Rattle.std.proofs.lemmas.List.Elements.{All-nil, All-cons, All-append, All-push}
+use Rattle.std.proofs.lemmas.List.Elements.{All-nil, All-cons, All-append}
 use Rattle.std.proofs.lemmas.List.Sums.{sum_by-cons, sum_by-append, count_by-le-length}
 use Rattle.html_render_lines.specs.Line.{Line, columns}
 use Rattle.html_render_parts.specs.declared.table.PlacedCell.{PlacedCell}
 use Rattle.html_render_pictures.specs.Picture.{KeptCell}
 use Rattle.html_render_pictures.specs.Widths.{row_width, KeepsToWidth, RowWithin}
-use Rattle.html_render_blocks.specs.declared.block.tables.OpenTable.{OpenTable}
-use Rattle.html_render_blocks.specs.declared.block.tables.OpenTable.TheVariants.{Across, Stacked}
 use Rattle.html_render_blocks.specs.declared.block.rows.RowPlace.{RowPlace}
 use Rattle.html_render_blocks.specs.OpenRows.{OpenRow, cell_width, places, next_width, behind_cell, empty_cell, empty_cells, before_cell}
 use Rattle.html_render_blocks.specs.OpenRows.{open_row, with_cell, whole_row}
-use Rattle.html_render_blocks.specs.Tables.{Rows, defined_pictures, table_width, with_row_open, skipped, with_open, with_ahead}
+use Rattle.html_render_blocks.specs.Tables.{table_width}
 
 -- the columns of cells, each with a separator
 abbrev pub cells_room : {T M : Type 0} → List (KeptCell T M) → ℕ
@@ -34,17 +32,6 @@ columns_room widths = sum widths + length widths
 -- what a row has, and what is ahead in it, is within the width
 abbrev pub OpenWithin : {T M : Type 0} → ℕ → OpenRow T M → Type 0
 OpenWithin w r = All KeepsToWidth r.cells × (cells_room r.cells + places_room r.ahead ≤ w + 1)
-
-abbrev pub RowOpenWithin : {T M : Type 0} → ℕ → Option (OpenRow T M) → Type 0
-RowOpenWithin w None = Unit {0}
-RowOpenWithin w (Some row) = OpenWithin w row
-
--- a table is
-abbrev pub TableWithin : {T M : Type 0} → ℕ → Option (OpenTable (Rows T M) T M) → Type 0
-TableWithin w None = Unit {0}
-TableWithin w (Some (Across p widths ahead row)) =
-    ((p.frame.width ≤ w) × All (RowWithin w) p.rows) × ((columns_room widths ≤ w + 1) × RowOpenWithin w row)
-TableWithin w (Some (Stacked border has_lines)) = Unit {0}
 
 -- ---- the places of a row
 
@@ -118,7 +105,7 @@ module _ {T M : Type 0} where
   row-within w (c ∷ cs) h = omega (arith, h, sum_by-cons (λ (c : KeptCell T M). 1 + c.width) c cs)
 
   -- a row that begins
-  open-within : (w : ℕ) (ws : List ℕ) (cells : List PlacedCell) → columns_room ws ≤ w + 1 → OpenWithin w (open_row {T = T} {M = M} ws cells)
+  pub open-within : (w : ℕ) (ws : List ℕ) (cells : List PlacedCell) → columns_room ws ≤ w + 1 → OpenWithin w (open_row {T = T} {M = M} ws cells)
   open-within w ws cells h = (All-nil KeepsToWidth, omega (arith, h, places-within ws cells))
 
   -- a row with a cell that keeps to its place
@@ -139,47 +126,13 @@ module _ {T M : Type 0} where
         ),
       )
 
-  whole-within : (w : ℕ) (r : OpenRow T M) → OpenWithin w r → RowWithin w (whole_row r)
+  pub whole-within : (w : ℕ) (r : OpenRow T M) → OpenWithin w r → RowWithin w (whole_row r)
   whole-within w r h =
       let n = h.1 in (
         All-append KeepsToWidth r.cells (empty_cells r.ahead) h.0 (empties-keep r.ahead),
         row-within w (r.cells ++ empty_cells r.ahead)
             (omega (arith, n, empties-room T M r.ahead, sum_by-append (λ (c : KeptCell T M). 1 + c.width) r.cells (empty_cells r.ahead))),
       )
-
-  -- ---- tables
-
-  pub picture_rows : (w : ℕ) (p : Rows T M) (row : Option (OpenRow T M)) → All (RowWithin w) p.rows → RowOpenWithin w row →
-      All (RowWithin w) (with_open defined_pictures p row).rows
-  picture_rows w p None h k = h
-  picture_rows w p (Some row) h k = All-push (RowWithin w) p.rows (whole_row row) h (whole-within w row k)
-
-  pub picture_frame : (p : Rows T M) (row : Option (OpenRow T M)) → (with_open defined_pictures p row).frame ≡ p.frame
-  picture_frame p None = refl
-  picture_frame p (Some row) = refl
-
-  pub with_ahead-within : (w : ℕ) (p : Rows T M) (widths : List ℕ) (ahead : List (List PlacedCell)) → columns_room widths ≤ w + 1 →
-      All (RowWithin w) p.rows → All (RowWithin w) (with_ahead defined_pictures widths ahead p).rows
-  with_ahead-within w p widths [] room h = h
-  with_ahead-within w p widths (cells ∷ rest) room h =
-      let row : OpenRow T M = open_row widths cells in
-      with_ahead-within w (defined_pictures.with_row p (whole_row row)) widths rest room
-      (All-push (RowWithin w) p.rows (whole_row row) h (whole-within w row (open-within w widths cells room)))
-
-  pub with_ahead-frame : (p : Rows T M) (widths : List ℕ) (ahead : List (List PlacedCell)) → (with_ahead defined_pictures widths ahead p).frame ≡ p.frame
-  with_ahead-frame p widths [] = refl
-  with_ahead-frame p widths (cells ∷ rest) = with_ahead-frame (defined_pictures.with_row p (whole_row (open_row widths cells))) widths rest
-
-  pub with_row_open-within : (w : ℕ) (t : OpenTable (Rows T M) T M) → TableWithin w (Some t) → TableWithin w (Some (with_row_open t))
-  with_row_open-within w (Across p widths ahead None) h = (h.0, (h.1.0, open-within w widths (slice_index_or ahead 0 []) h.1.0))
-  with_row_open-within w (Across p widths ahead (Some row)) h = h
-  with_row_open-within w (Stacked border has_lines) h = tt
-
-  pub skipped-within : (w : ℕ) (t : OpenTable (Rows T M) T M) → TableWithin w (Some t) → TableWithin w (Some (skipped t))
-  skipped-within w (Across p widths ahead None) h = h
-  skipped-within w (Across p widths ahead (Some row)) h =
-      (h.0, (h.1.0, cell-within w row [] h.1.1 (All-nil KeepsToWidth) (omega arith)))
-  skipped-within w (Stacked border has_lines) h = tt
 
 -- a table is no wider than its columns and the separators between them
 pub table_width_within : (ws : List ℕ) → table_width ws ≤ sum ws + (length ws - 1)

@@ -1,11 +1,9 @@
 -- A document's end: what is kept of its block.
 use Rattle.std.proofs.Common.{ℕ, Bool, List, map, IfSome}
-use Rattle.std.specs.Option.{IsSomeAnd}
 use Rattle.std.specs.Str.{chars}
 use Rattle.html_render_parts.specs.Decoration.{Decoration}
 use Rattle.html_render_layout.specs.laws.Answers.{IfSome-then}
 use Rattle.html_render_blocks.specs.Operations.{Ending}
-use Rattle.html_render_blocks.specs.laws.Cases.{then_and}
 use Rattle.html_render_layout.specs.declared.layout.state.LayoutState.{LayoutState}
 use Rattle.html_render_layout.specs.Ending.{closing_texts, ended}
 
@@ -20,13 +18,4 @@ module _ {S A K T B : Type 0} (d : Decoration S A) (end : Ending B T) (link_foot
   ended-keeps P Q s finished closed =
       IfSome-then P (λ (q : LayoutState S K T B). Q q.block) (end.finish s.block) _ finished (λ b h.
       IfSome-then Q (λ (q : LayoutState S K T B). Q q.block) (end.add_closing_lines b wrap_links tag (texts s)) _
-      (closed b (texts s) h) (λ c k. k))
-
-  -- the end has an answer, where both parts of it have one
-  pub ended-succeeds : (P : B → Type 0) (s : LayoutState S K T B) → IsSomeAnd (end.finish s.block) P →
-      ((b : B) (ts : List (List ℕ)) → P b → IsSomeAnd (end.add_closing_lines b wrap_links tag ts) P) →
-      IsSomeAnd (ended d end link_footnotes wrap_links tag s) (λ q. P q.block)
-  ended-succeeds P s finished closed =
-      then_and P (λ (q : LayoutState S K T B). P q.block) _ (end.finish s.block) finished (λ b h.
-      then_and P (λ (q : LayoutState S K T B). P q.block) _ (end.add_closing_lines b wrap_links tag (texts s))
       (closed b (texts s) h) (λ c k. k))

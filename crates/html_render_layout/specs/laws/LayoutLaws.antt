@@ -1,75 +1,192 @@
--- The laws of the layout: with overflow off no line passes the width; with overflow on no width is too small but 0.
-use Rattle.std.proofs.Common.{◌≡◌, ℕ, ◌<◌, ◌==◌, Bool, true, false, cond, List, [], Option, Some, None, refl, sym, subst}
-use Rattle.std.proofs.Common.{arith, IfSome, IsSome, option_and_then}
-use Rattle.std.specs.Option.{IsSomeAnd}
+-- The laws of the layout: with overflow off no line passes the width; with overflow on no width is too small but 0, and where overflow off gives
+-- lines, they are these.
+use Rattle.std.proofs.Common.{◌≡◌, ℕ, ◌<◌, ◌==◌, Bool, true, false, cond, List, [], ◌∷◌, ◌++◌, Option, Some, None, refl, sym, ap, ◌∙◌, arith}
+use Rattle.std.proofs.Common.{IfSome, IsSome}
 use Rattle.std.proofs.lemmas.Bool.{eqb-true}
+use Rattle.std.proofs.lemmas.Option.{same_Some}
 use Rattle.html_render_values.specs.Forest.{Forest}
 use Rattle.html_render_parts.specs.Decoration.{Decoration}
 use Rattle.html_render_lines.specs.Line.{Line, AllWithinWidth}
 use Rattle.html_render_nodes.specs.declared.tree.RenderNode.{RenderNode}
 use Rattle.html_render_nodes.specs.Pass.{run}
-use Rattle.html_render_layout.specs.laws.Answers.{IfSome-then}
+use Rattle.html_render_paragraphs.specs.Paragraph.{Setting}
+use Rattle.html_render_blocks.specs.Block.{empty_block}
 use Rattle.html_render_blocks.specs.Definition as definition
-use Rattle.html_render_blocks.specs.Definition.{DefinedBlock}
-use Rattle.html_render_blocks.specs.laws.BlockLaws.{IsWithin, Overflows, empty_within, operations_within, operations_succeed}
-use Rattle.html_render_blocks.specs.laws.Closing.{finish_within, add_closing_lines_within, finish_succeeds, add_closing_lines_succeeds}
+use Rattle.html_render_blocks.specs.Definition.{definition as defined_parts, DefinedBlock}
+use Rattle.html_render_blocks.specs.OpenRows.{OpenRow}
+use Rattle.html_render_blocks.specs.Tables.{Rows}
+use Rattle.html_render_paragraphs.specs.laws.Answers.{Both}
+use Rattle.html_render_blocks.specs.laws.Related.{OptionTags}
+use Rattle.html_render_blocks.specs.laws.Beside.{Holds, Blocks, operations-beside, ends-beside, empty-beside, later-beside, lines-beside}
+use Rattle.html_render_blocks.specs.laws.BlockHolds.{OwnWithin, PictureWithin, within, answers, refines}
+use Rattle.html_render_blocks.specs.laws.TableWithin.{OpenWithin}
 use Rattle.html_render_layout.specs.declared.settings.LayoutSettings.{LayoutSettings}
-use Rattle.html_render_layout.specs.Ending.{ended}
-use Rattle.html_render_layout.specs.Layout.{onto, shown_after, Defined, defined, block_setting, padding, empty_state, estimated, layout_lines}
-use Rattle.html_render_layout.specs.laws.Ending.{ended-keeps, ended-succeeds}
-use Rattle.html_render_layout.specs.laws.LayoutKeeps.{layout-keeps, layout-succeeds}
+use Rattle.html_render_layout.specs.Layout.{onto, shown_after, Defined, defined, block_setting, padding, empty_state, estimated, layout_lines, mark_names}
 use Rattle.html_render_layout.specs.laws.LayoutReturns.{layout-returns}
+use Rattle.html_render_layout.specs.laws.Related.{Other, with_other, shown-related}
 
-then_some : {X Y : Type 0} (P : X → Type 0) (o : Option X) (f : X → Option Y) → IsSomeAnd o P → ((x : X) → P x → IsSome (f x)) →
-    IsSome (option_and_then f o)
-then_some P None f h next = absurd h
-then_some P (Some x) f h next = next x h
+-- a layout beside one that may have overflow on: stacks are the same, and what is said of the block's lines is said of those that are shown
+module _ {S A : Type 0} (d : Decoration S A) (settings : LayoutSettings) (g : Bool → Bool) (N M : Type 0) (weak : M → N) (Cut : Bool → Type 0)
+    (OnOverflow : Bool → Type 0) (OnOwn : ℕ → Setting → Type 0) (OnLines : ℕ → List (Line (List A) ℕ) → Type 0)
+    (OnPicture : ℕ → List ℕ → Rows (List A) ℕ → Type 0) (OnRow : ℕ → OpenRow (List A) ℕ → Type 0)
+    (h : Holds g N M Cut OnOverflow OnOwn OnLines OnPicture OnRow) (cut : Cut settings.wrap_links) where
+  -- the stacks of both sides are the tags
+  abbrev Stacks : Type 0
+  Stacks = Unit {0} × Unit {0}
+
+  abbrev Tags : Stacks → List A → List A → Type 0
+  Tags w t u = u ≡ t
+
+  abbrev Later : Stacks → Stacks → Type 0
+  Later w v = Unit {0}
+
+  abbrev Beside : ℕ → Stacks → DefinedBlock (List A) ℕ → DefinedBlock (List A) ℕ → Type 0
+  Beside = Blocks g N M Tags (λ w t u e. e) Cut OnOverflow OnOwn OnLines OnPicture OnRow h weak Later (λ w z t u e l. e)
+
+  abbrev other : (width : ℕ) → (overflow : Bool) → Other (Unit {0}) (List A) (DefinedBlock (List A) ℕ)
+  other w o =
+      record { stacks = tt; tag = []; blank = []; block = empty_block defined_parts (block_setting settings w (g o)) (padding settings []) }
+
+  padded : OptionTags Tags (tt, tt) (padding settings []) (padding settings [])
+  padded = by settings.pad_block_width
+    where
+      by : (p : Bool) → OptionTags Tags (tt, tt) (cond p (Some []) None) (cond p (Some []) None)
+      by true = refl
+      by false = tt
+
+  shown-beside : {X : Type 0} (R : X → X → Type 0) (view : Defined S A → X) (t : Forest RenderNode) (decorator : S) (w : ℕ) (o : Bool) →
+      OnOverflow o → ((r : Defined S A) (u : Other (Unit {0}) (List A) (DefinedBlock (List A) ℕ)) → Beside w (tt, tt) r.block u.block →
+      R (view r) (view (with_other r u))) →
+      Both N M R (shown_after d onto definition.operations definition.ending view t (empty_state d settings decorator w o))
+      (shown_after d onto definition.operations definition.ending view t (empty_state d settings decorator w (g o)))
+  shown-beside R view t decorator w o on related =
+      shown-related d onto onto definition.operations definition.operations N M weak Later (λ w. tt) (λ w v u k l. tt) Tags (λ w v t u e l. e) Beside
+      (λ v w z b c k l. later-beside g N M Tags (λ w t u e. e) Cut OnOverflow OnOwn OnLines OnPicture OnRow h weak Later (λ w z t u e l. e) v w z b c k l)
+      (λ k l t u a e. tt) (λ k l t u a e. ap (λ z. z ++ a ∷ []) e)
+      (operations-beside g N M Tags (λ w t u e. e) Cut OnOverflow OnOwn OnLines OnPicture OnRow h weak Later (λ w z t u e l. e))
+      definition.ending definition.ending Cut
+      (ends-beside g N M Tags (λ w t u e. e) Cut OnOverflow OnOwn OnLines OnPicture OnRow h weak Later (λ w z t u e l. e))
+      R view view w (λ r u k. related r u k.1.1) t (empty_state d settings decorator w o) (other w o) cut (
+        refl,
+        (
+          refl,
+          empty-beside g N M Tags (λ w t u e. e) Cut OnOverflow OnOwn OnLines OnPicture OnRow h weak Later (λ w z t u e l. e) (tt, tt)
+              (block_setting settings w o) (padding settings []) (padding settings []) on padded,
+        ),
+      )
+
+  pub lines-shown : (t : Forest RenderNode) (decorator : S) (w : ℕ) (o : Bool) → OnOverflow o →
+      Both N M (λ a b. (b ≡ a) × OnLines w a)
+      (shown_after d onto definition.operations definition.ending (λ (r : Defined S A). r.block.lines) t (empty_state d settings decorator w o))
+      (shown_after d onto definition.operations definition.ending (λ (r : Defined S A). r.block.lines) t (empty_state d settings decorator w (g o)))
+  lines-shown t decorator w o on =
+      shown-beside (λ a b. (b ≡ a) × OnLines w a) (λ (r : Defined S A). r.block.lines) t decorator w o on (λ r u k.
+      lines-beside g N M Tags (λ w t u e. e) Cut OnOverflow OnOwn OnLines OnPicture OnRow h weak Later (λ w z t u e l. e) w (tt, tt) r.block u.block k)
+
+  pub names-shown : (t : Forest RenderNode) (decorator : S) (w : ℕ) (o : Bool) → OnOverflow o →
+      Both N M (λ a b. b ≡ a)
+      (shown_after d onto definition.operations definition.ending (λ (r : Defined S A). r.names) t (empty_state d settings decorator w o))
+      (shown_after d onto definition.operations definition.ending (λ (r : Defined S A). r.names) t (empty_state d settings decorator w (g o)))
+  names-shown t decorator w o on = shown-beside (λ a b. b ≡ a) (λ (r : Defined S A). r.names) t decorator w o on (λ r u k. refl)
+
+-- what is there with overflow on is there with overflow on or off
+with_either : {L : Type 0} (f : Bool → Option L) → IfSome (f false) (λ lines. f true ≡ Some lines) →
+    (o : Bool) → IfSome (f false) (λ lines. f o ≡ Some lines)
+with_either f h true = h
+with_either {L} f h false = itself (f false)
+  where
+    itself : (p : Option L) → IfSome p (λ lines. p ≡ Some lines)
+    itself None = tt
+    itself (Some lines) = refl
+
+-- so an answer is what is there with overflow off
+pub same_answer : {L : Type 0} (f : Bool → Option L) → IfSome (f false) (λ lines. f true ≡ Some lines) → (o : Bool) (lines : L) →
+    f o ≡ Some lines → IfSome (f false) (λ others. lines ≡ others)
+same_answer {L} f h o lines e = by (f false) (with_either f h o)
+  where
+    by : (p : Option L) → IfSome p (λ others. f o ≡ Some others) → IfSome p (λ others. lines ≡ others)
+    by None h = tt
+    by (Some others) h = same_Some lines others (sym e ∙ h)
 
 module _ {S A : Type 0} (d : Decoration S A) (settings : LayoutSettings) where
   abbrev lines_from : Forest RenderNode → Defined S A → Option (List (Line (List A) ℕ))
   lines_from t s = shown_after d onto definition.operations definition.ending (λ (r : Defined S A). r.block.lines) t s
-
-  lines-within : (t : Forest RenderNode) (decorator : S) (w : ℕ) → settings.wrap_links ≡ true →
-      IfSome (lines_from t (empty_state d settings decorator w false)) (λ lines. AllWithinWidth w lines)
-  lines-within t decorator w wrapped =
-      IfSome-then (λ (r : Defined S A). IsWithin w r.block) (λ lines. AllWithinWidth w lines)
-      (run (defined d) t (empty_state d settings decorator w false)) _
-      (layout-keeps d onto definition.operations IsWithin operations_within t w (empty_state d settings decorator w false)
-      (empty_within (block_setting settings w false) (padding settings []) refl)) (λ r h.
-      IfSome-then (λ (q : Defined S A). IsWithin w q.block) (λ lines. AllWithinWidth w lines)
-      (ended d definition.ending settings.link_footnotes settings.wrap_links [] r) _
-      (subst (λ cut. IfSome (ended d definition.ending settings.link_footnotes cut [] r) (λ q. IsWithin w q.block)) (sym wrapped)
-      (ended-keeps d definition.ending settings.link_footnotes true [] (IsWithin w) (IsWithin w) r (finish_within w r.block h)
-      (λ b ts k. add_closing_lines_within w b [] ts k))) (λ q k. k.lines))
 
   -- with overflow off, and closing lines that are cut, no line passes the width
   pub layout_within : (t : Forest RenderNode) (decorator : S) (w : ℕ) → settings.wrap_links ≡ true →
       IfSome (layout_lines d settings t decorator w false) (λ lines. AllWithinWidth w lines)
   layout_within t decorator w wrapped = by (w == 0)
     where
-      by : (z : Bool) →
-          IfSome (cond z None (lines_from (estimated d settings decorator t) (empty_state d settings decorator w false))) (λ lines. AllWithinWidth w lines)
-      by true = tt
-      by false = lines-within (estimated d settings decorator t) decorator w wrapped
+      lines : Option (List (Line (List A) ℕ))
+      lines = lines_from (estimated d settings decorator t) (empty_state d settings decorator w false)
 
-  lines-succeed : (t : Forest RenderNode) (decorator : S) (w : ℕ) → IsSome (lines_from t (empty_state d settings decorator w true))
-  lines-succeed t decorator w =
-      then_some (λ (r : Defined S A). Overflows w r.block) (run (defined d) t (empty_state d settings decorator w true)) _
-      (layout-succeeds d onto definition.operations Overflows operations_succeed t w (empty_state d settings decorator w true)
-      (record { width = refl; overflow = refl; lenient = refl })) (λ r k.
-      then_some (λ (q : Defined S A). Overflows w q.block)
-      (ended d definition.ending settings.link_footnotes settings.wrap_links [] r) _
-      (ended-succeeds d definition.ending settings.link_footnotes settings.wrap_links [] (Overflows w) r (finish_succeeds w r.block k)
-      (λ b ts n. add_closing_lines_succeeds w b settings.wrap_links [] ts n)) (λ q n. refl))
+      first : (o p : Option (List (Line (List A) ℕ))) → Both (Unit {0}) ⊥ (λ a b. (b ≡ a) × AllWithinWidth w a) o p → IfSome o (AllWithinWidth w)
+      first None None k = tt
+      first None (Some b) k = tt
+      first (Some a) None k = absurd k
+      first (Some a) (Some b) k = k.1
+
+      by : (z : Bool) → IfSome (cond z None lines) (λ lines. AllWithinWidth w lines)
+      by true = tt
+      by false =
+          first lines lines (lines-shown d settings (λ o. o) (Unit {0}) ⊥ (λ x. tt) (λ cut. cut ≡ true) (λ o. o ≡ false) (OwnWithin (List A))
+          (λ v ls. AllWithinWidth v ls) (PictureWithin (List A)) (λ v r. OpenWithin v r) (within (List A)) wrapped
+          (estimated d settings decorator t) decorator w false refl)
 
   -- with overflow on it is never too narrow, but at width 0
   pub layout_succeeds : (t : Forest RenderNode) (decorator : S) (w : ℕ) → 0 < w → IsSome (layout_lines d settings t decorator w true)
   layout_succeeds t decorator w h = by (w == 0) refl
     where
-      by : (z : Bool) → (w == 0) ≡ z →
-          IsSome (cond z None (lines_from (estimated d settings decorator t) (empty_state d settings decorator w true)))
+      lines : Option (List (Line (List A) ℕ))
+      lines = lines_from (estimated d settings decorator t) (empty_state d settings decorator w true)
+
+      there : (o p : Option (List (Line (List A) ℕ))) → Both ⊥ ⊥ (λ a b. (b ≡ a) × Unit {0}) o p → IsSome o
+      there None None k = absurd k
+      there None (Some b) k = absurd k
+      there (Some a) p k = refl
+
+      by : (z : Bool) → (w == 0) ≡ z → IsSome (cond z None lines)
       by true e = absurd (let zero = eqb-true w 0 e in omega arith)
-      by false e = lines-succeed (estimated d settings decorator t) decorator w
+      by false e =
+          there lines lines (lines-shown d settings (λ o. o) ⊥ ⊥ (λ x. x) (λ cut. Unit {0}) (λ o. o ≡ true) (λ v s. s.overflow ≡ true)
+          (λ v ls. Unit {0}) (λ v ws p. Unit {0}) (λ v r. Unit {0}) (answers (List A)) tt (estimated d settings decorator t) decorator w true refl)
+
+  same_shown : {X : Type 0} (R : X → X → Type 0) → ((a b : X) → R a b → b ≡ a) → (o p : Option X) → Both (Unit {0}) (Unit {0}) R o p →
+      IfSome o (λ x. p ≡ Some x)
+  same_shown R is None p k = tt
+  same_shown R is (Some a) None k = absurd k
+  same_shown R is (Some a) (Some b) k = ap Some (is a b k)
+
+  -- where there are lines with overflow off, they are the lines with overflow on
+  pub layout_same : (t : Forest RenderNode) (decorator : S) (w : ℕ) →
+      IfSome (layout_lines d settings t decorator w false) (λ lines. layout_lines d settings t decorator w true ≡ Some lines)
+  layout_same t decorator w = by (w == 0)
+    where
+      lines : Bool → Option (List (Line (List A) ℕ))
+      lines o = lines_from (estimated d settings decorator t) (empty_state d settings decorator w o)
+
+      by : (z : Bool) → IfSome (cond z None (lines false)) (λ x. cond z None (lines true) ≡ Some x)
+      by true = tt
+      by false =
+          same_shown (λ a b. (b ≡ a) × Unit {0}) (λ a b k. k.0) (lines false) (lines true)
+          (lines-shown d settings (λ o. true) (Unit {0}) (Unit {0}) (λ x. x) (λ cut. Unit {0}) (λ o. Unit {0}) (λ v s. Unit {0}) (λ v ls. Unit {0})
+          (λ v ws p. Unit {0}) (λ v r. Unit {0}) (refines (List A)) tt (estimated d settings decorator t) decorator w false tt)
+
+  -- and so are the names of their marks
+  pub names_same : (t : Forest RenderNode) (decorator : S) (w : ℕ) →
+      IfSome (mark_names d settings t decorator w false) (λ names. mark_names d settings t decorator w true ≡ Some names)
+  names_same t decorator w = by (w == 0)
+    where
+      names : Bool → Option (List (List ℕ))
+      names o = shown_after d onto definition.operations definition.ending (λ (s : Defined S A). s.names) (estimated d settings decorator t)
+          (empty_state d settings decorator w o)
+
+      by : (z : Bool) → IfSome (cond z None (names false)) (λ x. cond z None (names true) ≡ Some x)
+      by true = tt
+      by false =
+          same_shown (λ a b. b ≡ a) (λ a b k. k) (names false) (names true)
+          (names-shown d settings (λ o. true) (Unit {0}) (Unit {0}) (λ x. x) (λ cut. Unit {0}) (λ o. Unit {0}) (λ v s. Unit {0}) (λ v ls. Unit {0})
+          (λ v ws p. Unit {0}) (λ v r. Unit {0}) (refines (List A)) tt (estimated d settings decorator t) decorator w false tt)
 
   -- trees that are laid out leave the texts that follow, with their annotations, and the decorator as they were
   pub layout_leaves : (t : Forest RenderNode) (s : Defined S A) →

@@ -19,7 +19,8 @@ use Rattle.html_render_blocks.specs.Definition as definition
 use Rattle.html_render_blocks.specs.Definition.{definition, DefinedBlock}
 use Rattle.html_render_blocks.specs.Machine as machine
 use Rattle.html_render_blocks.specs.Machine.{machine}
-use Rattle.html_render_blocks.specs.laws.BlockFed.{block_with, block_of}
+use Rattle.html_render_blocks.specs.laws.BlockSeen.{Tags, empty-seen}
+use Rattle.html_render_blocks.specs.laws.Related.{OptionTags}
 use Rattle.html_render_layout.specs.Stacks.{stack_at}
 use Rattle.html_render_nodes.specs.Counts.{CountsNodes}
 use Rattle.html_render_nodes.specs.Pass.{visited, most_open, inside_of}
@@ -85,16 +86,15 @@ module _ {S A : Type 0} (d : Decoration S A) (settings : LayoutSettings) where
       ∙ get_or-append_seam k (stack_at k t ++ a ∷ []) g.0 []
       ∙ ap (λ x. x ++ a ∷ []) (h k ([], sym (append-nil k)))
 
-  -- a block that begins, with what is seen of its padding's tag
-  shows-empty : {T V : Type 0} (f : T → V) (seen : List A → V) (tag : T) (stack : List A) (w : ℕ) (o : Bool) → f tag ≡ seen stack →
-      block_with f (empty_block machine (block_setting settings w o) (padding settings tag))
-      ≡ block_of seen (empty_block definition (block_setting settings w o) (padding settings stack))
-  shows-empty {T} {V} f seen tag stack w o same = by settings.pad_block_width
+  -- the tag of what lines are padded under, if they are, and its stack
+  padded_alike : {W T V : Type 0} (shown : W → T → V) (seen : List A → V) (Later : W → W → Type 0) (stays : (w : W) → Later w w)
+      (goes : (w v u : W) → Later w v → Later v u → Later w u) (w : W) (tag : T) (stack : List A) → Tags shown seen Later stays goes w tag stack →
+      OptionTags (Tags shown seen Later stays goes) w (padding settings tag) (padding settings stack)
+  padded_alike shown seen Later stays goes w tag stack x = by settings.pad_block_width
     where
-      by : (p : Bool) → block_with f (empty_block machine (block_setting settings w o) (cond p (Some tag) None))
-          ≡ block_of seen (empty_block definition (block_setting settings w o) (cond p (Some stack) None))
-      by true = ap (λ v. empty_block machine (block_setting settings w o) (Some v)) same
-      by false = refl
+      by : (p : Bool) → OptionTags (Tags shown seen Later stays goes) w (cond p (Some tag) None) (cond p (Some stack) None)
+      by true = x
+      by false = tt
 
   abbrev pub empty_worked : S → (width : ℕ) → (overflow : Bool) → Worked S A
   empty_worked decorator w o =
@@ -105,12 +105,24 @@ module _ {S A : Type 0} (d : Decoration S A) (settings : LayoutSettings) where
   by_stacks w o =
       record { stacks = tt; tag = []; blank = []; block = empty_block definition (block_setting settings w o) (padding settings []) }
 
+  -- the table of stacks, beside nothing
+  abbrev Tabled : Type 0
+  Tabled = List (List A) × Unit {0}
+
   begins : (decorator : S) (w : ℕ) (o : Bool) →
       Represents d tabled stack_at (λ (s : List A). s) Pushed (λ k. ([], sym (append-nil k))) Pushed-goes
-      (λ k t a. ((stack_at k t ++ a ∷ []) ∷ [], refl)) tag_pushed (empty_worked decorator w o) (by_stacks w o)
+      (λ k t a. ((stack_at k t ++ a ∷ []) ∷ [], refl)) tag_pushed w (empty_worked decorator w o) (by_stacks w o)
   begins decorator w o = (
     λ l g. ap (λ x. stack_at x 0) g.1,
-    (λ l g. ap (λ x. stack_at x 0) g.1, λ l g. shows-empty (stack_at l) (λ s. s) 0 [] w o (ap (λ x. stack_at x 0) g.1)),
+    (
+      λ l g. ap (λ x. stack_at x 0) g.1,
+      empty-seen (λ (k : Tabled) t. stack_at k.0 t) (λ (s : List A). s) (λ (k l : Tabled). Pushed k.0 l.0)
+          (λ (k : Tabled). ([], sym (append-nil k.0))) (λ (k l m : Tabled). Pushed-goes k.0 l.0 m.0) (([] ∷ []), tt)
+          (block_setting settings w o) (padding settings 0) (padding settings [])
+          (padded_alike (λ (k : Tabled) t. stack_at k.0 t) (λ (s : List A). s) (λ (k l : Tabled). Pushed k.0 l.0)
+          (λ (k : Tabled). ([], sym (append-nil k.0))) (λ (k l m : Tabled). Pushed-goes k.0 l.0 m.0) (([] ∷ []), tt) 0 []
+          (λ l g. ap (λ x. stack_at x 0) g.1)),
+    ),
   )
 
   work_lines-wanted : (t : Forest RenderNode) (decorator : S) (w : ℕ) (o : Bool) →
@@ -118,7 +130,7 @@ module _ {S A : Type 0} (d : Decoration S A) (settings : LayoutSettings) where
   work_lines-wanted t decorator w o =
       lines-represented d tabled stack_at (λ (s : List A). s) Pushed (λ k. ([], sym (append-nil k))) Pushed-goes
       (λ k t a. ((stack_at k t ++ a ∷ []) ∷ [], refl)) tag_pushed
-      (λ (r : Worked S A). lines_with (stack_at r.stacks) r.block.lines) (λ r. refl) t (empty_worked decorator w o) (by_stacks w o)
+      (λ (r : Worked S A). lines_with (stack_at r.stacks) r.block.lines) (λ r. refl) t w (empty_worked decorator w o) (by_stacks w o)
       (begins decorator w o)
       ∙ mapped-same (λ (s : List A). s) (λ s. refl) (wanted t decorator w o)
 
@@ -139,7 +151,7 @@ module _ {S A : Type 0} (d : Decoration S A) (settings : LayoutSettings) where
       ∙ shown-needed d tabled machine.operations machine.ending (λ (r : Worked S A). r.names)
       (estimated d settings decorator t) (empty_worked decorator w o)
       ∙ names-represented d tabled stack_at (λ (s : List A). s) Pushed (λ k. ([], sym (append-nil k))) Pushed-goes
-      (λ k t a. ((stack_at k t ++ a ∷ []) ∷ [], refl)) tag_pushed (estimated d settings decorator t) (empty_worked decorator w o)
+      (λ k t a. ((stack_at k t ++ a ∷ []) ∷ [], refl)) tag_pushed (estimated d settings decorator t) w (empty_worked decorator w o)
       (by_stacks w o) (begins decorator w o)
       ∙ by (w == 0) refl
     where
@@ -161,10 +173,10 @@ module _ {S A : Type 0} (d : Decoration S A) (settings : LayoutSettings) where
       (empty_state d settings decorator w o) old other new
       (ap (λ x. visited (steps d tabled machine.operations) (inside_of (opened d tabled machine.operations)) t x) e
       ∙ visited-represented d tabled stack_at (λ (s : List A). s) Pushed (λ k. ([], sym (append-nil k))) Pushed-goes
-      (λ k t a. ((stack_at k t ++ a ∷ []) ∷ [], refl)) tag_pushed t (empty_worked decorator w o) (by_stacks w o) (begins decorator w o))
+      (λ k t a. ((stack_at k t ++ a ∷ []) ∷ [], refl)) tag_pushed t w (empty_worked decorator w o) (by_stacks w o) (begins decorator w o))
       (ap (λ x. most_open (steps d tabled machine.operations) (inside_of (opened d tabled machine.operations)) t x) e
       ∙ most_open-represented d tabled stack_at (λ (s : List A). s) Pushed (λ k. ([], sym (append-nil k))) Pushed-goes
-      (λ k t a. ((stack_at k t ++ a ∷ []) ∷ [], refl)) tag_pushed t (empty_worked decorator w o) (by_stacks w o) (begins decorator w o))
+      (λ k t a. ((stack_at k t ++ a ∷ []) ∷ [], refl)) tag_pushed t w (empty_worked decorator w o) (by_stacks w o) (begins decorator w o))
       (layout-asks d onto definition.operations) probes c
 
   -- and it counts what the definition visits
@@ -189,9 +201,17 @@ module _ {S A : Type 0} (d : Decoration S A) (settings : LayoutSettings) where
   untagged_work-wanted {K} t decorator w o k =
       lines-represented d untagged (λ k t. tt) (λ (s : List A). tt) (λ k l. Unit {0}) (λ k. tt) (λ k l m a b. tt) (λ k t a. tt)
       (λ k t a s h l g. refl)
-      (λ (r : Untagged S K). r.block.lines) (λ r. sym (lines-same (λ (t : Unit {0}). tt) (λ t. refl) r.block.lines)) t
-      (empty_untagged k decorator w o) (by_stacks w o)
-      (λ l g. refl, (λ l g. refl, λ l g. shows-empty (λ t. t) (λ s. tt) tt [] w o refl))
+      (λ (r : Untagged S K). r.block.lines) (λ r. sym (lines-same (λ (t : Unit {0}). tt) (λ t. refl) r.block.lines)) t w
+      (empty_untagged k decorator w o) (by_stacks w o) (
+        λ l g. refl,
+        (
+          λ l g. refl,
+          empty-seen (λ (k : K × Unit {0}) (t : Unit {0}). tt) (λ (s : List A). tt) (λ k l. Unit {0}) (λ k. tt) (λ k l m a b. tt) (k, tt)
+              (block_setting settings w o) (padding settings tt) (padding settings [])
+              (padded_alike (λ (k : K × Unit {0}) (t : Unit {0}). tt) (λ (s : List A). tt) (λ k l. Unit {0}) (λ k. tt) (λ k l m a b. tt) (k, tt) tt []
+              (λ l g. refl)),
+        ),
+      )
 
   -- the same, without what the characters are annotated with
   pub untagged_lines-works : {K : Type 0} (t measured : Forest RenderNode) (decorator : S) (w : ℕ) (o : Bool) (k : K)

@@ -28,7 +28,8 @@ use Rattle.html_render_layout.specs.declared.layout.state.Around.TheVariants.{Pl
 use Rattle.html_render_layout.specs.declared.layout.state.LayoutState.{LayoutState}
 use Rattle.html_render_layout.specs.declared.layout.state.TextContext.{TextContext}
 use Rattle.html_render_layout.specs.Images.{shown_title}
-use Rattle.html_render_layout.specs.laws.Answers.{Both, Both-then, Both-weaken}
+use Rattle.html_render_paragraphs.specs.laws.Answers.{Both, Both-then, Both-weaken}
+use Rattle.html_render_blocks.specs.laws.Related.{Relates, RelatesEnds}
 use Rattle.html_render_layout.specs.Ending.{closing_texts, ended}
 use Rattle.html_render_layout.specs.NodeLayout.{NodeLayout, Leaf, Pair, laid_out, inner, followed, from_state}
 use Rattle.html_render_layout.specs.Layout.{on_block, block_ended, written, text_style, add_styled, add_characters, add_text, under, striking}
@@ -65,40 +66,6 @@ with_other s v =
       targets = s.targets;
       names = s.names;
     }
-
--- each operation keeps blocks related; a block inside another has an i of its own. What is kept of annotations is a pair of stacks
-pub record Relates {I W B C T U : Type 0} (o : Operations B T) (p : Operations C U) (N M : Type 0) (Later : W → W → Type 0)
-    (Tags : W → T → U → Type 0) (Blocks : I → W → B → C → Type 0) : Type 0 where
-  pub add_inline_text : (i : I) (w : W) (mode : WhiteSpace) (t t' : T) (u u' : U) (cs : List ℕ) → Tags w t u → Tags w t' u' →
-      (b : B) (c : C) → Blocks i w b c → Both N M (Blocks i w)
-      (o.add_inline_text b (record { mode = mode; tag = t; continuation_tag = t' }) cs)
-      (p.add_inline_text c (record { mode = mode; tag = u; continuation_tag = u' }) cs)
-  pub add_mark : (i : I) (w : W) (m : ℕ) (b : B) (c : C) → Blocks i w b c → Blocks i w (o.add_mark b m) (p.add_mark c m)
-  pub new_line : (i : I) (w : W) (b : B) (c : C) → Blocks i w b c → Both N M (Blocks i w) (o.new_line b) (p.new_line c)
-  pub new_line_hard : (i : I) (w : W) (b : B) (c : C) → Blocks i w b c → Both N M (Blocks i w) (o.new_line_hard b) (p.new_line_hard c)
-  pub start_block : (i : I) (w : W) (b : B) (c : C) → Blocks i w b c → Both N M (Blocks i w) (o.start_block b) (p.start_block c)
-  pub end_block : (i : I) (w : W) (b : B) (c : C) → Blocks i w b c → Blocks i w (o.end_block b) (p.end_block c)
-  pub sub_block : (i : I) (w : W) (prefix least : ℕ) (b : B) (c : C) → Blocks i w b c →
-      Both N M (λ e f. (j : I) × Blocks j w e f) (o.sub_block b prefix least) (p.sub_block c prefix least)
-  pub append : (i j : I) (w : W) (t : T) (u : U) (first later : List ℕ) → Tags w t u → (b : B) (c : C) → Blocks i w b c →
-      (e : B) (f : C) → Blocks j w e f → Both N M (Blocks i w) (o.append b e t first later) (p.append c f u first later)
-  pub begin_table : (i : I) (w : W) (t : T) (u : U) (borders stacked : Bool) (grid : CellGrid) (needs : List ColumnNeed) → Tags w t u →
-      (b : B) (c : C) → Blocks i w b c →
-      Both N M (Blocks i w) (o.begin_table b t borders stacked grid needs) (p.begin_table c u borders stacked grid needs)
-  pub begin_row : (i : I) (w : W) (b : B) (c : C) → Blocks i w b c → Blocks i w (o.begin_row b) (p.begin_row c)
-  pub cell : (i : I) (w : W) (b : B) (c : C) → Blocks i w b c →
-      Both (Unit {0}) ⊥ (λ e f. (j : I) × (Blocks j w e f × ((v : W) → Later w v → Blocks i v b c →
-      (e : B) (f : C) → Blocks j v e f → Both N M (Blocks i v) (o.add_cell b e) (p.add_cell c f)))) (o.cell_block b) (p.cell_block c)
-  pub skip_cell : (i : I) (w : W) (b : B) (c : C) → Blocks i w b c → Blocks i w (o.skip_cell b) (p.skip_cell c)
-  pub end_row : (i : I) (w : W) (b : B) (c : C) → Blocks i w b c → Both N M (Blocks i w) (o.end_row b) (p.end_row c)
-  pub end_table : (i : I) (w : W) (b : B) (c : C) → Blocks i w b c → Blocks i w (o.end_table b) (p.end_table c)
-
--- and so do those that a document ends with
-pub record RelatesEnds {I W B C T U : Type 0} (o : Ending B T) (p : Ending C U) (N M : Type 0) (Tags : W → T → U → Type 0)
-    (Blocks : I → W → B → C → Type 0) : Type 0 where
-  pub finish : (i : I) (w : W) (b : B) (c : C) → Blocks i w b c → Both N M (Blocks i w) (o.finish b) (p.finish c)
-  pub add_closing_lines : (i : I) (w : W) (cut : Bool) (t : T) (u : U) (texts : List (List ℕ)) → Tags w t u → (b : B) (c : C) →
-      Blocks i w b c → Both N M (Blocks i w) (o.add_closing_lines b cut t texts) (p.add_closing_lines c cut u texts)
 
 -- push and pull give the tags of one annotation more, on the two sides; Tags says which tags are related, and Blocks which blocks, with
 -- these stacks; Later says how stacks may go on, with which both stay so
@@ -761,25 +728,25 @@ module _ {S A K T B L U C I : Type 0} (d : Decoration S A) (push : K → T → A
 
   -- ---- what is shown
 
-  module _ (end : Ending B T) (other_end : Ending C U) (ends : RelatesEnds end other_end N M Tags Blocks) where
-    ended-related : (footnotes cut : Bool) (tag : T) (other_tag : U) (i : I) (s : State) (v : Different) → Tags (stacks_of s v) tag other_tag →
-        Holds i s v →
+  module _ (end : Ending B T) (other_end : Ending C U) (Cut : Bool → Type 0) (ends : RelatesEnds end other_end N M Cut Tags Blocks) where
+    ended-related : (footnotes cut : Bool) (tag : T) (other_tag : U) (i : I) (s : State) (v : Different) → Cut cut →
+        Tags (stacks_of s v) tag other_tag → Holds i s v →
         Both N M (Reached i (stacks_of s v)) (ended d end footnotes cut tag s) (ended d other_end footnotes cut other_tag (with_other s v))
-    ended-related footnotes cut tag other_tag i s v t k =
+    ended-related footnotes cut tag other_tag i s v c t k =
         let w = stacks_of s v in
         let texts : List (List ℕ) = map chars (closing_texts d footnotes s.decorator s.targets) in
         Both-then N M weak (Blocks i w) (Reached i w) _ _ (end.finish s.block) (other_end.finish v.block)
-        (ends.finish i w s.block v.block k.1.1) (λ b c m.
+        (ends.finish i w s.block v.block k.1.1) (λ b e m.
         Both-then N M weak (Blocks i w) (Reached i w) _ _ (end.add_closing_lines b cut tag texts)
-        (other_end.add_closing_lines c cut other_tag texts) (ends.add_closing_lines i w cut tag other_tag texts t b c m) (λ e f n.
+        (other_end.add_closing_lines e cut other_tag texts) (ends.add_closing_lines i w cut tag other_tag texts c t b e m) (λ x f n.
         record { other = record v { block = f }; is = refl; later = stays w; holds = (k.0, (k.1.0, n)) }))
 
     -- what is shown of related states is so related
-    pub shown-related : {X Y : Type 0} (R : X → Y → Type 0) (view : State → X) (wanted : OtherState → Y) →
-        ((i : I) (r : State) (u : Different) → Holds i r u → R (view r) (wanted (with_other r u))) →
-        (t : Forest RenderNode) (i : I) (s : State) (v : Different) → Holds i s v →
+    pub shown-related : {X Y : Type 0} (R : X → Y → Type 0) (view : State → X) (wanted : OtherState → Y) (i : I) →
+        ((r : State) (u : Different) → Holds i r u → R (view r) (wanted (with_other r u))) →
+        (t : Forest RenderNode) (s : State) (v : Different) → Cut s.settings.wrap_links → Holds i s v →
         Both N M R (shown_after d push o end view t s) (shown_after d pull p other_end wanted t (with_other s v))
-    shown-related R view wanted related t i s v k =
+    shown-related R view wanted i related t s v c k =
         let footnotes = s.settings.link_footnotes in
         let cut = s.settings.wrap_links in
         Both-then N M weak (Reached i (stacks_of s v)) R _ _ (run (steps d push o) t s) (run (steps d pull p) t (with_other s v))
@@ -788,6 +755,6 @@ module _ {S A K T B L U C I : Type 0} (d : Decoration S A) (push : K → T → A
         (ended d other_end footnotes cut v.tag e)
         (subst (λ x. Both N M (Reached i (stacks_of r m.other)) (ended d end footnotes cut s.text.tag r)
         (ended d other_end footnotes cut v.tag x)) (sym m.is)
-        (ended-related footnotes cut s.text.tag v.tag i r m.other
+        (ended-related footnotes cut s.text.tag v.tag i r m.other c
         (tags_later (stacks_of s v) (stacks_of r m.other) s.text.tag v.tag k.0 m.later) m.holds)) (λ q x n.
-        subst (λ y. R (view q) (wanted y)) (sym n.is) (related i q n.other n.holds)))
+        subst (λ y. R (view q) (wanted y)) (sym n.is) (related q n.other n.holds)))

@@ -1,25 +1,22 @@
 -- A text that is cut into lines: all of it stands on them, each is a longest front, none passes the width without overflow,
 -- and overflow gives the same.
-use Rattle.std.proofs.Common.{◌≡◌, ℕ, ◌+◌, ◌≤◌, ◌<◌, Bool, true, false, leb, ◌||◌, List, [], ◌∷◌, ◌++◌, map, Option, Some, None, refl, sym, ap, ◌∙◌, subst}
-use Rattle.std.proofs.Common.{append_assoc, append-nil, IfSome, IsSome, option_map}
+use Rattle.std.proofs.Common.{◌≡◌, ℕ, ◌+◌, ◌<◌, Bool, true, false, leb, ◌||◌, List, [], ◌∷◌, ◌++◌, map, Option, Some, None, refl, sym, ap, ◌∙◌, subst}
+use Rattle.std.proofs.Common.{append_assoc, append-nil, IfSome, option_map}
 use Rattle.std.proofs.lemmas.Bool.{leb-false}
 use Rattle.std.proofs.lemmas.List.{map-append}
-use Rattle.std.proofs.lemmas.List.Elements.{All-push}
 use Rattle.html_render_lines.specs.declared.character.Character.{Character}
 use Rattle.html_render_lines.specs.declared.character.TextStyle.{TextStyle}
 use Rattle.html_render_lines.specs.declared.line.Element.{Element}
 use Rattle.html_render_lines.specs.declared.line.Element.TheVariants as element
 use Rattle.html_render_lines.specs.Character.{width_of, tag_on, character_of}
-use Rattle.html_render_lines.specs.Line.{Line, columns, element_width, AllWithinWidth}
-use Rattle.html_render_paragraphs.specs.Paragraph.{Page, Setting, without_overflow, with_overflow, blank_page, with_character, continued, continued_by}
+use Rattle.html_render_lines.specs.Line.{Line, columns, element_width}
+use Rattle.html_render_paragraphs.specs.Paragraph.{Page, Setting, blank_page, with_character, continued, continued_by}
 use Rattle.html_render_paragraphs.specs.Paragraph.{put_character, put_items}
 use Rattle.html_render_paragraphs.specs.Stream.{styled}
 use Rattle.html_render_lines.specs.TaggedText.{under}
 use Rattle.html_render_paragraphs.specs.CutText.{kept_style, ended_lines, cut_lines, together, AreLongest}
 use Rattle.html_render_lines.specs.Tags.{line_with, lines_with}
 use Rattle.html_render_lines.specs.laws.Cases.{bind_some, if_cases}
-use Rattle.html_render_paragraphs.specs.laws.Within.{IsWithin, blank_within, put_items_within}
-use Rattle.html_render_paragraphs.specs.laws.Overflow.{put_items_same, put_items_some}
 use Rattle.html_render_lines.specs.laws.Tags.{map_with}
 use Rattle.html_render_paragraphs.specs.laws.Tags.{page_with, put_items-with, styled-with}
 
@@ -192,39 +189,6 @@ cut_longest {T} M s tag cs =
     (put_items s (blank_page []) (styled (kept_style tag) cs))
     (put_items_fill s (blank_page []) (kept_style tag) cs (record { longest = tt; first = λ e. refl; none_waits = refl }))
     (λ p h. h.longest)
-
--- ---- the width, and overflow
-
--- with overflow off no line passes the width
-pub cut_within : {T : Type 0} (M : Type 0) (w : ℕ) (tag : T) (cs : List ℕ) → IfSome (cut_lines {M = M} (without_overflow w) tag cs) (AllWithinWidth w)
-cut_within {T} M w tag cs =
-    map_if (IsWithin w) (AllWithinWidth w) (λ (p : Page T M). ended_lines p)
-    (put_items (without_overflow w) (blank_page []) (styled (kept_style tag) cs))
-    (put_items_within w (blank_page []) (styled (kept_style tag) cs) (blank_within w []))
-    (λ p h. All-push (λ (l : Line T M). columns l ≤ w) p.lines p.line h.lines h.line)
-
--- with overflow on it is never too narrow
-pub cut_some : {T : Type 0} (M : Type 0) (w : ℕ) (tag : T) (cs : List ℕ) → IsSome (cut_lines {M = M} (with_overflow w) tag cs)
-cut_some {T} M w tag cs =
-    by (put_items (with_overflow w) (blank_page []) (styled (kept_style tag) cs))
-    (put_items_some w (blank_page []) (styled (kept_style tag) cs))
-  where
-    by : (o : Option (Page T M)) → IsSome o → IsSome (option_map (λ (p : Page T M). ended_lines p) o)
-    by None e = e
-    by (Some p) e = refl
-
--- where overflow off gives lines, overflow on gives the same
-pub cut_same : {T M : Type 0} (w : ℕ) (tag : T) (cs : List ℕ) (ls : List (Line T M)) →
-    cut_lines (without_overflow w) tag cs ≡ Some ls → cut_lines (with_overflow w) tag cs ≡ Some ls
-cut_same {T} {M} w tag cs ls e =
-    by (put_items (without_overflow w) (blank_page []) (styled (kept_style tag) cs))
-    (put_items (with_overflow w) (blank_page []) (styled (kept_style tag) cs))
-    (put_items_same w (blank_page []) (styled (kept_style tag) cs)) e
-  where
-    by : (o p : Option (Page T M)) → ((q : Page T M) → o ≡ Some q → p ≡ Some q) →
-        option_map (λ (p : Page T M). ended_lines p) o ≡ Some ls → option_map (λ (p : Page T M). ended_lines p) p ≡ Some ls
-    by None p k e = cc
-    by (Some q) p k e = ap (option_map (λ (p : Page T M). ended_lines p)) (k q refl) ∙ e
 
 -- ---- tags
 

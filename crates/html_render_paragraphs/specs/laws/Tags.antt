@@ -1,8 +1,7 @@
 -- Whatever the tags are, the wrapping is the same: it commutes with a map of them.
-use Rattle.std.proofs.Common.{◌≡◌, ℕ, ◌+◌, ◌-◌, ◌%◌, Bool, true, false, cond, leb, sym, List, [], ◌∷◌, ◌++◌, map, replicate, refl, option_map}
-use Rattle.std.proofs.Common.{Option, None, Some, ap, ◌∙◌, option_and_then, suc, zero}
+use Rattle.std.proofs.Common.{◌≡◌, ℕ, ◌+◌, ◌-◌, ◌%◌, Bool, true, false, leb, sym, List, [], ◌∷◌, ◌++◌, map, replicate, refl, option_map}
+use Rattle.std.proofs.Common.{Option, None, Some, ap, ◌∙◌, suc, zero}
 use Rattle.std.proofs.lemmas.List.{map-append}
-use Rattle.std.specs.List.{fold}
 use Rattle.std.specs.Option.{option_or}
 use Rattle.html_render_values.specs.WhiteSpace.{preserves}
 use Rattle.html_render_lines.specs.declared.character.Kind.{Kind}
@@ -11,10 +10,9 @@ use Rattle.html_render_lines.specs.declared.character.Character.{Character}
 use Rattle.html_render_lines.specs.declared.character.TextStyle.{TextStyle}
 use Rattle.html_render_lines.specs.declared.character.Item.{Item}
 use Rattle.html_render_lines.specs.declared.character.Item.TheVariants as item
-use Rattle.html_render_lines.specs.declared.line.Element.{Element}
 use Rattle.html_render_lines.specs.declared.line.Element.TheVariants as element
 use Rattle.html_render_lines.specs.Character.{kind, width_of, tag_on}
-use Rattle.html_render_lines.specs.Line.{Line, columns, element_width, item_width, word_columns}
+use Rattle.html_render_lines.specs.Line.{Line, columns, item_width, word_columns}
 use Rattle.html_render_paragraphs.specs.Paragraph.{Page, Setting, with_waiting_mark, with_character, with_space, with_line, with_line_break}
 use Rattle.html_render_paragraphs.specs.Paragraph.{put_character, put_characters, put_items, put_fitting, put_all_fitting, put_word, put_single}
 use Rattle.html_render_paragraphs.specs.Paragraph.{page_for_word, with_due_space_by, continued, continued_by, with_fitting_space, page_for_single}
