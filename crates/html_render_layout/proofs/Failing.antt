@@ -4,14 +4,13 @@ use Rattle.std.specs.Result.{IsErrAnd}
 use Rattle.html_render_values.specs.Forest.{Forest}
 use Rattle.html_render_parts.specs.declared.widths.Meter.{Meter}
 use Rattle.html_render_nodes.specs.Counts.{CountsNodes}
-use Rattle.html_render_nodes.specs.Pass.{Steps, Inside}
+use Rattle.html_render_nodes.specs.Pass.{Visits}
 
-pub counts-failed : {X Y E K S : Type 0} (r : Result X E) (q : Result Y E) (Q : E → Type 0) → IsErrAnd q Q → (steps : Steps K S)
-    (inside : Inside K S) (t : Forest K) (s : S) (old new : Meter) → CountsNodes r steps inside t s old new →
-    CountsNodes q steps inside t s old new
-counts-failed r (Ok x) Q h steps inside t s old new c = absurd h
-counts-failed r (Err e) Q h steps inside t s old new c = record {
-  asks = c.asks;
+pub counts-failed : {X Y E K S : Type 0} (r : Result X E) (q : Result Y E) (Q : E → Type 0) → IsErrAnd q Q → (visits : Visits K S)
+    (t : Forest K) (s : S) (old new : Meter) → CountsNodes r visits t s old new →
+    CountsNodes q visits t s old new
+counts-failed r (Ok x) Q h visits t s old new c = absurd h
+counts-failed r (Err e) Q h visits t s old new c = record {
   entered = tt;
   left = tt;
   entered_at_most = c.entered_at_most;

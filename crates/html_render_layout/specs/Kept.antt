@@ -18,7 +18,7 @@ use Rattle.html_render_layout.specs.declared.layout.state.Around.{Around}
 use Rattle.html_render_layout.specs.declared.layout.state.Around.TheVariants.{Cells}
 use Rattle.html_render_layout.specs.declared.layout.state.LayoutState.{LayoutState}
 use Rattle.html_render_layout.specs.declared.settings.LayoutSettings.{LayoutSettings}
-use Rattle.html_render_layout.specs.Layout.{Defined, defined, defined_inside, estimated, empty_state}
+use Rattle.html_render_layout.specs.Layout.{Defined, defined, estimated, empty_state}
 
 -- whether the next node is skipped, by what it stands in: as a cell of a row, where there is no block for that
 abbrev pub skips : {S K T B : Type 0} → Operations B T → LayoutState S K T B → Around → Bool
@@ -28,7 +28,7 @@ skips o s _ = false
 -- the nodes that a layout visits, in order, without the cells that it skips
 abbrev pub visited_nodes : {S A : Type 0} → Decoration S A → LayoutSettings → Forest RenderNode → S → (width : ℕ) → (overflow : Bool) → List RenderNode
 visited_nodes {S} {A} d settings t decorator width overflow =
-    unskipped (λ (s : Defined S A). skips definition.operations s s.around) (defined d) (defined_inside d) (estimated d settings decorator t)
+    unskipped (λ (s : Defined S A). skips definition.operations s s.around) (defined d) (estimated d settings decorator t)
     (empty_state d settings decorator width overflow)
 
 -- the characters of a node, if it is a text

@@ -28,7 +28,7 @@ use Rattle.html_render_nodes.specs.declared.tree.NodeStyle.{NodeStyle}
 use Rattle.html_render_nodes.specs.declared.tree.Estimate.{Estimate}
 use Rattle.html_render_nodes.specs.declared.tree.RenderNode.{RenderNode}
 use Rattle.html_render_parts.specs.TableCells.{CellGrid}
-use Rattle.html_render_nodes.specs.Pass.{Steps, Inside, run}
+use Rattle.html_render_nodes.specs.Pass.{Visit, Leaf, Pair, Visits, followed, from_state, run}
 use Rattle.html_render_blocks.specs.declared.block.BlockSetting.{BlockSetting}
 use Rattle.html_render_blocks.specs.Operations.{Operations, Ending}
 use Rattle.html_render_blocks.specs.Block.{empty_block}
@@ -42,7 +42,6 @@ use Rattle.html_render_layout.specs.declared.layout.state.TextContext.{TextConte
 use Rattle.html_render_layout.specs.declared.settings.LayoutSettings.{LayoutSettings}
 use Rattle.html_render_layout.specs.Images.{shown_title}
 use Rattle.html_render_layout.specs.Ending.{ended}
-use Rattle.html_render_layout.specs.NodeLayout.{NodeLayout, Leaf, Pair, laid_out, inner, followed, from_state}
 
 -- what stands round an emphasis
 abbrev pub emphasis_decoration : {S A : Type 0} → Decoration S A → TheEmphasis → Round S A
@@ -149,7 +148,7 @@ appended_block o s prefix r = do
 
 -- what is laid out in a block of its own: an item of a list
 abbrev pub indented : {S A K T B : Type 0} → Decoration S A → Operations B T → (prefix : List ℕ) → (columns least : ℕ) →
-    (behind : Around) → (LayoutState S K T B → NodeLayout (LayoutState S K T B)) → LayoutState S K T B → NodeLayout (LayoutState S K T B)
+    (behind : Around) → (LayoutState S K T B → Visit (LayoutState S K T B)) → LayoutState S K T B → Visit (LayoutState S K T B)
 indented d o prefix columns least behind layout s =
     from_state (nested d o columns least s) (λ q. followed (layout q) (appended o s prefix columns behind))
 
@@ -164,15 +163,15 @@ added_cell o s r = do
   Some (resumed s b Cells r)
 
 -- the next cell of the row, if it has a block; else it is skipped, and nothing in it is laid out
-abbrev pub as_cell : {S A K T B : Type 0} → Decoration S A → Operations B T → (LayoutState S K T B → NodeLayout (LayoutState S K T B)) →
-    LayoutState S K T B → Option B → NodeLayout (LayoutState S K T B)
+abbrev pub as_cell : {S A K T B : Type 0} → Decoration S A → Operations B T → (LayoutState S K T B → Visit (LayoutState S K T B)) →
+    LayoutState S K T B → Option B → Visit (LayoutState S K T B)
 as_cell d o layout s None = Leaf (Some (record s { block = o.skip_cell s.block }))
 as_cell d o layout s (Some cell) = followed (layout (in_cell d cell s)) (added_cell o s)
 
 -- what a node is to what it stands in, whatever it is: an item of a list stands in a block of its own, behind a bullet
 -- or its number, and a cell of a row in its place
-abbrev pub placed : {S A K T B : Type 0} → Decoration S A → Operations B T → (LayoutState S K T B → NodeLayout (LayoutState S K T B)) →
-    LayoutState S K T B → Around → NodeLayout (LayoutState S K T B)
+abbrev pub placed : {S A K T B : Type 0} → Decoration S A → Operations B T → (LayoutState S K T B → Visit (LayoutState S K T B)) →
+    LayoutState S K T B → Around → Visit (LayoutState S K T B)
 placed d o layout s Plain = layout s
 placed d o layout s (Bullets least) =
     let bullet = d.unordered_item_prefix s.decorator in
@@ -183,7 +182,7 @@ placed d o layout s (Numbers least number columns) =
 placed d o layout s Cells = as_cell d o layout s (o.cell_block s.block)
 
 -- nodes that stand in something else, and behind them what the state stands in
-abbrev pub among : {S K T B : Type 0} → Around → LayoutState S K T B → NodeLayout (LayoutState S K T B)
+abbrev pub among : {S K T B : Type 0} → Around → LayoutState S K T B → Visit (LayoutState S K T B)
 among around s = Pair (Some (record s { around = around })) (λ r. Some (record r { around = s.around }))
 
 -- what the items of an ordered list stand in
@@ -312,7 +311,7 @@ module _ {S A K T B : Type 0} (d : Decoration S A) (push : K → T → A → K �
   begun round s = add_text d push o (round.start s.decorator).text (under (push s.stacks s.text.tag (round.start s.decorator).annotation) s)
 
   -- a part between what stands round it
-  abbrev pub decorated : Round S A → LayoutState S K T B → NodeLayout (LayoutState S K T B)
+  abbrev pub decorated : Round S A → LayoutState S K T B → Visit (LayoutState S K T B)
   decorated round s = Pair (begun round s) (λ r. add_text d push o (round.end r.decorator) r)
 
   -- an image, where it has a title to be written
@@ -324,7 +323,7 @@ module _ {S A K T B : Type 0} (d : Decoration S A) (push : K → T → A → K �
   image source title s = titled source (shown_title s.settings.empty_images source title) s
 
   -- a heading or a quote stands in a block of its own, each of whose lines stands behind a prefix
-  abbrev pub quoted : (prefix : List ℕ) → (least : ℕ) → LayoutState S K T B → NodeLayout (LayoutState S K T B)
+  abbrev pub quoted : (prefix : List ℕ) → (least : ℕ) → LayoutState S K T B → Visit (LayoutState S K T B)
   quoted prefix least s = Pair (nested d o (prefix_columns prefix) least s) (appended_block o s prefix)
 
   -- a part that is struck out between what stands round it
@@ -333,16 +332,16 @@ module _ {S A K T B : Type 0} (d : Decoration S A) (push : K → T → A → K �
     q ← begun d.strikeout s
     Some (striking s.settings.unicode_strikeout q)
 
-  abbrev pub struck_out : LayoutState S K T B → NodeLayout (LayoutState S K T B)
+  abbrev pub struck_out : LayoutState S K T B → Visit (LayoutState S K T B)
   struck_out s = Pair (strike s) (λ r. add_text d push o (d.strikeout.end r.decorator) (striking s.text.struck_out r))
 
   -- a superscript: of digits by their own characters, anything else between what stands round it
-  abbrev pub superscript : (digits : Option (List ℕ)) → LayoutState S K T B → NodeLayout (LayoutState S K T B)
+  abbrev pub superscript : (digits : Option (List ℕ)) → LayoutState S K T B → Visit (LayoutState S K T B)
   superscript None s = decorated d.superscript s
   superscript (Some digits) s = Leaf (add_characters d push o (map raised digits) s)
 
   -- a link between what stands round it, and its number: links are numbered in the order in which they start
-  abbrev pub linked : (target : List ℕ) → LayoutState S K T B → NodeLayout (LayoutState S K T B)
+  abbrev pub linked : (target : List ℕ) → LayoutState S K T B → Visit (LayoutState S K T B)
   linked target s = followed (decorated (link d target) (with_target target s)) (link_number d push o s.text (length s.targets + 1))
 
   -- a term of a description list begins on a line of its own
@@ -352,7 +351,7 @@ module _ {S A K T B : Type 0} (d : Decoration S A) (push : K → T → A → K �
     begun d.em q
 
   -- EACH KIND OF NODE, over these trees
-  abbrev pub kind_layout : NodeKind → Estimate → (trees : Forest RenderNode) → LayoutState S K T B → NodeLayout (LayoutState S K T B)
+  abbrev pub kind_layout : NodeKind → Estimate → (trees : Forest RenderNode) → LayoutState S K T B → Visit (LayoutState S K T B)
   kind_layout (Text t) e trees s = Leaf (add_text d push o t s)
   kind_layout Container e trees s = Pair (Some s) (λ r. Some r)
   kind_layout Break e trees s = Leaf (on_block o.new_line_hard s)
@@ -378,23 +377,16 @@ module _ {S A K T B : Type 0} (d : Decoration S A) (push : K → T → A → K �
   kind_layout TableCell e trees s = Pair (Some s) (λ r. Some r)
 
   -- and each node: its kind, in its style. Texts are treated behind it as they were before it
-  abbrev pub node_layout : RenderNode → (trees : Forest RenderNode) → LayoutState S K T B → NodeLayout (LayoutState S K T B)
+  abbrev pub node_layout : RenderNode → (trees : Forest RenderNode) → LayoutState S K T B → Visit (LayoutState S K T B)
   node_layout n trees s = followed (kind_layout n.kind n.estimate trees (in_style d push n.style s)) (λ r. Some (record r { text = s.text }))
 
-  abbrev pub layout_of : RenderNode → (trees : Forest RenderNode) → LayoutState S K T B → NodeLayout (LayoutState S K T B)
+  abbrev pub layout_of : Visits RenderNode (LayoutState S K T B)
   layout_of n trees s = placed d o (node_layout n trees) s s.around
-
-  abbrev pub steps : Steps RenderNode (LayoutState S K T B)
-  steps n trees children s = laid_out (layout_of n trees s) children
-
-  -- the state in which a node's children are laid out
-  abbrev pub inside : Inside RenderNode (LayoutState S K T B)
-  inside n trees s = inner (layout_of n trees s)
 
   -- what the state shows once all trees are laid out and the document is closed, under the tag that its texts began with
   abbrev pub shown_after : {L : Type 0} → Ending B T → (LayoutState S K T B → L) → Forest RenderNode → LayoutState S K T B → Option L
   shown_after end shown t s = do
-    r ← run steps t s
+    r ← run layout_of t s
     q ← ended d end s.settings.link_footnotes s.settings.wrap_links s.text.tag r
     Some (shown q)
 
@@ -406,11 +398,8 @@ onto k stack a = (k, stack ++ a ∷ [])
 abbrev pub Defined : Type 0 → Type 0 → Type 0
 Defined S A = LayoutState S (Unit {0}) (List A) (DefinedBlock (List A) ℕ)
 
-abbrev pub defined : {S A : Type 0} → Decoration S A → Steps RenderNode (Defined S A)
-defined d = steps d onto definition.operations
-
-abbrev pub defined_inside : {S A : Type 0} → Decoration S A → Inside RenderNode (Defined S A)
-defined_inside d = inside d onto definition.operations
+abbrev pub defined : {S A : Type 0} → Decoration S A → Visits RenderNode (Defined S A)
+defined d = layout_of d onto definition.operations
 
 -- texts under a tag, that are wrapped
 abbrev pub plain_text : {T : Type 0} → T → TextContext T

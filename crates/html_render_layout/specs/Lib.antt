@@ -3,7 +3,6 @@ pub mod Stacks
 pub mod Settings
 pub mod Images
 pub mod Ending
-pub mod NodeLayout
 pub mod Layout
 pub mod Kept
 pub mod Opening

@@ -11,7 +11,7 @@ use Rattle.html_render_nodes.specs.declared.tree.NodeKind.{NodeKind}
 use Rattle.html_render_nodes.specs.declared.tree.NodeKind.TheVariants.{Block, Div, Emphasis, Header, BlockQuote, Ul, Ol, ListItem, Dt, Dd}
 use Rattle.html_render_nodes.specs.declared.tree.NodeKind.TheVariants.{Strikeout, Superscript, Link, Table, TableRow}
 use Rattle.html_render_nodes.specs.declared.tree.RenderNode.{RenderNode}
-use Rattle.html_render_nodes.specs.Pass.{Way, Into, Past, past}
+use Rattle.html_render_nodes.specs.Pass.{Way, Into, Past, past, opened_with}
 use Rattle.html_render_blocks.specs.Operations.{Operations}
 use Rattle.html_render_layout.specs.declared.layout.items.Place.{Place}
 use Rattle.html_render_layout.specs.declared.layout.state.Around.{Around}
@@ -29,7 +29,6 @@ use Rattle.html_render_layout.specs.declared.layout.state.OuterTable.{OuterTable
 use Rattle.html_render_layout.specs.declared.layout.state.TextContext.{TextContext}
 use Rattle.html_render_layout.specs.Layout.{on_block, block_ended, add_text, emphasis_decoration, nested, spaces, padded, next_number}
 use Rattle.html_render_layout.specs.Layout.{in_cell, table_ended, striking, in_style, link_number, kind_layout}
-use Rattle.html_render_layout.specs.NodeLayout.{opened_with}
 
 -- what a block inside the state's interrupts, with what the nodes stand in behind it
 abbrev pub interrupted : {S K T B : Type 0} → LayoutState S K T B → Around → (prefix : List ℕ) → (columns : ℕ) → Outer S T B

@@ -8,14 +8,13 @@ ghost use Rattle.html_render_blocks.specs.Block.{empty_block};
 ghost use Rattle.html_render_blocks.specs.Machine as machine;
 ghost use Rattle.html_render_blocks.specs.Machine.{machine};
 ghost use Rattle.html_render_nodes.specs.Counts.{CountsNodes};
-ghost use Rattle.html_render_nodes.specs.Pass.{inside_of};
 ghost use Rattle.html_render_estimates.specs.Estimates.{measured};
 ghost use Rattle.html_render_estimates.specs.Passes.{with_needed_sizes};
-ghost use Rattle.html_render_layout.specs.Layout.{steps, begin_with, shown_after, defined, defined_inside, empty_state};
+ghost use Rattle.html_render_layout.specs.Layout.{layout_of, begin_with, shown_after, defined, empty_state};
 ghost use Rattle.html_render_layout.specs.Layout.{block_setting, padding, estimated, layout_lines, mark_names, unannotated};
 ghost use Rattle.html_render_layout.specs.Promises.{AreLines, Lines, HasLines, LeavesTexts};
 ghost use Rattle.html_render_layout.specs.Opening.{opened, closed};
-ghost use Rattle.html_render_layout.specs.laws.Opening.{steps-told};
+ghost use Rattle.html_render_layout.specs.laws.Opening.{layout-opened};
 ghost use Rattle.html_render_layout.specs.Working.{tabled, work_lines, work_names, laid_out, untagged_work};
 
 use self::state::{Around, Closing, LayoutState, TextContext, TextList};
@@ -73,13 +72,13 @@ impl<D: TextDecorator, G: Tagging<D::Annotation>> Pass for Layout<D, G> {
 
     type Kept = Closing<D, G::Tag, Block<G::Tag, usize>>;
 
-    ghost steps = { steps D.decoration G.annotated machine.operations };
+    ghost visits = { layout_of D.decoration G.annotated machine.operations };
 
     ghost opened = { opened D.decoration G.annotated machine.operations };
 
     ghost closed = { closed D.decoration G.annotated machine.operations };
 
-    ghost told = { steps-told D.decoration G.annotated machine.operations };
+    ghost told = { layout-opened D.decoration G.annotated machine.operations };
 
     /// Opens a node, as its kind and its style say.
     fn open(
@@ -142,8 +141,8 @@ fn lay_out_into<D: TextDecorator, G: Tagging<D::Annotation>>(
     ensures ok { OnOk result (shown_after D.decoration G.annotated machine.operations machine.ending (λ r. r) tree.now state.old ≡ Some state.new) }
     ensures err { IfErr result (λ e. Refuses e
         (shown_after D.decoration G.annotated machine.operations machine.ending (λ r. r) tree.now state.old)) }
-    ensures counts { CountsNodes result (steps D.decoration G.annotated machine.operations)
-        (inside_of (opened D.decoration G.annotated machine.operations)) tree.now state.old meter.old meter.new }
+    ensures counts { CountsNodes result (layout_of D.decoration G.annotated machine.operations)
+        tree.now state.old meter.old meter.new }
 {
     let tag = state.text.tag;
     let link_footnotes = state.settings.link_footnotes;
@@ -163,8 +162,8 @@ fn laid_out_from<D: TextDecorator, G: Tagging<D::Annotation>>(
         shown_after D.decoration G.annotated machine.operations machine.ending (λ r. r) tree.now state ≡ Some after) }
     ensures err { IfErr result (λ e. Refuses e
         (shown_after D.decoration G.annotated machine.operations machine.ending (λ r. r) tree.now state)) }
-    ensures counts { CountsNodes result (steps D.decoration G.annotated machine.operations)
-        (inside_of (opened D.decoration G.annotated machine.operations)) tree.now state meter.old meter.new }
+    ensures counts { CountsNodes result (layout_of D.decoration G.annotated machine.operations)
+        tree.now state meter.old meter.new }
 {
     let mut state = state;
     lay_out_into(alloc, tree, &mut state, meter)?;
@@ -181,8 +180,8 @@ fn lines_from<D: TextDecorator>(
     ensures ok { IfOk result (λ lines. work_lines D.decoration tree.now state ≡ Some (laid_out lines)) }
     ensures names { IfOk result (λ lines. work_names D.decoration tree.now state ≡ Some lines.names) }
     ensures err { IfErr result (λ e. Refuses e (work_lines D.decoration tree.now state)) }
-    ensures counts { CountsNodes result (steps D.decoration tabled machine.operations)
-        (inside_of (opened D.decoration tabled machine.operations)) tree.now state meter.old meter.new }
+    ensures counts { CountsNodes result (layout_of D.decoration tabled machine.operations)
+        tree.now state meter.old meter.new }
 {
     let state = laid_out_from(alloc, tree, state, meter)?;
     Ok(LaidOut {
@@ -270,7 +269,7 @@ pub fn lay_out<D: TextDecorator>(
     ensures stacks { LeavesTexts D.decoration }
 
     // what was counted, where there are lines, and where there are none
-    ensures counts { CountsNodes result (defined D.decoration) (defined_inside D.decoration)
+    ensures counts { CountsNodes result (defined D.decoration)
         (estimated D.decoration settings.now decorator.now tree) (empty_state D.decoration settings.now decorator.now width overflow) meter.old meter.new }
 {
     meter.entered = 0;

@@ -13,10 +13,10 @@ use Rattle.html_render_parts.specs.declared.widths.Meter.{Meter}
 use Rattle.html_render_nodes.specs.Counts.{CountsNodes}
 use Rattle.html_render_nodes.specs.declared.tree.Entry.{Entry}
 use Rattle.html_render_nodes.specs.declared.walk.Frame.{Frame}
-use Rattle.html_render_nodes.specs.Pass.{Steps, Way, Into, Past, run, through, into, inside_of, from, count_from, visited, most_open}
+use Rattle.html_render_nodes.specs.Pass.{Visits, through_visit, inside, Way, Into, Past, run, through, into, IsOpened, from, count_from, visited, most_open}
 use Rattle.html_render_nodes.specs.Preorder.{flatten}
 use Rattle.html_render_nodes.specs.laws.Preorder.{IsForest, IsForest-flatten}
-use Rattle.html_render_nodes.specs.laws.Visits.{opened-asks, visited-at_most, most_open-at_most}
+use Rattle.html_render_nodes.specs.laws.Visits.{visited-at_most, most_open-at_most}
 
 -- ---- answers, and counts of what follows one
 
@@ -46,11 +46,10 @@ length-from f (Some t) = refl
 
 -- what a walk does at each node
 pub record How (K S T : Type 0) : Type 0 where
-  pub steps : Steps K S
+  pub visits : Visits K S
   pub opened : K → Forest K → S → Option (Way S T)
   pub closed : T → S → Option S
-  pub told : (k : K) (trees : Forest K) (children : S → Option S) (s : S) →
-      steps k trees children s ≡ option_and_then (through closed children) (opened k trees s)
+  pub told : (k : K) (trees : Forest K) (s : S) → IsOpened closed (visits k trees s) (opened k trees s)
 
 -- the open nodes, the innermost first, each with the trees beside it
 abbrev pub Path : Type 0 → Type 0 → Type 0
@@ -82,29 +81,29 @@ module _ {K T : Type 0} where
 
 module _ {K S T : Type 0} (d : How K S T) where
   abbrev pub nodes_visited : Forest K → S → List K
-  nodes_visited t s = visited d.steps (inside_of d.opened) t s
+  nodes_visited t s = visited d.visits t s
 
   -- the state once the open nodes are over
   abbrev pub after : Path K T → S → Option S
   after [] s = Some s
-  after (x ∷ path) s = option_and_then (λ t. option_and_then (after path) (run d.steps x.1 t)) (d.closed x.0.kept s)
+  after (x ∷ path) s = option_and_then (λ t. option_and_then (after path) (run d.visits x.1 t)) (d.closed x.0.kept s)
 
   -- how many nodes are visited once the innermost open node's children are over
   abbrev pub later : Path K T → S → ℕ
   later [] s = 0
-  later (x ∷ path) s = count_from (λ t. length (nodes_visited x.1 t) + count_from (later path) (run d.steps x.1 t)) (d.closed x.0.kept s)
+  later (x ∷ path) s = count_from (λ t. length (nodes_visited x.1 t) + count_from (later path) (run d.visits x.1 t)) (d.closed x.0.kept s)
 
   -- how many in these trees, and after them
   abbrev pub onward : Path K T → Forest K → S → ℕ
-  onward path rest s = length (nodes_visited rest s) + count_from (later path) (run d.steps rest s)
+  onward path rest s = length (nodes_visited rest s) + count_from (later path) (run d.visits rest s)
 
   -- the state behind a node that is opened so
   abbrev pub behind : Forest K → Option (Way S T) → Option S
-  behind children w = option_and_then (through d.closed (λ q. run d.steps children q)) w
+  behind children w = option_and_then (through d.closed (λ q. run d.visits children q)) w
 
   -- and once the open nodes are over
   abbrev pub beyond : Path K T → Forest K → Forest K → Option (Way S T) → Option S
-  beyond path children beside w = option_and_then (λ t. option_and_then (after path) (run d.steps beside t)) (behind children w)
+  beyond path children beside w = option_and_then (λ t. option_and_then (after path) (run d.visits beside t)) (behind children w)
 
   -- how many nodes are visited below it and after it
   abbrev pub further : Path K T → Forest K → Forest K → Option (Way S T) → ℕ
@@ -113,17 +112,17 @@ module _ {K S T : Type 0} (d : How K S T) where
 
   -- how many nodes are open at once in the trees, at most
   abbrev pub nodes_open : Forest K → S → ℕ
-  nodes_open t s = most_open d.steps (inside_of d.opened) t s
+  nodes_open t s = most_open d.visits t s
 
   -- how many are open at once, those of the path among them, once the innermost open node's children are over
   abbrev pub later_open : Path K T → S → ℕ
   later_open [] s = 0
   later_open (x ∷ path) s =
-      count_from (λ t. max (length path + nodes_open x.1 t) (count_from (later_open path) (run d.steps x.1 t))) (d.closed x.0.kept s)
+      count_from (λ t. max (length path + nodes_open x.1 t) (count_from (later_open path) (run d.visits x.1 t))) (d.closed x.0.kept s)
 
   -- how many in these trees, and after them
   abbrev pub onward_open : Path K T → Forest K → S → ℕ
-  onward_open path rest s = max (length path + nodes_open rest s) (count_from (later_open path) (run d.steps rest s))
+  onward_open path rest s = max (length path + nodes_open rest s) (count_from (later_open path) (run d.visits rest s))
 
   -- how many below a node that is opened so, and after it
   abbrev pub further_open : Path K T → Forest K → Forest K → Option (Way S T) → ℕ
@@ -140,7 +139,7 @@ pub record Walking {K S T : Type 0} (d : How K S T) (nodes : List (Entry K)) (wa
   pub stack : frames ≡ frames_of path
   pub ahead : drop next nodes ≡ flatten rest ++ tails path
   pub ends : Ends (length nodes) (next + length (flatten rest)) path
-  pub result : option_and_then (after d path) (run d.steps rest s) ≡ wanted
+  pub result : option_and_then (after d path) (run d.visits rest s) ≡ wanted
   pub counted : entered + onward d path rest s ≡ all
   pub few : length path ≤ most
   pub peaks : max most (onward_open d path rest s) ≡ peak
@@ -172,7 +171,7 @@ pub record Closing {K S T : Type 0} (d : How K S T) (nodes : List (Entry K)) (wa
   pub stack : frames ≡ frames_of path
   pub ahead : drop next nodes ≡ flatten rest ++ tails path
   pub ends : Ends (length nodes) (next + length (flatten rest)) path
-  pub result : option_and_then (λ t. option_and_then (after d path) (run d.steps rest t)) (d.closed l s) ≡ wanted
+  pub result : option_and_then (λ t. option_and_then (after d path) (run d.visits rest t)) (d.closed l s) ≡ wanted
   pub counted : entered + count_from (onward d path rest) (d.closed l s) ≡ all
   pub few : length path ≤ most
   pub peaks : max most (count_from (onward_open d path rest) (d.closed l s)) ≡ peak
@@ -186,17 +185,17 @@ pub record Done {S T : Type 0} (wanted : Option S) (all peak : ℕ) (frames : Li
 
 module _ {K S T : Type 0} (d : How K S T) where
   pub Walking-start : (t : Forest K) (s : S) →
-      Walking d (flatten t) (run d.steps t s) (length (nodes_visited d t s)) (nodes_open d t s) [] 0 0 0 s
+      Walking d (flatten t) (run d.visits t s) (length (nodes_visited d t s)) (nodes_open d t s) [] 0 0 0 s
   Walking-start t s = record {
     rest = t;
     path = [];
     stack = refl;
     ahead = sym (append-nil (flatten t));
     ends = omega arith;
-    result = and_then_some (run d.steps t s);
-    counted = none_later (run d.steps t s);
+    result = and_then_some (run d.visits t s);
+    counted = none_later (run d.visits t s);
     few = omega arith;
-    peaks = none_open (run d.steps t s);
+    peaks = none_open (run d.visits t s);
   }
     where
       none_later : (o : Option S) → 0 + (length (nodes_visited d t s) + count_from (later d []) o) ≡ length (nodes_visited d t s)
@@ -209,43 +208,46 @@ module _ {K S T : Type 0} (d : How K S T) where
 
   -- a node's steps as its way
   regroup : (path : Path K T) (k : K) (children beside : Forest K) (s : S) →
-      beyond d path children beside (d.opened k children s) ≡ option_and_then (after d path) (run d.steps (node k children beside) s)
+      beyond d path children beside (d.opened k children s) ≡ option_and_then (after d path) (run d.visits (node k children beside) s)
   regroup path k children beside s =
-      sym (and_then_assoc (behind d children (d.opened k children s)) (run d.steps beside) (after d path))
-      ∙ ap (λ o. option_and_then (after d path) (option_and_then (run d.steps beside) o))
-      (sym (d.told k children (λ q. run d.steps children q) s))
+      sym (and_then_assoc (behind d children (d.opened k children s)) (run d.visits beside) (after d path))
+      ∙ ap (λ o. option_and_then (after d path) (option_and_then (run d.visits beside) o))
+      (sym ((d.told k children s).told (λ q. run d.visits children q)))
 
   -- and what is visited on it
   recount : (path : Path K T) (k : K) (children beside : Forest K) (s : S) →
       onward d path (node k children beside) s ≡ 1 + further d path children beside (d.opened k children s)
   recount path k children beside s =
-      let told = d.told k children (λ q. run d.steps children q) s in
-      let o = d.steps k children (λ q. run d.steps children q) s in
-      let below = from (λ q. nodes_visited d children q) (inside_of d.opened k children s) in
+      let told = (d.told k children s).told (λ q. run d.visits children q) in
+      let o = through_visit (d.visits k children s) (λ q. run d.visits children q) in
+      let below = from (λ q. nodes_visited d children q) (inside (d.visits k children s)) in
       let next = from (λ t. nodes_visited d beside t) o in
-      let both : count_from (λ t. length (nodes_visited d beside t)) o + count_from (later d path) (option_and_then (run d.steps beside) o)
+      let both : count_from (λ t. length (nodes_visited d beside t)) o + count_from (later d path) (option_and_then (run d.visits beside) o)
       ≡ count_from (onward d path beside) o =
-      ap (λ n. count_from (λ t. length (nodes_visited d beside t)) o + n) (count_from-then o (run d.steps beside) (later d path))
-      ∙ count_from-sum o (λ t. length (nodes_visited d beside t)) (λ t. count_from (later d path) (run d.steps beside t)) in
+      ap (λ n. count_from (λ t. length (nodes_visited d beside t)) o + n) (count_from-then o (run d.visits beside) (later d path))
+      ∙ count_from-sum o (λ t. length (nodes_visited d beside t)) (λ t. count_from (later d path) (run d.visits beside t)) in
       omega (
         arith,
         length-append below next,
         length-from (λ t. nodes_visited d beside t) o,
         both,
         ap (count_from (onward d path beside)) told,
+        ap (λ i. length (from (λ q. nodes_visited d children q) i)) (d.told k children s).asked,
       )
 
   -- and how many are open at once on it, with those that have been
   reopen : (path : Path K T) (most : ℕ) → length path ≤ most → (k : K) (children beside : Forest K) (s : S) →
       max most (onward_open d path (node k children beside) s) ≡ max most (further_open d path children beside (d.opened k children s))
   reopen path most few k children beside s =
-      by (inside_of d.opened k children s) (d.steps k children (λ q. run d.steps children q) s)
-      ∙ ap (λ o. max most (max (count_from (λ q. length path + 1 + nodes_open d children q) (inside_of d.opened k children s))
-      (count_from (onward_open d path beside) o))) (d.told k children (λ q. run d.steps children q) s)
+      by (inside (d.visits k children s)) (through_visit (d.visits k children s) (λ q. run d.visits children q))
+      ∙ ap (λ o. max most (max (count_from (λ q. length path + 1 + nodes_open d children q) (inside (d.visits k children s)))
+      (count_from (onward_open d path beside) o))) ((d.told k children s).told (λ q. run d.visits children q))
+      ∙ ap (λ i. max most (max (count_from (λ q. length path + 1 + nodes_open d children q) i)
+      (count_from (onward_open d path beside) (behind d children (d.opened k children s))))) (d.told k children s).asked
     where
       by : (i o : Option S) →
           max most (max (length path + max (count_from (λ q. 1 + nodes_open d children q) i) (count_from (λ t. nodes_open d beside t) o))
-          (count_from (later_open d path) (option_and_then (run d.steps beside) o)))
+          (count_from (later_open d path) (option_and_then (run d.visits beside) o)))
           ≡ max most (max (count_from (λ q. length path + 1 + nodes_open d children q) i) (count_from (onward_open d path beside) o))
       by None None = omega (arith, few)
       by None (Some t) = omega (arith, few)
@@ -255,7 +257,7 @@ module _ {K S T : Type 0} (d : How K S T) where
   module _ (nodes : List (Entry K)) (wanted : Option S) (all peak : ℕ) where
     close_at : (fs : List (Frame T)) (f : Frame T) (entered most next : ℕ) (s : S) (rest : Forest K) (path : Path K T) →
         frames_of path ≡ fs ++ f ∷ [] → f.end ≡ next → drop next nodes ≡ flatten rest ++ tails path →
-        Ends (length nodes) (next + length (flatten rest)) path → option_and_then (after d path) (run d.steps rest s) ≡ wanted →
+        Ends (length nodes) (next + length (flatten rest)) path → option_and_then (after d path) (run d.visits rest s) ≡ wanted →
         entered + onward d path rest s ≡ all → length path ≤ most → max most (onward_open d path rest s) ≡ peak →
         Closing d nodes wanted all peak fs entered most next s f.kept
     close_at fs f entered most next s rest [] e over ahead ends result counted few peaks =
@@ -272,7 +274,7 @@ module _ {K S T : Type 0} (d : How K S T) where
           stack = sym same.0;
           ahead = ahead;
           ends = subst (λ m. Ends (length nodes) (m + length (flatten x.1)) path) here ends.1;
-          result = ap (λ (g : Frame T). option_and_then (λ t. option_and_then (after d path) (run d.steps x.1 t)) (d.closed g.kept s))
+          result = ap (λ (g : Frame T). option_and_then (λ t. option_and_then (after d path) (run d.visits x.1 t)) (d.closed g.kept s))
               (sym same.1) ∙ result;
           counted = omega (arith, counted, ap (λ (g : Frame T). count_from (onward d path x.1) (d.closed g.kept s)) same.1);
           few = omega (arith, few);
@@ -296,7 +298,7 @@ module _ {K S T : Type 0} (d : How K S T) where
           stack = w.stack;
           ahead = w.ahead;
           ends = w.ends;
-          result = ap (option_and_then (λ t. option_and_then (after d w.path) (run d.steps w.rest t))) (sym step) ∙ w.result;
+          result = ap (option_and_then (λ t. option_and_then (after d w.path) (run d.visits w.rest t))) (sym step) ∙ w.result;
           counted = ap (λ o. entered + count_from (onward d w.path w.rest) o) (sym step) ∙ w.counted;
           few = w.few;
           peaks = ap (λ o. max most (count_from (onward_open d w.path w.rest) o)) (sym step) ∙ w.peaks;
@@ -310,7 +312,7 @@ module _ {K S T : Type 0} (d : How K S T) where
 
     done_at : (frames : List (Frame T)) (entered most next : ℕ) (s : S) (rest : Forest K) (path : Path K T) →
         frames ≡ frames_of path → NotOver frames next → next ≡ length nodes → drop next nodes ≡ flatten rest ++ tails path →
-        Ends (length nodes) (next + length (flatten rest)) path → option_and_then (after d path) (run d.steps rest s) ≡ wanted →
+        Ends (length nodes) (next + length (flatten rest)) path → option_and_then (after d path) (run d.visits rest s) ≡ wanted →
         entered + onward d path rest s ≡ all → max most (onward_open d path rest s) ≡ peak → Done wanted all peak frames entered most s
     done_at frames entered most next s none [] stack not_over over ahead ends result counted peaks =
         record { result = sym result; empty = stack; counted = omega arith; peaks = omega (arith, peaks) }
@@ -328,7 +330,7 @@ module _ {K S T : Type 0} (d : How K S T) where
     open_at : (frames : List (Frame T)) (entered most next : ℕ) (s : S) (e : Entry K) (rest : Forest K) (path : Path K T) →
         frames ≡ frames_of path → NotOver frames next → next < length nodes → e ≡ get_or nodes next e →
         drop next nodes ≡ flatten rest ++ tails path →
-        Ends (length nodes) (next + length (flatten rest)) path → option_and_then (after d path) (run d.steps rest s) ≡ wanted →
+        Ends (length nodes) (next + length (flatten rest)) path → option_and_then (after d path) (run d.visits rest s) ≡ wanted →
         entered + onward d path rest s ≡ all → length path ≤ most → max most (onward_open d path rest s) ≡ peak →
         Opening d nodes wanted all peak frames entered most next s e
     open_at frames entered most next s e none [] stack not_over in_nodes is ahead ends result counted few peaks =
@@ -380,12 +382,12 @@ module _ {K S T : Type 0} (d : How K S T) where
           stack = ap (λ fs. fs ++ f ∷ []) w.stack;
           ahead = w.ahead;
           ends = (omega (arith, w.size), w.ends);
-          result = sym (and_then_assoc (run d.steps w.children q) (d.closed l)
-              (λ t. option_and_then (after d w.path) (run d.steps w.beside t)))
+          result = sym (and_then_assoc (run d.visits w.children q) (d.closed l)
+              (λ t. option_and_then (after d w.path) (run d.visits w.beside t)))
               ∙ ap (beyond d w.path w.children w.beside) (sym step) ∙ w.result;
-          counted = omega (arith, w.counted, way, count_from-then (run d.steps w.children q) (d.closed l) (onward d w.path w.beside));
+          counted = omega (arith, w.counted, way, count_from-then (run d.visits w.children q) (d.closed l) (onward d w.path w.beside));
           few = omega (arith, long);
-          peaks = omega (arith, long, w.peaks, top, count_from-then (run d.steps w.children q) (d.closed l) (onward_open d w.path w.beside));
+          peaks = omega (arith, long, w.peaks, top, count_from-then (run d.visits w.children q) (d.closed l) (onward_open d w.path w.beside));
         }
 
     -- past the node
@@ -445,19 +447,18 @@ module _ {K S T : Type 0} (d : How K S T) where
 pub counted-refused : {K S T X : Type 0} (d : How K S T) (r : Result X Error) (Q : Error → Type 0) → IsErrAnd r Q → (f : Forest K) (s now : S)
     (nodes : List (Entry K)) (wanted : Option S) (frames : List (Frame T)) (next : ℕ) (old new : Meter) →
     Walking d nodes wanted (length (nodes_visited d f s)) (nodes_open d f s) frames new.entered new.frames next now →
-    new.left ≤ new.entered → new.probes ≡ old.probes → CountsNodes r d.steps (inside_of d.opened) f s old new
+    new.left ≤ new.entered → new.probes ≡ old.probes → CountsNodes r d.visits f s old new
 counted-refused d (Ok x) Q h f s now nodes wanted frames next old new w left probes = absurd h
 counted-refused d (Err e) Q h f s now nodes wanted frames next old new w left probes =
     let within = Walking-within d nodes wanted (length (nodes_visited d f s)) (nodes_open d f s) frames new.entered new.frames next now w in
     record {
-      asks = opened-asks d.steps d.opened d.closed d.told;
       entered = tt;
       left = tt;
       entered_at_most = within.1;
       left_at_most = left;
-      visited_at_most = visited-at_most d.steps (inside_of d.opened) f s;
+      visited_at_most = visited-at_most d.visits f s;
       frames = tt;
       frames_at_most = within.0;
-      open_at_most = most_open-at_most d.steps (inside_of d.opened) f s;
+      open_at_most = most_open-at_most d.visits f s;
       probes = probes;
     }

@@ -3,7 +3,7 @@ use Rattle.std.specs.Prelude.{ℕ, ◌+◌, ◌-◌, ◌^◌, List, [], ◌∷�
 use Rattle.html_render_values.specs.Forest.{Forest, none, node}
 use Rattle.html_render_values.specs.Outcome.{◌>>=◌}
 use Rattle.html_render_nodes.specs.declared.tree.RenderNode.{RenderNode}
-use Rattle.html_render_nodes.specs.Pass.{Steps, Way, Into}
+use Rattle.html_render_nodes.specs.Pass.{Visits, Pair, Way, Into}
 
 -- the depth of each node, in pre-order
 abbrev pub depths_of : {K : Type 0} → (depth : ℕ) → Forest K → List ℕ
@@ -19,10 +19,8 @@ pub record Noting : Type 0 where
 abbrev pub noted_at : Noting → Noting
 noted_at s = record { noted = s.noted ++ s.depth ∷ []; depth = min (s.depth + 1) (2 ^ 64 - 1) }
 
-abbrev pub noting : Steps RenderNode Noting
-noting k trees children s = do
-  r ← children (noted_at s)
-  Some (record r { depth = s.depth })
+abbrev pub noting : Visits RenderNode Noting
+noting k trees s = Pair (Some (noted_at s)) (λ r. Some (record r { depth = s.depth }))
 
 abbrev pub opened : RenderNode → Forest RenderNode → Noting → Option (Way Noting ℕ)
 opened k trees s = Some (Into (noted_at s) s.depth)

@@ -1,13 +1,13 @@
 //! A walk over trees, for any pass.
 //!
 //! `walk::<P>(alloc, &forest, &mut state, &mut meter)` opens each node before its children and closes it after them, or
-//! goes past them, and counts what it did; `Ok(())`: the state is what the pass's steps make of the forest.
+//! goes past them, and counts what it did; `Ok(())`: the state is what the pass's visits make of the forest.
 
-ghost use Rattle.std.specs.Prelude.{◌≡◌, ◌≢◌, List, [], ◌∷◌, ◌++◌, Option, Some, option_and_then, OnOk, IfOk, IfErr, IfSome, IfNone};
+ghost use Rattle.std.specs.Prelude.{◌≡◌, ◌≢◌, List, [], ◌∷◌, ◌++◌, Option, Some, OnOk, IfOk, IfErr, IfSome, IfNone};
 ghost use Rattle.html_render_values.specs.Forest.{Forest};
 ghost use Rattle.html_render_values.specs.Outcome.{Refuses};
 ghost use Rattle.html_render_nodes.specs.Counts.{CountsNodes};
-ghost use Rattle.html_render_nodes.specs.Pass.{Steps, Way, way, run, through, inside_of};
+ghost use Rattle.html_render_nodes.specs.Pass.{Visits, Way, way, run, IsOpened};
 ghost use Rattle.html_render_nodes.specs.Preorder.{flatten, forest_of};
 ghost use Rattle.html_render_nodes.specs.declared.walk.Frame.{Frame};
 
@@ -25,8 +25,8 @@ pub trait Pass {
     /// What an open node keeps until it is closed.
     type Kept: Drop;
 
-    // what the pass computes, node by node
-    ghost steps: { Steps Self.Node Self.State };
+    // how each node is visited
+    ghost visits: { Visits Self.Node Self.State };
 
     // how a node over these trees is opened
     ghost opened: { Self.Node → Forest Self.Node → Self.State → Option (Way Self.State Self.Kept) };
@@ -59,9 +59,8 @@ pub trait Pass {
         ensures ok { OnOk result (closed kept state.old ≡ Some state.new) }
         ensures err { IfErr result (λ e. Refuses e (closed kept state.old)) };
 
-    // a node's steps: it is opened, its children come, and it is closed
-    ghost told: { (k : Self.Node) (trees : Forest Self.Node) (children : Self.State → Option Self.State) (s : Self.State) →
-        steps k trees children s ≡ option_and_then (through closed children) (opened k trees s) };
+    // a visit: the node is opened, its children come, and it is closed
+    ghost told: { (k : Self.Node) (trees : Forest Self.Node) (s : Self.State) → IsOpened closed (visits k trees s) (opened k trees s) };
 }
 
 /// An open node.
@@ -101,11 +100,11 @@ pub fn walk<P: Pass>(
     state: &mut P::State,
     meter: &mut Meter,
 ) -> Result<(), Error>
-    ensures ok { OnOk result (run P.steps forest.now state.old ≡ Some state.new) }
-    ensures err { IfErr result (λ e. Refuses e (run P.steps forest.now state.old)) }
+    ensures ok { OnOk result (run P.visits forest.now state.old ≡ Some state.new) }
+    ensures err { IfErr result (λ e. Refuses e (run P.visits forest.now state.old)) }
 
     // what was counted, where the walk came to its end, and where it didn't
-    ensures counts { CountsNodes result P.steps (inside_of P.opened) forest.now state.old meter.old meter.new }
+    ensures counts { CountsNodes result P.visits forest.now state.old meter.old meter.new }
 {
     meter.entered = 0;
     meter.left = 0;

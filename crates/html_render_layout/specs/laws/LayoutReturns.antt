@@ -15,7 +15,7 @@ use Rattle.html_render_nodes.specs.declared.tree.NodeKind.TheVariants.{Header, B
 use Rattle.html_render_nodes.specs.declared.tree.NodeKind.TheVariants.{Strikeout, Superscript, Link, Image, Svg, FragmentStart, Table, TableRow}
 use Rattle.html_render_nodes.specs.declared.tree.NodeKind.TheVariants.{TableCell}
 use Rattle.html_render_nodes.specs.declared.tree.RenderNode.{RenderNode}
-use Rattle.html_render_nodes.specs.Pass.{run}
+use Rattle.html_render_nodes.specs.Pass.{Visit, Leaf, Pair, through_visit, followed, from_state, run}
 use Rattle.html_render_layout.specs.laws.Answers.{IfSome-then, IfSome-weaken}
 use Rattle.html_render_estimates.specs.Estimates.{prefix_columns}
 use Rattle.html_render_blocks.specs.Operations.{Operations}
@@ -23,13 +23,12 @@ use Rattle.html_render_layout.specs.declared.layout.state.Around.{Around}
 use Rattle.html_render_layout.specs.declared.layout.state.Around.TheVariants.{Plain, Bullets, Numbers, Cells}
 use Rattle.html_render_layout.specs.declared.layout.state.LayoutState.{LayoutState}
 use Rattle.html_render_layout.specs.declared.layout.state.TextContext.{TextContext}
-use Rattle.html_render_layout.specs.NodeLayout.{NodeLayout, Leaf, Pair, laid_out, followed, from_state}
 use Rattle.html_render_layout.specs.Images.{shown_title}
 use Rattle.html_render_layout.specs.Layout.{on_block, block_ended, written, add_characters, add_text, text_style, under, emphasis_decoration}
 use Rattle.html_render_layout.specs.Layout.{inner_least, spaces, nested, appended, added_cell, indented, placed, in_cell, as_cell, begun}
 use Rattle.html_render_layout.specs.Layout.{decorated, quoted, image_round, titled, raised, digits_of, strike, striking, superscript, with_target}
 use Rattle.html_render_layout.specs.Layout.{link_number, term_begun, fence_style, fenced, table_begun, table_ended, in_style, kind_layout}
-use Rattle.html_render_layout.specs.Layout.{node_layout, layout_of, steps}
+use Rattle.html_render_layout.specs.Layout.{node_layout, layout_of}
 use Rattle.html_render_layout.specs.laws.Styles.{in_style-decorator}
 
 -- whatever there is
@@ -96,16 +95,16 @@ module _ {S A K T B : Type 0} (d : Decoration S A) (push : K → T → A → K �
   table_ended-stays in_table s r a = fenced-stays s (record r { block = o.end_table r.block; in_table = in_table }) a
 
   -- the layout of a node gives back a state that P holds of, where its children stay in their place
-  abbrev Gives : (State → Type 0) → NodeLayout State → Type 0
+  abbrev Gives : (State → Type 0) → Visit State → Type 0
   Gives P (Leaf behind) = IfSome behind P
   Gives P (Pair before after) = IfSome before (λ q. (r : State) → SameDecorator q r → IfSome (after r) P)
 
-  followed-gives : (P Q : State → Type 0) (l : NodeLayout State) (next : State → Option State) → ((r : State) → P r → IfSome (next r) Q) →
+  followed-gives : (P Q : State → Type 0) (l : Visit State) (next : State → Option State) → ((r : State) → P r → IfSome (next r) Q) →
       Gives P l → Gives Q (followed l next)
   followed-gives P Q (Leaf behind) next k a = IfSome-then P Q behind next a k
   followed-gives P Q (Pair before after) next k a = IfSome-weaken _ _ before a (λ q f r b. IfSome-then P Q (after r) next (f r b) k)
 
-  from_state-gives : (P R : State → Type 0) (s : Option State) (layout : State → NodeLayout State) → IfSome s R →
+  from_state-gives : (P R : State → Type 0) (s : Option State) (layout : State → Visit State) → IfSome s R →
       ((q : State) → R q → Gives P (layout q)) → Gives P (from_state s layout)
   from_state-gives P R None layout a k = tt
   from_state-gives P R (Some q) layout a k = k q a
@@ -171,9 +170,9 @@ module _ {S A K T B : Type 0} (d : Decoration S A) (push : K → T → A → K �
   Returned s r = (r.text ≡ s.text) × (r.decorator ≡ s.decorator)
 
   -- a node in a block inside that of s
-  inner-gives : (P : State → Type 0) (n : RenderNode) (trees : Forest RenderNode) (q : State) (next : State → Option State) →
+  inside-gives : (P : State → Type 0) (n : RenderNode) (trees : Forest RenderNode) (q : State) (next : State → Option State) →
       ((r : State) → r.text ≡ q.text → IfSome (next r) P) → Gives P (followed (node_layout d push o n trees q) next)
-  inner-gives P n trees q next k =
+  inside-gives P n trees q next k =
       let Texts : State → Type 0 = λ r. r.text ≡ q.text in
       followed-gives Texts P (node_layout d push o n trees q) next k (node-gives Texts n trees q (λ r e a. e))
 
@@ -182,14 +181,14 @@ module _ {S A K T B : Type 0} (d : Decoration S A) (push : K → T → A → K �
   item-gives n trees prefix columns least behind s =
       from_state-gives (Returned s) (λ q. q.text ≡ s.text) (nested d o columns least s) _
       (whatever _ (o.sub_block s.block columns least) _ (λ b. refl)) (λ q e.
-      inner-gives (Returned s) n trees q (appended o s prefix columns behind) (λ r same.
+      inside-gives (Returned s) n trees q (appended o s prefix columns behind) (λ r same.
       whatever _ (o.append s.block r.block s.text.tag (chars prefix) (spaces columns)) _ (λ b. (same ∙ e, refl))))
 
   cell-gives : (n : RenderNode) (trees : Forest RenderNode) (s : State) (cell : Option B) →
       Gives (Returned s) (as_cell d o (node_layout d push o n trees) s cell)
   cell-gives n trees s None = (refl, refl)
   cell-gives n trees s (Some cell) =
-      inner-gives (Returned s) n trees (in_cell d cell s) (added_cell o s) (λ r same.
+      inside-gives (Returned s) n trees (in_cell d cell s) (added_cell o s) (λ r same.
       whatever _ (o.add_cell s.block r.block) _ (λ b. (same, refl)))
 
   placed-gives : (n : RenderNode) (trees : Forest RenderNode) (s : State) (a : Around) →
@@ -199,19 +198,19 @@ module _ {S A K T B : Type 0} (d : Decoration S A) (push : K → T → A → K �
   placed-gives n trees s (Numbers least number columns) = item-gives n trees _ _ _ _ s
   placed-gives n trees s Cells = cell-gives n trees s (o.cell_block s.block)
 
-  laid_out-gives : (P : State → Type 0) (children : State → Option State) → ((q : State) → IfSome (children q) (SameDecorator q)) →
-      (l : NodeLayout State) → Gives P l → IfSome (laid_out l children) P
-  laid_out-gives P children below (Leaf behind) a = a
-  laid_out-gives P children below (Pair before after) a =
+  through_visit-gives : (P : State → Type 0) (children : State → Option State) → ((q : State) → IfSome (children q) (SameDecorator q)) →
+      (l : Visit State) → Gives P l → IfSome (through_visit l children) P
+  through_visit-gives P children below (Leaf behind) a = a
+  through_visit-gives P children below (Pair before after) a =
       IfSome-then _ P before _ a (λ q f. IfSome-then (SameDecorator q) P (children q) after (below q) f)
 
   -- THE LAW: trees that are laid out leave the texts that follow, with their annotations, and the decorator as they were
   pub layout-returns : (t : Forest RenderNode) (s : State) →
-      IfSome (run (steps d push o) t s) (λ r. (r.text ≡ s.text) × (r.decorator ≡ s.decorator))
+      IfSome (run (layout_of d push o) t s) (λ r. (r.text ≡ s.text) × (r.decorator ≡ s.decorator))
   layout-returns none s = (refl, refl)
   layout-returns (node n children beside) s =
-      let below : State → Option State = λ q. run (steps d push o) children q in
-      IfSome-then (Returned s) _ (steps d push o n children below s) _
-      (laid_out-gives (Returned s) below (λ q. IfSome-weaken _ _ (below q) (layout-returns children q) (λ r a. a.1))
+      let below : State → Option State = λ q. run (layout_of d push o) children q in
+      IfSome-then (Returned s) _ (through_visit (layout_of d push o n children s) below) _
+      (through_visit-gives (Returned s) below (λ q. IfSome-weaken _ _ (below q) (layout-returns children q) (λ r a. a.1))
       (layout_of d push o n children s) (placed-gives n children s s.around)) (λ q a.
-      IfSome-weaken _ _ (run (steps d push o) beside q) (layout-returns beside q) (λ r b. (b.0 ∙ a.0, b.1 ∙ a.1)))
+      IfSome-weaken _ _ (run (layout_of d push o) beside q) (layout-returns beside q) (λ r b. (b.0 ∙ a.0, b.1 ∙ a.1)))

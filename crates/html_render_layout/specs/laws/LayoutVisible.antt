@@ -22,7 +22,7 @@ use Rattle.html_render_nodes.specs.declared.tree.NodeKind.TheVariants.{Strikeout
 use Rattle.html_render_nodes.specs.declared.tree.NodeKind.TheVariants.{TableCell}
 use Rattle.html_render_nodes.specs.declared.tree.RenderNode.{RenderNode}
 use Rattle.html_render_parts.specs.TableCells.{CellGrid}
-use Rattle.html_render_nodes.specs.Pass.{run, from, unskipped}
+use Rattle.html_render_nodes.specs.Pass.{Visit, Leaf, Pair, through_visit, inside, followed, from_state, run, from, unskipped}
 use Rattle.html_render_layout.specs.laws.Answers.{IfSome-then, IfSome-weaken}
 use Rattle.html_render_blocks.specs.Operations.{Operations}
 use Rattle.html_render_blocks.specs.Definition as definition
@@ -39,14 +39,13 @@ use Rattle.html_render_layout.specs.declared.layout.state.Around.TheVariants.{Pl
 use Rattle.html_render_layout.specs.declared.layout.state.LayoutState.{LayoutState}
 use Rattle.html_render_layout.specs.declared.layout.state.TextContext.{TextContext}
 use Rattle.html_render_layout.specs.declared.settings.LayoutSettings.{LayoutSettings}
-use Rattle.html_render_layout.specs.NodeLayout.{NodeLayout, Leaf, Pair, laid_out, inner, followed, from_state}
 use Rattle.html_render_layout.specs.Images.{shown_title}
 use Rattle.html_render_layout.specs.Kept.{skips, visited_nodes, node_characters, text_characters, KeepsTexts}
 use Rattle.html_render_layout.specs.Layout.{on_block, block_ended, struck, written, add_characters, add_text, text_style, under, inner_least, spaces}
 use Rattle.html_render_layout.specs.Layout.{nested, appended, appended_block, added_cell, indented, quoted, placed, emphasis_decoration, begun}
 use Rattle.html_render_layout.specs.Layout.{decorated, image_round, titled, raised, digits_of, strike, superscript, striking, with_target}
 use Rattle.html_render_layout.specs.Layout.{link_number, term_begun, fence_style, fenced, table_begun, table_ended, in_cell, as_cell, in_style}
-use Rattle.html_render_layout.specs.Layout.{kind_layout, node_layout, layout_of, steps, inside, onto, Defined, defined, empty_state, estimated}
+use Rattle.html_render_layout.specs.Layout.{kind_layout, node_layout, layout_of, onto, Defined, defined, empty_state, estimated}
 use Rattle.html_render_layout.specs.Layout.{layout_lines}
 use Rattle.html_render_layout.specs.Ending.{ended}
 use Rattle.html_render_layout.specs.laws.Ending.{ended-keeps}
@@ -159,18 +158,18 @@ module _ {S A K T B : Type 0} (d : Decoration S A) (push : K → T → A → K �
   weight skipped n = sum_by node_count (if skipped then [] else n ∷ [])
 
   -- what a node's layout counts: n or more, and what its children add
-  abbrev Adds : ℕ → NodeLayout State → Type 0
+  abbrev Adds : ℕ → Visit State → Type 0
   Adds n (Leaf behind) = IfSome behind (AtLeast n)
   Adds n (Pair before after) = IfSome before (λ q. (m : ℕ) (r : State) → counted q + m ≤ counted r → IfSome (after r) (AtLeast (n + m)))
 
-  followed-adds : (k n : ℕ) (l : NodeLayout State) (next : State → Option State) →
+  followed-adds : (k n : ℕ) (l : Visit State) (next : State → Option State) →
       ((m : ℕ) (r : State) → AtLeast (k + m) r → IfSome (next r) (AtLeast (n + m))) → Adds k l → Adds n (followed l next)
   followed-adds k n (Leaf behind) next so a =
       IfSome-then _ _ behind next a (λ r b. IfSome-weaken _ _ (next r) (so 0 r (omega arith)) (λ q c. omega arith))
   followed-adds k n (Pair before after) next so a =
       IfSome-weaken _ _ before a (λ q f m r b. IfSome-then _ _ (after r) next (f m r b) (so m))
 
-  from_state-adds : (n : ℕ) (s : Option State) (layout : State → NodeLayout State) → ((q : State) → Adds n (layout q)) →
+  from_state-adds : (n : ℕ) (s : Option State) (layout : State → Visit State) → ((q : State) → Adds n (layout q)) →
       Adds n (from_state s layout)
   from_state-adds n None layout k = tt
   from_state-adds n (Some q) layout k = k q
@@ -239,9 +238,9 @@ module _ {S A K T B : Type 0} (d : Decoration S A) (push : K → T → A → K �
       (λ m r a. omega (arith, ap v (in_style-block d push n.style s))) (kind-adds n.kind n.estimate trees q)
 
   -- a node in a block inside that of s
-  inner-adds : (n : RenderNode) (trees : Forest RenderNode) (s q : State) (next : State → Option State) → Joins s next →
+  inside-adds : (n : RenderNode) (trees : Forest RenderNode) (s q : State) (next : State → Option State) → Joins s next →
       Adds (counted s + weight false n) (followed (node_layout d push o n trees q) next)
-  inner-adds n trees s q next k =
+  inside-adds n trees s q next k =
       followed-adds (counted q + weight false n) (counted s + weight false n) (node_layout d push o n trees q) next
       (λ m r a. IfSome-weaken _ _ (next r) (k r) (λ t b. omega arith)) (node-adds n trees q)
 
@@ -249,13 +248,13 @@ module _ {S A K T B : Type 0} (d : Decoration S A) (push : K → T → A → K �
       Adds (counted s + weight false n) (indented d o prefix columns least behind (node_layout d push o n trees) s)
   item-adds n trees prefix columns least behind s =
       from_state-adds (counted s + weight false n) (nested d o columns least s) _ (λ q.
-      inner-adds n trees s q (appended o s prefix columns behind) (appended-joins s prefix columns behind))
+      inside-adds n trees s q (appended o s prefix columns behind) (appended-joins s prefix columns behind))
 
   -- a cell of a row: in its block, or skipped with its texts
   cell-adds : (n : RenderNode) (trees : Forest RenderNode) (s : State) (cell : Option B) →
       Adds (counted s + weight (not (is_some cell)) n) (as_cell d o (node_layout d push o n trees) s cell)
   cell-adds n trees s None = omega (arith, h.skip_cell s.block)
-  cell-adds n trees s (Some cell) = inner-adds n trees s (in_cell d cell s) (added_cell o s) (added_cell-joins s)
+  cell-adds n trees s (Some cell) = inside-adds n trees s (in_cell d cell s) (added_cell o s) (added_cell-joins s)
 
   placed-adds : (n : RenderNode) (trees : Forest RenderNode) (s : State) (a : Around) →
       Adds (counted s + weight (skips o s a) n) (placed d o (node_layout d push o n trees) s a)
@@ -265,12 +264,12 @@ module _ {S A K T B : Type 0} (d : Decoration S A) (push : K → T → A → K �
   placed-adds n trees s Cells = cell-adds n trees s (o.cell_block s.block)
 
   -- over its children, that add what is counted of these nodes
-  laid_out-counts : (children : State → Option State) (nodes : State → List RenderNode) →
-      ((q : State) → IfSome (children q) (AtLeast (counted q + sum_by node_count (nodes q)))) → (n : ℕ) (l : NodeLayout State) → Adds n l →
-      IfSome (laid_out l children) (AtLeast (n + sum_by node_count (from nodes (inner l))))
-  laid_out-counts children nodes below n (Leaf behind) a = IfSome-weaken _ _ behind a (λ r b. omega arith)
-  laid_out-counts children nodes below n (Pair None after) a = tt
-  laid_out-counts children nodes below n (Pair (Some q) after) a =
+  through_visit-counts : (children : State → Option State) (nodes : State → List RenderNode) →
+      ((q : State) → IfSome (children q) (AtLeast (counted q + sum_by node_count (nodes q)))) → (n : ℕ) (l : Visit State) → Adds n l →
+      IfSome (through_visit l children) (AtLeast (n + sum_by node_count (from nodes (inside l))))
+  through_visit-counts children nodes below n (Leaf behind) a = IfSome-weaken _ _ behind a (λ r b. omega arith)
+  through_visit-counts children nodes below n (Pair None after) a = tt
+  through_visit-counts children nodes below n (Pair (Some q) after) a =
       IfSome-then _ _ (children q) after (below q) (a (sum_by node_count (nodes q)))
 
   -- whether the next node is skipped
@@ -278,30 +277,30 @@ module _ {S A K T B : Type 0} (d : Decoration S A) (push : K → T → A → K �
   skipped s = skips o s s.around
 
   abbrev visits : Forest RenderNode → State → List RenderNode
-  visits t s = unskipped skipped (steps d push o) (inside d push o) t s
+  visits t s = unskipped skipped (layout_of d push o) t s
 
   -- what is counted grows by what is counted in the texts that are visited and aren't skipped
-  pub layout-grows : (t : Forest RenderNode) (s : State) → IfSome (run (steps d push o) t s)
+  pub layout-grows : (t : Forest RenderNode) (s : State) → IfSome (run (layout_of d push o) t s)
       (λ r. v s.block
-      + sum_by (λ (n : RenderNode). w (node_characters n.kind)) (unskipped skipped (steps d push o) (inside d push o) t s) ≤ v r.block)
+      + sum_by (λ (n : RenderNode). w (node_characters n.kind)) (unskipped skipped (layout_of d push o) t s) ≤ v r.block)
   layout-grows none s = omega arith
   layout-grows (node n children beside) s =
-      by (steps d push o n children (λ q. run (steps d push o) children q) s)
-      (laid_out-counts (λ q. run (steps d push o) children q) (visits children) (λ q. layout-grows children q)
+      by (through_visit (layout_of d push o n children s) (λ q. run (layout_of d push o) children q))
+      (through_visit-counts (λ q. run (layout_of d push o) children q) (visits children) (λ q. layout-grows children q)
       (counted s + weight (skipped s) n) (layout_of d push o n children s) (placed-adds n children s s.around)) (λ t. layout-grows beside t)
     where
       own : List RenderNode
       own = if skipped s then [] else n ∷ []
 
       below : List RenderNode
-      below = from (visits children) (inside d push o n children s)
+      below = from (visits children) (inside (layout_of d push o n children s))
 
       by : (q : Option State) → IfSome q (AtLeast (counted s + sum_by node_count own + sum_by node_count below)) →
-          ((t : State) → IfSome (run (steps d push o) beside t) (AtLeast (counted t + sum_by node_count (visits beside t)))) →
-          IfSome (option_and_then (λ t. run (steps d push o) beside t) q)
+          ((t : State) → IfSome (run (layout_of d push o) beside t) (AtLeast (counted t + sum_by node_count (visits beside t)))) →
+          IfSome (option_and_then (λ t. run (layout_of d push o) beside t) q)
           (AtLeast (counted s + sum_by node_count (own ++ (below ++ from (visits beside) q))))
       by None a next = tt
-      by (Some t) a next = IfSome-weaken _ _ (run (steps d push o) beside t) (next t) (λ r b.
+      by (Some t) a next = IfSome-weaken _ _ (run (layout_of d push o) beside t) (next t) (λ r b.
           omega (arith, sum_by-append node_count own (below ++ visits beside t), sum_by-append node_count below (visits beside t)))
 
 -- ---- how often a character stands in texts

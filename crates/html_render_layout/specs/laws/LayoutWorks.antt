@@ -23,13 +23,11 @@ use Rattle.html_render_blocks.specs.laws.BlockSeen.{Tags, empty-seen}
 use Rattle.html_render_blocks.specs.laws.Related.{OptionTags}
 use Rattle.html_render_layout.specs.Stacks.{stack_at}
 use Rattle.html_render_nodes.specs.Counts.{CountsNodes}
-use Rattle.html_render_nodes.specs.Pass.{visited, most_open, inside_of}
+use Rattle.html_render_nodes.specs.Pass.{visited, most_open}
 use Rattle.html_render_nodes.specs.laws.Counts.{counts-same}
 use Rattle.html_render_layout.specs.declared.settings.LayoutSettings.{LayoutSettings}
-use Rattle.html_render_layout.specs.Layout.{onto, steps, shown_after, Defined, defined, defined_inside, begin_with, block_setting, padding, empty_state}
+use Rattle.html_render_layout.specs.Layout.{onto, layout_of, shown_after, Defined, defined, begin_with, block_setting, padding, empty_state}
 use Rattle.html_render_layout.specs.Layout.{estimated, layout_lines, mark_names, unannotated}
-use Rattle.html_render_layout.specs.Opening.{opened}
-use Rattle.html_render_layout.specs.laws.Opening.{layout-asks}
 use Rattle.html_render_layout.specs.laws.Related.{Other}
 use Rattle.html_render_layout.specs.laws.Sizes.{shown-needed, counts-needed}
 use Rattle.html_render_layout.specs.Working.{Worked, tabled, tagged, work_lines, work_names, Untagged, untagged, untagged_work}
@@ -166,29 +164,29 @@ module _ {S A : Type 0} (d : Decoration S A) (settings : LayoutSettings) where
   -- of any trees it visits what the definition visits, with as many open at once
   counts-wanted : {X : Type 0} (r : Result X Error) (t : Forest RenderNode) (decorator : S) (w : ℕ) (o : Bool) (s : Worked S A)
       (old other new : Meter) → s ≡ empty_worked decorator w o → other.probes ≡ old.probes →
-      CountsNodes r (steps d tabled machine.operations) (inside_of (opened d tabled machine.operations)) t s other new →
-      CountsNodes r (defined d) (defined_inside d) t (empty_state d settings decorator w o) old new
+      CountsNodes r (layout_of d tabled machine.operations) t s other new →
+      CountsNodes r (defined d) t (empty_state d settings decorator w o) old new
   counts-wanted r t decorator w o s old other new e probes c =
-      counts-same r (steps d tabled machine.operations) (inside_of (opened d tabled machine.operations)) (defined d) (defined_inside d) t s
+      counts-same r (layout_of d tabled machine.operations) (defined d) t s
       (empty_state d settings decorator w o) old other new
-      (ap (λ x. visited (steps d tabled machine.operations) (inside_of (opened d tabled machine.operations)) t x) e
+      (ap (λ x. visited (layout_of d tabled machine.operations) t x) e
       ∙ visited-represented d tabled stack_at (λ (s : List A). s) Pushed (λ k. ([], sym (append-nil k))) Pushed-goes
       (λ k t a. ((stack_at k t ++ a ∷ []) ∷ [], refl)) tag_pushed t w (empty_worked decorator w o) (by_stacks w o) (begins decorator w o))
-      (ap (λ x. most_open (steps d tabled machine.operations) (inside_of (opened d tabled machine.operations)) t x) e
+      (ap (λ x. most_open (layout_of d tabled machine.operations) t x) e
       ∙ most_open-represented d tabled stack_at (λ (s : List A). s) Pushed (λ k. ([], sym (append-nil k))) Pushed-goes
       (λ k t a. ((stack_at k t ++ a ∷ []) ∷ [], refl)) tag_pushed t w (empty_worked decorator w o) (by_stacks w o) (begins decorator w o))
-      (layout-asks d onto definition.operations) probes c
+      probes c
 
   -- and it counts what the definition visits
   pub counts-work : {X : Type 0} (r : Result X Error) (t measured : Forest RenderNode) (decorator : S) (w : ℕ) (o : Bool)
       (s : Worked S A) (old other new : Meter) → measured ≡ with_needed_sizes (estimated d settings decorator t) → s ≡ empty_worked decorator w o →
       other.probes ≡ old.probes →
-      CountsNodes r (steps d tabled machine.operations) (inside_of (opened d tabled machine.operations)) measured s other new →
-      CountsNodes r (defined d) (defined_inside d) (estimated d settings decorator t) (empty_state d settings decorator w o) old new
+      CountsNodes r (layout_of d tabled machine.operations) measured s other new →
+      CountsNodes r (defined d) (estimated d settings decorator t) (empty_state d settings decorator w o) old new
   counts-work r t measured decorator w o s old other new m e probes c =
       counts-wanted r (estimated d settings decorator t) decorator w o s old other new e probes
       (counts-needed d tabled machine.operations r (estimated d settings decorator t) s other new
-      (subst (λ x. CountsNodes r (steps d tabled machine.operations) (inside_of (opened d tabled machine.operations)) x s other new) m c))
+      (subst (λ x. CountsNodes r (layout_of d tabled machine.operations) x s other new) m c))
 
   -- ---- no tags
 

@@ -10,8 +10,7 @@ use Rattle.html_render_nodes.specs.declared.tree.NodeKind.TheVariants.{Header, B
 use Rattle.html_render_nodes.specs.declared.tree.NodeKind.TheVariants.{Strikeout, Superscript, Link, Image, Svg, FragmentStart, Table, TableRow}
 use Rattle.html_render_nodes.specs.declared.tree.NodeKind.TheVariants.{TableCell}
 use Rattle.html_render_nodes.specs.declared.tree.RenderNode.{RenderNode}
-use Rattle.html_render_nodes.specs.Pass.{Way, AsksIn, past, through, into, inside_of}
-use Rattle.html_render_nodes.specs.laws.Visits.{opened-asks, asks-same}
+use Rattle.html_render_nodes.specs.Pass.{Visit, Leaf, Pair, through_visit, inside, followed, from_state, Way, past, opened_with, IsOpened}
 use Rattle.html_render_blocks.specs.Operations.{Operations}
 use Rattle.html_render_layout.specs.declared.layout.items.Place.{Place}
 use Rattle.html_render_layout.specs.declared.layout.state.Around.{Around}
@@ -22,9 +21,8 @@ use Rattle.html_render_layout.specs.declared.layout.state.Interruption.TheVarian
 use Rattle.html_render_layout.specs.declared.layout.state.KindClosing.{KindClosing}
 use Rattle.html_render_layout.specs.declared.layout.state.LayoutState.{LayoutState}
 use Rattle.html_render_layout.specs.declared.layout.state.TextContext.{TextContext}
-use Rattle.html_render_layout.specs.NodeLayout.{NodeLayout, Leaf, Pair, laid_out, inner, followed, from_state, opened_with}
 use Rattle.html_render_layout.specs.Layout.{on_block, appended, digits_of, superscript, in_style, in_cell, as_cell, added_cell}
-use Rattle.html_render_layout.specs.Layout.{kind_layout, node_layout, indented, placed, layout_of, steps, inside}
+use Rattle.html_render_layout.specs.Layout.{kind_layout, node_layout, indented, placed, layout_of}
 use Rattle.html_render_layout.specs.Opening.{interrupted, item_closed, bullet_place, number_place, cell_kept, keeping, kind_kept}
 use Rattle.html_render_layout.specs.Opening.{kind_closed, node_opened, cell_opened, placed_opened, opened_around, opened, closed}
 use Rattle.html_render_layout.specs.laws.Styles.{in_style-around}
@@ -35,7 +33,7 @@ and_then_same None f h e = refl
 and_then_same (Some x) f h e = e x
 
 -- what is kept of a node stands for what is done after its children
-abbrev StandsFor : {S T : Type 0} → (closed : T → S → Option S) → T → NodeLayout S → Type 0
+abbrev StandsFor : {S T : Type 0} → (closed : T → S → Option S) → T → Visit S → Type 0
 StandsFor closed kept (Leaf behind) = Unit {0}
 StandsFor {S} closed kept (Pair before after) = (r : S) → after r ≡ closed kept r
 
@@ -43,7 +41,7 @@ module _ {S A K T B : Type 0} (d : Decoration S A) (push : K → T → A → K �
   abbrev State : Type 0
   State = LayoutState S K T B
 
-  abbrev KindStands : NodeLayout State → KindClosing S T B → Type 0
+  abbrev KindStands : Visit State → KindClosing S T B → Type 0
   KindStands n kept = StandsFor (kind_closed d push o) kept n
 
   superscript-stands : (digits : Option (List ℕ)) (s : State) → KindStands (superscript d push o digits s) (kind_kept d Superscript s)
@@ -77,21 +75,19 @@ module _ {S A K T B : Type 0} (d : Decoration S A) (push : K → T → A → K �
   kind-stands TableRow e trees s plain = λ r. ap (λ a. on_block o.end_row (record r { around = a })) plain
   kind-stands TableCell e trees s plain = λ r. refl
 
-  -- a layout is that the node is opened so, its children come, and it is closed; and they come where it says
-  pub record IsOpened (n : NodeLayout State) (w : Option (Way State (Closing S T B))) : Type 0 where
-    pub told : (children : State → Option State) → laid_out n children ≡ option_and_then (through (closed d push o) children) w
-    pub asked : option_and_then (λ v. into v) w ≡ inner n
+  abbrev Opened : Visit State → Option (Way State (Closing S T B)) → Type 0
+  Opened n w = IsOpened (closed d push o) n w
 
   -- from what is kept of its kind to what is kept of the node: in the block that it interrupts another one for, if it does
-  kept-opened : (n : NodeLayout State) (kept : KindClosing S T B) (item : Interruption S T B) (text : TextContext T)
+  kept-opened : (n : Visit State) (kept : KindClosing S T B) (item : Interruption S T B) (text : TextContext T)
       (behind : State → Option State) → ((r : State) → behind r ≡ item_closed o item r) → KindStands n kept →
-      IsOpened (followed (followed n (λ r. Some (record r { text = text }))) behind)
+      Opened (followed (followed n (λ r. Some (record r { text = text }))) behind)
       (option_and_then (λ w. keeping o item text w) (opened_with n kept))
   kept-opened (Leaf None) kept item text behind same stands = record { told = λ children. refl; asked = refl }
   kept-opened (Leaf (Some t)) kept item text behind same stands = by (item_closed o item (record t { text = text })) (same (record t { text = text }))
     where
       by : (c : Option State) → behind (record t { text = text }) ≡ c →
-          IsOpened (Leaf (behind (record t { text = text }))) (past c)
+          Opened (Leaf (behind (record t { text = text }))) (past c)
       by None e = record { told = λ children. e; asked = refl }
       by (Some r) e = record { told = λ children. e; asked = refl }
   kept-opened (Pair None after) kept item text behind same stands = record { told = λ children. refl; asked = refl }
@@ -115,7 +111,7 @@ module _ {S A K T B : Type 0} (d : Decoration S A) (push : K → T → A → K �
 
   -- where it interrupts no block
   node-opened : (n : RenderNode) (trees : Forest RenderNode) (s : State) → s.around ≡ Plain →
-      IsOpened (node_layout d push o n trees s) (placed_opened d push o n trees None s)
+      Opened (node_layout d push o n trees s) (placed_opened d push o n trees None s)
   node-opened n trees s plain =
       by (node_layout d push o n trees s)
       (kept-opened (kind_layout d push o n.kind n.estimate trees (in_style d push n.style s)) (kind_kept d n.kind (in_style d push n.style s))
@@ -125,20 +121,20 @@ module _ {S A K T B : Type 0} (d : Decoration S A) (push : K → T → A → K �
       some None = refl
       some (Some r) = refl
 
-      same : (m : NodeLayout State) (children : State → Option State) → laid_out m children ≡ laid_out (followed m (λ r. Some r)) children
+      same : (m : Visit State) (children : State → Option State) → through_visit m children ≡ through_visit (followed m (λ r. Some r)) children
       same (Leaf behind) children = sym (some behind)
       same (Pair None after) children = refl
       same (Pair (Some q) after) children = and_then_same (children q) _ _ (λ r. sym (some (after r)))
 
-      inner-same : (m : NodeLayout State) → inner (followed m (λ r. Some r)) ≡ inner m
+      inner-same : (m : Visit State) → inside (followed m (λ r. Some r)) ≡ inside m
       inner-same (Leaf behind) = refl
       inner-same (Pair before after) = refl
 
-      by : (m : NodeLayout State) {w : Option (Way State (Closing S T B))} → IsOpened (followed m (λ r. Some r)) w → IsOpened m w
-      by m h = record { told = λ children. same m children ∙ h.told children; asked = h.asked ∙ inner-same m }
+      by : (m : Visit State) {w : Option (Way State (Closing S T B))} → Opened (followed m (λ r. Some r)) w → Opened m w
+      by m h = record { told = λ children. same m children ∙ h.told children; asked = sym (inner-same m) ∙ h.asked }
 
   item-opened : (n : RenderNode) (trees : Forest RenderNode) (p : Place) (s : State) →
-      IsOpened (indented d o p.prefix p.columns p.least p.behind (node_layout d push o n trees) s)
+      Opened (indented d o p.prefix p.columns p.least p.behind (node_layout d push o n trees) s)
       (placed_opened d push o n trees (Some p) s)
   item-opened n trees p s = by (o.sub_block s.block p.columns p.least)
     where
@@ -149,7 +145,7 @@ module _ {S A K T B : Type 0} (d : Decoration S A) (push : K → T → A → K �
       item = Indented (interrupted s p.behind p.prefix p.columns)
 
       by : (b : Option B) →
-          IsOpened (from_state (option_and_then (λ c. Some (within c)) b) (λ q.
+          Opened (from_state (option_and_then (λ c. Some (within c)) b) (λ q.
           followed (node_layout d push o n trees q) (appended o s p.prefix p.columns p.behind)))
           (option_and_then (λ (q : State). option_and_then (λ w. keeping o item q.text w) (node_opened d push o n trees q))
           (option_and_then (λ c. Some (within c)) b))
@@ -160,32 +156,19 @@ module _ {S A K T B : Type 0} (d : Decoration S A) (push : K → T → A → K �
           item s.text (appended o s p.prefix p.columns p.behind) (λ r. refl) (styled-stands n trees q refl)
 
   cell-opened : (n : RenderNode) (trees : Forest RenderNode) (s : State) (b : Option B) →
-      IsOpened (as_cell d o (node_layout d push o n trees) s b) (cell_opened d push o n trees b s)
+      Opened (as_cell d o (node_layout d push o n trees) s b) (cell_opened d push o n trees b s)
   cell-opened n trees s None = record { told = λ children. refl; asked = refl }
   cell-opened n trees s (Some cell) =
       let q : State = in_cell d cell s in
       kept-opened (kind_layout d push o n.kind n.estimate trees (in_style d push n.style q)) (kind_kept d n.kind (in_style d push n.style q))
       (cell_kept s) s.text (added_cell o s) (λ r. refl) (styled-stands n trees q refl)
 
-  layout-opened : (n : RenderNode) (trees : Forest RenderNode) (s : State) → IsOpened (layout_of d push o n trees s) (opened d push o n trees s)
+  -- THE LAW: a node is opened so, its children come, and it is closed
+  pub layout-opened : (n : RenderNode) (trees : Forest RenderNode) (s : State) → Opened (layout_of d push o n trees s) (opened d push o n trees s)
   layout-opened n trees s = by s.around refl
     where
-      by : (a : Around) → s.around ≡ a → IsOpened (placed d o (node_layout d push o n trees) s a) (opened_around d push o n trees s a)
+      by : (a : Around) → s.around ≡ a → Opened (placed d o (node_layout d push o n trees) s a) (opened_around d push o n trees s a)
       by Plain h = node-opened n trees s h
       by (Bullets least) h = item-opened n trees (bullet_place d s.decorator least) s
       by (Numbers least number columns) h = item-opened n trees (number_place d s.decorator least number columns) s
       by Cells h = cell-opened n trees s (o.cell_block s.block)
-
-  -- THE LAW: a node's steps are that it is opened, its children come, and it is closed
-  pub steps-told : (n : RenderNode) (trees : Forest RenderNode) (children : State → Option State) (s : State) →
-      steps d push o n trees children s ≡ option_and_then (through (closed d push o) children) (opened d push o n trees s)
-  steps-told n trees children s = (layout-opened n trees s).told children
-
-  pub opened-inside : (n : RenderNode) (trees : Forest RenderNode) (s : State) →
-      inside_of (opened d push o) n trees s ≡ inside d push o n trees s
-  opened-inside n trees s = (layout-opened n trees s).asked
-
-  -- THE LAW: a node's steps ask for its children there
-  pub layout-asks : AsksIn (steps d push o) (inside d push o)
-  layout-asks = asks-same (steps d push o) (inside_of (opened d push o)) (inside d push o) opened-inside
-      (opened-asks (steps d push o) (opened d push o) (closed d push o) steps-told)

@@ -21,7 +21,7 @@ use Rattle.html_render_nodes.specs.declared.tree.NodeKind.TheVariants.{TableCell
 use Rattle.html_render_nodes.specs.declared.tree.NodeStyle.{NodeStyle}
 use Rattle.html_render_nodes.specs.declared.tree.RenderNode.{RenderNode}
 use Rattle.html_render_estimates.specs.Estimates.{prefix_columns}
-use Rattle.html_render_nodes.specs.Pass.{run, visited, most_open, from, count_from}
+use Rattle.html_render_nodes.specs.Pass.{Visit, Leaf, Pair, through_visit, inside, followed, from_state, run, visited, most_open, from, count_from}
 use Rattle.html_render_blocks.specs.Operations.{Operations, Ending}
 use Rattle.html_render_layout.specs.declared.layout.state.Around.{Around}
 use Rattle.html_render_layout.specs.declared.layout.state.Around.TheVariants.{Plain, Bullets, Numbers, Cells}
@@ -31,14 +31,13 @@ use Rattle.html_render_layout.specs.Images.{shown_title}
 use Rattle.html_render_paragraphs.specs.laws.Answers.{Both, Both-then, Both-weaken}
 use Rattle.html_render_blocks.specs.laws.Related.{Relates, RelatesEnds}
 use Rattle.html_render_layout.specs.Ending.{closing_texts, ended}
-use Rattle.html_render_layout.specs.NodeLayout.{NodeLayout, Leaf, Pair, laid_out, inner, followed, from_state}
 use Rattle.html_render_layout.specs.Layout.{on_block, block_ended, written, text_style, add_styled, add_characters, add_text, under, striking}
 use Rattle.html_render_layout.specs.Layout.{inner_least, spaces, padded, next_number, numbers, nested, appended, appended_block, indented}
 use Rattle.html_render_layout.specs.Layout.{in_cell, as_cell, placed, among, fence_style, with_fence, fenced}
 use Rattle.html_render_layout.specs.Layout.{cells_begun, table_begun, table_ended, row_begun, image_round, raised, digits_of, with_target, marked, link_number}
 use Rattle.html_render_layout.specs.Layout.{annotated, coloured, with_mode, in_white_space, preformatting, in_style, emphasis_decoration}
 use Rattle.html_render_layout.specs.Layout.{begun, decorated, quoted, titled, image, struck_out, superscript, linked, term_begun}
-use Rattle.html_render_layout.specs.Layout.{kind_layout, node_layout, layout_of, steps, inside, shown_after}
+use Rattle.html_render_layout.specs.Layout.{kind_layout, node_layout, layout_of, shown_after}
 
 -- how texts are treated, under another tag
 abbrev pub context : {T U : Type 0} → TextContext T → U → TextContext U
@@ -322,7 +321,7 @@ module _ {S A K T B L U C I : Type 0} (d : Decoration S A) (push : K → T → A
       (j : I) × ((m : Reached j w q e) × ((r : State) (u : Different) → Later (stacks_of q m.other) (stacks_of r u) → Holds j r u →
       Both N M (Reached i (stacks_of r u)) (f r) (g (with_other r u))))
 
-  abbrev pub Related : I → K × L → NodeLayout State → NodeLayout OtherState → Type 0
+  abbrev pub Related : I → K × L → Visit State → Visit OtherState → Type 0
   Related i w (Leaf a) (Leaf b) = Both N M (Reached i w) a b
   Related i w (Leaf a) (Pair b g) = (a ≡ None) × M
   Related i w (Pair a f) (Leaf b) = ⊥
@@ -333,20 +332,20 @@ module _ {S A K T B L U C I : Type 0} (d : Decoration S A) (push : K → T → A
   none-both i w None x = weak x
   none-both i w (Some e) x = x
 
-  none-related : (i : I) (w : K × L) (m : NodeLayout OtherState) → M → Related i w (Leaf None) m
+  none-related : (i : I) (w : K × L) (m : Visit OtherState) → M → Related i w (Leaf None) m
   none-related i w (Leaf b) x = none-both i w b x
   none-related i w (Pair b g) x = (refl, x)
 
-  laid_out-related : (i : I) (w : K × L) (n : NodeLayout State) (m : NodeLayout OtherState) (f : State → Option State)
+  visit-related : (i : I) (w : K × L) (n : Visit State) (m : Visit OtherState) (f : State → Option State)
       (g : OtherState → Option OtherState) → Related i w n m →
       ((j : I) (q : State) (u : Different) → Holds j q u → Both N M (Reached j (stacks_of q u)) (f q) (g (with_other q u))) →
-      Both N M (Reached i w) (laid_out n f) (laid_out m g)
-  laid_out-related i w (Leaf a) (Leaf b) f g k below = k
-  laid_out-related i w (Leaf a) (Pair b y) f g k below =
+      Both N M (Reached i w) (through_visit n f) (through_visit m g)
+  visit-related i w (Leaf a) (Leaf b) f g k below = k
+  visit-related i w (Leaf a) (Pair b y) f g k below =
       subst (λ x. Both N M (Reached i w) x (option_and_then (λ q. option_and_then y (g q)) b)) (sym k.0)
       (none-both i w (option_and_then (λ q. option_and_then y (g q)) b) k.1)
-  laid_out-related i w (Pair a x) (Leaf b) f g k below = absurd k
-  laid_out-related i w (Pair a x) (Pair b y) f g k below =
+  visit-related i w (Pair a x) (Leaf b) f g k below = absurd k
+  visit-related i w (Pair a x) (Pair b y) f g k below =
       Both-then N M weak (λ q e. After i w q e x y) (Reached i w) (λ q. option_and_then x (f q)) (λ q. option_and_then y (g q)) a b k (λ q e c.
       let m : Reached c.0 w q e = c.1.0 in
       Both-weaken N M (Reached i (stacks_of q m.other)) (Reached i w) (option_and_then x (f q)) (option_and_then y (g e))
@@ -354,7 +353,7 @@ module _ {S A K T B L U C I : Type 0} (d : Decoration S A) (push : K → T → A
       (subst (λ z. Both N M (Reached c.0 (stacks_of q m.other)) (f q) (g z)) (sym m.is) (below c.0 q m.other m.holds))
       (λ r u l n. c.1.1 r u l n)) (λ r z n. since i w q m.other r z m.later n))
 
-  since-related : (i : I) (w : K × L) (q : State) (u : Different) (n : NodeLayout State) (m : NodeLayout OtherState) →
+  since-related : (i : I) (w : K × L) (q : State) (u : Different) (n : Visit State) (m : Visit OtherState) →
       Later w (stacks_of q u) → Related i (stacks_of q u) n m → Related i w n m
   since-related i w q u (Leaf a) (Leaf b) l k =
       Both-weaken N M (Reached i (stacks_of q u)) (Reached i w) a b k (λ r e x. since i w q u r e l x)
@@ -364,7 +363,7 @@ module _ {S A K T B L U C I : Type 0} (d : Decoration S A) (push : K → T → A
       Both-weaken N M (λ r e. After i (stacks_of q u) r e f g) (λ r e. After i w r e f g) a b k (λ r e x.
       (x.0, (since x.0 w q u r e l x.1.0, x.1.1)))
 
-  followed-related : (i j : I) (w : K × L) (n : NodeLayout State) (m : NodeLayout OtherState) (f : State → Option State)
+  followed-related : (i j : I) (w : K × L) (n : Visit State) (m : Visit OtherState) (f : State → Option State)
       (g : OtherState → Option OtherState) → Related j w n m →
       ((r : State) (u : Different) → Later w (stacks_of r u) → Holds j r u →
       Both N M (Reached i (stacks_of r u)) (f r) (g (with_other r u))) → Related i w (followed n f) (followed m g)
@@ -382,8 +381,8 @@ module _ {S A K T B L U C I : Type 0} (d : Decoration S A) (push : K → T → A
         ),
       ))
 
-  from_state-related : (i : I) (w : K × L) (a : Option State) (b : Option OtherState) (f : State → NodeLayout State)
-      (g : OtherState → NodeLayout OtherState) → Both N M (Inner w) a b →
+  from_state-related : (i : I) (w : K × L) (a : Option State) (b : Option OtherState) (f : State → Visit State)
+      (g : OtherState → Visit OtherState) → Both N M (Inner w) a b →
       ((j : I) (q : State) (u : Different) → Later w (stacks_of q u) → Holds j q u → Related i (stacks_of q u) (f q) (g (with_other q u))) →
       Related i w (from_state a f) (from_state b g)
   from_state-related i w None None f g k next = k
@@ -631,13 +630,13 @@ module _ {S A K T B L U C I : Type 0} (d : Decoration S A) (push : K → T → A
 
   -- THE THEOREM: trees that are laid out leave related states
   pub run-related : (t : Forest RenderNode) (i : I) (s : State) (v : Different) → Holds i s v →
-      Both N M (Reached i (stacks_of s v)) (run (steps d push o) t s) (run (steps d pull p) t (with_other s v))
+      Both N M (Reached i (stacks_of s v)) (run (layout_of d push o) t s) (run (layout_of d pull p) t (with_other s v))
   run-related none i s v k = here i s v k
   run-related (node n children beside) i s v k =
-      then_reached i i (stacks_of s v) (steps d push o n children (λ q. run (steps d push o) children q) s)
-      (steps d pull p n children (λ q. run (steps d pull p) children q) (with_other s v)) _ _
-      (laid_out-related i (stacks_of s v) (layout_of d push o n children s) (layout_of d pull p n children (with_other s v))
-      (λ q. run (steps d push o) children q) (λ q. run (steps d pull p) children q) (layout-related n children i s v k)
+      then_reached i i (stacks_of s v) (through_visit (layout_of d push o n children s) (λ q. run (layout_of d push o) children q))
+      (through_visit (layout_of d pull p n children (with_other s v)) (λ q. run (layout_of d pull p) children q)) _ _
+      (visit-related i (stacks_of s v) (layout_of d push o n children s) (layout_of d pull p n children (with_other s v))
+      (λ q. run (layout_of d push o) children q) (λ q. run (layout_of d pull p) children q) (layout-related n children i s v k)
       (λ j q u m. run-related children j q u m)) (λ r u l m. run-related beside i r u m)
 
   -- ---- what is visited
@@ -657,12 +656,12 @@ module _ {S A K T B L U C I : Type 0} (d : Decoration S A) (push : K → T → A
     count_from-related R f g (Some x) None k same = absurd k
     count_from-related R f g (Some x) (Some y) k same = same x y k
 
-    inner-related : (i : I) (w : K × L) (n : NodeLayout State) (m : NodeLayout OtherState) → Related i w n m →
-        Both N M (Inner w) (inner n) (inner m)
-    inner-related i w (Leaf a) (Leaf b) k = there
-    inner-related i w (Leaf a) (Pair b g) k = absurd (never k.1)
-    inner-related i w (Pair a f) (Leaf b) k = absurd k
-    inner-related i w (Pair a f) (Pair b g) k =
+    inside-related : (i : I) (w : K × L) (n : Visit State) (m : Visit OtherState) → Related i w n m →
+        Both N M (Inner w) (inside n) (inside m)
+    inside-related i w (Leaf a) (Leaf b) k = there
+    inside-related i w (Leaf a) (Pair b g) k = absurd (never k.1)
+    inside-related i w (Pair a f) (Leaf b) k = absurd k
+    inside-related i w (Pair a f) (Pair b g) k =
         Both-weaken N M (λ q e. After i w q e f g) (Inner w) a b k (λ q e c. (c.0, c.1.0))
 
     -- the same of a state as of its other side
@@ -671,55 +670,55 @@ module _ {S A K T B L U C I : Type 0} (d : Decoration S A) (push : K → T → A
     at-related f g i w q e m same = same m.other m.holds ∙ ap g (sym m.is)
 
     abbrev behind_node : RenderNode → Forest RenderNode → State → Option State
-    behind_node n children s = steps d push o n children (λ q. run (steps d push o) children q) s
+    behind_node n children s = through_visit (layout_of d push o n children s) (λ q. run (layout_of d push o) children q)
 
     abbrev other_behind : RenderNode → Forest RenderNode → OtherState → Option OtherState
-    other_behind n children e = steps d pull p n children (λ q. run (steps d pull p) children q) e
+    other_behind n children e = through_visit (layout_of d pull p n children e) (λ q. run (layout_of d pull p) children q)
 
     behind_node-related : (n : RenderNode) (children : Forest RenderNode) (i : I) (s : State) (v : Different) → Holds i s v →
         Both N M (Reached i (stacks_of s v)) (behind_node n children s) (other_behind n children (with_other s v))
     behind_node-related n children i s v k =
-        laid_out-related i (stacks_of s v) (layout_of d push o n children s) (layout_of d pull p n children (with_other s v))
-        (λ q. run (steps d push o) children q) (λ q. run (steps d pull p) children q) (layout-related n children i s v k)
+        visit-related i (stacks_of s v) (layout_of d push o n children s) (layout_of d pull p n children (with_other s v))
+        (λ q. run (layout_of d push o) children q) (λ q. run (layout_of d pull p) children q) (layout-related n children i s v k)
         (λ j q u m. run-related children j q u m)
 
     -- the same nodes are visited
     abbrev visits : Forest RenderNode → State → List RenderNode
-    visits t s = visited (steps d push o) (inside d push o) t s
+    visits t s = visited (layout_of d push o) t s
 
     abbrev other_visits : Forest RenderNode → OtherState → List RenderNode
-    other_visits t e = visited (steps d pull p) (inside d pull p) t e
+    other_visits t e = visited (layout_of d pull p) t e
 
     pub visited-related : (t : Forest RenderNode) (i : I) (s : State) (v : Different) → Holds i s v →
-        visited (steps d push o) (inside d push o) t s ≡ visited (steps d pull p) (inside d pull p) t (with_other s v)
+        visited (layout_of d push o) t s ≡ visited (layout_of d pull p) t (with_other s v)
     visited-related none i s v k = refl
     visited-related (node n children beside) i s v k =
         let w = stacks_of s v in
         ap (λ l. n ∷ (l ++ from (visits beside) (behind_node n children s)))
-        (from-related (Inner w) (visits children) (other_visits children) (inside d push o n children s)
-        (inside d pull p n children (with_other s v)) (inner-related i w _ _ (layout-related n children i s v k)) (λ q e m.
+        (from-related (Inner w) (visits children) (other_visits children) (inside (layout_of d push o n children s))
+        (inside (layout_of d pull p n children (with_other s v))) (inside-related i w _ _ (layout-related n children i s v k)) (λ q e m.
         at-related (visits children) (other_visits children) m.0 w q e m.1 (λ u x. visited-related children m.0 q u x)))
-        ∙ ap (λ l. n ∷ (from (other_visits children) (inside d pull p n children (with_other s v)) ++ l))
+        ∙ ap (λ l. n ∷ (from (other_visits children) (inside (layout_of d pull p n children (with_other s v))) ++ l))
         (from-related (Reached i w) (visits beside) (other_visits beside) (behind_node n children s)
         (other_behind n children (with_other s v)) (behind_node-related n children i s v k) (λ q e m.
         at-related (visits beside) (other_visits beside) i w q e m (λ u x. visited-related beside i q u x)))
 
     -- and as many of them stand open at once
     abbrev opens : Forest RenderNode → State → ℕ
-    opens t s = most_open (steps d push o) (inside d push o) t s
+    opens t s = most_open (layout_of d push o) t s
 
     abbrev other_opens : Forest RenderNode → OtherState → ℕ
-    other_opens t e = most_open (steps d pull p) (inside d pull p) t e
+    other_opens t e = most_open (layout_of d pull p) t e
 
     pub most_open-related : (t : Forest RenderNode) (i : I) (s : State) (v : Different) → Holds i s v →
-        most_open (steps d push o) (inside d push o) t s ≡ most_open (steps d pull p) (inside d pull p) t (with_other s v)
+        most_open (layout_of d push o) t s ≡ most_open (layout_of d pull p) t (with_other s v)
     most_open-related none i s v k = refl
     most_open-related (node n children beside) i s v k =
         let w = stacks_of s v in
         omega (
           arith,
-          count_from-related (Inner w) (λ q. 1 + opens children q) (λ e. 1 + other_opens children e) (inside d push o n children s)
-              (inside d pull p n children (with_other s v)) (inner-related i w _ _ (layout-related n children i s v k)) (λ q e m.
+          count_from-related (Inner w) (λ q. 1 + opens children q) (λ e. 1 + other_opens children e) (inside (layout_of d push o n children s))
+              (inside (layout_of d pull p n children (with_other s v))) (inside-related i w _ _ (layout-related n children i s v k)) (λ q e m.
               ap (λ c. 1 + c) (at-related (opens children) (other_opens children) m.0 w q e m.1 (λ u x. most_open-related children m.0 q u x))),
           count_from-related (Reached i w) (opens beside) (other_opens beside) (behind_node n children s)
               (other_behind n children (with_other s v)) (behind_node-related n children i s v k) (λ q e m.
@@ -749,7 +748,7 @@ module _ {S A K T B L U C I : Type 0} (d : Decoration S A) (push : K → T → A
     shown-related R view wanted i related t s v c k =
         let footnotes = s.settings.link_footnotes in
         let cut = s.settings.wrap_links in
-        Both-then N M weak (Reached i (stacks_of s v)) R _ _ (run (steps d push o) t s) (run (steps d pull p) t (with_other s v))
+        Both-then N M weak (Reached i (stacks_of s v)) R _ _ (run (layout_of d push o) t s) (run (layout_of d pull p) t (with_other s v))
         (run-related t i s v k) (λ r e m.
         Both-then N M weak (Reached i (stacks_of r m.other)) R (λ q. Some (view q)) (λ q. Some (wanted q)) (ended d end footnotes cut s.text.tag r)
         (ended d other_end footnotes cut v.tag e)

@@ -5,8 +5,7 @@ use Rattle.html_render_parts.specs.Decoration.{Decoration}
 use Rattle.html_render_lines.specs.Line.{Line}
 use Rattle.html_render_lines.specs.Tags.{lines_with}
 use Rattle.html_render_nodes.specs.declared.tree.RenderNode.{RenderNode}
-use Rattle.html_render_nodes.specs.laws.Visits.{visited-same, most_open-same}
-use Rattle.html_render_nodes.specs.Pass.{visited, most_open, inside_of}
+use Rattle.html_render_nodes.specs.Pass.{visited, most_open}
 use Rattle.html_render_blocks.specs.Definition as definition
 use Rattle.html_render_blocks.specs.Definition.{DefinedBlock}
 use Rattle.html_render_blocks.specs.Machine as machine
@@ -14,9 +13,7 @@ use Rattle.html_render_blocks.specs.Machine.{MachineBlock}
 use Rattle.html_render_paragraphs.specs.laws.Answers.{Both}
 use Rattle.html_render_blocks.specs.laws.BlockSeen.{Tags, Blocks, operations-seen, ends-seen, later-seen, lines-seen}
 use Rattle.html_render_layout.specs.declared.layout.state.LayoutState.{LayoutState}
-use Rattle.html_render_layout.specs.Layout.{onto, steps, inside, shown_after, Defined, defined, defined_inside}
-use Rattle.html_render_layout.specs.Opening.{opened}
-use Rattle.html_render_layout.specs.laws.Opening.{opened-inside}
+use Rattle.html_render_layout.specs.Layout.{onto, layout_of, shown_after, Defined, defined}
 use Rattle.html_render_layout.specs.laws.Related.{Other, with_other, visited-related, most_open-related, shown-related}
 
 -- push puts an annotation onto a tag of what is kept, shown is what is seen of a tag and seen of a stack; Later says how
@@ -62,23 +59,19 @@ module _ {S A K T V : Type 0} (d : Decoration S A) (push : K → T → A → K �
 
   -- the code's walk visits what the definition visits
   pub visited-represented : (t : Forest RenderNode) (i : ℕ) (s : Worked) (v : Stacked) → Represents i s v →
-      visited (steps d push machine.operations) (inside_of (opened d push machine.operations)) t s
-      ≡ visited (defined d) (defined_inside d) t (with_other s v)
+      visited (layout_of d push machine.operations) t s
+      ≡ visited (defined d) t (with_other s v)
   visited-represented t i s v h =
-      visited-same (steps d push machine.operations) (inside_of (opened d push machine.operations)) (inside d push machine.operations)
-      (opened-inside d push machine.operations) t s
-      ∙ visited-related d push onto machine.operations definition.operations (Unit {0}) ⊥ (λ x. tt) GoesOn (λ w. stays w.0) Going ShowsTag later_tag
+      visited-related d push onto machine.operations definition.operations (Unit {0}) ⊥ (λ x. tt) GoesOn (λ w. stays w.0) Going ShowsTag later_tag
       ShowsBlock (λ i w v b c k l. later-seen (λ (w : Kept) t. shown w.0 t) seen GoesOn (λ w. stays w.0) Going i w v b c k l)
       (λ k l t u a x. pushed k t a) tag_shown (operations-seen (λ (w : Kept) t. shown w.0 t) seen GoesOn (λ w. stays w.0) Going) tt (λ x. x) t i s v h
 
   -- and keeps as many of them open at once
   pub most_open-represented : (t : Forest RenderNode) (i : ℕ) (s : Worked) (v : Stacked) → Represents i s v →
-      most_open (steps d push machine.operations) (inside_of (opened d push machine.operations)) t s
-      ≡ most_open (defined d) (defined_inside d) t (with_other s v)
+      most_open (layout_of d push machine.operations) t s
+      ≡ most_open (defined d) t (with_other s v)
   most_open-represented t i s v h =
-      most_open-same (steps d push machine.operations) (inside_of (opened d push machine.operations)) (inside d push machine.operations)
-      (opened-inside d push machine.operations) t s
-      ∙ most_open-related d push onto machine.operations definition.operations (Unit {0}) ⊥ (λ x. tt) GoesOn (λ w. stays w.0) Going ShowsTag later_tag
+      most_open-related d push onto machine.operations definition.operations (Unit {0}) ⊥ (λ x. tt) GoesOn (λ w. stays w.0) Going ShowsTag later_tag
       ShowsBlock (λ i w v b c k l. later-seen (λ (w : Kept) t. shown w.0 t) seen GoesOn (λ w. stays w.0) Going i w v b c k l)
       (λ k l t u a x. pushed k t a) tag_shown (operations-seen (λ (w : Kept) t. shown w.0 t) seen GoesOn (λ w. stays w.0) Going) tt (λ x. x) t i s v h
 

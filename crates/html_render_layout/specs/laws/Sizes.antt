@@ -10,22 +10,16 @@ use Rattle.html_render_nodes.specs.declared.tree.NodeKind.{NodeKind}
 use Rattle.html_render_nodes.specs.declared.tree.NodeKind.TheVariants.{Superscript, Table}
 use Rattle.html_render_nodes.specs.declared.tree.RenderNode.{RenderNode}
 use Rattle.html_render_nodes.specs.Counts.{CountsNodes}
-use Rattle.html_render_nodes.specs.Pass.{Way, Into, Past, run, from, count_from, visited, most_open, through, into, inside_of}
+use Rattle.html_render_nodes.specs.Pass.{Visit, Leaf, Pair, through_visit, inside, followed, from_state, run, from, count_from, visited, most_open}
 use Rattle.html_render_nodes.specs.laws.Visits.{count_from-same}
 use Rattle.html_render_estimates.specs.Passes.{is_table, has_table, without_size, without_sizes, with_needed_sizes}
 use Rattle.html_render_blocks.specs.Operations.{Operations, Ending}
-use Rattle.html_render_layout.specs.declared.layout.items.Place.{Place}
 use Rattle.html_render_layout.specs.declared.layout.state.Around.{Around}
 use Rattle.html_render_layout.specs.declared.layout.state.Around.TheVariants.{Plain, Bullets, Numbers, Cells}
-use Rattle.html_render_layout.specs.declared.layout.state.Closing.{Closing}
-use Rattle.html_render_layout.specs.declared.layout.state.Interruption.{Interruption}
 use Rattle.html_render_layout.specs.declared.layout.state.LayoutState.{LayoutState}
-use Rattle.html_render_layout.specs.NodeLayout.{opened_with}
-use Rattle.html_render_layout.specs.Layout.{digits_of, superscript, in_style, in_cell, steps, shown_after}
-use Rattle.html_render_layout.specs.Opening.{item_begun, item_kept, cell_kept, keeping, bullet_place, number_place}
-use Rattle.html_render_layout.specs.Opening.{kind_kept, kind_opened, opened_in, cell_opened, placed_opened, opened_around}
-use Rattle.html_render_layout.specs.Opening.{opened, closed}
-use Rattle.html_render_layout.specs.laws.Opening.{and_then_same, steps-told}
+use Rattle.html_render_layout.specs.Layout.{digits_of, superscript, in_style, in_cell, as_cell, added_cell, appended, nested, indented, placed}
+use Rattle.html_render_layout.specs.Layout.{kind_layout, node_layout, layout_of, shown_after}
+use Rattle.html_render_layout.specs.laws.Opening.{and_then_same}
 
 -- a node without its size
 abbrev unsized : RenderNode → RenderNode
@@ -49,123 +43,130 @@ length-from : {K S : Type 0} (f g : S → List K) (o : Option S) → ((s : S) �
 length-from f g None same = refl
 length-from f g (Some s) same = same s
 
+from_state-same : {S : Type 0} (o : Option S) (f h : S → Visit S) → ((x : S) → f x ≡ h x) → from_state o f ≡ from_state o h
+from_state-same None f h e = refl
+from_state-same (Some x) f h e = e x
+
+through_visit-same : {S : Type 0} (v : Visit S) (f h : S → Option S) → ((x : S) → f x ≡ h x) → through_visit v f ≡ through_visit v h
+through_visit-same (Leaf behind) f h e = refl
+through_visit-same (Pair before after) f h e = and_then_same before _ _ (λ q. ap (option_and_then after) (e q))
+
 module _ {S A K T B : Type 0} (d : Decoration S A) (push : K → T → A → K × T) (o : Operations B T) where
   abbrev State : Type 0
   State = LayoutState S K T B
 
-  -- ---- a node, as it is opened
+  -- ---- each node
 
   kind-same : (kind : NodeKind) (e : Estimate) (trees : Forest RenderNode) (s : State) → is_table kind ≡ false →
-      kind_opened d push o kind (without_size e) (without_sizes trees) s ≡ kind_opened d push o kind e trees s
+      kind_layout d push o kind (without_size e) (without_sizes trees) s ≡ kind_layout d push o kind e trees s
   kind-same (Table grid) e trees s plain = absurd (true≢false plain)
-  kind-same Superscript e trees s plain = ap (λ x. opened_with (superscript d push o x s) (kind_kept d Superscript s)) (digits-same trees)
+  kind-same Superscript e trees s plain = ap (λ x. superscript d push o x s) (digits-same trees)
   kind-same kind e trees s plain = refl
 
-  in-same : (item : Interruption S T B) (n : RenderNode) (trees : Forest RenderNode) (s : State) → is_table n.kind ≡ false →
-      opened_in d push o item (unsized n) (without_sizes trees) s ≡ opened_in d push o item n trees s
-  in-same item n trees s plain =
-      ap (option_and_then (keeping o item s.text)) (kind-same n.kind n.estimate trees (in_style d push n.style s) plain)
+  node-same : (n : RenderNode) (trees : Forest RenderNode) (s : State) → is_table n.kind ≡ false →
+      node_layout d push o (unsized n) (without_sizes trees) s ≡ node_layout d push o n trees s
+  node-same n trees s plain =
+      ap (λ v. followed v (λ r. Some (record r { text = s.text }))) (kind-same n.kind n.estimate trees (in_style d push n.style s) plain)
 
-  placed-same : (n : RenderNode) (trees : Forest RenderNode) (p : Option Place) (s : State) → is_table n.kind ≡ false →
-      placed_opened d push o (unsized n) (without_sizes trees) p s ≡ placed_opened d push o n trees p s
-  placed-same n trees p s plain = and_then_same (item_begun d o p s) _ _ (λ q. in-same (item_kept p s) n trees q plain)
+  indented-same : (n : RenderNode) (trees : Forest RenderNode) (prefix : List ℕ) (columns least : ℕ) (behind : Around) (s : State) →
+      is_table n.kind ≡ false →
+      indented d o prefix columns least behind (node_layout d push o (unsized n) (without_sizes trees)) s
+      ≡ indented d o prefix columns least behind (node_layout d push o n trees) s
+  indented-same n trees prefix columns least behind s plain =
+      from_state-same (nested d o columns least s) _ _ (λ q.
+      ap (λ v. followed v (appended o s prefix columns behind)) (node-same n trees q plain))
 
   cell-same : (n : RenderNode) (trees : Forest RenderNode) (b : Option B) (s : State) → is_table n.kind ≡ false →
-      cell_opened d push o (unsized n) (without_sizes trees) b s ≡ cell_opened d push o n trees b s
+      as_cell d o (node_layout d push o (unsized n) (without_sizes trees)) s b ≡ as_cell d o (node_layout d push o n trees) s b
   cell-same n trees None s plain = refl
-  cell-same n trees (Some cell) s plain = in-same (cell_kept s) n trees (in_cell d cell s) plain
+  cell-same n trees (Some cell) s plain = ap (λ v. followed v (added_cell o s)) (node-same n trees (in_cell d cell s) plain)
 
-  opened-same : (n : RenderNode) (trees : Forest RenderNode) (s : State) → is_table n.kind ≡ false →
-      opened d push o (unsized n) (without_sizes trees) s ≡ opened d push o n trees s
-  opened-same n trees s plain = by s.around
+  layout-same : (n : RenderNode) (trees : Forest RenderNode) (s : State) → is_table n.kind ≡ false →
+      layout_of d push o (unsized n) (without_sizes trees) s ≡ layout_of d push o n trees s
+  layout-same n trees s plain = by s.around
     where
-      by : (a : Around) → opened_around d push o (unsized n) (without_sizes trees) s a ≡ opened_around d push o n trees s a
-      by Plain = placed-same n trees None s plain
-      by (Bullets least) = placed-same n trees (Some (bullet_place d s.decorator least)) s plain
-      by (Numbers least number columns) = placed-same n trees (Some (number_place d s.decorator least number columns)) s plain
+      by : (a : Around) →
+          placed d o (node_layout d push o (unsized n) (without_sizes trees)) s a ≡ placed d o (node_layout d push o n trees) s a
+      by Plain = node-same n trees s plain
+      by (Bullets least) = indented-same n trees _ _ _ _ s plain
+      by (Numbers least number columns) = indented-same n trees _ _ _ _ s plain
       by Cells = cell-same n trees (o.cell_block s.block) s plain
-
-  -- ---- what it does, where its children do the same
-
-  steps-same : (n : RenderNode) (trees : Forest RenderNode) (f g : State → Option State) (s : State) → is_table n.kind ≡ false →
-      ((q : State) → f q ≡ g q) → steps d push o (unsized n) (without_sizes trees) f s ≡ steps d push o n trees g s
-  steps-same n trees f g s plain same =
-      steps-told d push o (unsized n) (without_sizes trees) f s
-      ∙ ap (option_and_then (through (closed d push o) f)) (opened-same n trees s plain)
-      ∙ and_then_same (opened d push o n trees s) _ _ by
-      ∙ sym (steps-told d push o n trees g s)
-    where
-      by : (w : Way State (Closing S T B)) → through (closed d push o) f w ≡ through (closed d push o) g w
-      by (Into q kept) = ap (option_and_then (closed d push o kept)) (same q)
-      by (Past t) = refl
 
   -- ---- trees without a table
 
-  run-same : (t : Forest RenderNode) (s : State) → has_table t ≡ false → run (steps d push o) (without_sizes t) s ≡ run (steps d push o) t s
+  -- the state behind a node, where its children leave the same
+  behind-same : (n : RenderNode) (children : Forest RenderNode) (s : State) → is_table n.kind ≡ false →
+      ((q : State) → run (layout_of d push o) (without_sizes children) q ≡ run (layout_of d push o) children q) →
+      through_visit (layout_of d push o (unsized n) (without_sizes children) s) (λ q. run (layout_of d push o) (without_sizes children) q)
+      ≡ through_visit (layout_of d push o n children s) (λ q. run (layout_of d push o) children q)
+  behind-same n children s plain same =
+      ap (λ v. through_visit v (λ q. run (layout_of d push o) (without_sizes children) q)) (layout-same n children s plain)
+      ∙ through_visit-same (layout_of d push o n children s) _ _ same
+
+  run-same : (t : Forest RenderNode) (s : State) → has_table t ≡ false →
+      run (layout_of d push o) (without_sizes t) s ≡ run (layout_of d push o) t s
   run-same none s plain = refl
   run-same (node n children beside) s plain =
       let front = or_parts (is_table n.kind) (has_table children || has_table beside) plain in
       let rest = or_parts (has_table children) (has_table beside) front.1 in
-      ap (option_and_then (λ q. run (steps d push o) (without_sizes beside) q))
-      (steps-same n children _ (λ q. run (steps d push o) children q) s front.0 (λ q. run-same children q rest.0))
-      ∙ and_then_same (steps d push o n children (λ q. run (steps d push o) children q) s) _ _ (λ q. run-same beside q rest.1)
+      ap (option_and_then (λ q. run (layout_of d push o) (without_sizes beside) q)) (behind-same n children s front.0 (λ q. run-same children q rest.0))
+      ∙ and_then_same (through_visit (layout_of d push o n children s) (λ q. run (layout_of d push o) children q)) _ _
+      (λ q. run-same beside q rest.1)
 
   -- the nodes that are visited
   abbrev visits : Forest RenderNode → State → List RenderNode
-  visits t s = visited (steps d push o) (inside_of (opened d push o)) t s
+  visits t s = visited (layout_of d push o) t s
 
   visits-same : (t : Forest RenderNode) (s : State) → has_table t ≡ false → length (visits (without_sizes t) s) ≡ length (visits t s)
   visits-same none s plain = refl
   visits-same (node n children beside) s plain =
       let front = or_parts (is_table n.kind) (has_table children || has_table beside) plain in
       let rest = or_parts (has_table children) (has_table beside) front.1 in
-      let inside = inside_of (opened d push o) n children s in
-      let after = steps d push o n children (λ q. run (steps d push o) children q) s in
       let less = without_sizes children in
-      let inside_less = inside_of (opened d push o) (unsized n) less s in
-      let after_less = steps d push o (unsized n) less (λ q. run (steps d push o) less q) s in
-      let below : length (from (visits less) inside_less) ≡ length (from (visits children) inside) =
-      ap (λ x. length (from (visits less) (option_and_then (λ w. into w) x))) (opened-same n children s front.0)
-      ∙ length-from (visits less) (visits children) inside (λ q. visits-same children q rest.0) in
+      let visit = layout_of d push o n children s in
+      let visit_less = layout_of d push o (unsized n) less s in
+      let after = through_visit visit (λ q. run (layout_of d push o) children q) in
+      let after_less = through_visit visit_less (λ q. run (layout_of d push o) less q) in
+      let below : length (from (visits less) (inside visit_less)) ≡ length (from (visits children) (inside visit)) =
+      ap (λ v. length (from (visits less) (inside v))) (layout-same n children s front.0)
+      ∙ length-from (visits less) (visits children) (inside visit) (λ q. visits-same children q rest.0) in
       let behind : length (from (visits (without_sizes beside)) after_less) ≡ length (from (visits beside) after) =
-      ap (λ x. length (from (visits (without_sizes beside)) x))
-      (steps-same n children _ (λ q. run (steps d push o) children q) s front.0 (λ q. run-same children q rest.0))
+      ap (λ x. length (from (visits (without_sizes beside)) x)) (behind-same n children s front.0 (λ q. run-same children q rest.0))
       ∙ length-from (visits (without_sizes beside)) (visits beside) after (λ q. visits-same beside q rest.1) in
       omega (
         arith,
-        length-append (from (visits less) inside_less) (from (visits (without_sizes beside)) after_less),
-        length-append (from (visits children) inside) (from (visits beside) after),
+        length-append (from (visits less) (inside visit_less)) (from (visits (without_sizes beside)) after_less),
+        length-append (from (visits children) (inside visit)) (from (visits beside) after),
         below,
         behind,
       )
 
   -- and how many of them stand open at once
   abbrev opens : Forest RenderNode → State → ℕ
-  opens t s = most_open (steps d push o) (inside_of (opened d push o)) t s
+  opens t s = most_open (layout_of d push o) t s
 
   opens-same : (t : Forest RenderNode) (s : State) → has_table t ≡ false → opens (without_sizes t) s ≡ opens t s
   opens-same none s plain = refl
   opens-same (node n children beside) s plain =
       let front = or_parts (is_table n.kind) (has_table children || has_table beside) plain in
       let rest = or_parts (has_table children) (has_table beside) front.1 in
-      let inside = inside_of (opened d push o) n children s in
-      let after = steps d push o n children (λ q. run (steps d push o) children q) s in
+      let visit = layout_of d push o n children s in
       let less = without_sizes children in
       omega (
         arith,
-        ap (λ x. count_from (λ q. 1 + opens less q) (option_and_then (λ w. into w) x)) (opened-same n children s front.0),
-        count_from-same (λ q. 1 + opens less q) (λ q. 1 + opens children q) inside (λ q. ap (λ m. 1 + m) (opens-same children q rest.0)),
-        ap (λ x. count_from (opens (without_sizes beside)) x)
-            (steps-same n children _ (λ q. run (steps d push o) children q) s front.0 (λ q. run-same children q rest.0)),
-        count_from-same (opens (without_sizes beside)) (opens beside) after (λ q. opens-same beside q rest.1),
+        ap (λ v. count_from (λ q. 1 + opens less q) (inside v)) (layout-same n children s front.0),
+        count_from-same (λ q. 1 + opens less q) (λ q. 1 + opens children q) (inside visit) (λ q. ap (λ m. 1 + m) (opens-same children q rest.0)),
+        ap (λ x. count_from (opens (without_sizes beside)) x) (behind-same n children s front.0 (λ q. run-same children q rest.0)),
+        count_from-same (opens (without_sizes beside)) (opens beside) (through_visit visit (λ q. run (layout_of d push o) children q))
+            (λ q. opens-same beside q rest.1),
       )
 
   -- ---- all trees, with the sizes that are needed
 
-  run-needed : (t : Forest RenderNode) (s : State) → run (steps d push o) (with_needed_sizes t) s ≡ run (steps d push o) t s
+  run-needed : (t : Forest RenderNode) (s : State) → run (layout_of d push o) (with_needed_sizes t) s ≡ run (layout_of d push o) t s
   run-needed t s = by (has_table t) refl
     where
-      by : (b : Bool) → has_table t ≡ b → run (steps d push o) (cond b t (without_sizes t)) s ≡ run (steps d push o) t s
+      by : (b : Bool) → has_table t ≡ b → run (layout_of d push o) (cond b t (without_sizes t)) s ≡ run (layout_of d push o) t s
       by true e = refl
       by false e = run-same t s e
 
@@ -176,17 +177,16 @@ module _ {S A K T B : Type 0} (d : Decoration S A) (push : K → T → A → K �
 
   -- and as many nodes are visited, with as many open at once
   pub counts-needed : {X E : Type 0} (r : Result X E) (t : Forest RenderNode) (s : State) (old new : Meter) →
-      CountsNodes r (steps d push o) (inside_of (opened d push o)) (with_needed_sizes t) s old new →
-      CountsNodes r (steps d push o) (inside_of (opened d push o)) t s old new
+      CountsNodes r (layout_of d push o) (with_needed_sizes t) s old new →
+      CountsNodes r (layout_of d push o) t s old new
   counts-needed {X} {E} r t s old new = by (has_table t) refl
     where
       Counts : Forest RenderNode → Type 0
-      Counts u = CountsNodes r (steps d push o) (inside_of (opened d push o)) u s old new
+      Counts u = CountsNodes r (layout_of d push o) u s old new
 
       by : (b : Bool) → has_table t ≡ b → Counts (cond b t (without_sizes t)) → Counts t
       by true e c = c
       by false e c = record {
-        asks = c.asks;
         entered = subst (λ n. OnOk r (new.entered ≡ n)) (visits-same t s e) c.entered;
         left = subst (λ n. OnOk r (new.left ≡ n)) (visits-same t s e) c.left;
         entered_at_most = subst (λ n. new.entered ≤ n) (visits-same t s e) c.entered_at_most;

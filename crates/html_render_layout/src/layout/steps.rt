@@ -3,9 +3,8 @@
 ghost use Rattle.std.specs.Prelude.{◌≡◌, Some, OnOk, IfOk, IfErr, string_bytes};
 ghost use Rattle.html_render_values.specs.Outcome.{Refuses};
 ghost use Rattle.html_render_blocks.specs.Machine as machine;
-ghost use Rattle.html_render_nodes.specs.Pass.{way};
+ghost use Rattle.html_render_nodes.specs.Pass.{way, opened_with};
 ghost use Rattle.html_render_nodes.specs.Preorder.{flatten, forest_of};
-ghost use Rattle.html_render_layout.specs.NodeLayout.{opened_with};
 ghost use Rattle.html_render_layout.specs.Layout.{inner_least, spaces, numbers, digits_of, nested, among, row_begun, table_begun};
 ghost use Rattle.html_render_layout.specs.Layout.{quoted, strike, superscript, linked, term_begun};
 ghost use Rattle.html_render_layout.specs.Opening.{interrupted, quote_kept, kind_kept, place_of, item_begun, item_kept, item_closed};

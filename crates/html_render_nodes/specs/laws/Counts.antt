@@ -1,18 +1,17 @@
--- The counts of a walk, said of other steps that visit the same nodes, and where nothing was visited.
+-- The counts of a walk, said of others that visit the same nodes, and where nothing was visited.
 use Rattle.std.specs.Prelude.{◌≡◌, ◌≤◌, List, length, Result, Ok, Err, OnOk}
 use Rattle.std.specs.Result.{IsErrAnd}
 use Rattle.std.proofs.Common.{arith, subst, ◌∙◌}
 use Rattle.html_render_values.specs.Forest.{Forest, count, depth}
 use Rattle.html_render_parts.specs.declared.widths.Meter.{Meter}
 use Rattle.html_render_nodes.specs.Counts.{CountsNodes}
-use Rattle.html_render_nodes.specs.Pass.{Steps, Inside, AsksIn, visited, most_open}
+use Rattle.html_render_nodes.specs.Pass.{Visits, visited, most_open}
 use Rattle.html_render_nodes.specs.laws.Visits.{visited-at_most, most_open-at_most}
 
-pub counts-same : {X E K S D : Type 0} (r : Result X E) (m : Steps K S) (i : Inside K S) (n : Steps K D) (j : Inside K D) (t : Forest K)
-    (s : S) (d : D) (old other new : Meter) → visited m i t s ≡ visited n j t d → most_open m i t s ≡ most_open n j t d → AsksIn n j → other.probes ≡ old.probes →
-    CountsNodes r m i t s other new → CountsNodes r n j t d old new
-counts-same {X} {E} {K} r m i n j t s d old other new same peak asks probes c = record {
-  asks = asks;
+pub counts-same : {X E K S D : Type 0} (r : Result X E) (m : Visits K S) (n : Visits K D) (t : Forest K)
+    (s : S) (d : D) (old other new : Meter) → visited m t s ≡ visited n t d → most_open m t s ≡ most_open n t d → other.probes ≡ old.probes →
+    CountsNodes r m t s other new → CountsNodes r n t d old new
+counts-same {X} {E} {K} r m n t s d old other new same peak probes c = record {
   entered = subst (λ (l : List K). OnOk r (new.entered ≡ length l)) same c.entered;
   left = subst (λ (l : List K). OnOk r (new.left ≡ length l)) same c.left;
   entered_at_most = subst (λ (l : List K). new.entered ≤ length l) same c.entered_at_most;
@@ -24,19 +23,18 @@ counts-same {X} {E} {K} r m i n j t s d old other new same peak asks probes c = 
   probes = c.probes ∙ probes;
 }
 
-pub none-counted : {X E K S : Type 0} (r : Result X E) (Q : E → Type 0) → IsErrAnd r Q → (steps : Steps K S) (inside : Inside K S)
-    (t : Forest K) (s : S) (old new : Meter) → AsksIn steps inside → new.entered ≡ 0 → new.left ≡ 0 → new.frames ≡ 0 →
-    new.probes ≡ old.probes → CountsNodes r steps inside t s old new
-none-counted (Ok x) Q h steps inside t s old new asks entered left frames probes = absurd h
-none-counted (Err e) Q h steps inside t s old new asks entered left frames probes = record {
-  asks = asks;
+pub none-counted : {X E K S : Type 0} (r : Result X E) (Q : E → Type 0) → IsErrAnd r Q → (visits : Visits K S)
+    (t : Forest K) (s : S) (old new : Meter) → new.entered ≡ 0 → new.left ≡ 0 → new.frames ≡ 0 →
+    new.probes ≡ old.probes → CountsNodes r visits t s old new
+none-counted (Ok x) Q h visits t s old new entered left frames probes = absurd h
+none-counted (Err e) Q h visits t s old new entered left frames probes = record {
   entered = tt;
   left = tt;
   entered_at_most = omega arith;
   left_at_most = omega arith;
-  visited_at_most = visited-at_most steps inside t s;
+  visited_at_most = visited-at_most visits t s;
   frames = tt;
   frames_at_most = omega arith;
-  open_at_most = most_open-at_most steps inside t s;
+  open_at_most = most_open-at_most visits t s;
   probes = probes;
 }

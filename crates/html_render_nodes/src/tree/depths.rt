@@ -37,13 +37,13 @@ impl Pass for Depths {
 
     type Kept = usize;
 
-    ghost steps = { noting };
+    ghost visits = { noting };
 
     ghost opened = { opened };
 
     ghost closed = { closed };
 
-    ghost told = { λ k trees children s. refl };
+    ghost told = { λ k trees s. record { told = λ children. refl; asked = refl } };
 
     /// Notes the depth of a node, which it keeps.
     fn open(

@@ -3,7 +3,7 @@
 ghost use Rattle.std.specs.Prelude.{◌≡◌, ◌≢◌, ◌≤◌, List, true, false, Some, Err, IfOk, IfErr, option_map, string_bytes};
 ghost use Rattle.html_render_values.specs.Outcome.{Refuses};
 ghost use Rattle.html_render_nodes.specs.Counts.{CountsNodes};
-ghost use Rattle.html_render_layout.specs.Layout.{defined, defined_inside, estimated, empty_state};
+ghost use Rattle.html_render_layout.specs.Layout.{defined, estimated, empty_state};
 ghost use Rattle.html_render_layout.specs.Promises.{HasLines, LeavesTexts};
 ghost use Rattle.html_render_tagged.specs.Colouring.{IsColoured};
 ghost use Rattle.html_render_tagged.specs.Grouping.{Piece, lines_of};
@@ -122,7 +122,7 @@ impl<D: TextDecorator> Config<D> {
         ensures stacks { LeavesTexts D.decoration }
 
         // what was counted, where there are lines, and where there are none
-        ensures counts { CountsNodes result (defined D.decoration) (defined_inside D.decoration)
+        ensures counts { CountsNodes result (defined D.decoration)
             (estimated D.decoration self.now.nodes self.now.decorator tree)
             (empty_state D.decoration self.now.nodes self.now.decorator width self.now.overflow) meter.old meter.new }
     {

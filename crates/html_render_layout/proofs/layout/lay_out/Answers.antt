@@ -3,9 +3,7 @@ use Rattle.std.proofs.lemmas.Result.{IfOk-weaker}
 use Rattle.html_render_values.specs.Outcome.{Refuses}
 use Rattle.html_render_nodes.specs.laws.Counts.{none-counted}
 use Rattle.html_render_estimates.specs.Passes.{with_needed_sizes}
-use Rattle.html_render_blocks.specs.Definition as definition
-use Rattle.html_render_layout.specs.Layout.{onto, defined, defined_inside, empty_state, estimated, layout_lines}
-use Rattle.html_render_layout.specs.laws.Opening.{layout-asks}
+use Rattle.html_render_layout.specs.Layout.{defined, empty_state, estimated, layout_lines}
 use Rattle.html_render_layout.specs.laws.LayoutWorks.{empty_worked, layout_lines-works, mark_names-works, counts-work}
 use Rattle.html_render_layout.specs.laws.Promises.{are-lines, wide_enough}
 use Rattle.html_render_layout.specs.Working.{work_lines, laid_out}
@@ -58,28 +56,24 @@ returns-clause-counts g c =
 
 pub returns-then-width-eq0-clause-counts : goal.returns-then-width-eq0-clause-counts
 returns-then-width-eq0-clause-counts g c =
-    none-counted _ (λ e. Unit {0}) tt (defined g.D.TextDecorator.decoration) (defined_inside g.D.TextDecorator.decoration)
+    none-counted _ (λ e. Unit {0}) tt (defined g.D.TextDecorator.decoration)
     (estimated g.D.TextDecorator.decoration c.args.settings.now c.args.decorator.now c.args.tree)
-    (empty_state g.D.TextDecorator.decoration c.args.settings.now c.args.decorator.now c.args.width c.args.overflow) _ _
-    (layout-asks g.D.TextDecorator.decoration onto definition.operations) refl refl refl refl
+    (empty_state g.D.TextDecorator.decoration c.args.settings.now c.args.decorator.now c.args.width c.args.overflow) _ _ refl refl refl refl
 
 pub returns-in_err-own-clause-counts : goal.returns-in_err-own-clause-counts
 returns-in_err-own-clause-counts g c =
-    none-counted _ _ c.from_residual.ensures.1 (defined g.D.TextDecorator.decoration) (defined_inside g.D.TextDecorator.decoration)
+    none-counted _ _ c.from_residual.ensures.1 (defined g.D.TextDecorator.decoration)
     (estimated g.D.TextDecorator.decoration c.args.settings.now c.args.decorator.now c.args.tree)
-    (empty_state g.D.TextDecorator.decoration c.args.settings.now c.args.decorator.now c.args.width c.args.overflow) _ _
-    (layout-asks g.D.TextDecorator.decoration onto definition.operations) refl refl refl refl
+    (empty_state g.D.TextDecorator.decoration c.args.settings.now c.args.decorator.now c.args.width c.args.overflow) _ _ refl refl refl refl
 
 pub returns-in_err-inner-clause-counts : goal.returns-in_err-inner-clause-counts
 returns-in_err-inner-clause-counts g c =
-    none-counted _ _ c.from_residual-in_err-inner.ensures.1 (defined g.D.TextDecorator.decoration) (defined_inside g.D.TextDecorator.decoration)
+    none-counted _ _ c.from_residual-in_err-inner.ensures.1 (defined g.D.TextDecorator.decoration)
     (estimated g.D.TextDecorator.decoration c.args.settings.now c.args.decorator.now c.args.tree)
-    (empty_state g.D.TextDecorator.decoration c.args.settings.now c.args.decorator.now c.args.width c.args.overflow) _ _
-    (layout-asks g.D.TextDecorator.decoration onto definition.operations) refl refl refl refl
+    (empty_state g.D.TextDecorator.decoration c.args.settings.now c.args.decorator.now c.args.width c.args.overflow) _ _ refl refl refl refl
 
 pub returns-in_err-tree-clause-counts : goal.returns-in_err-tree-clause-counts
 returns-in_err-tree-clause-counts g c =
-    none-counted _ _ c.from_residual-in_err-tree.ensures.1 (defined g.D.TextDecorator.decoration) (defined_inside g.D.TextDecorator.decoration)
+    none-counted _ _ c.from_residual-in_err-tree.ensures.1 (defined g.D.TextDecorator.decoration)
     (estimated g.D.TextDecorator.decoration c.args.settings.now c.args.decorator.now c.args.tree)
-    (empty_state g.D.TextDecorator.decoration c.args.settings.now c.args.decorator.now c.args.width c.args.overflow) _ _
-    (layout-asks g.D.TextDecorator.decoration onto definition.operations) refl refl refl refl
+    (empty_state g.D.TextDecorator.decoration c.args.settings.now c.args.decorator.now c.args.width c.args.overflow) _ _ refl refl refl refl

@@ -1,9 +1,9 @@
 use Rattle.std.proofs.Common.{◌≡◌, ℕ, List, ◌+◌, ◌-◌, ◌++◌, ◌∷◌, [], Some, length, max, refl, sym, ap, ◌∙◌, subst, arith}
 use Rattle.std.proofs.Common.{length-append, rules}
 use Rattle.html_render_nodes.specs.declared.walk.Frame.{Frame}
-use Rattle.html_render_nodes.specs.Pass.{run, way, inside_of}
+use Rattle.html_render_nodes.specs.Pass.{run, way}
 use Rattle.html_render_nodes.specs.Preorder.{flatten}
-use Rattle.html_render_nodes.specs.laws.Visits.{opened-asks, visited-at_most, most_open-at_most}
+use Rattle.html_render_nodes.specs.laws.Visits.{visited-at_most, most_open-at_most}
 use Rattle.html_render_nodes.proofs.Walking.{Walking, Done, nodes_visited, nodes_open, counted-refused, Walking-start, Walking-close, Walking-within}
 use Rattle.html_render_nodes.proofs.Walking.{Walking-done, Closing-done, Closing-refuses, Walking-open, Opening-into, Opening-past, Opening-end}
 use Rattle.html_render_nodes.proofs.Walking.{Opening-part, Opening-refuses}
@@ -17,7 +17,7 @@ walk-init g c =
     let s = c.args.state.now in
     record {
       entries_are = c.entries-entries.ensures;
-      walking = subst (λ fs. Walking (how g) (flatten f) (run g.P.Pass.steps f s) (length (nodes_visited (how g) f s)) (nodes_open (how g) f s) fs 0 0 0 s)
+      walking = subst (λ fs. Walking (how g) (flatten f) (run g.P.Pass.visits f s) (length (nodes_visited (how g) f s)) (nodes_open (how g) f s) fs 0 0 0 s)
           (sym c.new-frames.ensures.items) (Walking-start (how g) f s);
       within = omega arith;
       visits = omega arith;
@@ -50,7 +50,7 @@ returns-in_err-close-in-Some-clause-err g c =
 
 -- all nodes are closed
 done : (g : Over) (c : goal.After-drop-frames-then-next-entries g) →
-    Done (run g.P.Pass.steps c.args.forest.now c.args.state.now) (length (nodes_visited (how g) c.args.forest.now c.args.state.now))
+    Done (run g.P.Pass.visits c.args.forest.now c.args.state.now) (length (nodes_visited (how g) c.args.forest.now c.args.state.now))
     (nodes_open (how g) c.args.forest.now c.args.state.now) c.walk.frames.items c.walk.meter.entered c.walk.meter.frames c.walk.state
 done g c = Walking-done (how g) _ _ _ _ _ _ _ _ _ c.walk.invariant.walking c.in-None.ensures.not_over (c.if-next-entries.true
     ∙ ap length c.entries-entries.ensures)
@@ -63,15 +63,14 @@ returns-then-next-entries-clause-counts g c =
     let d = done g c in
     let within = Walking-within (how g) _ _ _ _ _ _ _ _ _ c.walk.invariant.walking in
     record {
-      asks = opened-asks g.P.Pass.steps g.P.Pass.opened g.P.Pass.closed g.met.P.Pass.told;
       entered = d.counted;
       left = omega (arith, c.walk.invariant.left, d.counted, ap length d.empty);
       entered_at_most = within.1;
       left_at_most = omega (arith, c.walk.invariant.left);
-      visited_at_most = visited-at_most g.P.Pass.steps (inside_of g.P.Pass.opened) c.args.forest.now c.args.state.now;
+      visited_at_most = visited-at_most g.P.Pass.visits c.args.forest.now c.args.state.now;
       frames = d.peaks;
       frames_at_most = within.0;
-      open_at_most = most_open-at_most g.P.Pass.steps (inside_of g.P.Pass.opened) c.args.forest.now c.args.state.now;
+      open_at_most = most_open-at_most g.P.Pass.visits c.args.forest.now c.args.state.now;
       probes = c.walk.invariant.probes;
     }
 
@@ -153,7 +152,7 @@ walk-preserved-in-Some-2 g c =
     let most : max c.walk.meter.frames (length c.walk.frames.items + 1) ≡ c.max-meter.result =
     omega (arith, c.max-meter.ensures, c.len.ensures, c.push.new.self.ok.0, ap length pushed, longer) in
     let stands = λ (fs : List (Frame g.row.P-Kept.Denot)) (m : ℕ).
-    Walking (how g) (flatten f) (run g.P.Pass.steps f s) (length (nodes_visited (how g) f s)) (nodes_open (how g) f s) fs
+    Walking (how g) (flatten f) (run g.P.Pass.visits f s) (length (nodes_visited (how g) f s)) (nodes_open (how g) f s) fs
     (c.walk.meter.entered + 1) m (c.walk.next + 1) c.open.new.state in
     record {
       entries_are = c.entries-entries.ensures;
@@ -177,7 +176,7 @@ walk-preserved g c =
     let w = Opening-past (how g) _ _ _ _ _ _ _ _ _ _ e o _ part.is
     (c.in_ok-kept-in-None.ensures.ok ∙ ap (λ k. Some (way c.open.new.state k)) c.in-None-2.is) in
     let stands = λ (fs : List (Frame g.row.P-Kept.Denot)).
-    Walking (how g) (flatten f) (run g.P.Pass.steps f s) (length (nodes_visited (how g) f s)) (nodes_open (how g) f s) fs
+    Walking (how g) (flatten f) (run g.P.Pass.visits f s) (length (nodes_visited (how g) f s)) (nodes_open (how g) f s) fs
     (c.walk.meter.entered + 1) c.walk.meter.frames (c.walk.next + e.size) c.open.new.state in
     record {
       entries_are = c.entries-entries.ensures;
