@@ -1,6 +1,5 @@
 -- What the lines of a layout keep of the texts of its tree.
-use Rattle.std.specs.Prelude.{ℕ, ◌≤◌, Bool, false, not, List, [], flat_map}
-use Rattle.std.specs.Option.{is_some}
+use Rattle.std.specs.Prelude.{ℕ, ◌≤◌, Bool, List, [], flat_map}
 use Rattle.std.specs.Str.{chars}
 use Rattle.html_render_values.specs.Forest.{Forest}
 use Rattle.html_render_parts.specs.Decoration.{Decoration}
@@ -10,26 +9,15 @@ use Rattle.html_render_nodes.specs.declared.tree.NodeKind.{NodeKind}
 use Rattle.html_render_nodes.specs.declared.tree.NodeKind.TheVariants.{Text}
 use Rattle.html_render_nodes.specs.declared.tree.RenderNode.{RenderNode}
 use Rattle.html_render_nodes.specs.Pass.{unskipped}
-use Rattle.html_render_blocks.specs.Definition as definition
-use Rattle.html_render_blocks.specs.Operations.{Operations}
 use Rattle.html_render_blocks.specs.Visible.{text_count}
 use Rattle.html_render_pictures.specs.Visible.{count}
-use Rattle.html_render_layout.specs.declared.layout.state.Around.{Around}
-use Rattle.html_render_layout.specs.declared.layout.state.Around.TheVariants.{Cells}
-use Rattle.html_render_layout.specs.declared.layout.state.LayoutState.{LayoutState}
 use Rattle.html_render_layout.specs.declared.settings.LayoutSettings.{LayoutSettings}
-use Rattle.html_render_layout.specs.Layout.{Defined, defined, estimated, empty_state}
-
--- whether the next node is skipped, by what it stands in: as a cell of a row, where there is no block for that
-abbrev pub skips : {S K T B : Type 0} → Operations B T → LayoutState S K T B → Around → Bool
-skips o s Cells = not (is_some (o.cell_block s.block))
-skips o s _ = false
+use Rattle.html_render_layout.specs.Layout.{defined, estimated, empty_state}
 
 -- the nodes that a layout visits, in order, without the cells that it skips
 abbrev pub visited_nodes : {S A : Type 0} → Decoration S A → LayoutSettings → Forest RenderNode → S → (width : ℕ) → (overflow : Bool) → List RenderNode
-visited_nodes {S} {A} d settings t decorator width overflow =
-    unskipped (λ (s : Defined S A). skips definition.operations s s.around) (defined d) (estimated d settings decorator t)
-    (empty_state d settings decorator width overflow)
+visited_nodes d settings t decorator width overflow =
+    unskipped (defined d) (estimated d settings decorator t) (empty_state d settings decorator width overflow)
 
 -- the characters of a node, if it is a text
 abbrev pub node_characters : NodeKind → List ℕ

@@ -1,5 +1,4 @@
 pub mod Stacks
-pub mod Styles
 pub mod Opening
 pub mod Sizes
 pub mod Ending

@@ -13,11 +13,11 @@ ghost use Rattle.html_render_estimates.specs.Passes.{with_needed_sizes};
 ghost use Rattle.html_render_layout.specs.Layout.{layout_of, begin_with, shown_after, defined, empty_state};
 ghost use Rattle.html_render_layout.specs.Layout.{block_setting, padding, estimated, layout_lines, mark_names, unannotated};
 ghost use Rattle.html_render_layout.specs.Promises.{AreLines, Lines, HasLines, LeavesTexts};
-ghost use Rattle.html_render_layout.specs.Opening.{opened, closed};
+ghost use Rattle.html_render_layout.specs.Opening.{below, opened, closed};
 ghost use Rattle.html_render_layout.specs.laws.Opening.{layout-opened};
-ghost use Rattle.html_render_layout.specs.Working.{tabled, work_lines, work_names, laid_out, untagged_work};
+ghost use Rattle.html_render_layout.specs.Working.{by_tags, tabled, work_lines, work_names, laid_out, untagged_work};
 
-use self::state::{Around, Closing, LayoutState, TextContext, TextList};
+use self::state::{Closing, LayoutState, TextContext, TextList};
 use crate::settings::LayoutSettings;
 use crate::stacks::Stacks;
 use crate::tagging::{Tagging, Untagged};
@@ -72,22 +72,26 @@ impl<D: TextDecorator, G: Tagging<D::Annotation>> Pass for Layout<D, G> {
 
     type Kept = Closing<D, G::Tag, Block<G::Tag, usize>>;
 
-    ghost visits = { layout_of D.decoration G.annotated machine.operations };
+    ghost visits = { layout_of (by_tags D.decoration G.annotated) };
 
-    ghost opened = { opened D.decoration G.annotated machine.operations };
+    ghost below = { below (by_tags D.decoration G.annotated) };
 
-    ghost closed = { closed D.decoration G.annotated machine.operations };
+    ghost opened = { opened (by_tags D.decoration G.annotated) };
 
-    ghost told = { layout-opened D.decoration G.annotated machine.operations };
+    ghost closed = { closed (by_tags D.decoration G.annotated) };
+
+    ghost told = { layout-opened (by_tags D.decoration G.annotated) };
 
     /// Opens a node, as its kind and its style say.
     fn open(
         alloc: Global,
         node: &RenderNode,
         children: &[Entry<RenderNode>],
+        parent: Option<&Closing<D, G::Tag, Block<G::Tag, usize>>>,
+        number: usize,
         state: &mut LayoutState<D, G, G::Tag, Block<G::Tag, usize>>,
     ) -> Result<Option<Closing<D, G::Tag, Block<G::Tag, usize>>>, Error> {
-        steps::open(alloc, node, children, state)
+        steps::open(alloc, node, children, parent, number, state)
     }
 
     /// Closes it.
@@ -122,7 +126,6 @@ fn begin_with<D: TextDecorator, G: Tagging<D::Annotation>>(
             struck_out: false,
         },
         block,
-        around: Around::Plain,
         blank: tag,
         in_table: false,
         targets: TextList::new(alloc),
@@ -138,10 +141,10 @@ fn lay_out_into<D: TextDecorator, G: Tagging<D::Annotation>>(
     state: &mut LayoutState<D, G, G::Tag, Block<G::Tag, usize>>,
     meter: &mut Meter,
 ) -> Result<(), Error>
-    ensures ok { OnOk result (shown_after D.decoration G.annotated machine.operations machine.ending (λ r. r) tree.now state.old ≡ Some state.new) }
+    ensures ok { OnOk result (shown_after (by_tags D.decoration G.annotated) machine.ending (λ r. r) tree.now state.old ≡ Some state.new) }
     ensures err { IfErr result (λ e. Refuses e
-        (shown_after D.decoration G.annotated machine.operations machine.ending (λ r. r) tree.now state.old)) }
-    ensures counts { CountsNodes result (layout_of D.decoration G.annotated machine.operations)
+        (shown_after (by_tags D.decoration G.annotated) machine.ending (λ r. r) tree.now state.old)) }
+    ensures counts { CountsNodes result (layout_of (by_tags D.decoration G.annotated))
         tree.now state.old meter.old meter.new }
 {
     let tag = state.text.tag;
@@ -159,10 +162,10 @@ fn laid_out_from<D: TextDecorator, G: Tagging<D::Annotation>>(
     meter: &mut Meter,
 ) -> Result<LayoutState<D, G, G::Tag, Block<G::Tag, usize>>, Error>
     ensures ok { IfOk result (λ after.
-        shown_after D.decoration G.annotated machine.operations machine.ending (λ r. r) tree.now state ≡ Some after) }
+        shown_after (by_tags D.decoration G.annotated) machine.ending (λ r. r) tree.now state ≡ Some after) }
     ensures err { IfErr result (λ e. Refuses e
-        (shown_after D.decoration G.annotated machine.operations machine.ending (λ r. r) tree.now state)) }
-    ensures counts { CountsNodes result (layout_of D.decoration G.annotated machine.operations)
+        (shown_after (by_tags D.decoration G.annotated) machine.ending (λ r. r) tree.now state)) }
+    ensures counts { CountsNodes result (layout_of (by_tags D.decoration G.annotated))
         tree.now state meter.old meter.new }
 {
     let mut state = state;
@@ -180,7 +183,7 @@ fn lines_from<D: TextDecorator>(
     ensures ok { IfOk result (λ lines. work_lines D.decoration tree.now state ≡ Some (laid_out lines)) }
     ensures names { IfOk result (λ lines. work_names D.decoration tree.now state ≡ Some lines.names) }
     ensures err { IfErr result (λ e. Refuses e (work_lines D.decoration tree.now state)) }
-    ensures counts { CountsNodes result (layout_of D.decoration tabled machine.operations)
+    ensures counts { CountsNodes result (layout_of (by_tags D.decoration tabled))
         tree.now state meter.old meter.new }
 {
     let state = laid_out_from(alloc, tree, state, meter)?;

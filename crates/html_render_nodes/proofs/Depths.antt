@@ -9,7 +9,7 @@ use Rattle.html_render_nodes.specs.declared.tree.Entry.{Entry}
 use Rattle.html_render_nodes.specs.declared.tree.RenderNode.{RenderNode}
 use Rattle.html_render_nodes.specs.Depths.{Noting, depths_of, noted_at, noting}
 use Rattle.html_render_nodes.specs.Dump.{dump, kind_name, line}
-use Rattle.html_render_nodes.specs.Pass.{run}
+use Rattle.html_render_nodes.specs.Pass.{run, run_at, bare}
 use Rattle.html_render_nodes.specs.Preorder.{flatten}
 use Rattle.html_render_nodes.specs.laws.Preorder.{length-flatten}
 
@@ -51,15 +51,15 @@ lines-whole t =
     ∙ lines-flatten t 0 [] [] ∙ append-nil (dump 0 t)
 
 -- the pass notes the depths
-noted-depths : (t : Forest RenderNode) (s : Noting) → s.depth + count t ≤ 2 ^ 64 - 1 →
-    run noting t s ≡ Some (record { noted = s.noted ++ depths_of s.depth t; depth = s.depth })
-noted-depths none s small = ap (λ l. Some (record s { noted = l })) (sym (append-nil s.noted))
-noted-depths (node k children beside) s small =
+noted-depths : (t : Forest RenderNode) (number : ℕ) (s : Noting) → s.depth + count t ≤ 2 ^ 64 - 1 →
+    run_at noting bare number t s ≡ Some (record { noted = s.noted ++ depths_of s.depth t; depth = s.depth })
+noted-depths none number s small = ap (λ l. Some (record s { noted = l })) (sym (append-nil s.noted))
+noted-depths (node k children beside) number s small =
     let inner = noted_at s in
     let deeper : min (s.depth + 1) (2 ^ 64 - 1) ≡ s.depth + 1 = omega arith in
     let behind : Noting = record { noted = inner.noted ++ depths_of (s.depth + 1) children; depth = s.depth } in
-    rw (noted-depths children inner (omega (arith, deeper))) (rw deeper (
-    noted-depths beside behind (omega arith)
+    rw (noted-depths children 0 inner (omega (arith, deeper))) (rw deeper (
+    noted-depths beside (number + 1) behind (omega arith)
     ∙ ap (λ l. Some (record s { noted = l })) (
     append_assoc inner.noted (depths_of (s.depth + 1) children) (depths_of s.depth beside)
     ∙ append_assoc s.noted (s.depth ∷ []) (depths_of (s.depth + 1) children ++ depths_of s.depth beside))))
@@ -69,7 +69,7 @@ pub noted-whole : (t : Forest RenderNode) (es : List (Entry RenderNode)) (s : No
     s ≡ record { noted = []; depth = 0 } → run noting t s ≡ Some (record { noted = depths_of 0 t; depth = 0 })
 noted-whole t es s whole small start =
     ap (run noting t) start
-    ∙ noted-depths t (record { noted = []; depth = 0 }) (omega (arith, ap length whole, length-flatten t))
+    ∙ noted-depths t 0 (record { noted = []; depth = 0 }) (omega (arith, ap length whole, length-flatten t))
 
 pub only-memory : {X : Type 0} (e : Error) (o : Option X) (x : X) → Refuses e o → o ≡ Some x → e ≡ OutOfMemory
 only-memory TooNarrow o x h some = cc

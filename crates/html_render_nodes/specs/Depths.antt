@@ -1,9 +1,8 @@
 -- How deep the nodes of trees stand, and the pass that notes it.
 use Rattle.std.specs.Prelude.{ℕ, ◌+◌, ◌-◌, ◌^◌, List, [], ◌∷◌, ◌++◌, Option, Some, min}
 use Rattle.html_render_values.specs.Forest.{Forest, none, node}
-use Rattle.html_render_values.specs.Outcome.{◌>>=◌}
 use Rattle.html_render_nodes.specs.declared.tree.RenderNode.{RenderNode}
-use Rattle.html_render_nodes.specs.Pass.{Visits, Pair, Way, Into}
+use Rattle.html_render_nodes.specs.Pass.{Places, bare, Visits, Inner, Way, Into}
 
 -- the depth of each node, in pre-order
 abbrev pub depths_of : {K : Type 0} → (depth : ℕ) → Forest K → List ℕ
@@ -20,10 +19,14 @@ abbrev pub noted_at : Noting → Noting
 noted_at s = record { noted = s.noted ++ s.depth ∷ []; depth = min (s.depth + 1) (2 ^ 64 - 1) }
 
 abbrev pub noting : Visits RenderNode Noting
-noting k trees s = Pair (Some (noted_at s)) (λ r. Some (record r { depth = s.depth }))
+noting k trees s = Inner (Some (noted_at s)) bare (λ r. Some (record r { depth = s.depth }))
 
-abbrev pub opened : RenderNode → Forest RenderNode → Noting → Option (Way Noting ℕ)
-opened k trees s = Some (Into (noted_at s) s.depth)
+-- the nodes below any node stand as they are
+abbrev pub below : (depth : ℕ) → Places Noting
+below depth = bare
+
+abbrev pub opened : (parent : Option ℕ) → (number : ℕ) → RenderNode → Forest RenderNode → Noting → Option (Way Noting ℕ)
+opened parent number k trees s = Some (Into (noted_at s) s.depth)
 
 abbrev pub closed : (depth : ℕ) → Noting → Option Noting
 closed depth r = Some (record r { depth = depth })

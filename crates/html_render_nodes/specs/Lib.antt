@@ -10,6 +10,7 @@ pub mod Dump
 -- the walk: what a pass computes, and what the walk counts
 pub mod Pass
 pub mod Counts
+pub mod Walk
 -- the depths of the nodes
 pub mod Depths
 -- laws of the definitions

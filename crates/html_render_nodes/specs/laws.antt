@@ -2,3 +2,4 @@ pub mod Preorder
 pub mod Splits
 pub mod Visits
 pub mod Counts
+pub mod Depths

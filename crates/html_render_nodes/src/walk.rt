@@ -3,12 +3,13 @@
 //! `walk::<P>(alloc, &forest, &mut state, &mut meter)` opens each node before its children and closes it after them, or
 //! goes past them, and counts what it did; `Ok(())`: the state is what the pass's visits make of the forest.
 
-ghost use Rattle.std.specs.Prelude.{◌≡◌, ◌≢◌, List, [], ◌∷◌, ◌++◌, Option, Some, OnOk, IfOk, IfErr, IfSome, IfNone};
+ghost use Rattle.std.specs.Prelude.{◌≡◌, ◌≢◌, ℕ, List, [], ◌∷◌, ◌++◌, Option, Some, OnOk, IfOk, IfErr, IfSome, IfNone, option_copied};
 ghost use Rattle.html_render_values.specs.Forest.{Forest};
 ghost use Rattle.html_render_values.specs.Outcome.{Refuses};
 ghost use Rattle.html_render_nodes.specs.Counts.{CountsNodes};
-ghost use Rattle.html_render_nodes.specs.Pass.{Visits, Way, way, run, IsOpened};
+ghost use Rattle.html_render_nodes.specs.Pass.{Visits, Places, placed, places_in, Way, way, run, IsOpened};
 ghost use Rattle.html_render_nodes.specs.Preorder.{flatten, forest_of};
+ghost use Rattle.html_render_nodes.specs.Walk.{innermost};
 ghost use Rattle.html_render_nodes.specs.declared.walk.Frame.{Frame};
 
 use crate::tree::{Entry, Flat};
@@ -28,14 +29,17 @@ pub trait Pass {
     // how each node is visited
     ghost visits: { Visits Self.Node Self.State };
 
-    // how a node over these trees is opened
-    ghost opened: { Self.Node → Forest Self.Node → Self.State → Option (Way Self.State Self.Kept) };
+    // the places of the nodes below an open one, by what it keeps
+    ghost below: { Self.Kept → Places Self.State };
+
+    // how a node of this number, over these trees, is opened below another one, by what that keeps
+    ghost opened: { Option Self.Kept → ℕ → Self.Node → Forest Self.Node → Self.State → Option (Way Self.State Self.Kept) };
 
     // the state behind an open node, from what it kept and the state behind its children
     ghost closed: { Self.Kept → Self.State → Option Self.State };
 
-    /// Opens a node over the trees of these entries: the state becomes its children's, or, with nothing kept, the one
-    /// behind it and them.
+    /// Opens a node over the trees of these entries, below another that keeps this, if it stands below one, whose child of
+    /// this number it is, from 0: the state becomes its children's, or, with nothing kept, the one behind it and them.
     ///
     /// # Errors
     ///
@@ -44,11 +48,14 @@ pub trait Pass {
         alloc: Global,
         node: &Self::Node,
         children: &[Entry<Self::Node>],
+        parent: Option<&Self::Kept>,
+        number: usize,
         state: &mut Self::State,
     ) -> Result<Option<Self::Kept>, Error>
         requires { flatten (forest_of children.now) ≡ children.now }
-        ensures ok { IfOk result (λ kept. opened node.now (forest_of children.now) state.old ≡ Some (way state.new kept)) }
-        ensures err { IfErr result (λ e. Refuses e (opened node.now (forest_of children.now) state.old)) };
+        ensures ok { IfOk result (λ kept. opened (option_copied parent.entry) number node.now (forest_of children.now) state.old
+            ≡ Some (way state.new kept)) }
+        ensures err { IfErr result (λ e. Refuses e (opened (option_copied parent.entry) number node.now (forest_of children.now) state.old)) };
 
     /// Closes a node: the state becomes that behind it.
     ///
@@ -59,8 +66,9 @@ pub trait Pass {
         ensures ok { OnOk result (closed kept state.old ≡ Some state.new) }
         ensures err { IfErr result (λ e. Refuses e (closed kept state.old)) };
 
-    // a visit: the node is opened, its children come, and it is closed
-    ghost told: { (k : Self.Node) (trees : Forest Self.Node) (s : Self.State) → IsOpened closed (visits k trees s) (opened k trees s) };
+    // a visit: the node is opened in its place, its children come, and it is closed
+    ghost told: { (parent : Option Self.Kept) (number : ℕ) (k : Self.Node) (trees : Forest Self.Node) (s : Self.State) →
+        IsOpened below closed (placed (places_in below parent number s) (visits k trees) s) (opened parent number k trees s) };
 }
 
 /// An open node.
@@ -68,13 +76,25 @@ pub trait Pass {
 struct Frame<T> {
     /// The place behind its last node.
     end: usize,
+    /// The number of the node beside it.
+    next: usize,
     /// What the pass keeps of it.
     kept: T,
 }
 
+/// What is kept of the innermost open node, if one is open.
+fn innermost<T: Drop>(frames: &[Frame<T>]) -> Option<&T>
+    ensures { option_copied result ≡ innermost frames.now }
+{
+    match frames.last() {
+        Some(frame) => Some(&frame.kept),
+        None => None,
+    }
+}
+
 /// Takes the innermost open node, if it is over at this place.
-fn pop_over<T: Drop>(frames: &mut Vec<Frame<T>>, at: usize) -> Option<T>
-    ensures over { IfSome result (λ l. frames.old.items ≡ frames.new.items ++ record { end = at; kept = l } ∷ []) }
+fn pop_over<T: Drop>(frames: &mut Vec<Frame<T>>, at: usize) -> Option<Frame<T>>
+    ensures over { IfSome result (λ f. (frames.old.items ≡ frames.new.items ++ f ∷ []) × (f.end ≡ at)) }
     ensures same { IfNone result (frames.new.items ≡ frames.old.items) }
     ensures not_over { IfNone result ((below : List (Frame T)) (f : Frame T) → frames.old.items ≡ below ++ f ∷ [] → f.end ≢ at) }
 {
@@ -82,8 +102,7 @@ fn pop_over<T: Drop>(frames: &mut Vec<Frame<T>>, at: usize) -> Option<T>
         Some(frame) if frame.end == at => {}
         _ => return None,
     }
-    let frame = frames.pop()?;
-    Some(frame.kept)
+    frames.pop()
 }
 
 /// Runs a pass over a forest, with a stack of the open nodes. What is skipped is jumped over, and a node whose children
@@ -112,10 +131,12 @@ pub fn walk<P: Pass>(
     let entries = forest.entries();
     let mut frames: Vec<Frame<P::Kept>> = Vec::new(alloc);
     let mut next = 0;
+    let mut number = 0;
     'walk: loop {
         match pop_over(&mut frames, next) {
-            Some(kept) => {
-                P::close(alloc, kept, state)?;
+            Some(frame) => {
+                number = frame.next;
+                P::close(alloc, frame.kept, state)?;
                 meter.left += 1;
             }
             None => {
@@ -125,17 +146,25 @@ pub fn walk<P: Pass>(
                 let entry = &entries[next];
                 let end = next + entry.size;
                 let children = &entries[next + 1..end];
-                match P::open(alloc, &entry.node, children, state)? {
+                let parent = innermost(&frames);
+                match P::open(alloc, &entry.node, children, parent, number, state)? {
                     Some(kept) => {
-                        frames.push(Frame { end, kept })?;
+                        let beside = number + 1;
+                        frames.push(Frame {
+                            end,
+                            next: beside,
+                            kept,
+                        })?;
                         meter.entered += 1;
                         meter.frames = meter.frames.max(frames.len());
                         next += 1;
+                        number = 0;
                     }
                     None => {
                         meter.entered += 1;
                         meter.left += 1;
                         next = end;
+                        number += 1;
                     }
                 }
             }

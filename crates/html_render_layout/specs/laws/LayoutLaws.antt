@@ -21,7 +21,7 @@ use Rattle.html_render_blocks.specs.laws.Beside.{Holds, Blocks, operations-besid
 use Rattle.html_render_blocks.specs.laws.BlockHolds.{OwnWithin, PictureWithin, within, answers, refines}
 use Rattle.html_render_blocks.specs.laws.TableWithin.{OpenWithin}
 use Rattle.html_render_layout.specs.declared.settings.LayoutSettings.{LayoutSettings}
-use Rattle.html_render_layout.specs.Layout.{onto, shown_after, Defined, defined, block_setting, padding, empty_state, estimated, layout_lines, mark_names}
+use Rattle.html_render_layout.specs.Layout.{onto, by_stacks, shown_after, Defined, defined, block_setting, padding, empty_state, estimated, layout_lines, mark_names}
 use Rattle.html_render_layout.specs.laws.LayoutReturns.{layout-returns}
 use Rattle.html_render_layout.specs.laws.Related.{Other, with_other, shown-related}
 
@@ -57,10 +57,10 @@ module _ {S A : Type 0} (d : Decoration S A) (settings : LayoutSettings) (g : Bo
   shown-beside : {X : Type 0} (R : X → X → Type 0) (view : Defined S A → X) (t : Forest RenderNode) (decorator : S) (w : ℕ) (o : Bool) →
       OnOverflow o → ((r : Defined S A) (u : Other (Unit {0}) (List A) (DefinedBlock (List A) ℕ)) → Beside w (tt, tt) r.block u.block →
       R (view r) (view (with_other r u))) →
-      Both N M R (shown_after d onto definition.operations definition.ending view t (empty_state d settings decorator w o))
-      (shown_after d onto definition.operations definition.ending view t (empty_state d settings decorator w (g o)))
+      Both N M R (shown_after (by_stacks d) definition.ending view t (empty_state d settings decorator w o))
+      (shown_after (by_stacks d) definition.ending view t (empty_state d settings decorator w (g o)))
   shown-beside R view t decorator w o on related =
-      shown-related d onto onto definition.operations definition.operations N M weak Later (λ w. tt) (λ w v u k l. tt) Tags (λ w v t u e l. e) Beside
+      shown-related (by_stacks d) onto definition.operations N M weak Later (λ w. tt) (λ w v u k l. tt) Tags (λ w v t u e l. e) Beside
       (λ v w z b c k l. later-beside g N M Tags (λ w t u e. e) Cut OnOverflow OnOwn OnLines OnPicture OnRow h weak Later (λ w z t u e l. e) v w z b c k l)
       (λ k l t u a e. tt) (λ k l t u a e. ap (λ z. z ++ a ∷ []) e)
       (operations-beside g N M Tags (λ w t u e. e) Cut OnOverflow OnOwn OnLines OnPicture OnRow h weak Later (λ w z t u e l. e))
@@ -77,16 +77,16 @@ module _ {S A : Type 0} (d : Decoration S A) (settings : LayoutSettings) (g : Bo
 
   pub lines-shown : (t : Forest RenderNode) (decorator : S) (w : ℕ) (o : Bool) → OnOverflow o →
       Both N M (λ a b. (b ≡ a) × OnLines w a)
-      (shown_after d onto definition.operations definition.ending (λ (r : Defined S A). r.block.lines) t (empty_state d settings decorator w o))
-      (shown_after d onto definition.operations definition.ending (λ (r : Defined S A). r.block.lines) t (empty_state d settings decorator w (g o)))
+      (shown_after (by_stacks d) definition.ending (λ (r : Defined S A). r.block.lines) t (empty_state d settings decorator w o))
+      (shown_after (by_stacks d) definition.ending (λ (r : Defined S A). r.block.lines) t (empty_state d settings decorator w (g o)))
   lines-shown t decorator w o on =
       shown-beside (λ a b. (b ≡ a) × OnLines w a) (λ (r : Defined S A). r.block.lines) t decorator w o on (λ r u k.
       lines-beside g N M Tags (λ w t u e. e) Cut OnOverflow OnOwn OnLines OnPicture OnRow h weak Later (λ w z t u e l. e) w (tt, tt) r.block u.block k)
 
   pub names-shown : (t : Forest RenderNode) (decorator : S) (w : ℕ) (o : Bool) → OnOverflow o →
       Both N M (λ a b. b ≡ a)
-      (shown_after d onto definition.operations definition.ending (λ (r : Defined S A). r.names) t (empty_state d settings decorator w o))
-      (shown_after d onto definition.operations definition.ending (λ (r : Defined S A). r.names) t (empty_state d settings decorator w (g o)))
+      (shown_after (by_stacks d) definition.ending (λ (r : Defined S A). r.names) t (empty_state d settings decorator w o))
+      (shown_after (by_stacks d) definition.ending (λ (r : Defined S A). r.names) t (empty_state d settings decorator w (g o)))
   names-shown t decorator w o on = shown-beside (λ a b. b ≡ a) (λ (r : Defined S A). r.names) t decorator w o on (λ r u k. refl)
 
 -- what is there with overflow on is there with overflow on or off
@@ -110,7 +110,7 @@ same_answer {L} f h o lines e = by (f false) (with_either f h o)
 
 module _ {S A : Type 0} (d : Decoration S A) (settings : LayoutSettings) where
   abbrev lines_from : Forest RenderNode → Defined S A → Option (List (Line (List A) ℕ))
-  lines_from t s = shown_after d onto definition.operations definition.ending (λ (r : Defined S A). r.block.lines) t s
+  lines_from t s = shown_after (by_stacks d) definition.ending (λ (r : Defined S A). r.block.lines) t s
 
   -- with overflow off, and closing lines that are cut, no line passes the width
   pub layout_within : (t : Forest RenderNode) (decorator : S) (w : ℕ) → settings.wrap_links ≡ true →
@@ -178,7 +178,7 @@ module _ {S A : Type 0} (d : Decoration S A) (settings : LayoutSettings) where
   names_same t decorator w = by (w == 0)
     where
       names : Bool → Option (List (List ℕ))
-      names o = shown_after d onto definition.operations definition.ending (λ (s : Defined S A). s.names) (estimated d settings decorator t)
+      names o = shown_after (by_stacks d) definition.ending (λ (s : Defined S A). s.names) (estimated d settings decorator t)
           (empty_state d settings decorator w o)
 
       by : (z : Bool) → IfSome (cond z None (names false)) (λ x. cond z None (names true) ≡ Some x)
@@ -191,4 +191,4 @@ module _ {S A : Type 0} (d : Decoration S A) (settings : LayoutSettings) where
   -- trees that are laid out leave the texts that follow, with their annotations, and the decorator as they were
   pub layout_leaves : (t : Forest RenderNode) (s : Defined S A) →
       IfSome (run (defined d) t s) (λ r. (r.text ≡ s.text) × (r.decorator ≡ s.decorator))
-  layout_leaves t = layout-returns d onto definition.operations t
+  layout_leaves t = layout-returns (by_stacks d) t

@@ -1,42 +1,29 @@
 -- What a layout gives back.
-use Rattle.std.proofs.Common.{◌≡◌, ℕ, ◌+◌, Bool, ◌&&◌, not, List, [], ◌++◌, length, codes, Option, Some, None, option_and_then, IfSome, refl, ◌∙◌}
+use Rattle.std.proofs.Common.{◌≡◌, ℕ, ◌+◌, Bool, true, false, ◌&&◌, not, List, [], ◌∷◌, ◌++◌, length, codes, Option, Some, None, option_and_then}
+use Rattle.std.proofs.Common.{IfSome, refl, ◌∙◌}
 use Rattle.std.specs.Fmt.{decimal}
-use Rattle.std.specs.Prelude.{map}
 use Rattle.std.specs.Str.{chars}
+use Rattle.std.specs.Prelude.{if◌then◌else◌}
 use Rattle.html_render_values.specs.Forest.{Forest, none, node}
-use Rattle.html_render_parts.specs.Decoration.{Decoration, Round, link}
-use Rattle.html_render_parts.specs.declared.widths.shares.ColumnNeed.{ColumnNeed}
-use Rattle.html_render_parts.specs.TableCells.{CellGrid}
-use Rattle.html_render_lines.specs.laws.Cases.{if_cases}
-use Rattle.html_render_nodes.specs.declared.tree.Estimate.{Estimate}
-use Rattle.html_render_nodes.specs.declared.tree.NodeKind.{NodeKind}
-use Rattle.html_render_nodes.specs.declared.tree.NodeKind.TheVariants.{Text, Container, Break, Block, Div, Emphasis}
-use Rattle.html_render_nodes.specs.declared.tree.NodeKind.TheVariants.{Header, BlockQuote, Ul, Ol, ListItem, Dl, Dt, Dd}
-use Rattle.html_render_nodes.specs.declared.tree.NodeKind.TheVariants.{Strikeout, Superscript, Link, Image, Svg, FragmentStart, Table, TableRow}
-use Rattle.html_render_nodes.specs.declared.tree.NodeKind.TheVariants.{TableCell}
 use Rattle.html_render_nodes.specs.declared.tree.RenderNode.{RenderNode}
-use Rattle.html_render_nodes.specs.Pass.{Visit, Leaf, Pair, through_visit, followed, from_state, run}
+use Rattle.html_render_nodes.specs.Pass.{Place, Bare, Skipped, Within, Places, bare, Visit, Leaf, Inner, through_visit, followed, from_state, placed}
+use Rattle.html_render_nodes.specs.Pass.{run_at, run}
 use Rattle.html_render_layout.specs.laws.Answers.{IfSome-then, IfSome-weaken}
 use Rattle.html_render_estimates.specs.Estimates.{prefix_columns}
-use Rattle.html_render_blocks.specs.Operations.{Operations}
-use Rattle.html_render_layout.specs.declared.layout.state.Around.{Around}
-use Rattle.html_render_layout.specs.declared.layout.state.Around.TheVariants.{Plain, Bullets, Numbers, Cells}
 use Rattle.html_render_layout.specs.declared.layout.state.LayoutState.{LayoutState}
-use Rattle.html_render_layout.specs.declared.layout.state.TextContext.{TextContext}
-use Rattle.html_render_layout.specs.Images.{shown_title}
-use Rattle.html_render_layout.specs.Layout.{on_block, block_ended, written, add_characters, add_text, text_style, under, emphasis_decoration}
-use Rattle.html_render_layout.specs.Layout.{inner_least, spaces, nested, appended, added_cell, indented, placed, in_cell, as_cell, begun}
-use Rattle.html_render_layout.specs.Layout.{decorated, quoted, image_round, titled, raised, digits_of, strike, striking, superscript, with_target}
-use Rattle.html_render_layout.specs.Layout.{link_number, term_begun, fence_style, fenced, table_begun, table_ended, in_style, kind_layout}
-use Rattle.html_render_layout.specs.Layout.{node_layout, layout_of}
-use Rattle.html_render_layout.specs.laws.Styles.{in_style-decorator}
+use Rattle.html_render_layout.specs.Layout.{Means, Step, Write, WriteNumber, Annotate, Treat, Strike, Unstrike, Restore, NewLine, NewLineHard}
+use Rattle.html_render_layout.specs.Layout.{StartBlock, EndBlock, Fence, BeginTable, EndTable, AddTarget, AddMark}
+use Rattle.html_render_layout.specs.Layout.{Shape, Steps, Around, Prefixed, Indented, Items, Cells, shape_of, style_steps}
+use Rattle.html_render_layout.specs.Layout.{on_block, text_style, write, plain_style, written, fence, perform, perform_all, appended_block, within, nested, joined}
+use Rattle.html_render_layout.specs.Layout.{appended, padded, spaces, item_place, cell_place}
+use Rattle.html_render_layout.specs.Layout.{shape_layout, layout_of}
 
 -- whatever there is
 whatever : {X Y : Type 0} (Q : Y → Type 0) (o : Option X) (f : X → Option Y) → ((x : X) → IfSome (f x) Q) → IfSome (option_and_then f o) Q
 whatever Q None f k = tt
 whatever Q (Some x) f k = k x
 
-module _ {S A K T B : Type 0} (d : Decoration S A) (push : K → T → A → K × T) (o : Operations B T) where
+module _ {S A K T B : Type 0} (m : Means S A K T B) where
   abbrev State : Type 0
   State = LayoutState S K T B
 
@@ -44,173 +31,161 @@ module _ {S A K T B : Type 0} (d : Decoration S A) (push : K → T → A → K �
   abbrev SameDecorator : State → State → Type 0
   SameDecorator s r = r.decorator ≡ s.decorator
 
-  -- what leaves it so
+  -- and so are the texts
+  abbrev Returned : State → State → Type 0
+  Returned s r = (r.text ≡ s.text) × (r.decorator ≡ s.decorator)
+
+  -- what leaves the decorator so
   abbrev Stays : (State → Option State) → Type 0
   Stays f = (s r : State) → SameDecorator s r → IfSome (f r) (SameDecorator s)
 
   on_block-stays : (f : B → Option B) → Stays (on_block f)
   on_block-stays f s r a = whatever _ (f r.block) _ (λ b. a)
 
-  characters-stay : (cs : List ℕ) → Stays (add_characters d push o cs)
-  characters-stay cs s r a =
-      let x = text_style d push r.decorator r.stacks r.text r.text.preformatted in
-      on_block-stays (λ b. o.add_inline_text b x.1 (written r.text.struck_out cs)) s (record r { stacks = x.0 }) a
+  if-stays : (z : Bool) (f : State → Option State) (s r : State) → SameDecorator s r → IfSome (f r) (SameDecorator s) →
+      IfSome (if z then f r else Some r) (SameDecorator s)
+  if-stays true f s r a k = k
+  if-stays false f s r a k = a
 
-  begun-stays : (round : Round S A) → Stays (begun d push o round)
-  begun-stays round s r a = characters-stay (chars (round.start r.decorator).text) s
-      (under (push r.stacks r.text.tag (round.start r.decorator).annotation) r) a
+  write-stays : (cs : List ℕ) → Stays (write m cs)
+  write-stays cs s r a =
+      let x = text_style m r.decorator r.stacks r.text r.text.preformatted in
+      on_block-stays (λ b. m.operations.add_inline_text b x.1 (written r.text.struck_out cs)) s (record r { stacks = x.0 }) a
 
-  end-stays : (round : Round S A) → Stays (λ r. add_text d push o (round.end r.decorator) r)
-  end-stays round s r a = characters-stay (chars (round.end r.decorator)) s r a
+  step-stays : (b : State) (x : Step S A) → Stays (perform m b x)
+  step-stays b (Write text) s r a = write-stays (text r.decorator) s r a
+  step-stays b WriteNumber s r a =
+      if-stays r.settings.link_footnotes (write m (chars (codes "[" ++ decimal (length b.targets + 1) ++ codes "]"))) s r a (write-stays _ s r a)
+  step-stays b NewLine s r a = on_block-stays m.operations.new_line s r a
+  step-stays b NewLineHard s r a = on_block-stays m.operations.new_line_hard s r a
+  step-stays b StartBlock s r a = on_block-stays m.operations.start_block s r a
+  step-stays b Fence s r a =
+      let text : B → Option B = λ b. m.operations.add_inline_text b (plain_style r.blank) (codes "```") in
+      if-stays (r.settings.fence_tables && not r.in_table) (fence m) s r a
+      (IfSome-then _ _ (on_block text r) _ (on_block-stays text s r a) (on_block-stays m.operations.new_line s))
+  step-stays b (BeginTable grid needs) s r a =
+      let begin : B → Option B = λ t. m.operations.begin_table t r.blank r.settings.table_borders r.settings.raw_mode grid needs in
+      IfSome-then _ _ (on_block begin r) _ (on_block-stays begin s r a) (λ t e. e)
+  step-stays b (Annotate annotation) s r a = a
+  step-stays b (Treat mode preformatted) s r a = a
+  step-stays b Strike s r a = a
+  step-stays b Unstrike s r a = a
+  step-stays b Restore s r a = a
+  step-stays b EndBlock s r a = a
+  step-stays b EndTable s r a = a
+  step-stays b (AddTarget target) s r a = a
+  step-stays b (AddMark name) s r a = a
 
-  titled-stays : (source : List ℕ) (title : Option (List ℕ)) → Stays (titled d push o source title)
-  titled-stays source None s r a = a
-  titled-stays source (Some title) s r a = begun-stays (image_round d source title) s r a
+  steps-stay : (b : State) (xs : List (Step S A)) → Stays (perform_all m b xs)
+  steps-stay b [] s r a = a
+  steps-stay b (x ∷ []) s r a = step-stays b x s r a
+  steps-stay b (x ∷ (y ∷ xs)) s r a = IfSome-then _ _ (perform m b x r) _ (step-stays b x s r a) (steps-stay b (y ∷ xs) s)
 
-  link_number-stays : (text : TextContext T) (number : ℕ) → Stays (link_number d push o text number)
-  link_number-stays text number s r a =
-      if_cases (λ q. IfSome q (SameDecorator s)) r.settings.link_footnotes _ _
-      (λ _. characters-stay (chars (codes "[" ++ decimal number ++ codes "]")) s (record r { text = text }) a) (λ _. a)
+  -- a place gives back s, where a node in it gives back what it got
+  abbrev PlaceGives : State → Place State → Type 0
+  PlaceGives s Bare = Unit {0}
+  PlaceGives s (Skipped t) = Returned s t
+  PlaceGives s (Within before after) = IfSome before (λ q. (r : State) → r.text ≡ q.text → IfSome (after r) (Returned s))
 
-  strike-stays : Stays (strike d push o)
-  strike-stays s r a = IfSome-then _ _ (begun d push o d.strikeout r) _ (begun-stays d.strikeout s r a) (λ q b. b)
-
-  term_begun-stays : Stays (term_begun d push o)
-  term_begun-stays s r a = IfSome-then _ _ (on_block o.new_line r) _ (on_block-stays o.new_line s r a) (begun-stays d.em s)
-
-  fenced-stays : Stays (fenced o)
-  fenced-stays s r a =
-      let fence : B → Option B = λ b. o.add_inline_text b (fence_style r.blank) (codes "```") in
-      if_cases (λ q. IfSome q (SameDecorator s)) (r.settings.fence_tables && not r.in_table) _ _
-      (λ _. IfSome-then _ _ (on_block fence r) _ (on_block-stays fence s r a) (on_block-stays o.new_line s)) (λ _. a)
-
-  table_begun-stays : (grid : CellGrid) (needs : List ColumnNeed) → Stays (table_begun o grid needs)
-  table_begun-stays grid needs s r a =
-      IfSome-then _ _ (on_block o.start_block r) _ (on_block-stays o.start_block s r a) (λ p b.
-      IfSome-then _ _ (fenced o p) _ (fenced-stays s p b) (λ q c.
-      let begin : B → Option B = λ t. o.begin_table t q.blank q.settings.table_borders q.settings.raw_mode grid needs in
-      IfSome-then _ _ (on_block begin q) _ (on_block-stays begin s q c) (λ t e. e)))
-
-  table_ended-stays : (in_table : Bool) → Stays (table_ended o in_table)
-  table_ended-stays in_table s r a = fenced-stays s (record r { block = o.end_table r.block; in_table = in_table }) a
+  abbrev PlacesGive : Places State → Type 0
+  PlacesGive places = (number : ℕ) (s : State) → PlaceGives s (places number s)
 
   -- the layout of a node gives back a state that P holds of, where its children stay in their place
   abbrev Gives : (State → Type 0) → Visit State → Type 0
   Gives P (Leaf behind) = IfSome behind P
-  Gives P (Pair before after) = IfSome before (λ q. (r : State) → SameDecorator q r → IfSome (after r) P)
+  Gives P (Inner before places after) = IfSome before (λ q. (r : State) → SameDecorator q r → IfSome (after r) P) × PlacesGive places
 
   followed-gives : (P Q : State → Type 0) (l : Visit State) (next : State → Option State) → ((r : State) → P r → IfSome (next r) Q) →
       Gives P l → Gives Q (followed l next)
   followed-gives P Q (Leaf behind) next k a = IfSome-then P Q behind next a k
-  followed-gives P Q (Pair before after) next k a = IfSome-weaken _ _ before a (λ q f r b. IfSome-then P Q (after r) next (f r b) k)
+  followed-gives P Q (Inner before places after) next k a =
+      (IfSome-weaken _ _ before a.0 (λ q f r b. IfSome-then P Q (after r) next (f r b) k), a.1)
 
-  from_state-gives : (P R : State → Type 0) (s : Option State) (layout : State → Visit State) → IfSome s R →
-      ((q : State) → R q → Gives P (layout q)) → Gives P (from_state s layout)
-  from_state-gives P R None layout a k = tt
-  from_state-gives P R (Some q) layout a k = k q a
+  -- in a block inside that of s
+  joined-gives : (f : B → B → Option B) (s r : State) → IfSome (joined m f s r) (λ t. (t.text ≡ r.text) × (t.decorator ≡ s.decorator))
+  joined-gives f s r = by (f s.block r.block)
+    where
+      by : (o : Option B) → IfSome (option_and_then (λ b. Some (record r { decorator = s.decorator; block = b })) o)
+          (λ t. (t.text ≡ r.text) × (t.decorator ≡ s.decorator))
+      by None = tt
+      by (Some b) = (refl, refl)
 
-  pair-gives : (s : State) (before after : State → Option State) → Stays before → Stays after → Gives (SameDecorator s) (Pair (before s) after)
-  pair-gives s before after k next =
-      IfSome-weaken _ _ (before s) (k s s refl) (λ q a r b. next s r (b ∙ a))
+  inside-gives : (f : B → B → Option B) (prefix least : ℕ) (s : State) →
+      IfSome (nested m prefix least s) (λ q. (r : State) → SameDecorator q r → IfSome (joined m f s r) (SameDecorator s))
+  inside-gives f prefix least s = by (m.operations.sub_block s.block prefix least)
+    where
+      by : (o : Option B) → IfSome (option_and_then (λ b. Some (within m b s)) o)
+          (λ q. (r : State) → SameDecorator q r → IfSome (joined m f s r) (SameDecorator s))
+      by None = tt
+      by (Some b) = λ r a. IfSome-weaken _ _ (joined m f s r) (joined-gives f s r) (λ t k. k.1)
 
-  decorated-gives : (round : Round S A) (s : State) → Gives (SameDecorator s) (decorated d push o round s)
-  decorated-gives round s = pair-gives s (begun d push o round) _ (begun-stays round) (end-stays round)
+  item-gives : (prefix : List ℕ) (columns least : ℕ) (s : State) → PlaceGives s (item_place m prefix columns least s)
+  item-gives prefix columns least s = by (m.operations.sub_block s.block columns least)
+    where
+      by : (o : Option B) → IfSome (option_and_then (λ b. Some (within m b s)) o) (λ q. (r : State) → r.text ≡ q.text →
+          IfSome (appended m s (padded columns prefix) columns r) (Returned s))
+      by None = tt
+      by (Some b) = λ r same.
+          IfSome-weaken _ _ (appended m s (padded columns prefix) columns r)
+          (joined-gives (λ b c. m.operations.append b c s.text.tag (chars (padded columns prefix)) (spaces columns)) s r) (λ t k. (k.0 ∙ same, k.1))
 
-  quoted-gives : (prefix : List ℕ) (least : ℕ) (s : State) → Gives (SameDecorator s) (quoted d push o prefix least s)
-  quoted-gives prefix least s =
-      whatever _ (o.sub_block s.block (prefix_columns prefix) least) _ (λ e r a.
-      whatever _ (o.start_block s.block) _ (λ b.
-      whatever _ (o.append b r.block s.text.tag (chars prefix) (chars prefix)) _ (λ c. refl)))
+  shape-gives : (x : Shape S A) (s : State) → Gives (SameDecorator s) (shape_layout m x s)
+  shape-gives (Steps xs) s = steps-stay s xs s s refl
+  shape-gives (Around xs ys) s =
+      (IfSome-weaken _ _ (perform_all m s xs s) (steps-stay s xs s s refl) (λ q a r b. steps-stay s ys s r (b ∙ a)), λ number q. tt)
+  shape-gives (Prefixed prefix least) s =
+      (inside-gives (appended_block m s.text.tag (prefix s.decorator)) (prefix_columns (prefix s.decorator)) least s, λ number q. tt)
+  shape-gives (Indented columns least) s =
+      (inside-gives (λ b c. m.operations.append b c s.text.tag (chars (spaces columns)) (spaces columns)) columns least s, λ number q. tt)
+  shape-gives (Items prefix columns least) s = (λ r a. a, λ number q. item-gives (prefix q.decorator number) (columns s.decorator) least q)
+  shape-gives Cells s = (λ r a. on_block-stays m.operations.end_row s r a, λ number q. cell-gives (m.operations.cell_block q.block) q)
+    where
+      cell-gives : (cell : Option B) (q : State) → PlaceGives q (cell_place m cell q)
+      cell-gives None q = (refl, refl)
+      cell-gives (Some cell) q = λ r same.
+          IfSome-weaken _ _ (joined m m.operations.add_cell q r) (joined-gives m.operations.add_cell q r) (λ t k. (k.0 ∙ same, k.1))
 
-  superscript-gives : (digits : Option (List ℕ)) (s : State) → Gives (SameDecorator s) (superscript d push o digits s)
-  superscript-gives None s = decorated-gives d.superscript s
-  superscript-gives (Some digits) s = characters-stay (map raised digits) s s refl
+  node-gives : (n : RenderNode) (trees : Forest RenderNode) (s : State) → Gives (Returned s) (layout_of m n trees s)
+  node-gives n trees s = by (perform_all m s xs s) (steps-stay s xs s s refl)
+    where
+      xs : List (Step S A)
+      xs = style_steps m.decoration n.style
 
-  kind-gives : (k : NodeKind) (e : Estimate) (trees : Forest RenderNode) (s : State) → Gives (SameDecorator s) (kind_layout d push o k e trees s)
-  kind-gives (Text t) e trees s = characters-stay (chars t) s s refl
-  kind-gives Container e trees s = λ r a. a
-  kind-gives Break e trees s = on_block-stays o.new_line_hard s s refl
-  kind-gives Block e trees s = pair-gives s (on_block o.start_block) (block_ended o) (on_block-stays o.start_block) (λ q r a. a)
-  kind-gives Div e trees s = pair-gives s _ _ (on_block-stays o.new_line) (on_block-stays o.new_line)
-  kind-gives (Emphasis m) e trees s = decorated-gives (emphasis_decoration d m) s
-  kind-gives (Header level) e trees s = quoted-gives (d.header_prefix s.decorator level) (inner_least e) s
-  kind-gives BlockQuote e trees s = quoted-gives (d.quote_prefix s.decorator) (inner_least e) s
-  kind-gives Ul e trees s = λ r a. a
-  kind-gives (Ol first) e trees s = λ r a. a
-  kind-gives ListItem e trees s = pair-gives s (on_block o.start_block) (block_ended o) (on_block-stays o.start_block) (λ q r a. a)
-  kind-gives Dl e trees s = pair-gives s (on_block o.start_block) (λ r. Some r) (on_block-stays o.start_block) (λ q r a. a)
-  kind-gives Dt e trees s = pair-gives s (term_begun d push o) _ term_begun-stays (end-stays d.em)
-  kind-gives Dd e trees s =
-      whatever _ (o.sub_block s.block 2 (inner_least e)) _ (λ b r a.
-      whatever _ (o.append s.block r.block s.text.tag (chars (spaces 2)) (spaces 2)) _ (λ c. refl))
-  kind-gives Strikeout e trees s =
-      pair-gives s (strike d push o) _ strike-stays (λ q r. end-stays d.strikeout q (striking s.text.struck_out r))
-  kind-gives Superscript e trees s = superscript-gives (digits_of trees) s
-  kind-gives (Link target) e trees s =
-      followed-gives (SameDecorator s) (SameDecorator s) (decorated d push o (link d target) (with_target target s)) _
-      (link_number-stays s.text (length s.targets + 1) s) (decorated-gives (link d target) (with_target target s))
-  kind-gives (Image i) e trees s = titled-stays i.source (shown_title s.settings.empty_images i.source i.title) s s refl
-  kind-gives (Svg title) e trees s = titled-stays [] (shown_title s.settings.empty_images [] title) s s refl
-  kind-gives (FragmentStart name) e trees s = refl
-  kind-gives (Table grid) e trees s = pair-gives s _ _ (table_begun-stays grid.cells grid.needs) (table_ended-stays s.in_table)
-  kind-gives TableRow e trees s = λ r a. on_block-stays o.end_row s (record r { around = s.around }) a
-  kind-gives TableCell e trees s = λ r a. a
+      by : (o : Option State) → IfSome o (SameDecorator s) → Gives (Returned s) (from_state o (λ q.
+          followed (shape_layout m (shape_of m.decoration q.settings n.kind n.estimate trees) q) (λ r. Some (record r { text = s.text }))))
+      by None a = tt
+      by (Some q) a =
+          followed-gives (SameDecorator q) (Returned s) (shape_layout m (shape_of m.decoration q.settings n.kind n.estimate trees) q) _
+          (λ r b. (refl, b ∙ a)) (shape-gives (shape_of m.decoration q.settings n.kind n.estimate trees) q)
 
-  -- a node gives back the texts too
-  node-gives : (P : State → Type 0) (n : RenderNode) (trees : Forest RenderNode) (s : State) →
-      ((r : State) → r.text ≡ s.text → SameDecorator s r → P r) → Gives P (node_layout d push o n trees s)
-  node-gives P n trees s k =
-      let q : State = in_style d push n.style s in
-      followed-gives (SameDecorator q) P (kind_layout d push o n.kind n.estimate trees q) _ (λ r a.
-      k (record r { text = s.text }) refl (a ∙ in_style-decorator d push n.style s))
-      (kind-gives n.kind n.estimate trees q)
+  placed-gives : (p : Place State) (layout : State → Visit State) (s : State) → ((q : State) → Gives (Returned q) (layout q)) → PlaceGives s p →
+      Gives (Returned s) (placed p layout s)
+  placed-gives Bare layout s k a = k s
+  placed-gives (Skipped t) layout s k a = a
+  placed-gives (Within None after) layout s k a = tt
+  placed-gives (Within (Some q) after) layout s k a = followed-gives (Returned q) (Returned s) (layout q) after (λ r b. a r b.0) (k q)
 
-  -- texts and the decorator are those of s
-  abbrev Returned : State → State → Type 0
-  Returned s r = (r.text ≡ s.text) × (r.decorator ≡ s.decorator)
-
-  -- a node in a block inside that of s
-  inside-gives : (P : State → Type 0) (n : RenderNode) (trees : Forest RenderNode) (q : State) (next : State → Option State) →
-      ((r : State) → r.text ≡ q.text → IfSome (next r) P) → Gives P (followed (node_layout d push o n trees q) next)
-  inside-gives P n trees q next k =
-      let Texts : State → Type 0 = λ r. r.text ≡ q.text in
-      followed-gives Texts P (node_layout d push o n trees q) next k (node-gives Texts n trees q (λ r e a. e))
-
-  item-gives : (n : RenderNode) (trees : Forest RenderNode) (prefix : List ℕ) (columns least : ℕ) (behind : Around) (s : State) →
-      Gives (Returned s) (indented d o prefix columns least behind (node_layout d push o n trees) s)
-  item-gives n trees prefix columns least behind s =
-      from_state-gives (Returned s) (λ q. q.text ≡ s.text) (nested d o columns least s) _
-      (whatever _ (o.sub_block s.block columns least) _ (λ b. refl)) (λ q e.
-      inside-gives (Returned s) n trees q (appended o s prefix columns behind) (λ r same.
-      whatever _ (o.append s.block r.block s.text.tag (chars prefix) (spaces columns)) _ (λ b. (same ∙ e, refl))))
-
-  cell-gives : (n : RenderNode) (trees : Forest RenderNode) (s : State) (cell : Option B) →
-      Gives (Returned s) (as_cell d o (node_layout d push o n trees) s cell)
-  cell-gives n trees s None = (refl, refl)
-  cell-gives n trees s (Some cell) =
-      inside-gives (Returned s) n trees (in_cell d cell s) (added_cell o s) (λ r same.
-      whatever _ (o.add_cell s.block r.block) _ (λ b. (same, refl)))
-
-  placed-gives : (n : RenderNode) (trees : Forest RenderNode) (s : State) (a : Around) →
-      Gives (Returned s) (placed d o (node_layout d push o n trees) s a)
-  placed-gives n trees s Plain = node-gives (Returned s) n trees s (λ r same a. (same, a))
-  placed-gives n trees s (Bullets least) = item-gives n trees _ _ _ _ s
-  placed-gives n trees s (Numbers least number columns) = item-gives n trees _ _ _ _ s
-  placed-gives n trees s Cells = cell-gives n trees s (o.cell_block s.block)
-
-  through_visit-gives : (P : State → Type 0) (children : State → Option State) → ((q : State) → IfSome (children q) (SameDecorator q)) →
+  through_visit-gives : (P : State → Type 0) (children : Places State → State → Option State) →
+      ((places : Places State) → PlacesGive places → (q : State) → IfSome (children places q) (SameDecorator q)) →
       (l : Visit State) → Gives P l → IfSome (through_visit l children) P
   through_visit-gives P children below (Leaf behind) a = a
-  through_visit-gives P children below (Pair before after) a =
-      IfSome-then _ P before _ a (λ q f. IfSome-then (SameDecorator q) P (children q) after (below q) f)
+  through_visit-gives P children below (Inner before places after) a =
+      IfSome-then _ P before _ a.0 (λ q f. IfSome-then (SameDecorator q) P (children places q) after (below places a.1 q) f)
+
+  trees-return : (t : Forest RenderNode) (places : Places State) → PlacesGive places → (number : ℕ) (s : State) →
+      IfSome (run_at (layout_of m) places number t s) (Returned s)
+  trees-return none places a number s = (refl, refl)
+  trees-return (node n children beside) places a number s =
+      let visit : Visit State = placed (places number s) (layout_of m n children) s in
+      let below : Places State → State → Option State = λ places q. run_at (layout_of m) places 0 children q in
+      IfSome-then (Returned s) _ (through_visit visit below) _
+      (through_visit-gives (Returned s) below
+      (λ places b q. IfSome-weaken _ _ (below places q) (trees-return children places b 0 q) (λ r c. c.1)) visit
+      (placed-gives (places number s) (layout_of m n children) s (node-gives n children) (a number s))) (λ q b.
+      IfSome-weaken _ _ (run_at (layout_of m) places (number + 1) beside q) (trees-return beside places a (number + 1) q)
+      (λ r c. (c.0 ∙ b.0, c.1 ∙ b.1)))
 
   -- THE LAW: trees that are laid out leave the texts that follow, with their annotations, and the decorator as they were
   pub layout-returns : (t : Forest RenderNode) (s : State) →
-      IfSome (run (layout_of d push o) t s) (λ r. (r.text ≡ s.text) × (r.decorator ≡ s.decorator))
-  layout-returns none s = (refl, refl)
-  layout-returns (node n children beside) s =
-      let below : State → Option State = λ q. run (layout_of d push o) children q in
-      IfSome-then (Returned s) _ (through_visit (layout_of d push o n children s) below) _
-      (through_visit-gives (Returned s) below (λ q. IfSome-weaken _ _ (below q) (layout-returns children q) (λ r a. a.1))
-      (layout_of d push o n children s) (placed-gives n children s s.around)) (λ q a.
-      IfSome-weaken _ _ (run (layout_of d push o) beside q) (layout-returns beside q) (λ r b. (b.0 ∙ a.0, b.1 ∙ a.1)))
+      IfSome (run (layout_of m) t s) (λ r. (r.text ≡ s.text) × (r.decorator ≡ s.decorator))
+  layout-returns t s = trees-return t bare (λ number q. tt) 0 s

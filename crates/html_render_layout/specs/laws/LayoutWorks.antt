@@ -26,11 +26,11 @@ use Rattle.html_render_nodes.specs.Counts.{CountsNodes}
 use Rattle.html_render_nodes.specs.Pass.{visited, most_open}
 use Rattle.html_render_nodes.specs.laws.Counts.{counts-same}
 use Rattle.html_render_layout.specs.declared.settings.LayoutSettings.{LayoutSettings}
-use Rattle.html_render_layout.specs.Layout.{onto, layout_of, shown_after, Defined, defined, begin_with, block_setting, padding, empty_state}
+use Rattle.html_render_layout.specs.Layout.{by_stacks, layout_of, shown_after, Defined, defined, begin_with, block_setting, padding, empty_state}
 use Rattle.html_render_layout.specs.Layout.{estimated, layout_lines, mark_names, unannotated}
 use Rattle.html_render_layout.specs.laws.Related.{Other}
 use Rattle.html_render_layout.specs.laws.Sizes.{shown-needed, counts-needed}
-use Rattle.html_render_layout.specs.Working.{Worked, tabled, tagged, work_lines, work_names, Untagged, untagged, untagged_work}
+use Rattle.html_render_layout.specs.Working.{by_tags, Worked, tabled, tagged, work_lines, work_names, Untagged, untagged, untagged_work}
 use Rattle.html_render_layout.specs.laws.Representation.{Represents, visited-represented, most_open-represented, lines-represented, names-represented}
 
 -- ---- a map of tags that changes none
@@ -56,7 +56,7 @@ module _ {S A : Type 0} (d : Decoration S A) (settings : LayoutSettings) where
   -- what is defined of measured trees, from an empty block
   abbrev wanted : Forest RenderNode → S → ℕ → Bool → Option (List (Line (List A) ℕ))
   wanted t decorator w o =
-      shown_after d onto definition.operations definition.ending (λ (r : Defined S A). r.block.lines) t (empty_state d settings decorator w o)
+      shown_after (by_stacks d) definition.ending (λ (r : Defined S A). r.block.lines) t (empty_state d settings decorator w o)
 
   wanted-lines : (t : Forest RenderNode) (decorator : S) (w : ℕ) (o : Bool) → w ≢ 0 →
       wanted (estimated d settings decorator t) decorator w o ≡ layout_lines d settings t decorator w o
@@ -99,8 +99,8 @@ module _ {S A : Type 0} (d : Decoration S A) (settings : LayoutSettings) where
       begin_with settings (d.subblock decorator) ([] ∷ []) 0 (empty_block machine (block_setting settings w o) (padding settings 0))
 
   -- what differs in the state by stacks
-  abbrev by_stacks : (width : ℕ) → (overflow : Bool) → Other (Unit {0}) (List A) (DefinedBlock (List A) ℕ)
-  by_stacks w o =
+  abbrev stacked : (width : ℕ) → (overflow : Bool) → Other (Unit {0}) (List A) (DefinedBlock (List A) ℕ)
+  stacked w o =
       record { stacks = tt; tag = []; blank = []; block = empty_block definition (block_setting settings w o) (padding settings []) }
 
   -- the table of stacks, beside nothing
@@ -109,7 +109,7 @@ module _ {S A : Type 0} (d : Decoration S A) (settings : LayoutSettings) where
 
   begins : (decorator : S) (w : ℕ) (o : Bool) →
       Represents d tabled stack_at (λ (s : List A). s) Pushed (λ k. ([], sym (append-nil k))) Pushed-goes
-      (λ k t a. ((stack_at k t ++ a ∷ []) ∷ [], refl)) tag_pushed w (empty_worked decorator w o) (by_stacks w o)
+      (λ k t a. ((stack_at k t ++ a ∷ []) ∷ [], refl)) tag_pushed w (empty_worked decorator w o) (stacked w o)
   begins decorator w o = (
     λ l g. ap (λ x. stack_at x 0) g.1,
     (
@@ -128,7 +128,7 @@ module _ {S A : Type 0} (d : Decoration S A) (settings : LayoutSettings) where
   work_lines-wanted t decorator w o =
       lines-represented d tabled stack_at (λ (s : List A). s) Pushed (λ k. ([], sym (append-nil k))) Pushed-goes
       (λ k t a. ((stack_at k t ++ a ∷ []) ∷ [], refl)) tag_pushed
-      (λ (r : Worked S A). lines_with (stack_at r.stacks) r.block.lines) (λ r. refl) t w (empty_worked decorator w o) (by_stacks w o)
+      (λ (r : Worked S A). lines_with (stack_at r.stacks) r.block.lines) (λ r. refl) t w (empty_worked decorator w o) (stacked w o)
       (begins decorator w o)
       ∙ mapped-same (λ (s : List A). s) (λ s. refl) (wanted t decorator w o)
 
@@ -137,7 +137,7 @@ module _ {S A : Type 0} (d : Decoration S A) (settings : LayoutSettings) where
       measured ≡ with_needed_sizes (estimated d settings decorator t) → s ≡ empty_worked decorator w o → work_lines d measured s ≡ layout_lines d settings t decorator w o
   layout_lines-works t measured decorator w o s wide m e =
       ap (λ x. work_lines d measured x) e ∙ ap (λ x. work_lines d x (empty_worked decorator w o)) m
-      ∙ shown-needed d tabled machine.operations machine.ending (λ (r : Worked S A). tagged r.stacks r.block.lines)
+      ∙ shown-needed (by_tags d tabled) machine.ending (λ (r : Worked S A). tagged r.stacks r.block.lines)
       (estimated d settings decorator t) (empty_worked decorator w o)
       ∙ work_lines-wanted (estimated d settings decorator t) decorator w o ∙ wanted-lines t decorator w o wide
 
@@ -146,15 +146,15 @@ module _ {S A : Type 0} (d : Decoration S A) (settings : LayoutSettings) where
       measured ≡ with_needed_sizes (estimated d settings decorator t) → s ≡ empty_worked decorator w o → work_names d measured s ≡ mark_names d settings t decorator w o
   mark_names-works t measured decorator w o s wide m e =
       ap (λ x. work_names d measured x) e ∙ ap (λ x. work_names d x (empty_worked decorator w o)) m
-      ∙ shown-needed d tabled machine.operations machine.ending (λ (r : Worked S A). r.names)
+      ∙ shown-needed (by_tags d tabled) machine.ending (λ (r : Worked S A). r.names)
       (estimated d settings decorator t) (empty_worked decorator w o)
       ∙ names-represented d tabled stack_at (λ (s : List A). s) Pushed (λ k. ([], sym (append-nil k))) Pushed-goes
       (λ k t a. ((stack_at k t ++ a ∷ []) ∷ [], refl)) tag_pushed (estimated d settings decorator t) w (empty_worked decorator w o)
-      (by_stacks w o) (begins decorator w o)
+      (stacked w o) (begins decorator w o)
       ∙ by (w == 0) refl
     where
       names : Option (List (List ℕ))
-      names = shown_after d onto definition.operations definition.ending (λ (r : Defined S A). r.names) (estimated d settings decorator t)
+      names = shown_after (by_stacks d) definition.ending (λ (r : Defined S A). r.names) (estimated d settings decorator t)
           (empty_state d settings decorator w o)
 
       by : (z : Bool) → (w == 0) ≡ z → names ≡ cond z None names
@@ -164,29 +164,29 @@ module _ {S A : Type 0} (d : Decoration S A) (settings : LayoutSettings) where
   -- of any trees it visits what the definition visits, with as many open at once
   counts-wanted : {X : Type 0} (r : Result X Error) (t : Forest RenderNode) (decorator : S) (w : ℕ) (o : Bool) (s : Worked S A)
       (old other new : Meter) → s ≡ empty_worked decorator w o → other.probes ≡ old.probes →
-      CountsNodes r (layout_of d tabled machine.operations) t s other new →
+      CountsNodes r (layout_of (by_tags d tabled)) t s other new →
       CountsNodes r (defined d) t (empty_state d settings decorator w o) old new
   counts-wanted r t decorator w o s old other new e probes c =
-      counts-same r (layout_of d tabled machine.operations) (defined d) t s
+      counts-same r (layout_of (by_tags d tabled)) (defined d) t s
       (empty_state d settings decorator w o) old other new
-      (ap (λ x. visited (layout_of d tabled machine.operations) t x) e
+      (ap (λ x. visited (layout_of (by_tags d tabled)) t x) e
       ∙ visited-represented d tabled stack_at (λ (s : List A). s) Pushed (λ k. ([], sym (append-nil k))) Pushed-goes
-      (λ k t a. ((stack_at k t ++ a ∷ []) ∷ [], refl)) tag_pushed t w (empty_worked decorator w o) (by_stacks w o) (begins decorator w o))
-      (ap (λ x. most_open (layout_of d tabled machine.operations) t x) e
+      (λ k t a. ((stack_at k t ++ a ∷ []) ∷ [], refl)) tag_pushed t w (empty_worked decorator w o) (stacked w o) (begins decorator w o))
+      (ap (λ x. most_open (layout_of (by_tags d tabled)) t x) e
       ∙ most_open-represented d tabled stack_at (λ (s : List A). s) Pushed (λ k. ([], sym (append-nil k))) Pushed-goes
-      (λ k t a. ((stack_at k t ++ a ∷ []) ∷ [], refl)) tag_pushed t w (empty_worked decorator w o) (by_stacks w o) (begins decorator w o))
+      (λ k t a. ((stack_at k t ++ a ∷ []) ∷ [], refl)) tag_pushed t w (empty_worked decorator w o) (stacked w o) (begins decorator w o))
       probes c
 
   -- and it counts what the definition visits
   pub counts-work : {X : Type 0} (r : Result X Error) (t measured : Forest RenderNode) (decorator : S) (w : ℕ) (o : Bool)
       (s : Worked S A) (old other new : Meter) → measured ≡ with_needed_sizes (estimated d settings decorator t) → s ≡ empty_worked decorator w o →
       other.probes ≡ old.probes →
-      CountsNodes r (layout_of d tabled machine.operations) measured s other new →
+      CountsNodes r (layout_of (by_tags d tabled)) measured s other new →
       CountsNodes r (defined d) (estimated d settings decorator t) (empty_state d settings decorator w o) old new
   counts-work r t measured decorator w o s old other new m e probes c =
       counts-wanted r (estimated d settings decorator t) decorator w o s old other new e probes
-      (counts-needed d tabled machine.operations r (estimated d settings decorator t) s other new
-      (subst (λ x. CountsNodes r (layout_of d tabled machine.operations) x s other new) m c))
+      (counts-needed (by_tags d tabled) r (estimated d settings decorator t) s other new
+      (subst (λ x. CountsNodes r (layout_of (by_tags d tabled)) x s other new) m c))
 
   -- ---- no tags
 
@@ -200,7 +200,7 @@ module _ {S A : Type 0} (d : Decoration S A) (settings : LayoutSettings) where
       lines-represented d untagged (λ k t. tt) (λ (s : List A). tt) (λ k l. Unit {0}) (λ k. tt) (λ k l m a b. tt) (λ k t a. tt)
       (λ k t a s h l g. refl)
       (λ (r : Untagged S K). r.block.lines) (λ r. sym (lines-same (λ (t : Unit {0}). tt) (λ t. refl) r.block.lines)) t w
-      (empty_untagged k decorator w o) (by_stacks w o) (
+      (empty_untagged k decorator w o) (stacked w o) (
         λ l g. refl,
         (
           λ l g. refl,
@@ -217,7 +217,7 @@ module _ {S A : Type 0} (d : Decoration S A) (settings : LayoutSettings) where
       untagged_work d measured s ≡ option_map unannotated (layout_lines d settings t decorator w o)
   untagged_lines-works {K} t measured decorator w o k s wide m e =
       ap (λ x. untagged_work d measured x) e ∙ ap (λ x. untagged_work d x (empty_untagged k decorator w o)) m
-      ∙ shown-needed d untagged machine.operations machine.ending (λ (r : Untagged S K). r.block.lines)
+      ∙ shown-needed (by_tags d untagged) machine.ending (λ (r : Untagged S K). r.block.lines)
       (estimated d settings decorator t) (empty_untagged k decorator w o)
       ∙ untagged_work-wanted (estimated d settings decorator t) decorator w o k
       ∙ ap (option_map (lines_with (λ (s : List A). tt))) (wanted-lines t decorator w o wide)

@@ -13,7 +13,8 @@ use Rattle.html_render_blocks.specs.Machine.{MachineBlock}
 use Rattle.html_render_paragraphs.specs.laws.Answers.{Both}
 use Rattle.html_render_blocks.specs.laws.BlockSeen.{Tags, Blocks, operations-seen, ends-seen, later-seen, lines-seen}
 use Rattle.html_render_layout.specs.declared.layout.state.LayoutState.{LayoutState}
-use Rattle.html_render_layout.specs.Layout.{onto, layout_of, shown_after, Defined, defined}
+use Rattle.html_render_layout.specs.Layout.{onto, by_stacks, layout_of, shown_after, Defined, defined}
+use Rattle.html_render_layout.specs.Working.{by_tags}
 use Rattle.html_render_layout.specs.laws.Related.{Other, with_other, visited-related, most_open-related, shown-related}
 
 -- push puts an annotation onto a tag of what is kept, shown is what is seen of a tag and seen of a stack; Later says how
@@ -59,19 +60,19 @@ module _ {S A K T V : Type 0} (d : Decoration S A) (push : K → T → A → K �
 
   -- the code's walk visits what the definition visits
   pub visited-represented : (t : Forest RenderNode) (i : ℕ) (s : Worked) (v : Stacked) → Represents i s v →
-      visited (layout_of d push machine.operations) t s
+      visited (layout_of (by_tags d push)) t s
       ≡ visited (defined d) t (with_other s v)
   visited-represented t i s v h =
-      visited-related d push onto machine.operations definition.operations (Unit {0}) ⊥ (λ x. tt) GoesOn (λ w. stays w.0) Going ShowsTag later_tag
+      visited-related (by_tags d push) onto definition.operations (Unit {0}) ⊥ (λ x. tt) GoesOn (λ w. stays w.0) Going ShowsTag later_tag
       ShowsBlock (λ i w v b c k l. later-seen (λ (w : Kept) t. shown w.0 t) seen GoesOn (λ w. stays w.0) Going i w v b c k l)
       (λ k l t u a x. pushed k t a) tag_shown (operations-seen (λ (w : Kept) t. shown w.0 t) seen GoesOn (λ w. stays w.0) Going) tt (λ x. x) t i s v h
 
   -- and keeps as many of them open at once
   pub most_open-represented : (t : Forest RenderNode) (i : ℕ) (s : Worked) (v : Stacked) → Represents i s v →
-      most_open (layout_of d push machine.operations) t s
+      most_open (layout_of (by_tags d push)) t s
       ≡ most_open (defined d) t (with_other s v)
   most_open-represented t i s v h =
-      most_open-related d push onto machine.operations definition.operations (Unit {0}) ⊥ (λ x. tt) GoesOn (λ w. stays w.0) Going ShowsTag later_tag
+      most_open-related (by_tags d push) onto definition.operations (Unit {0}) ⊥ (λ x. tt) GoesOn (λ w. stays w.0) Going ShowsTag later_tag
       ShowsBlock (λ i w v b c k l. later-seen (λ (w : Kept) t. shown w.0 t) seen GoesOn (λ w. stays w.0) Going i w v b c k l)
       (λ k l t u a x. pushed k t a) tag_shown (operations-seen (λ (w : Kept) t. shown w.0 t) seen GoesOn (λ w. stays w.0) Going) tt (λ x. x) t i s v h
 
@@ -79,10 +80,10 @@ module _ {S A K T V : Type 0} (d : Decoration S A) (push : K → T → A → K �
   shown-represented : {X Y : Type 0} (R : X → Y → Type 0) (view : Worked → X) (wanted : Defined S A → Y) (i : ℕ) →
       ((r : Worked) (u : Stacked) → Represents i r u → R (view r) (wanted (with_other r u))) →
       (t : Forest RenderNode) (s : Worked) (v : Stacked) → Represents i s v →
-      Both (Unit {0}) ⊥ R (shown_after d push machine.operations machine.ending view t s)
-      (shown_after d onto definition.operations definition.ending wanted t (with_other s v))
+      Both (Unit {0}) ⊥ R (shown_after (by_tags d push) machine.ending view t s)
+      (shown_after (by_stacks d) definition.ending wanted t (with_other s v))
   shown-represented R view wanted i related t s v h =
-      shown-related d push onto machine.operations definition.operations (Unit {0}) ⊥ (λ x. tt) GoesOn (λ w. stays w.0) Going ShowsTag later_tag
+      shown-related (by_tags d push) onto definition.operations (Unit {0}) ⊥ (λ x. tt) GoesOn (λ w. stays w.0) Going ShowsTag later_tag
       ShowsBlock (λ i w v b c k l. later-seen (λ (w : Kept) t. shown w.0 t) seen GoesOn (λ w. stays w.0) Going i w v b c k l)
       (λ k l t u a x. pushed k t a) tag_shown (operations-seen (λ (w : Kept) t. shown w.0 t) seen GoesOn (λ w. stays w.0) Going)
       machine.ending definition.ending (λ cut. Unit {0}) (ends-seen (λ (w : Kept) t. shown w.0 t) seen GoesOn (λ w. stays w.0) Going)
@@ -98,8 +99,8 @@ module _ {S A K T V : Type 0} (d : Decoration S A) (push : K → T → A → K �
   -- the lines, with what is seen of their tags, are those of the definition with what is seen of their stacks
   pub lines-represented : (view : Worked → List (Line V ℕ)) → ((r : Worked) → view r ≡ lines_with (shown r.stacks) r.block.lines) →
       (t : Forest RenderNode) (i : ℕ) (s : Worked) (v : Stacked) → Represents i s v →
-      shown_after d push machine.operations machine.ending view t s
-      ≡ option_map (lines_with seen) (shown_after d onto definition.operations definition.ending (λ (r : Defined S A). r.block.lines) t (with_other s v))
+      shown_after (by_tags d push) machine.ending view t s
+      ≡ option_map (lines_with seen) (shown_after (by_stacks d) definition.ending (λ (r : Defined S A). r.block.lines) t (with_other s v))
   lines-represented view is t i s v h =
       mapped (lines_with seen) _ _
       (shown-represented (λ x y. x ≡ lines_with seen y) view (λ (r : Defined S A). r.block.lines) i (λ r u m.
@@ -107,8 +108,8 @@ module _ {S A K T V : Type 0} (d : Decoration S A) (push : K → T → A → K �
 
   -- and marks have the same names
   pub names-represented : (t : Forest RenderNode) (i : ℕ) (s : Worked) (v : Stacked) → Represents i s v →
-      shown_after d push machine.operations machine.ending (λ (r : Worked). r.names) t s
-      ≡ shown_after d onto definition.operations definition.ending (λ (r : Defined S A). r.names) t (with_other s v)
+      shown_after (by_tags d push) machine.ending (λ (r : Worked). r.names) t s
+      ≡ shown_after (by_stacks d) definition.ending (λ (r : Defined S A). r.names) t (with_other s v)
   names-represented t i s v h =
       same _ _ (shown-represented (λ x y. x ≡ y) (λ (r : Worked). r.names) (λ (r : Defined S A). r.names) i (λ r u m. refl) t s v h)
     where

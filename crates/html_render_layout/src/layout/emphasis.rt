@@ -1,9 +1,10 @@
 //! Parts of a line between what the decorator writes round them.
 
 ghost use Rattle.std.specs.Prelude.{◌≡◌, Some, OnOk, IfOk, IfErr, string_bytes};
+ghost use Rattle.std.specs.Str.{chars};
 ghost use Rattle.html_render_values.specs.Outcome.{Refuses};
-ghost use Rattle.html_render_blocks.specs.Machine as machine;
-ghost use Rattle.html_render_layout.specs.Layout.{emphasis_decoration, under, add_text, begun};
+ghost use Rattle.html_render_layout.specs.Layout.{emphasis_decoration, start, annotated, write, perform_all};
+ghost use Rattle.html_render_layout.specs.Working.{by_tags};
 
 use super::state::LayoutState;
 use super::texts::add_text;
@@ -62,10 +63,10 @@ pub fn begin<D: TextDecorator, G: Tagging<D::Annotation>>(
     start: (String, D::Annotation),
     state: &mut LayoutState<D, G, G::Tag, Block<G::Tag, usize>>,
 ) -> Result<(), Error>
-    ensures ok { OnOk result (add_text D.decoration G.annotated machine.operations (string_bytes start.0)
-        (under (G.annotated state.old.stacks state.old.text.tag start.1) state.old) ≡ Some state.new) }
-    ensures err { IfErr result (λ e. Refuses e (add_text D.decoration G.annotated machine.operations (string_bytes start.0)
-        (under (G.annotated state.old.stacks state.old.text.tag start.1) state.old))) }
+    ensures ok { OnOk result (write (by_tags D.decoration G.annotated) (chars (string_bytes start.0))
+        (annotated (by_tags D.decoration G.annotated) (Some start.1) state.old) ≡ Some state.new) }
+    ensures err { IfErr result (λ e. Refuses e (write (by_tags D.decoration G.annotated) (chars (string_bytes start.0))
+        (annotated (by_tags D.decoration G.annotated) (Some start.1) state.old))) }
 {
     let (text, annotation) = start;
     state.text.tag = state.stacks.annotate(state.text.tag, annotation)?;
@@ -83,8 +84,8 @@ pub fn begin_emphasis<D: TextDecorator, G: Tagging<D::Annotation>>(
     emphasis: Emphasis,
     state: &mut LayoutState<D, G, G::Tag, Block<G::Tag, usize>>,
 ) -> Result<(), Error>
-    ensures ok { OnOk result (begun D.decoration G.annotated machine.operations (emphasis_decoration D.decoration emphasis) state.old ≡ Some state.new) }
-    ensures err { IfErr result (λ e. Refuses e (begun D.decoration G.annotated machine.operations (emphasis_decoration D.decoration emphasis) state.old)) }
+    ensures ok { OnOk result (perform_all (by_tags D.decoration G.annotated) state.old (start D.decoration (emphasis_decoration D.decoration emphasis)) state.old ≡ Some state.new) }
+    ensures err { IfErr result (λ e. Refuses e (perform_all (by_tags D.decoration G.annotated) state.old (start D.decoration (emphasis_decoration D.decoration emphasis)) state.old)) }
 {
     let start = start_of(alloc, &state.decorator, emphasis)?;
     begin(alloc, start, state)
@@ -100,8 +101,8 @@ pub fn begin_strikeout<D: TextDecorator, G: Tagging<D::Annotation>>(
     alloc: Global,
     state: &mut LayoutState<D, G, G::Tag, Block<G::Tag, usize>>,
 ) -> Result<(), Error>
-    ensures ok { OnOk result (begun D.decoration G.annotated machine.operations D.decoration.strikeout state.old ≡ Some state.new) }
-    ensures err { IfErr result (λ e. Refuses e (begun D.decoration G.annotated machine.operations D.decoration.strikeout state.old)) }
+    ensures ok { OnOk result (perform_all (by_tags D.decoration G.annotated) state.old (start D.decoration D.decoration.strikeout) state.old ≡ Some state.new) }
+    ensures err { IfErr result (λ e. Refuses e (perform_all (by_tags D.decoration G.annotated) state.old (start D.decoration D.decoration.strikeout) state.old)) }
 {
     let start = state.decorator.decorate_strikeout_start(alloc)?;
     begin(alloc, start, state)
@@ -117,8 +118,8 @@ pub fn begin_superscript<D: TextDecorator, G: Tagging<D::Annotation>>(
     alloc: Global,
     state: &mut LayoutState<D, G, G::Tag, Block<G::Tag, usize>>,
 ) -> Result<(), Error>
-    ensures ok { OnOk result (begun D.decoration G.annotated machine.operations D.decoration.superscript state.old ≡ Some state.new) }
-    ensures err { IfErr result (λ e. Refuses e (begun D.decoration G.annotated machine.operations D.decoration.superscript state.old)) }
+    ensures ok { OnOk result (perform_all (by_tags D.decoration G.annotated) state.old (start D.decoration D.decoration.superscript) state.old ≡ Some state.new) }
+    ensures err { IfErr result (λ e. Refuses e (perform_all (by_tags D.decoration G.annotated) state.old (start D.decoration D.decoration.superscript) state.old)) }
 {
     let start = state.decorator.decorate_superscript_start(alloc)?;
     begin(alloc, start, state)

@@ -2,9 +2,9 @@
 
 ghost use Rattle.std.specs.Prelude.{◌≡◌, Some, OnOk, IfErr, option_map};
 ghost use Rattle.html_render_values.specs.Outcome.{Refuses};
-ghost use Rattle.html_render_blocks.specs.Machine as machine;
 ghost use Rattle.html_render_layout.specs.Images.{file_name, shown_title};
-ghost use Rattle.html_render_layout.specs.Layout.{image};
+ghost use Rattle.html_render_layout.specs.Layout.{image, perform_all};
+ghost use Rattle.html_render_layout.specs.Working.{by_tags};
 
 use super::emphasis::begin;
 use super::state::LayoutState;
@@ -60,8 +60,10 @@ pub fn add_image<D: TextDecorator, G: Tagging<D::Annotation>>(
     title: &str,
     state: &mut LayoutState<D, G, G::Tag, Block<G::Tag, usize>>,
 ) -> Result<(), Error>
-    ensures ok { OnOk result (image D.decoration G.annotated machine.operations source.now title.now state.old ≡ Some state.new) }
-    ensures err { IfErr result (λ e. Refuses e (image D.decoration G.annotated machine.operations source.now title.now state.old)) }
+    ensures ok { OnOk result (perform_all (by_tags D.decoration G.annotated) state.old
+        (image D.decoration source.now (shown_title state.old.settings.empty_images source.now title.now)) state.old ≡ Some state.new) }
+    ensures err { IfErr result (λ e. Refuses e (perform_all (by_tags D.decoration G.annotated) state.old
+        (image D.decoration source.now (shown_title state.old.settings.empty_images source.now title.now)) state.old)) }
 {
     let Some(title) = shown_title(&state.settings.empty_images, source, title) else {
         return Ok(());

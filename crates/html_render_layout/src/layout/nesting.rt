@@ -6,9 +6,10 @@ ghost use Rattle.html_render_values.specs.Outcome.{Refuses};
 ghost use Rattle.html_render_blocks.specs.Machine as machine;
 ghost use Rattle.html_render_layout.specs.Layout.{nested, spaces};
 ghost use Rattle.html_render_layout.specs.Opening.{interrupted, indent_closed, quote_closed};
+ghost use Rattle.html_render_layout.specs.Working.{by_tags};
 
 use super::spaces::many_spaces;
-use super::state::{Around, Interrupted, LayoutState, Outer};
+use super::state::{Interrupted, LayoutState, Outer};
 use crate::tagging::Tagging;
 use html_render_blocks::block::Block;
 use html_render_lines::tag::Tag;
@@ -31,24 +32,21 @@ pub fn nest<D: TextDecorator, G: Tagging<D::Annotation>>(
     prefix: Text,
     columns: usize,
     least: usize,
-    behind: Around,
     state: &mut LayoutState<D, G, G::Tag, Block<G::Tag, usize>>,
 ) -> Result<Interrupted<D, G::Tag, Block<G::Tag, usize>>, Error>
-    ensures ok { OnOk result (nested D.decoration machine.operations columns least state.old ≡ Some state.new) }
-    ensures outer { IfOk result (λ outer. outer ≡ interrupted state.old behind prefix columns) }
-    ensures err { IfErr result (λ e. Refuses e (nested D.decoration machine.operations columns least state.old)) }
+    ensures ok { OnOk result (nested (by_tags D.decoration G.annotated) columns least state.old ≡ Some state.new) }
+    ensures outer { IfOk result (λ outer. outer ≡ interrupted (by_tags D.decoration G.annotated) state.old prefix columns) }
+    ensures err { IfErr result (λ e. Refuses e (nested (by_tags D.decoration G.annotated) columns least state.old)) }
 {
     let block = state.block.sub_block(columns, least)?;
     let decorator = state.decorator.make_subblock_decorator(alloc)?;
     let outer = Outer {
         decorator: mem::replace(&mut state.decorator, decorator),
         block: mem::replace(&mut state.block, block),
-        around: behind,
         prefix,
         columns,
         tag: state.text.tag,
     };
-    state.around = Around::Plain;
     Interrupted::new(alloc, outer)
 }
 
@@ -83,8 +81,8 @@ pub fn close_indent<D: TextDecorator, G: Tagging<D::Annotation>>(
     outer: Interrupted<D, G::Tag, Block<G::Tag, usize>>,
     state: &mut LayoutState<D, G, G::Tag, Block<G::Tag, usize>>,
 ) -> Result<(), Error>
-    ensures ok { OnOk result (indent_closed machine.operations outer state.old ≡ Some state.new) }
-    ensures err { IfErr result (λ e. Refuses e (indent_closed machine.operations outer state.old)) }
+    ensures ok { OnOk result (indent_closed (by_tags D.decoration G.annotated) outer state.old ≡ Some state.new) }
+    ensures err { IfErr result (λ e. Refuses e (indent_closed (by_tags D.decoration G.annotated) outer state.old)) }
 {
     let outer = outer.into_outer();
     let sub = mem::replace(&mut state.block, outer.block);
@@ -97,7 +95,6 @@ pub fn close_indent<D: TextDecorator, G: Tagging<D::Annotation>>(
         outer.columns,
     )?;
     state.decorator = outer.decorator;
-    state.around = outer.around;
     Ok(())
 }
 
@@ -111,8 +108,8 @@ pub fn close_quote<D: TextDecorator, G: Tagging<D::Annotation>>(
     outer: Interrupted<D, G::Tag, Block<G::Tag, usize>>,
     state: &mut LayoutState<D, G, G::Tag, Block<G::Tag, usize>>,
 ) -> Result<(), Error>
-    ensures ok { OnOk result (quote_closed machine.operations outer state.old ≡ Some state.new) }
-    ensures err { IfErr result (λ e. Refuses e (quote_closed machine.operations outer state.old)) }
+    ensures ok { OnOk result (quote_closed (by_tags D.decoration G.annotated) outer state.old ≡ Some state.new) }
+    ensures err { IfErr result (λ e. Refuses e (quote_closed (by_tags D.decoration G.annotated) outer state.old)) }
 {
     let outer = outer.into_outer();
     let prefix = outer.prefix;
@@ -123,6 +120,5 @@ pub fn close_quote<D: TextDecorator, G: Tagging<D::Annotation>>(
         .append(sub, outer.tag, prefix.as_str(), prefix.as_str())?;
     state.block.end_block();
     state.decorator = outer.decorator;
-    state.around = outer.around;
     Ok(())
 }

@@ -23,29 +23,6 @@ pub struct TextContext<T> {
     pub struck_out: bool,
 }
 
-/// What the nodes that come stand in.
-#[derive(Clone, Copy, Debug)]
-pub enum Around {
-    /// Nothing that matters to them.
-    Plain,
-    /// An unordered list: each is an item, and needs so many columns behind its prefix.
-    Bullets {
-        /// The least width behind a prefix.
-        least: usize,
-    },
-    /// An ordered list: each is an item.
-    Numbers {
-        /// The least width behind a prefix.
-        least: usize,
-        /// The number of the next item.
-        number: i64,
-        /// The columns of each prefix.
-        columns: usize,
-    },
-    /// A row of a table: each is a cell.
-    Cells,
-}
-
 /// Texts, in the order in which they were met.
 #[derive(Drop)]
 pub struct TextList {
@@ -119,8 +96,6 @@ pub struct LayoutState<D, K, T, B> {
     pub text: TextContext<T>,
     /// The block that is laid out into.
     pub block: B,
-    /// What the nodes that come stand in.
-    pub around: Around,
     /// The tag of what no annotation is on: borders of tables, and fences. It doesn't change.
     pub blank: T,
     /// Whether a table is open that the nodes that come stand in.
@@ -138,8 +113,6 @@ pub struct Outer<D, T, B> {
     pub decorator: D,
     /// The block.
     pub block: B,
-    /// What its nodes stand in then.
-    pub around: Around,
     /// What the lines of the block inside it stand behind: all of them, or the first one alone.
     pub prefix: Text,
     /// The columns of that.
@@ -264,8 +237,22 @@ pub enum KindClosing<D, T, B> {
     NewLine,
     /// The emphasis ends.
     EndEmphasis(Emphasis),
-    /// The list ends: the nodes that come stand in nothing that matters to them, as the list did.
-    EndList,
+    /// Nothing: an unordered list. Each child is an item behind a bullet.
+    Bullets {
+        /// The columns of each bullet.
+        columns: usize,
+        /// The columns that an item needs behind it.
+        least: usize,
+    },
+    /// Nothing: an ordered list. Each child is an item behind its number.
+    Numbers {
+        /// The number of the first item.
+        first: i64,
+        /// The columns of each prefix.
+        columns: usize,
+        /// The columns that an item needs behind it.
+        least: usize,
+    },
     /// The heading or quote ends, and the block that it interrupted goes on.
     EndQuote(Interrupted<D, T, B>),
     /// The same, with what was indented.
@@ -278,6 +265,6 @@ pub enum KindClosing<D, T, B> {
     EndLink(TextContext<T>, usize),
     /// The table ends; whether it stands in another one.
     EndTable(bool),
-    /// The row of a table ends: the nodes that come stand in nothing that matters to them, as the row did.
+    /// The row of a table ends. Each child is a cell.
     EndRow,
 }

@@ -1,21 +1,25 @@
 //! What a layout does as it opens and closes a node.
 
-ghost use Rattle.std.specs.Prelude.{◌≡◌, Some, OnOk, IfOk, IfErr, string_bytes};
+ghost use Rattle.std.specs.Prelude.{◌≡◌, ◌+◌, ◌++◌, ◌∷◌, [], length, Some, OnOk, IfOk, IfErr, option_copied, string_bytes};
 ghost use Rattle.html_render_values.specs.Outcome.{Refuses};
 ghost use Rattle.html_render_blocks.specs.Machine as machine;
-ghost use Rattle.html_render_nodes.specs.Pass.{way, opened_with};
+ghost use Rattle.html_render_nodes.specs.Pass.{way};
 ghost use Rattle.html_render_nodes.specs.Preorder.{flatten, forest_of};
-ghost use Rattle.html_render_layout.specs.Layout.{inner_least, spaces, numbers, digits_of, nested, among, row_begun, table_begun};
-ghost use Rattle.html_render_layout.specs.Layout.{quoted, strike, superscript, linked, term_begun};
-ghost use Rattle.html_render_layout.specs.Opening.{interrupted, quote_kept, kind_kept, place_of, item_begun, item_kept, item_closed};
-ghost use Rattle.html_render_layout.specs.Opening.{kind_opened, kind_closed, node_opened, opened_in, cell_opened, opened, closed};
+ghost use Rattle.html_render_parts.specs.Decoration.{link};
+ghost use Rattle.html_render_estimates.specs.Estimates.{prefix_columns, prefix_of};
+ghost use Rattle.html_render_layout.specs.Layout.{AddTarget, BeginTable, Fence, NewLine, StartBlock, Strike, inner_least, nested, perform_all};
+ghost use Rattle.html_render_layout.specs.Layout.{spaces, start};
+ghost use Rattle.html_render_layout.specs.Opening.{interrupted, item_begun, item_kept, item_closed};
+ghost use Rattle.html_render_layout.specs.Opening.{kind_opened, kind_closed, node_opened, opened_in, cell_opened, item_opened, opened_below};
+ghost use Rattle.html_render_layout.specs.Opening.{opened, closed};
+ghost use Rattle.html_render_layout.specs.Working.{by_tags};
 
 use super::emphasis::{begin_emphasis, begin_strikeout, begin_superscript, end_of};
 use super::images::add_image;
-use super::items::place_of;
+use super::items::{Item, item_of};
 use super::links::{add_mark, begin_link, close_link};
 use super::nesting::{close_indent, close_quote, nest};
-use super::state::{Around, Closing, Interruption, KindClosing, LayoutState};
+use super::state::{Closing, Interruption, KindClosing, LayoutState};
 use super::styles::begin_style;
 use super::superscripts::{digits_of, write_raised};
 use super::tables::{begin_cell, begin_table, end_cell, end_table};
@@ -45,42 +49,51 @@ fn open_quote<D: TextDecorator, G: Tagging<D::Annotation>>(
     estimate: &Estimate,
     state: &mut LayoutState<D, G, G::Tag, Block<G::Tag, usize>>,
 ) -> Result<Option<KindClosing<D, G::Tag, Block<G::Tag, usize>>>, Error>
-    ensures ok { IfOk result (λ c. opened_with
-        (quoted D.decoration G.annotated machine.operations (string_bytes prefix) (inner_least estimate.now) state.old)
-        (quote_kept (string_bytes prefix) state.old) ≡ Some (way state.new c)) }
-    ensures err { IfErr result (λ e. Refuses e (opened_with
-        (quoted D.decoration G.annotated machine.operations (string_bytes prefix) (inner_least estimate.now) state.old)
-        (quote_kept (string_bytes prefix) state.old))) }
+    ensures ok { OnOk result (nested (by_tags D.decoration G.annotated) (prefix_columns (string_bytes prefix)) (inner_least estimate.now) state.old ≡ Some state.new) }
+    ensures kept { IfOk result (λ c. c ≡ Some (KindClosing.EndQuote
+        (interrupted (by_tags D.decoration G.annotated) state.old (string_bytes prefix) (prefix_columns (string_bytes prefix))))) }
+    ensures err { IfErr result (λ e. Refuses e (nested (by_tags D.decoration G.annotated) (prefix_columns (string_bytes prefix)) (inner_least estimate.now) state.old)) }
 {
     let columns = columns(prefix.as_str());
     let prefix = Text::from(prefix);
-    let outer = nest(
-        alloc,
-        prefix,
-        columns,
-        inner_least(estimate),
-        state.around,
-        state,
-    )?;
+    let outer = nest(alloc, prefix, columns, inner_least(estimate), state)?;
     Ok(Some(KindClosing::EndQuote(outer)))
 }
 
-/// What the items of an ordered list stand in.
-fn numbers<D: TextDecorator>(
+/// The items of an unordered list come.
+fn open_bullets<D: TextDecorator, G: Tagging<D::Annotation>>(
+    alloc: Global,
+    decorator: &D,
+    estimate: &Estimate,
+) -> Result<Option<KindClosing<D, G::Tag, Block<G::Tag, usize>>>, Error>
+    ensures ok { IfOk result (λ c. c ≡ Some (KindClosing.Bullets
+        (prefix_columns (D.decoration.unordered_item_prefix decorator.now)) (inner_least estimate.now))) }
+    ensures err { IfErr result (λ e. e ≡ Error.OutOfMemory) }
+{
+    let bullet = decorator.unordered_item_prefix(alloc)?;
+    Ok(Some(KindClosing::Bullets {
+        columns: columns(bullet.as_str()),
+        least: inner_least(estimate),
+    }))
+}
+
+/// The items of an ordered list come.
+fn open_numbers<D: TextDecorator, G: Tagging<D::Annotation>>(
     alloc: Global,
     decorator: &D,
     first: i64,
     estimate: &Estimate,
-) -> Result<Around, Error>
-    ensures ok { IfOk result (λ around. around ≡ numbers D.decoration estimate.now first decorator.now) }
+) -> Result<Option<KindClosing<D, G::Tag, Block<G::Tag, usize>>>, Error>
+    ensures ok { IfOk result (λ c. c ≡ Some (KindClosing.Numbers first
+        (prefix_of D.decoration decorator.now (NodeKind.Ol first) estimate.now.children) (inner_least estimate.now))) }
     ensures err { IfErr result (λ e. e ≡ Error.OutOfMemory) }
 {
     let columns = number_columns(alloc, decorator, first, estimate.children)?;
-    Ok(Around::Numbers {
-        least: inner_least(estimate),
-        number: first,
+    Ok(Some(KindClosing::Numbers {
+        first,
         columns,
-    })
+        least: inner_least(estimate),
+    }))
 }
 
 /// A term of a description list begins on a line of its own, stressed.
@@ -89,8 +102,8 @@ fn begin_term<D: TextDecorator, G: Tagging<D::Annotation>>(
     alloc: Global,
     state: &mut LayoutState<D, G, G::Tag, Block<G::Tag, usize>>,
 ) -> Result<(), Error>
-    ensures ok { OnOk result (term_begun D.decoration G.annotated machine.operations state.old ≡ Some state.new) }
-    ensures err { IfErr result (λ e. Refuses e (term_begun D.decoration G.annotated machine.operations state.old)) }
+    ensures ok { OnOk result (perform_all (by_tags D.decoration G.annotated) state.old (NewLine ∷ start D.decoration D.decoration.em) state.old ≡ Some state.new) }
+    ensures err { IfErr result (λ e. Refuses e (perform_all (by_tags D.decoration G.annotated) state.old (NewLine ∷ start D.decoration D.decoration.em) state.old)) }
 {
     state.block.new_line()?;
     begin_emphasis(alloc, Emphasis::Em, state)
@@ -103,12 +116,12 @@ fn open_description<D: TextDecorator, G: Tagging<D::Annotation>>(
     estimate: &Estimate,
     state: &mut LayoutState<D, G, G::Tag, Block<G::Tag, usize>>,
 ) -> Result<Option<KindClosing<D, G::Tag, Block<G::Tag, usize>>>, Error>
-    ensures ok { OnOk result (nested D.decoration machine.operations 2 (inner_least estimate.now) state.old ≡ Some state.new) }
-    ensures kept { IfOk result (λ c. c ≡ Some (KindClosing.EndIndent (interrupted state.old state.old.around (spaces 2) 2))) }
-    ensures err { IfErr result (λ e. Refuses e (nested D.decoration machine.operations 2 (inner_least estimate.now) state.old)) }
+    ensures ok { OnOk result (nested (by_tags D.decoration G.annotated) 2 (inner_least estimate.now) state.old ≡ Some state.new) }
+    ensures kept { IfOk result (λ c. c ≡ Some (KindClosing.EndIndent (interrupted (by_tags D.decoration G.annotated) state.old (spaces 2) 2))) }
+    ensures err { IfErr result (λ e. Refuses e (nested (by_tags D.decoration G.annotated) 2 (inner_least estimate.now) state.old)) }
 {
     let prefix = Text::from_str(alloc, "  ")?;
-    let outer = nest(alloc, prefix, 2, inner_least(estimate), state.around, state)?;
+    let outer = nest(alloc, prefix, 2, inner_least(estimate), state)?;
     Ok(Some(KindClosing::EndIndent(outer)))
 }
 
@@ -118,8 +131,10 @@ fn strike<D: TextDecorator, G: Tagging<D::Annotation>>(
     alloc: Global,
     state: &mut LayoutState<D, G, G::Tag, Block<G::Tag, usize>>,
 ) -> Result<(), Error>
-    ensures ok { OnOk result (strike D.decoration G.annotated machine.operations state.old ≡ Some state.new) }
-    ensures err { IfErr result (λ e. Refuses e (strike D.decoration G.annotated machine.operations state.old)) }
+    ensures ok { OnOk result (perform_all (by_tags D.decoration G.annotated) state.old
+        (start D.decoration D.decoration.strikeout ++ Strike ∷ []) state.old ≡ Some state.new) }
+    ensures err { IfErr result (λ e. Refuses e (perform_all (by_tags D.decoration G.annotated) state.old
+        (start D.decoration D.decoration.strikeout ++ Strike ∷ []) state.old)) }
 {
     begin_strikeout(alloc, state)?;
     state.text.struck_out = state.settings.unicode_strikeout;
@@ -130,17 +145,14 @@ fn strike<D: TextDecorator, G: Tagging<D::Annotation>>(
 #[tactic(auto, using(html_render_values::specs::laws::Outcome::refusals))]
 fn open_superscript<D: TextDecorator, G: Tagging<D::Annotation>>(
     alloc: Global,
+    estimate: &Estimate,
     children: &[Entry<RenderNode>],
     state: &mut LayoutState<D, G, G::Tag, Block<G::Tag, usize>>,
 ) -> Result<Option<KindClosing<D, G::Tag, Block<G::Tag, usize>>>, Error>
     requires { flatten (forest_of children.now) ≡ children.now }
-    ensures ok { IfOk result (λ c. opened_with
-        (superscript D.decoration G.annotated machine.operations (digits_of (forest_of children.now)) state.old)
-        (kind_kept D.decoration NodeKind.Superscript state.old)
+    ensures ok { IfOk result (λ c. kind_opened (by_tags D.decoration G.annotated) NodeKind.Superscript estimate.now (forest_of children.now) state.old
         ≡ Some (way state.new c)) }
-    ensures err { IfErr result (λ e. Refuses e (opened_with
-        (superscript D.decoration G.annotated machine.operations (digits_of (forest_of children.now)) state.old)
-        (kind_kept D.decoration NodeKind.Superscript state.old))) }
+    ensures err { IfErr result (λ e. Refuses e (kind_opened (by_tags D.decoration G.annotated) NodeKind.Superscript estimate.now (forest_of children.now) state.old)) }
 {
     match digits_of(children) {
         Some(digits) => {
@@ -161,10 +173,11 @@ fn open_link<D: TextDecorator, G: Tagging<D::Annotation>>(
     target: &str,
     state: &mut LayoutState<D, G, G::Tag, Block<G::Tag, usize>>,
 ) -> Result<Option<KindClosing<D, G::Tag, Block<G::Tag, usize>>>, Error>
-    ensures ok { IfOk result (λ c. opened_with (linked D.decoration G.annotated machine.operations target.now state.old)
-        (kind_kept D.decoration (NodeKind.Link target.now) state.old) ≡ Some (way state.new c)) }
-    ensures err { IfErr result (λ e. Refuses e (opened_with (linked D.decoration G.annotated machine.operations target.now state.old)
-        (kind_kept D.decoration (NodeKind.Link target.now) state.old))) }
+    ensures ok { OnOk result (perform_all (by_tags D.decoration G.annotated) state.old
+        (AddTarget target.now ∷ start D.decoration (link D.decoration target.now)) state.old ≡ Some state.new) }
+    ensures kept { IfOk result (λ c. c ≡ Some (KindClosing.EndLink state.old.text (length state.old.targets + 1))) }
+    ensures err { IfErr result (λ e. Refuses e (perform_all (by_tags D.decoration G.annotated) state.old
+        (AddTarget target.now ∷ start D.decoration (link D.decoration target.now)) state.old)) }
 {
     let text = state.text;
     begin_link(alloc, target, state)?;
@@ -178,9 +191,11 @@ fn open_table<D: TextDecorator, G: Tagging<D::Annotation>>(
     grid: &Grid,
     state: &mut LayoutState<D, G, G::Tag, Block<G::Tag, usize>>,
 ) -> Result<Option<KindClosing<D, G::Tag, Block<G::Tag, usize>>>, Error>
-    ensures ok { OnOk result (table_begun machine.operations grid.now.cells grid.now.needs state.old ≡ Some state.new) }
+    ensures ok { OnOk result (perform_all (by_tags D.decoration G.annotated) state.old
+        (StartBlock ∷ (Fence ∷ (BeginTable grid.now.cells grid.now.needs ∷ []))) state.old ≡ Some state.new) }
     ensures kept { IfOk result (λ c. c ≡ Some (KindClosing.EndTable state.old.in_table)) }
-    ensures err { IfErr result (λ e. Refuses e (table_begun machine.operations grid.now.cells grid.now.needs state.old)) }
+    ensures err { IfErr result (λ e. Refuses e (perform_all (by_tags D.decoration G.annotated) state.old
+        (StartBlock ∷ (Fence ∷ (BeginTable grid.now.cells grid.now.needs ∷ []))) state.old)) }
 {
     let in_table = state.in_table;
     begin_table(grid, state)?;
@@ -191,13 +206,11 @@ fn open_table<D: TextDecorator, G: Tagging<D::Annotation>>(
 fn open_row<D: TextDecorator, G: Tagging<D::Annotation>>(
     state: &mut LayoutState<D, G, G::Tag, Block<G::Tag, usize>>,
 ) -> Result<Option<KindClosing<D, G::Tag, Block<G::Tag, usize>>>, Error>
-    ensures ok { IfOk result (λ c. opened_with (among Around.Cells (row_begun machine.operations state.old))
-        (kind_kept D.decoration NodeKind.TableRow state.old)
-        ≡ Some (way state.new c)) }
+    ensures ok { OnOk result (state.new ≡ record state.old { block = machine.operations.begin_row state.old.block }) }
+    ensures kept { IfOk result (λ c. c ≡ Some KindClosing.EndRow) }
     ensures err { IfErr result (λ e. e ≡ Error.OutOfMemory) }
 {
     state.block.begin_row()?;
-    state.around = Around::Cells;
     Ok(Some(KindClosing::EndRow))
 }
 
@@ -211,9 +224,9 @@ fn open_kind<D: TextDecorator, G: Tagging<D::Annotation>>(
     state: &mut LayoutState<D, G, G::Tag, Block<G::Tag, usize>>,
 ) -> Result<Option<KindClosing<D, G::Tag, Block<G::Tag, usize>>>, Error>
     requires { flatten (forest_of children.now) ≡ children.now }
-    ensures ok { IfOk result (λ c. kind_opened D.decoration G.annotated machine.operations kind.now estimate.now (forest_of children.now)
+    ensures ok { IfOk result (λ c. kind_opened (by_tags D.decoration G.annotated) kind.now estimate.now (forest_of children.now)
         state.old ≡ Some (way state.new c)) }
-    ensures err { IfErr result (λ e. Refuses e (kind_opened D.decoration G.annotated machine.operations kind.now estimate.now (forest_of children.now)
+    ensures err { IfErr result (λ e. Refuses e (kind_opened (by_tags D.decoration G.annotated) kind.now estimate.now (forest_of children.now)
         state.old)) }
 {
     match kind {
@@ -248,16 +261,8 @@ fn open_kind<D: TextDecorator, G: Tagging<D::Annotation>>(
             let prefix = state.decorator.quote_prefix(alloc)?;
             open_quote(alloc, prefix, estimate, state)
         }
-        NodeKind::Ul => {
-            state.around = Around::Bullets {
-                least: inner_least(estimate),
-            };
-            Ok(Some(KindClosing::EndList))
-        }
-        NodeKind::Ol(first) => {
-            state.around = numbers(alloc, &state.decorator, *first, estimate)?;
-            Ok(Some(KindClosing::EndList))
-        }
+        NodeKind::Ul => open_bullets::<D, G>(alloc, &state.decorator, estimate),
+        NodeKind::Ol(first) => open_numbers::<D, G>(alloc, &state.decorator, *first, estimate),
         NodeKind::Dl => {
             state.block.start_block()?;
             Ok(Some(KindClosing::Nothing))
@@ -272,7 +277,7 @@ fn open_kind<D: TextDecorator, G: Tagging<D::Annotation>>(
             strike(alloc, state)?;
             Ok(Some(KindClosing::EndStrikeout(before)))
         }
-        NodeKind::Superscript => open_superscript(alloc, children, state),
+        NodeKind::Superscript => open_superscript(alloc, estimate, children, state),
         NodeKind::Link(target) => open_link(alloc, target.as_str(), state),
         NodeKind::Image(image) => {
             add_image(
@@ -301,11 +306,11 @@ fn close_kind<D: TextDecorator, G: Tagging<D::Annotation>>(
     closing: KindClosing<D, G::Tag, Block<G::Tag, usize>>,
     state: &mut LayoutState<D, G, G::Tag, Block<G::Tag, usize>>,
 ) -> Result<(), Error>
-    ensures ok { OnOk result (kind_closed D.decoration G.annotated machine.operations closing state.old ≡ Some state.new) }
-    ensures err { IfErr result (λ e. Refuses e (kind_closed D.decoration G.annotated machine.operations closing state.old)) }
+    ensures ok { OnOk result (kind_closed (by_tags D.decoration G.annotated) closing state.old ≡ Some state.new) }
+    ensures err { IfErr result (λ e. Refuses e (kind_closed (by_tags D.decoration G.annotated) closing state.old)) }
 {
     match closing {
-        KindClosing::Nothing => Ok(()),
+        KindClosing::Nothing | KindClosing::Bullets { .. } | KindClosing::Numbers { .. } => Ok(()),
         KindClosing::EndBlock => {
             state.block.end_block();
             Ok(())
@@ -317,10 +322,6 @@ fn close_kind<D: TextDecorator, G: Tagging<D::Annotation>>(
         KindClosing::EndEmphasis(emphasis) => {
             let end = end_of(alloc, &state.decorator, emphasis)?;
             add_text(alloc, end.as_str(), state)
-        }
-        KindClosing::EndList => {
-            state.around = Around::Plain;
-            Ok(())
         }
         KindClosing::EndQuote(outer) => close_quote(outer, state),
         KindClosing::EndIndent(outer) => close_indent(alloc, outer, state),
@@ -336,7 +337,6 @@ fn close_kind<D: TextDecorator, G: Tagging<D::Annotation>>(
         KindClosing::EndLink(text, number) => close_link(alloc, text, number, state),
         KindClosing::EndTable(in_table) => end_table(in_table, state),
         KindClosing::EndRow => {
-            state.around = Around::Plain;
             state.block.end_row()?;
             Ok(())
         }
@@ -345,51 +345,21 @@ fn close_kind<D: TextDecorator, G: Tagging<D::Annotation>>(
 
 /// An item of a list begins in a block of its own, and what it interrupts is answered. A node that is no item stands
 /// where it is.
-///
-/// Almost every node is none, so this is a function of its own, which only the nodes of a list come to.
-#[inline(never)]
-#[tactic(auto, using(html_render_values::specs::laws::Outcome::refusals))]
-fn begin_placed<D: TextDecorator, G: Tagging<D::Annotation>>(
-    alloc: Global,
-    state: &mut LayoutState<D, G, G::Tag, Block<G::Tag, usize>>,
-) -> Result<Interruption<D, G::Tag, Block<G::Tag, usize>>, Error>
-    ensures ok { OnOk result (item_begun D.decoration machine.operations
-        (place_of D.decoration state.old.decorator state.old.around) state.old ≡ Some state.new) }
-    ensures item { IfOk result (λ item. item ≡ item_kept (place_of D.decoration state.old.decorator state.old.around) state.old) }
-    ensures err { IfErr result (λ e. Refuses e (item_begun D.decoration machine.operations
-        (place_of D.decoration state.old.decorator state.old.around) state.old)) }
-{
-    let Some(place) = place_of(alloc, &state.decorator, &state.around)? else {
-        return Ok(Interruption::NoBlock);
-    };
-    let outer = nest(
-        alloc,
-        place.prefix,
-        place.columns,
-        place.least,
-        place.behind,
-        state,
-    )?;
-    Ok(Interruption::Indented(outer))
-}
-
-/// An item of a list begins, if the node is one.
-#[inline]
 #[tactic(auto, using(html_render_values::specs::laws::Outcome::refusals))]
 fn begin_item<D: TextDecorator, G: Tagging<D::Annotation>>(
     alloc: Global,
+    item: Option<Item>,
     state: &mut LayoutState<D, G, G::Tag, Block<G::Tag, usize>>,
 ) -> Result<Interruption<D, G::Tag, Block<G::Tag, usize>>, Error>
-    ensures ok { OnOk result (item_begun D.decoration machine.operations
-        (place_of D.decoration state.old.decorator state.old.around) state.old ≡ Some state.new) }
-    ensures item { IfOk result (λ item. item ≡ item_kept (place_of D.decoration state.old.decorator state.old.around) state.old) }
-    ensures err { IfErr result (λ e. Refuses e (item_begun D.decoration machine.operations
-        (place_of D.decoration state.old.decorator state.old.around) state.old)) }
+    ensures ok { OnOk result (item_begun (by_tags D.decoration G.annotated) item state.old ≡ Some state.new) }
+    ensures kept { IfOk result (λ i. i ≡ item_kept (by_tags D.decoration G.annotated) item state.old) }
+    ensures err { IfErr result (λ e. Refuses e (item_begun (by_tags D.decoration G.annotated) item state.old)) }
 {
-    match state.around {
-        Around::Plain | Around::Cells => Ok(Interruption::NoBlock),
-        Around::Bullets { .. } | Around::Numbers { .. } => begin_placed(alloc, state),
-    }
+    let Some(item) = item else {
+        return Ok(Interruption::NoBlock);
+    };
+    let outer = nest(alloc, item.prefix, item.columns, item.least, state)?;
+    Ok(Interruption::Indented(outer))
 }
 
 /// What the node interrupts goes on.
@@ -400,8 +370,8 @@ fn end_item<D: TextDecorator, G: Tagging<D::Annotation>>(
     item: Interruption<D, G::Tag, Block<G::Tag, usize>>,
     state: &mut LayoutState<D, G, G::Tag, Block<G::Tag, usize>>,
 ) -> Result<(), Error>
-    ensures ok { OnOk result (item_closed machine.operations item state.old ≡ Some state.new) }
-    ensures err { IfErr result (λ e. Refuses e (item_closed machine.operations item state.old)) }
+    ensures ok { OnOk result (item_closed (by_tags D.decoration G.annotated) item state.old ≡ Some state.new) }
+    ensures err { IfErr result (λ e. Refuses e (item_closed (by_tags D.decoration G.annotated) item state.old)) }
 {
     match item {
         Interruption::NoBlock => Ok(()),
@@ -420,9 +390,9 @@ fn open_in_style<D: TextDecorator, G: Tagging<D::Annotation>>(
     state: &mut LayoutState<D, G, G::Tag, Block<G::Tag, usize>>,
 ) -> Result<Option<KindClosing<D, G::Tag, Block<G::Tag, usize>>>, Error>
     requires { flatten (forest_of children.now) ≡ children.now }
-    ensures ok { IfOk result (λ c. node_opened D.decoration G.annotated machine.operations node.now (forest_of children.now) state.old
+    ensures ok { IfOk result (λ c. node_opened (by_tags D.decoration G.annotated) node.now (forest_of children.now) state.old
         ≡ Some (way state.new c)) }
-    ensures err { IfErr result (λ e. Refuses e (node_opened D.decoration G.annotated machine.operations node.now (forest_of children.now)
+    ensures err { IfErr result (λ e. Refuses e (node_opened (by_tags D.decoration G.annotated) node.now (forest_of children.now)
         state.old)) }
 {
     begin_style(alloc, &node.style, state)?;
@@ -440,9 +410,9 @@ fn open_in<D: TextDecorator, G: Tagging<D::Annotation>>(
     state: &mut LayoutState<D, G, G::Tag, Block<G::Tag, usize>>,
 ) -> Result<Option<Closing<D, G::Tag, Block<G::Tag, usize>>>, Error>
     requires { flatten (forest_of children.now) ≡ children.now }
-    ensures ok { IfOk result (λ c. opened_in D.decoration G.annotated machine.operations item node.now (forest_of children.now) state.old
+    ensures ok { IfOk result (λ c. opened_in (by_tags D.decoration G.annotated) item node.now (forest_of children.now) state.old
         ≡ Some (way state.new c)) }
-    ensures err { IfErr result (λ e. Refuses e (opened_in D.decoration G.annotated machine.operations item node.now (forest_of children.now)
+    ensures err { IfErr result (λ e. Refuses e (opened_in (by_tags D.decoration G.annotated) item node.now (forest_of children.now)
         state.old)) }
 {
     let text = state.text;
@@ -466,9 +436,9 @@ fn open_cell<D: TextDecorator, G: Tagging<D::Annotation>>(
     state: &mut LayoutState<D, G, G::Tag, Block<G::Tag, usize>>,
 ) -> Result<Option<Closing<D, G::Tag, Block<G::Tag, usize>>>, Error>
     requires { flatten (forest_of children.now) ≡ children.now }
-    ensures ok { IfOk result (λ c. cell_opened D.decoration G.annotated machine.operations node.now (forest_of children.now)
+    ensures ok { IfOk result (λ c. cell_opened (by_tags D.decoration G.annotated) node.now (forest_of children.now)
         (machine.operations.cell_block state.old.block) state.old ≡ Some (way state.new c)) }
-    ensures err { IfErr result (λ e. Refuses e (cell_opened D.decoration G.annotated machine.operations node.now (forest_of children.now)
+    ensures err { IfErr result (λ e. Refuses e (cell_opened (by_tags D.decoration G.annotated) node.now (forest_of children.now)
         (machine.operations.cell_block state.old.block) state.old)) }
 {
     let Some(cell) = state.block.cell_block() else {
@@ -479,7 +449,52 @@ fn open_cell<D: TextDecorator, G: Tagging<D::Annotation>>(
     open_in(alloc, Interruption::Cell(outer), node, children, state)
 }
 
-/// Opens a node, as what it stands in says, and keeps how texts were treated before it: the state becomes that of its
+/// Opens a node as an item of a list.
+///
+/// Almost every node is none, so this is a function of its own, which only the nodes of a list come to.
+#[inline(never)]
+#[tactic(auto, using(html_render_values::specs::laws::Outcome::refusals))]
+fn open_item<D: TextDecorator, G: Tagging<D::Annotation>>(
+    alloc: Global,
+    node: &RenderNode,
+    children: &[Entry<RenderNode>],
+    item: Option<Item>,
+    state: &mut LayoutState<D, G, G::Tag, Block<G::Tag, usize>>,
+) -> Result<Option<Closing<D, G::Tag, Block<G::Tag, usize>>>, Error>
+    requires { flatten (forest_of children.now) ≡ children.now }
+    ensures ok { IfOk result (λ c. item_opened (by_tags D.decoration G.annotated) node.now (forest_of children.now) item state.old ≡ Some (way state.new c)) }
+    ensures err { IfErr result (λ e. Refuses e (item_opened (by_tags D.decoration G.annotated) node.now (forest_of children.now) item state.old)) }
+{
+    let interrupts = begin_item(alloc, item, state)?;
+    open_in(alloc, interrupts, node, children, state)
+}
+
+/// Opens a node as the child of this number, below one that keeps this of its kind.
+#[inline]
+#[tactic(auto, using(html_render_values::specs::laws::Outcome::refusals))]
+fn open_below<D: TextDecorator, G: Tagging<D::Annotation>>(
+    alloc: Global,
+    node: &RenderNode,
+    children: &[Entry<RenderNode>],
+    parent: &KindClosing<D, G::Tag, Block<G::Tag, usize>>,
+    number: usize,
+    state: &mut LayoutState<D, G, G::Tag, Block<G::Tag, usize>>,
+) -> Result<Option<Closing<D, G::Tag, Block<G::Tag, usize>>>, Error>
+    requires { flatten (forest_of children.now) ≡ children.now }
+    ensures ok { IfOk result (λ c. opened_below (by_tags D.decoration G.annotated) parent.now number node.now (forest_of children.now) state.old ≡ Some (way state.new c)) }
+    ensures err { IfErr result (λ e. Refuses e (opened_below (by_tags D.decoration G.annotated) parent.now number node.now (forest_of children.now) state.old)) }
+{
+    match parent {
+        KindClosing::EndRow => open_cell(alloc, node, children, state),
+        KindClosing::Bullets { .. } | KindClosing::Numbers { .. } => {
+            let item = item_of::<D, G>(alloc, &state.decorator, parent, number)?;
+            open_item(alloc, node, children, item, state)
+        }
+        _ => open_in(alloc, Interruption::NoBlock, node, children, state),
+    }
+}
+
+/// Opens a node, as what it stands below says, and keeps how texts were treated before it: the state becomes that of its
 /// children, or, with nothing kept, the one behind it.
 ///
 /// # Errors
@@ -491,18 +506,19 @@ pub fn open<D: TextDecorator, G: Tagging<D::Annotation>>(
     alloc: Global,
     node: &RenderNode,
     children: &[Entry<RenderNode>],
+    parent: Option<&Closing<D, G::Tag, Block<G::Tag, usize>>>,
+    number: usize,
     state: &mut LayoutState<D, G, G::Tag, Block<G::Tag, usize>>,
 ) -> Result<Option<Closing<D, G::Tag, Block<G::Tag, usize>>>, Error>
     requires { flatten (forest_of children.now) ≡ children.now }
-    ensures ok { IfOk result (λ c. opened D.decoration G.annotated machine.operations node.now (forest_of children.now) state.old
+    ensures ok { IfOk result (λ c. opened (by_tags D.decoration G.annotated) (option_copied parent.entry) number node.now (forest_of children.now) state.old
         ≡ Some (way state.new c)) }
-    ensures err { IfErr result (λ e. Refuses e (opened D.decoration G.annotated machine.operations node.now (forest_of children.now) state.old)) }
+    ensures err { IfErr result (λ e. Refuses e (opened (by_tags D.decoration G.annotated) (option_copied parent.entry) number node.now (forest_of children.now) state.old)) }
 {
-    if let Around::Cells = state.around {
-        return open_cell(alloc, node, children, state);
+    match parent {
+        Some(parent) => open_below(alloc, node, children, &parent.kind, number, state),
+        None => open_in(alloc, Interruption::NoBlock, node, children, state),
     }
-    let item = begin_item(alloc, state)?;
-    open_in(alloc, item, node, children, state)
 }
 
 /// Closes a node: the state becomes the one behind it.
@@ -517,8 +533,8 @@ pub fn close<D: TextDecorator, G: Tagging<D::Annotation>>(
     closing: Closing<D, G::Tag, Block<G::Tag, usize>>,
     state: &mut LayoutState<D, G, G::Tag, Block<G::Tag, usize>>,
 ) -> Result<(), Error>
-    ensures ok { OnOk result (closed D.decoration G.annotated machine.operations closing state.old ≡ Some state.new) }
-    ensures err { IfErr result (λ e. Refuses e (closed D.decoration G.annotated machine.operations closing state.old)) }
+    ensures ok { OnOk result (closed (by_tags D.decoration G.annotated) closing state.old ≡ Some state.new) }
+    ensures err { IfErr result (λ e. Refuses e (closed (by_tags D.decoration G.annotated) closing state.old)) }
 {
     close_kind(alloc, closing.kind, state)?;
     state.text = closing.text;

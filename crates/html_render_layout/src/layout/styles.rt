@@ -1,8 +1,9 @@
 //! What a node's style gives its texts: colours, which characters are annotated with, how white space is treated, and
 //! whether they are preformatted.
 
-ghost use Rattle.std.specs.Prelude.{◌≡◌, OnOk, IfErr};
-ghost use Rattle.html_render_layout.specs.Layout.{annotated, in_style};
+ghost use Rattle.std.specs.Prelude.{◌≡◌, Some, OnOk, IfErr};
+ghost use Rattle.html_render_layout.specs.Layout.{annotated, style_steps, perform_all};
+ghost use Rattle.html_render_layout.specs.Working.{by_tags};
 
 use super::state::LayoutState;
 use crate::tagging::Tagging;
@@ -18,7 +19,7 @@ fn annotate<D: TextDecorator, G: Tagging<D::Annotation>>(
     annotation: Option<D::Annotation>,
     state: &mut LayoutState<D, G, G::Tag, Block<G::Tag, usize>>,
 ) -> Result<(), Error>
-    ensures ok { OnOk result (state.new ≡ annotated G.annotated annotation state.old) }
+    ensures ok { OnOk result (state.new ≡ annotated (by_tags D.decoration G.annotated) annotation state.old) }
     ensures err { IfErr result (λ e. e ≡ Error.OutOfMemory) }
 {
     if let Some(annotation) = annotation {
@@ -38,7 +39,7 @@ pub fn begin_style<D: TextDecorator, G: Tagging<D::Annotation>>(
     style: &NodeStyle,
     state: &mut LayoutState<D, G, G::Tag, Block<G::Tag, usize>>,
 ) -> Result<(), Error>
-    ensures ok { OnOk result (state.new ≡ in_style D.decoration G.annotated style.now state.old) }
+    ensures ok { OnOk result (perform_all (by_tags D.decoration G.annotated) state.old (style_steps D.decoration style.now) state.old ≡ Some state.new) }
     ensures err { IfErr result (λ e. e ≡ Error.OutOfMemory) }
 {
     if let Some(colour) = style.colour {

@@ -6,8 +6,8 @@ ghost use Rattle.std.specs.List.{list_all};
 ghost use Rattle.std.specs.Str.{chars};
 ghost use Rattle.html_render_values.specs.Outcome.{Refuses};
 ghost use Rattle.html_render_nodes.specs.Preorder.{flatten, forest_of};
-ghost use Rattle.html_render_blocks.specs.Machine as machine;
-ghost use Rattle.html_render_layout.specs.Layout.{add_characters, only_node, digits_of_kind, digits_of, raised};
+ghost use Rattle.html_render_layout.specs.Layout.{write, only_node, digits_of_kind, digits_of, raised};
+ghost use Rattle.html_render_layout.specs.Working.{by_tags};
 
 use super::state::LayoutState;
 use super::texts::add_text;
@@ -92,8 +92,8 @@ pub fn write_raised<D: TextDecorator, G: Tagging<D::Annotation>>(
     digits: &str,
     state: &mut LayoutState<D, G, G::Tag, Block<G::Tag, usize>>,
 ) -> Result<(), Error>
-    ensures ok { OnOk result (add_characters D.decoration G.annotated machine.operations (map raised digits.now) state.old ≡ Some state.new) }
-    ensures err { IfErr result (λ e. Refuses e (add_characters D.decoration G.annotated machine.operations (map raised digits.now) state.old)) }
+    ensures ok { OnOk result (write (by_tags D.decoration G.annotated) (map raised digits.now) state.old ≡ Some state.new) }
+    ensures err { IfErr result (λ e. Refuses e (write (by_tags D.decoration G.annotated) (map raised digits.now) state.old)) }
 {
     let text = raised_text(alloc, digits)?;
     add_text(alloc, text.as_str(), state)

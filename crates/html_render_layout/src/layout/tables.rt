@@ -1,13 +1,13 @@
 //! Tables: how one begins and ends, with the fences round it, and where its cells are laid out.
 
-ghost use Rattle.std.specs.Prelude.{◌≡◌, Some, OnOk, IfOk, IfErr, codes};
+ghost use Rattle.std.specs.Prelude.{◌≡◌, [], ◌∷◌, Some, OnOk, IfOk, IfErr, codes};
 ghost use Rattle.std.specs.Str.{chars};
 ghost use Rattle.html_render_values.specs.Outcome.{Refuses};
-ghost use Rattle.html_render_blocks.specs.Machine as machine;
-ghost use Rattle.html_render_layout.specs.Layout.{fence_style, with_fence, fenced, table_begun, table_ended, in_cell};
-ghost use Rattle.html_render_layout.specs.Opening.{cell_closed};
+ghost use Rattle.html_render_layout.specs.Layout.{StartBlock, Fence, BeginTable, plain_style, fence, fenced, perform_all, within};
+ghost use Rattle.html_render_layout.specs.Opening.{cell_closed, kind_closed};
+ghost use Rattle.html_render_layout.specs.Working.{by_tags};
 
-use super::state::{Around, InterruptedTable, LayoutState, OuterTable};
+use super::state::{InterruptedTable, KindClosing, LayoutState, OuterTable};
 use crate::tagging::Tagging;
 use html_render_blocks::block::Block;
 use html_render_lines::character::TextStyle;
@@ -28,7 +28,7 @@ fn fence_text() -> &'static str
 
 /// The style of a fence.
 fn fence_style<T: Copy>(tag: T) -> TextStyle<T>
-    ensures { result ≡ fence_style tag }
+    ensures { result ≡ plain_style tag }
 {
     TextStyle {
         mode: WhiteSpace::Normal,
@@ -42,8 +42,8 @@ fn fence_style<T: Copy>(tag: T) -> TextStyle<T>
 fn write_fence<D: TextDecorator, G: Tagging<D::Annotation>>(
     state: &mut LayoutState<D, G, G::Tag, Block<G::Tag, usize>>,
 ) -> Result<(), Error>
-    ensures ok { OnOk result (with_fence machine.operations state.old ≡ Some state.new) }
-    ensures err { IfErr result (λ e. Refuses e (with_fence machine.operations state.old)) }
+    ensures ok { OnOk result (fence (by_tags D.decoration G.annotated) state.old ≡ Some state.new) }
+    ensures err { IfErr result (λ e. Refuses e (fence (by_tags D.decoration G.annotated) state.old)) }
 {
     let style = fence_style(state.blank);
     state.block.add_inline_text(fence_text(), style)?;
@@ -56,8 +56,8 @@ fn write_fence<D: TextDecorator, G: Tagging<D::Annotation>>(
 fn add_fence<D: TextDecorator, G: Tagging<D::Annotation>>(
     state: &mut LayoutState<D, G, G::Tag, Block<G::Tag, usize>>,
 ) -> Result<(), Error>
-    ensures ok { OnOk result (fenced machine.operations state.old ≡ Some state.new) }
-    ensures err { IfErr result (λ e. Refuses e (fenced machine.operations state.old)) }
+    ensures ok { OnOk result (fenced (by_tags D.decoration G.annotated) state.old ≡ Some state.new) }
+    ensures err { IfErr result (λ e. Refuses e (fenced (by_tags D.decoration G.annotated) state.old)) }
 {
     if !state.settings.fence_tables {
         return Ok(());
@@ -78,8 +78,10 @@ pub fn begin_table<D: TextDecorator, G: Tagging<D::Annotation>>(
     grid: &Grid,
     state: &mut LayoutState<D, G, G::Tag, Block<G::Tag, usize>>,
 ) -> Result<(), Error>
-    ensures ok { OnOk result (table_begun machine.operations grid.now.cells grid.now.needs state.old ≡ Some state.new) }
-    ensures err { IfErr result (λ e. Refuses e (table_begun machine.operations grid.now.cells grid.now.needs state.old)) }
+    ensures ok { OnOk result (perform_all (by_tags D.decoration G.annotated) state.old
+        (StartBlock ∷ (Fence ∷ (BeginTable grid.now.cells grid.now.needs ∷ []))) state.old ≡ Some state.new) }
+    ensures err { IfErr result (λ e. Refuses e (perform_all (by_tags D.decoration G.annotated) state.old
+        (StartBlock ∷ (Fence ∷ (BeginTable grid.now.cells grid.now.needs ∷ []))) state.old)) }
 {
     state.block.start_block()?;
     add_fence(state)?;
@@ -103,8 +105,8 @@ pub fn end_table<D: TextDecorator, G: Tagging<D::Annotation>>(
     in_table: bool,
     state: &mut LayoutState<D, G, G::Tag, Block<G::Tag, usize>>,
 ) -> Result<(), Error>
-    ensures ok { OnOk result (table_ended machine.operations in_table state.old ≡ Some state.new) }
-    ensures err { IfErr result (λ e. Refuses e (table_ended machine.operations in_table state.old)) }
+    ensures ok { OnOk result (kind_closed (by_tags D.decoration G.annotated) (KindClosing.EndTable in_table) state.old ≡ Some state.new) }
+    ensures err { IfErr result (λ e. Refuses e (kind_closed (by_tags D.decoration G.annotated) (KindClosing.EndTable in_table) state.old)) }
 {
     state.block.end_table()?;
     state.in_table = in_table;
@@ -122,7 +124,7 @@ pub fn begin_cell<D: TextDecorator, G: Tagging<D::Annotation>>(
     cell: Block<G::Tag, usize>,
     state: &mut LayoutState<D, G, G::Tag, Block<G::Tag, usize>>,
 ) -> Result<InterruptedTable<D, Block<G::Tag, usize>>, Error>
-    ensures ok { OnOk result (state.new ≡ in_cell D.decoration cell state.old) }
+    ensures ok { OnOk result (state.new ≡ within (by_tags D.decoration G.annotated) cell state.old) }
     ensures outer { IfOk result (λ outer. outer ≡ record { decorator = state.old.decorator; block = state.old.block }) }
     ensures err { IfErr result (λ e. e ≡ Error.OutOfMemory) }
 {
@@ -131,7 +133,6 @@ pub fn begin_cell<D: TextDecorator, G: Tagging<D::Annotation>>(
         decorator: mem::replace(&mut state.decorator, decorator),
         block: mem::replace(&mut state.block, cell),
     };
-    state.around = Around::Plain;
     InterruptedTable::new(alloc, outer)
 }
 
@@ -146,13 +147,12 @@ pub fn end_cell<D: TextDecorator, G: Tagging<D::Annotation>>(
     outer: InterruptedTable<D, Block<G::Tag, usize>>,
     state: &mut LayoutState<D, G, G::Tag, Block<G::Tag, usize>>,
 ) -> Result<(), Error>
-    ensures ok { OnOk result (cell_closed machine.operations outer state.old ≡ Some state.new) }
-    ensures err { IfErr result (λ e. Refuses e (cell_closed machine.operations outer state.old)) }
+    ensures ok { OnOk result (cell_closed (by_tags D.decoration G.annotated) outer state.old ≡ Some state.new) }
+    ensures err { IfErr result (λ e. Refuses e (cell_closed (by_tags D.decoration G.annotated) outer state.old)) }
 {
     let outer = outer.into_outer();
     let cell = mem::replace(&mut state.block, outer.block);
     state.block.add_cell(cell)?;
     state.decorator = outer.decorator;
-    state.around = Around::Cells;
     Ok(())
 }

@@ -4,7 +4,8 @@ ghost use Rattle.std.specs.Prelude.{◌≡◌, [], ◌∷◌, ◌++◌, true, So
 ghost use Rattle.std.specs.Str.{chars, encode_utf8_all};
 ghost use Rattle.html_render_values.specs.Outcome.{Refuses};
 ghost use Rattle.html_render_blocks.specs.Machine as machine;
-ghost use Rattle.html_render_layout.specs.Layout.{struck, written, on_block, text_style, add_styled, add_text};
+ghost use Rattle.html_render_layout.specs.Layout.{struck, written, on_block, text_style, add_styled, write};
+ghost use Rattle.html_render_layout.specs.Working.{by_tags};
 
 use super::state::LayoutState;
 use crate::tagging::Tagging;
@@ -83,10 +84,10 @@ fn preformatted_style<D: TextDecorator, G: Tagging<D::Annotation>>(
     state: &mut LayoutState<D, G, G::Tag, Block<G::Tag, usize>>,
 ) -> Result<TextStyle<G::Tag>, Error>
     ensures stacks { OnOk result (state.new ≡ record state.old {
-      stacks = (text_style D.decoration G.annotated state.old.decorator state.old.stacks state.old.text true).0;
+      stacks = (text_style (by_tags D.decoration G.annotated) state.old.decorator state.old.stacks state.old.text true).0;
     }) }
     ensures style { IfOk result (λ style.
-        style ≡ (text_style D.decoration G.annotated state.old.decorator state.old.stacks state.old.text true).1) }
+        style ≡ (text_style (by_tags D.decoration G.annotated) state.old.decorator state.old.stacks state.old.text true).1) }
     ensures err { IfErr result (λ e. e ≡ Error.OutOfMemory) }
 {
     let first = state.decorator.decorate_preformat_first(alloc)?;
@@ -110,11 +111,11 @@ fn add_preformatted<D: TextDecorator, G: Tagging<D::Annotation>>(
     text: &str,
     state: &mut LayoutState<D, G, G::Tag, Block<G::Tag, usize>>,
 ) -> Result<(), Error>
-    ensures ok { OnOk result (add_styled machine.operations
-        (text_style D.decoration G.annotated state.old.decorator state.old.stacks state.old.text true)
+    ensures ok { OnOk result (add_styled (by_tags D.decoration G.annotated)
+        (text_style (by_tags D.decoration G.annotated) state.old.decorator state.old.stacks state.old.text true)
         (written state.old.text.struck_out (chars text.now)) state.old ≡ Some state.new) }
-    ensures err { IfErr result (λ e. Refuses e (add_styled machine.operations
-        (text_style D.decoration G.annotated state.old.decorator state.old.stacks state.old.text true)
+    ensures err { IfErr result (λ e. Refuses e (add_styled (by_tags D.decoration G.annotated)
+        (text_style (by_tags D.decoration G.annotated) state.old.decorator state.old.stacks state.old.text true)
         (written state.old.text.struck_out (chars text.now)) state.old)) }
 {
     let style = preformatted_style(alloc, state)?;
@@ -133,8 +134,8 @@ pub fn add_text<D: TextDecorator, G: Tagging<D::Annotation>>(
     text: &str,
     state: &mut LayoutState<D, G, G::Tag, Block<G::Tag, usize>>,
 ) -> Result<(), Error>
-    ensures ok { OnOk result (add_text D.decoration G.annotated machine.operations text.now state.old ≡ Some state.new) }
-    ensures err { IfErr result (λ e. Refuses e (add_text D.decoration G.annotated machine.operations text.now state.old)) }
+    ensures ok { OnOk result (write (by_tags D.decoration G.annotated) (chars text.now) state.old ≡ Some state.new) }
+    ensures err { IfErr result (λ e. Refuses e (write (by_tags D.decoration G.annotated) (chars text.now) state.old)) }
 {
     if state.text.preformatted {
         return add_preformatted(alloc, text, state);

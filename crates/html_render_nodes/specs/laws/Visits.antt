@@ -1,9 +1,16 @@
 -- Which nodes a run visits, and how many stand open.
-use Rattle.std.specs.Prelude.{ℕ, ◌+◌, ◌≤◌, ◌≡◌, List, ◌∷◌, ◌++◌, length, Option, Some, None, option_and_then, refl}
-use Rattle.std.proofs.Common.{arith, ap, ◌∙◌, sym, length-append}
-use Rattle.std.proofs.lemmas.Option.{same_Some}
+use Rattle.std.specs.Prelude.{ℕ, ◌+◌, ◌≤◌, ◌≡◌, true, List, [], length, Option, Some, None, refl}
+use Rattle.std.specs.Option.{option_map_or}
+use Rattle.std.proofs.Common.{arith, length-append}
 use Rattle.html_render_values.specs.Forest.{Forest, none, node, count, depth}
-use Rattle.html_render_nodes.specs.Pass.{Visits, through_visit, inside, run, from, count_from, visited, most_open}
+use Rattle.html_render_nodes.specs.Pass.{Visits, Places, bare, placed, through_visit, inside, run_at, nodes_at, visited, open_at, most_open}
+
+-- what is visited, and what is counted, from a state on, if there is one
+abbrev pub from : {K S : Type 0} → (S → List K) → Option S → List K
+from nodes o = option_map_or nodes o []
+
+abbrev pub count_from : {S : Type 0} → (S → ℕ) → Option S → ℕ
+count_from count o = option_map_or count o 0
 
 length-from : {K S : Type 0} (visits : S → List K) (n : ℕ) (o : Option S) → ((s : S) → length (visits s) ≤ n) → length (from visits o) ≤ n
 length-from visits n None h = omega arith
@@ -20,28 +27,35 @@ count_from-same f g (Some s) h = h s
 
 module _ {K S : Type 0} (visits : Visits K S) where
   -- each node is visited once at most
-  pub visited-at_most : (t : Forest K) (s : S) → length (visited visits t s) ≤ count t
-  visited-at_most none s = omega arith
-  visited-at_most (node k children beside) s =
-      let below = from (λ q. visited visits children q) (inside (visits k children s)) in
-      let behind = from (λ q. visited visits beside q) (through_visit (visits k children s) (λ q. run visits children q)) in
+  nodes-at_most : (t : Forest K) (places : Places S) (number : ℕ) (s : S) → length (nodes_at true visits places number t s) ≤ count t
+  nodes-at_most none places number s = omega arith
+  nodes-at_most (node k children beside) places number s =
+      let visit = placed (places number s) (visits k children) s in
+      let below = from (λ x. nodes_at true visits x.0 0 children x.1) (inside visit) in
+      let next : S → List K = λ t. nodes_at true visits places (number + 1) beside t in
+      let behind = through_visit visit (λ places q. run_at visits places 0 children q) in
       omega (
         arith,
-        length-append below behind,
-        length-from (λ q. visited visits children q) (count children) (inside (visits k children s))
-            (λ q. visited-at_most children q),
-        length-from (λ q. visited visits beside q) (count beside) (through_visit (visits k children s) (λ q. run visits children q))
-            (λ q. visited-at_most beside q),
+        length-append below (from next behind),
+        length-from (λ x. nodes_at true visits x.0 0 children x.1) (count children) (inside visit) (λ x. nodes-at_most children x.0 0 x.1),
+        length-from next (count beside) behind (λ t. nodes-at_most beside places (number + 1) t),
       )
 
+  pub visited-at_most : (t : Forest K) (s : S) → length (visited visits t s) ≤ count t
+  visited-at_most t s = nodes-at_most t bare 0 s
+
   -- no more nodes stand open at once than the forest has levels
-  pub most_open-at_most : (t : Forest K) (s : S) → most_open visits t s ≤ depth t
-  most_open-at_most none s = omega arith
-  most_open-at_most (node k children beside) s =
+  open-at_most : (t : Forest K) (places : Places S) (number : ℕ) (s : S) → open_at visits places number t s ≤ depth t
+  open-at_most none places number s = omega arith
+  open-at_most (node k children beside) places number s =
+      let visit = placed (places number s) (visits k children) s in
       omega (
         arith,
-        count_from-at_most (λ q. 1 + most_open visits children q) (1 + depth children) (inside (visits k children s))
-            (λ q. omega (arith, most_open-at_most children q)),
-        count_from-at_most (λ q. most_open visits beside q) (depth beside) (through_visit (visits k children s) (λ q. run visits children q))
-            (λ q. most_open-at_most beside q),
+        count_from-at_most (λ x. 1 + open_at visits x.0 0 children x.1) (1 + depth children) (inside visit)
+            (λ x. omega (arith, open-at_most children x.0 0 x.1)),
+        count_from-at_most (λ t. open_at visits places (number + 1) beside t) (depth beside)
+            (through_visit visit (λ places q. run_at visits places 0 children q)) (λ t. open-at_most beside places (number + 1) t),
       )
+
+  pub most_open-at_most : (t : Forest K) (s : S) → most_open visits t s ≤ depth t
+  most_open-at_most t s = open-at_most t bare 0 s

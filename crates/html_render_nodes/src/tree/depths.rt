@@ -1,7 +1,8 @@
 //! The depths of the nodes of a render tree, noted in one walk.
 
-ghost use Rattle.std.specs.Prelude.{◌≡◌, IfOk, IfErr, refl};
-ghost use Rattle.html_render_nodes.specs.Depths.{closed, noting, opened};
+ghost use Rattle.std.specs.Prelude.{◌≡◌, IfOk, IfErr};
+ghost use Rattle.html_render_nodes.specs.Depths.{below, closed, noting, opened};
+ghost use Rattle.html_render_nodes.specs.laws.Depths.{depths-opened};
 
 use super::{Entry, Flat, RenderNode, RenderTree};
 use crate::walk::{Pass, walk};
@@ -39,17 +40,21 @@ impl Pass for Depths {
 
     ghost visits = { noting };
 
+    ghost below = { below };
+
     ghost opened = { opened };
 
     ghost closed = { closed };
 
-    ghost told = { λ k trees s. record { told = λ children. refl; asked = refl } };
+    ghost told = { depths-opened };
 
     /// Notes the depth of a node, which it keeps.
     fn open(
         _alloc: Global,
         _node: &RenderNode,
         _children: &[Entry<RenderNode>],
+        _parent: Option<&usize>,
+        _number: usize,
         state: &mut Noted,
     ) -> Result<Option<usize>, Error> {
         let depth = state.depth;
