@@ -83,6 +83,7 @@ struct Frame<T> {
 }
 
 /// What is kept of the innermost open node, if one is open.
+#[inline(always)]
 fn innermost<T: Drop>(frames: &[Frame<T>]) -> Option<&T>
     ensures { option_copied result ≡ innermost frames.now }
 {

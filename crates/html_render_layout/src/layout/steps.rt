@@ -9,7 +9,7 @@ ghost use Rattle.html_render_parts.specs.Decoration.{link};
 ghost use Rattle.html_render_estimates.specs.Estimates.{prefix_columns, prefix_of};
 ghost use Rattle.html_render_layout.specs.Layout.{AddTarget, BeginTable, Fence, NewLine, StartBlock, Strike, inner_least, nested, perform_all};
 ghost use Rattle.html_render_layout.specs.Layout.{spaces, start};
-ghost use Rattle.html_render_layout.specs.Opening.{interrupted, item_begun, item_kept, item_closed};
+ghost use Rattle.html_render_layout.specs.Opening.{interrupted, item_of, item_begun, item_kept, item_closed};
 ghost use Rattle.html_render_layout.specs.Opening.{kind_opened, kind_closed, node_opened, opened_in, cell_opened, item_opened, opened_below};
 ghost use Rattle.html_render_layout.specs.Opening.{opened, closed};
 ghost use Rattle.html_render_layout.specs.Working.{by_tags};
@@ -449,49 +449,28 @@ fn open_cell<D: TextDecorator, G: Tagging<D::Annotation>>(
     open_in(alloc, Interruption::Cell(outer), node, children, state)
 }
 
-/// Opens a node as an item of a list.
+/// Opens a node as the child of this number of a list, whose kind keeps this.
 ///
 /// Almost every node is none, so this is a function of its own, which only the nodes of a list come to.
 #[inline(never)]
 #[tactic(auto, using(html_render_values::specs::laws::Outcome::refusals))]
-fn open_item<D: TextDecorator, G: Tagging<D::Annotation>>(
+fn open_listed<D: TextDecorator, G: Tagging<D::Annotation>>(
     alloc: Global,
     node: &RenderNode,
     children: &[Entry<RenderNode>],
-    item: Option<Item>,
-    state: &mut LayoutState<D, G, G::Tag, Block<G::Tag, usize>>,
-) -> Result<Option<Closing<D, G::Tag, Block<G::Tag, usize>>>, Error>
-    requires { flatten (forest_of children.now) ≡ children.now }
-    ensures ok { IfOk result (λ c. item_opened (by_tags D.decoration G.annotated) node.now (forest_of children.now) item state.old ≡ Some (way state.new c)) }
-    ensures err { IfErr result (λ e. Refuses e (item_opened (by_tags D.decoration G.annotated) node.now (forest_of children.now) item state.old)) }
-{
-    let interrupts = begin_item(alloc, item, state)?;
-    open_in(alloc, interrupts, node, children, state)
-}
-
-/// Opens a node as the child of this number, below one that keeps this of its kind.
-#[inline]
-#[tactic(auto, using(html_render_values::specs::laws::Outcome::refusals))]
-fn open_below<D: TextDecorator, G: Tagging<D::Annotation>>(
-    alloc: Global,
-    node: &RenderNode,
-    children: &[Entry<RenderNode>],
-    parent: &KindClosing<D, G::Tag, Block<G::Tag, usize>>,
+    list: &KindClosing<D, G::Tag, Block<G::Tag, usize>>,
     number: usize,
     state: &mut LayoutState<D, G, G::Tag, Block<G::Tag, usize>>,
 ) -> Result<Option<Closing<D, G::Tag, Block<G::Tag, usize>>>, Error>
     requires { flatten (forest_of children.now) ≡ children.now }
-    ensures ok { IfOk result (λ c. opened_below (by_tags D.decoration G.annotated) parent.now number node.now (forest_of children.now) state.old ≡ Some (way state.new c)) }
-    ensures err { IfErr result (λ e. Refuses e (opened_below (by_tags D.decoration G.annotated) parent.now number node.now (forest_of children.now) state.old)) }
+    ensures ok { IfOk result (λ c. item_opened (by_tags D.decoration G.annotated) node.now (forest_of children.now)
+        (item_of (by_tags D.decoration G.annotated) state.old.decorator list.now number) state.old ≡ Some (way state.new c)) }
+    ensures err { IfErr result (λ e. Refuses e (item_opened (by_tags D.decoration G.annotated) node.now (forest_of children.now)
+        (item_of (by_tags D.decoration G.annotated) state.old.decorator list.now number) state.old)) }
 {
-    match parent {
-        KindClosing::EndRow => open_cell(alloc, node, children, state),
-        KindClosing::Bullets { .. } | KindClosing::Numbers { .. } => {
-            let item = item_of::<D, G>(alloc, &state.decorator, parent, number)?;
-            open_item(alloc, node, children, item, state)
-        }
-        _ => open_in(alloc, Interruption::NoBlock, node, children, state),
-    }
+    let item = item_of::<D, G>(alloc, &state.decorator, list, number)?;
+    let interrupts = begin_item(alloc, item, state)?;
+    open_in(alloc, interrupts, node, children, state)
 }
 
 /// Opens a node, as what it stands below says, and keeps how texts were treated before it: the state becomes that of its
@@ -515,10 +494,16 @@ pub fn open<D: TextDecorator, G: Tagging<D::Annotation>>(
         ≡ Some (way state.new c)) }
     ensures err { IfErr result (λ e. Refuses e (opened (by_tags D.decoration G.annotated) (option_copied parent.entry) number node.now (forest_of children.now) state.old)) }
 {
-    match parent {
-        Some(parent) => open_below(alloc, node, children, &parent.kind, number, state),
-        None => open_in(alloc, Interruption::NoBlock, node, children, state),
+    if let Some(parent) = parent {
+        match parent.kind {
+            KindClosing::EndRow => return open_cell(alloc, node, children, state),
+            KindClosing::Bullets { .. } | KindClosing::Numbers { .. } => {
+                return open_listed(alloc, node, children, &parent.kind, number, state);
+            }
+            _ => {}
+        }
     }
+    open_in(alloc, Interruption::NoBlock, node, children, state)
 }
 
 /// Closes a node: the state becomes the one behind it.
