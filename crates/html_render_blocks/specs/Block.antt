@@ -3,6 +3,7 @@
 use Rattle.std.specs.Prelude.{ℕ, ◌-◌, max, min, nat_le, Bool, true, false, not, ◌||◌, ◌&&◌, List, [], ◌∷◌, ◌++◌, map, length, ◌==◌}
 use Rattle.std.specs.Prelude.{Option, Some, None, option_map, if◌then◌else◌}
 use Rattle.std.specs.List.{list_all}
+use Rattle.html_render_glyphs.specs.declared.borders.TheConstants.{BORDERS}
 use Rattle.html_render_values.specs.Outcome.{◌>>=◌}
 use Rattle.html_render_values.specs.declared.white_space.WhiteSpace.{WhiteSpace}
 use Rattle.html_render_values.specs.declared.white_space.WhiteSpace.TheVariants.{Normal}
@@ -17,17 +18,17 @@ use Rattle.html_render_parts.specs.Shares.{widths_across}
 use Rattle.html_render_parts.specs.declared.table.PlacedCell.{PlacedCell}
 use Rattle.html_render_parts.specs.TableCells.{rows_on}
 use Rattle.html_render_pictures.specs.Marked.{marked_before, marked_behind}
-use Rattle.html_render_pictures.specs.Padding.{filled}
+use Rattle.html_render_pictures.specs.Padding.{filled, repeated}
 use Rattle.html_render_pictures.specs.Picture.{KeptCell, is_empty}
 use Rattle.html_render_blocks.specs.declared.block.BlockSetting.{BlockSetting}
 use Rattle.html_render_blocks.specs.declared.block.tables.OpenTable.{OpenTable}
 use Rattle.html_render_blocks.specs.declared.block.tables.OpenTable.TheVariants.{Across, Stacked}
 use Rattle.html_render_blocks.specs.Closing.{line_setting, closing_lines}
 use Rattle.html_render_blocks.specs.Joined.{joined}
-use Rattle.html_render_blocks.specs.OpenRows.{with_cell}
-use Rattle.html_render_blocks.specs.Operations.{OperationsOn, Ending}
+use Rattle.html_render_blocks.specs.OpenRows.{past_cell}
+use Rattle.html_render_blocks.specs.Operations.{OperationsOn, DocumentEnd}
 use Rattle.html_render_blocks.specs.Parts.{Parts}
-use Rattle.html_render_blocks.specs.Tables.{frame_of, rule, stacked_border, with_row_open, next_cell_width, skipped, with_open, picture_of}
+use Rattle.html_render_blocks.specs.Tables.{frame_of, stacked_border, with_row_open, next_cell_width, skipped, with_open, picture_of}
 
 -- the columns of a paragraph's lines: those of its block, or fewer
 abbrev pub wrap_width : ℕ → Option ℕ → ℕ
@@ -123,15 +124,15 @@ module _ {P R T M : Type 0} (parts : Parts P R T M) where
   -- a border, a line of one character as wide as the block, if borders are drawn
   abbrev pub add_border : Block P R T M → Option T → (character : ℕ) → Block P R T M
   add_border b None character = b
-  add_border b (Some tag) character = add_lines b (rule tag character b.setting.width ∷ [])
+  add_border b (Some tag) character = add_lines b (repeated tag character b.setting.width ∷ [])
 
   -- a flushed block with a table whose cells stand one below another, and with one whose columns have these widths
   abbrev pub stacked_begun : Block P R T M → Option T → Block P R T M
-  stacked_begun b border = record (add_border b border 0x2500) { table = Some (Stacked border false) }
+  stacked_begun b border = record (add_border b border BORDERS.line) { table = Some (Stacked border false) }
 
-  abbrev pub table_begun : Block P R T M → T → (borders : Bool) → (ahead : List (List PlacedCell)) → Option (List ℕ) → Block P R T M
-  table_begun b tag borders ahead None = stacked_begun b (stacked_border tag borders b.setting.width)
-  table_begun b tag borders ahead (Some widths) =
+  abbrev pub with_table_begun : Block P R T M → T → (borders : Bool) → (ahead : List (List PlacedCell)) → Option (List ℕ) → Block P R T M
+  with_table_begun b tag borders ahead None = stacked_begun b (stacked_border tag borders b.setting.width)
+  with_table_begun b tag borders ahead (Some widths) =
       let picture = parts.pictures.begun (frame_of tag borders widths) (parts.waiting b.paragraph) in
       record b { paragraph = parts.without_waiting b.paragraph; table = Some (Across picture widths ahead None) }
 
@@ -149,15 +150,15 @@ module _ {P R T M : Type 0} (parts : Parts P R T M) where
   abbrev pub put_below : Block P R T M → Block P R T M → Block P R T M
   put_below b cell = put_lines b cell.lines (parts.waiting cell.paragraph)
 
-  -- a cell below others of its row: where there are lines above it and it has some more, a line of `/` stands between them
+  -- a cell below others of its row: where there are lines above it and it has some more, a line of slashes stands between them
   abbrev pub put_stacked : Block P R T M → Option T → (has_lines more : Bool) → Block P R T M → Block P R T M
   put_stacked b border has_lines more cell =
-      record (put_below (if has_lines && more then add_border b border 0x2F else b) cell) { table = Some (Stacked border (has_lines || more)) }
+      record (put_below (if has_lines && more then add_border b border BORDERS.slash else b) cell) { table = Some (Stacked border (has_lines || more)) }
 
   -- the next cell is this flushed block
   abbrev pub cell_added : Block P R T M → Option (OpenTable R T M) → Block P R T M → Option (Block P R T M)
   cell_added b (Some (Across picture widths ahead (Some row))) cell =
-      Some (record b { table = Some (Across picture widths ahead (Some (with_cell row (kept_cell cell ∷ [])))) })
+      Some (record b { table = Some (Across picture widths ahead (Some (past_cell row (kept_cell cell ∷ [])))) })
   cell_added b (Some (Stacked border has_lines)) cell =
       option_map (λ (e : Block P R T M). put_stacked e border has_lines (not (is_empty cell.lines)) cell) (flush b)
   cell_added b _ cell = option_map (λ (e : Block P R T M). put_below e cell) (flush b)
@@ -225,7 +226,7 @@ module _ {P R T M : Type 0} (parts : Parts P R T M) where
     -- a table begins on this grid, with borders under this tag if there are any. Its columns need so much, and its cells stand one
     -- below another where the columns can't stand side by side, or where they are to
     begin_table = λ b tag borders stacked grid needs. option_map
-        (λ (e : Block P R T M). table_begun e tag borders (rows_on grid) (if stacked then None else widths_across e.setting.width needs))
+        (λ (e : Block P R T M). with_table_begun e tag borders (rows_on grid) (if stacked then None else widths_across e.setting.width needs))
         (flush (end_table b));
     -- the next row begins
     begin_row = λ b. record b { table = option_map with_row_open b.table };
@@ -239,5 +240,5 @@ module _ {P R T M : Type 0} (parts : Parts P R T M) where
   }
 
   -- those that a document ends with
-  abbrev pub ending : Ending (Block P R T M) T
+  abbrev pub ending : DocumentEnd (Block P R T M) T
   ending = record { finish = finish; add_closing_lines = add_closing_lines }

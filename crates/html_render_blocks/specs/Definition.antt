@@ -4,7 +4,7 @@ use Rattle.html_render_lines.specs.declared.character.Item.{Item}
 use Rattle.html_render_paragraphs.specs.Paragraph.{Setting, paragraph}
 use Rattle.html_render_blocks.specs.Block as block
 use Rattle.html_render_blocks.specs.Block.{Block}
-use Rattle.html_render_blocks.specs.Operations.{OperationsOn, Ending}
+use Rattle.html_render_blocks.specs.Operations.{OperationsOn, DocumentEnd}
 use Rattle.html_render_blocks.specs.Parts.{Parts}
 use Rattle.html_render_blocks.specs.Tables.{Rows, defined_pictures}
 
@@ -32,5 +32,5 @@ DefinedBlock T M = Block (Fed T M) (Rows T M) T M
 unfoldable pub operations : {T M : Type 0} → OperationsOn (DefinedBlock T M) T M
 operations = block.operations definition
 
-abbrev pub ending : {T M : Type 0} → Ending (DefinedBlock T M) T
+abbrev pub ending : {T M : Type 0} → DocumentEnd (DefinedBlock T M) T
 ending = block.ending definition

@@ -4,7 +4,7 @@ use Rattle.html_render_paragraphs.specs.Stream.{State, start, after, finished}
 use Rattle.html_render_pictures.specs.Drawing.{Drawing}
 use Rattle.html_render_blocks.specs.Block as block
 use Rattle.html_render_blocks.specs.Block.{Block}
-use Rattle.html_render_blocks.specs.Operations.{OperationsOn, Ending}
+use Rattle.html_render_blocks.specs.Operations.{OperationsOn, DocumentEnd}
 use Rattle.html_render_blocks.specs.Parts.{Parts}
 use Rattle.html_render_blocks.specs.Tables.{drawn_pictures}
 
@@ -35,5 +35,5 @@ MachineBlock T M = Block (Option (State T M)) (Drawing T M) T M
 unfoldable pub operations : {T M : Type 0} → OperationsOn (MachineBlock T M) T M
 operations = block.operations machine
 
-unfoldable pub ending : {T M : Type 0} → Ending (MachineBlock T M) T
+unfoldable pub ending : {T M : Type 0} → DocumentEnd (MachineBlock T M) T
 ending = block.ending machine

@@ -63,8 +63,8 @@ abbrev pub open_row : {T M : Type 0} → (widths : List ℕ) → List PlacedCell
 open_row widths cells = record { ahead = places widths cells; cells = []; placeholder = has_placeholder cells }
 
 -- with its next cell, or without that
-abbrev pub with_cell : {T M : Type 0} → OpenRow T M → List (KeptCell T M) → OpenRow T M
-with_cell r cell = record { ahead = behind_cell r.ahead; cells = r.cells ++ empty_cells (before_cell r.ahead) ++ cell; placeholder = r.placeholder }
+abbrev pub past_cell : {T M : Type 0} → OpenRow T M → List (KeptCell T M) → OpenRow T M
+past_cell r cell = record { ahead = behind_cell r.ahead; cells = r.cells ++ empty_cells (before_cell r.ahead) ++ cell; placeholder = r.placeholder }
 
 -- the whole row: places that no cell came to are empty
 abbrev pub whole_row : {T M : Type 0} → OpenRow T M → TableRow T M

@@ -27,6 +27,6 @@ abbrev pub Operations : Type 0 → Type 0 → Type 0
 Operations B T = OperationsOn B T ℕ
 
 -- none is "too narrow"
-pub record Ending (B T : Type 0) : Type 0 where
+pub record DocumentEnd (B T : Type 0) : Type 0 where
   pub finish : B → Option B
   pub add_closing_lines : B → (cut : Bool) → T → List (List ℕ) → Option B

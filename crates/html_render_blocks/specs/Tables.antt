@@ -1,7 +1,6 @@
 -- The table that is open in a block: its cells stand side by side, or one below another.
 use Rattle.std.specs.Prelude.{ℕ, ◌+◌, ◌-◌, ◌==◌, Bool, false, not, ◌&&◌, List, [], ◌∷◌, ◌++◌, sum, fold, count_by}
-use Rattle.std.specs.Prelude.{Option, Some, None, drop, replicate, slice_index_or, if◌then◌else◌}
-use Rattle.html_render_lines.specs.declared.line.Element.TheVariants.{Character}
+use Rattle.std.specs.Prelude.{Option, Some, None, drop, slice_index_or, if◌then◌else◌}
 use Rattle.html_render_lines.specs.Line.{Line}
 use Rattle.html_render_parts.specs.declared.table.PlacedCell.{PlacedCell}
 use Rattle.html_render_pictures.specs.declared.picture.Frame.{Frame}
@@ -12,7 +11,7 @@ use Rattle.html_render_blocks.specs.declared.block.tables.OpenTable.{OpenTable}
 use Rattle.html_render_blocks.specs.declared.block.tables.OpenTable.TheVariants.{Across, Stacked}
 use Rattle.html_render_blocks.specs.declared.block.cells.CellPlace.{CellPlace}
 use Rattle.html_render_blocks.specs.declared.block.cells.CellPlace.TheVariants.{InRow, InStack, Below}
-use Rattle.html_render_blocks.specs.OpenRows.{OpenRow, next_width, open_row, with_cell, whole_row}
+use Rattle.html_render_blocks.specs.OpenRows.{OpenRow, next_width, open_row, past_cell, whole_row}
 
 -- what pictures are made of
 pub record Pictures (P T M : Type 0) : Type 0 where
@@ -37,17 +36,13 @@ defined_pictures = record {
 abbrev pub drawn_pictures : {T M : Type 0} → Pictures (Drawing T M) T M
 drawn_pictures = record { begun = drawing.begun; with_row = drawing.with_row; finished = drawing.finished }
 
--- the columns of a table: those of its columns, and the separators between the ones that aren't empty
-abbrev pub table_width : List ℕ → ℕ
-table_width widths = sum widths + (count_by (λ w. not (w == 0)) widths - 1)
+-- the width of a table's frame: its columns, and the separators between the ones that aren't empty
+abbrev pub frame_width : List ℕ → ℕ
+frame_width widths = sum widths + (count_by (λ w. not (w == 0)) widths - 1)
 
 -- how a table is framed
 abbrev pub frame_of : {T : Type 0} → T → (borders : Bool) → List ℕ → Frame T
-frame_of tag borders widths = record { borders = borders; width = table_width widths; tag = tag }
-
--- a line of one character, under a tag
-abbrev pub rule : {T M : Type 0} → T → (character width : ℕ) → Line T M
-rule tag character width = replicate width (Character character tag)
+frame_of tag borders widths = record { borders = borders; width = frame_width widths; tag = tag }
 
 -- the tag of the borders of a table whose cells stand one below another, if they are drawn
 abbrev pub stacked_border : {T : Type 0} → T → (borders : Bool) → (width : ℕ) → Option T
@@ -66,12 +61,12 @@ next_cell_width width _ = Some width
 
 -- a table without its next cell
 abbrev pub skipped : {P T M : Type 0} → OpenTable P T M → OpenTable P T M
-skipped (Across picture widths ahead (Some row)) = Across picture widths ahead (Some (with_cell row []))
+skipped (Across picture widths ahead (Some row)) = Across picture widths ahead (Some (past_cell row []))
 skipped table = table
 
 -- and with that cell
 abbrev pub with_next : {P T M : Type 0} → KeptCell T M → OpenTable P T M → OpenTable P T M
-with_next cell (Across picture widths ahead (Some row)) = Across picture widths ahead (Some (with_cell row (cell ∷ [])))
+with_next cell (Across picture widths ahead (Some row)) = Across picture widths ahead (Some (past_cell row (cell ∷ [])))
 with_next cell table = table
 
 -- where the next cell goes

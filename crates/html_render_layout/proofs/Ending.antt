@@ -6,7 +6,7 @@ use Rattle.html_render_values.specs.declared.errors.Error.{Error}
 use Rattle.html_render_values.specs.declared.errors.Error.TheVariants.{TooNarrow, Fail, OutOfMemory}
 use Rattle.html_render_values.specs.Outcome.{Refuses}
 use Rattle.html_render_parts.specs.Decoration.{Decoration}
-use Rattle.html_render_blocks.specs.Operations.{Ending}
+use Rattle.html_render_blocks.specs.Operations.{DocumentEnd}
 use Rattle.html_render_layout.specs.declared.layout.state.LayoutState.{LayoutState}
 use Rattle.html_render_layout.specs.Ending.{footnote, footnotes, closing_texts, ended}
 
@@ -29,7 +29,7 @@ abbrev pub with_new : {S K T B : Type 0} → LayoutState S K T B → Option B �
 with_new s o = option_and_then (λ c. Some (record s { block = c })) o
 
 -- the end, once the block is finished and the texts are made
-pub ended-by : {S A K T B X : Type 0} (d : Decoration S A) (end : Ending B T) (link_footnotes wrap_links : Bool) (tag : T)
+pub ended-by : {S A K T B X : Type 0} (d : Decoration S A) (end : DocumentEnd B T) (link_footnotes wrap_links : Bool) (tag : T)
     (s : LayoutState S K T B) (b : B) (f : X → List ℕ) (texts : List X) → end.finish s.block ≡ Some b →
     map f texts ≡ closing_texts d link_footnotes s.decorator s.targets →
     ended d end link_footnotes wrap_links tag s ≡ with_new s (end.add_closing_lines b wrap_links tag (map (λ t. chars (f t)) texts))

@@ -4,7 +4,7 @@ use Rattle.std.specs.Fmt.{decimal}
 use Rattle.std.specs.Str.{chars}
 use Rattle.html_render_values.specs.Outcome.{◌>>=◌}
 use Rattle.html_render_parts.specs.Decoration.{Decoration}
-use Rattle.html_render_blocks.specs.Operations.{Ending}
+use Rattle.html_render_blocks.specs.Operations.{DocumentEnd}
 use Rattle.html_render_layout.specs.declared.layout.state.LayoutState.{LayoutState}
 
 -- the number of a link and its target, in UTF-8
@@ -21,7 +21,7 @@ abbrev pub closing_texts : {S A : Type 0} → Decoration S A → (link_footnotes
 closing_texts d link_footnotes decorator targets = (if link_footnotes then footnotes 1 targets else []) ++ d.finalise decorator targets
 
 -- the state with its block finished, and closed by these texts under a tag
-abbrev pub ended : {S A K T B : Type 0} → Decoration S A → Ending B T → (link_footnotes wrap_links : Bool) → T → LayoutState S K T B →
+abbrev pub ended : {S A K T B : Type 0} → Decoration S A → DocumentEnd B T → (link_footnotes wrap_links : Bool) → T → LayoutState S K T B →
     Option (LayoutState S K T B)
 ended d end link_footnotes wrap_links tag s = do
   b ← end.finish s.block

@@ -29,7 +29,7 @@ use Rattle.html_render_nodes.specs.declared.tree.Estimate.{Estimate}
 use Rattle.html_render_nodes.specs.declared.tree.RenderNode.{RenderNode}
 use Rattle.html_render_nodes.specs.Pass.{Place, Skipped, Within, bare, Visit, Leaf, Inner, Visits, followed, from_state, run}
 use Rattle.html_render_blocks.specs.declared.block.BlockSetting.{BlockSetting}
-use Rattle.html_render_blocks.specs.Operations.{Operations, Ending}
+use Rattle.html_render_blocks.specs.Operations.{Operations, DocumentEnd}
 use Rattle.html_render_blocks.specs.Block.{empty_block}
 use Rattle.html_render_blocks.specs.Definition as definition
 use Rattle.html_render_blocks.specs.Definition.{definition as defined_parts, DefinedBlock}
@@ -331,7 +331,7 @@ module _ {S A K T B : Type 0} (m : Means S A K T B) where
       followed (shape_layout (shape_of m.decoration q.settings n.kind n.estimate trees) q) (λ r. Some (record r { text = s.text })))
 
   -- what the state shows once all trees are laid out and the document is closed, under the tag that its texts began with
-  abbrev pub shown_after : {L : Type 0} → Ending B T → (State → L) → Forest RenderNode → State → Option L
+  abbrev pub shown_after : {L : Type 0} → DocumentEnd B T → (State → L) → Forest RenderNode → State → Option L
   shown_after ending shown t s = do
     r ← run layout_of t s
     q ← ended m.decoration ending s.settings.link_footnotes s.settings.wrap_links s.text.tag r

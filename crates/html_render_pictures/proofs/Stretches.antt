@@ -1,16 +1,17 @@
 -- Lines in stretches: what stands at their ends, and what fills them.
-use Rattle.std.proofs.Common.{◌≡◌, ℕ, ◌+◌, ◌-◌, ◌<◌, ◌≤◌, min, List, [], ◌∷◌, ◌++◌, Some}
+use Rattle.std.proofs.Common.{◌≡◌, ℕ, ◌+◌, ◌-◌, ◌<◌, ◌≤◌, List, [], ◌∷◌, ◌++◌, Some}
 use Rattle.std.proofs.Common.{All, length, map, reverse, zero, suc, refl, sym, ap, ◌∙◌, subst, arith}
 use Rattle.std.proofs.Common.{false, ◌==◌, get_or, set, take, length-set, append-nil, append_assoc, length-append}
 use Rattle.std.proofs.lemmas.List.{reverse-append, reverse-reverse, length-map, length-reverse, map-append, take_all, take_more, take_more_set}
 use Rattle.std.proofs.lemmas.Bool.Decides.{nat_tests}
+use Rattle.std.proofs.lemmas.List.Concat.{flat_map-append}
 use Rattle.std.proofs.lemmas.List.Elements.{All-nil, All-cons, All-head, All-tail, All-append, All-weaker}
 use Rattle.html_render_lines.specs.Line.{Line, columns, marks_line}
-use Rattle.html_render_lines.specs.laws.Columns.{columns-append}
+use Rattle.html_render_lines.specs.laws.Columns.{columns-append, width-space}
 use Rattle.html_render_pictures.specs.Marked.{marked_before, marked_behind}
-use Rattle.html_render_pictures.specs.Padding.{spaces, filled_line, filled}
+use Rattle.html_render_pictures.specs.Padding.{repeated, filled_line, filled}
 use Rattle.html_render_pictures.specs.Stretch.{AllAtLeast, IsStretch, lines_of}
-use Rattle.html_render_pictures.specs.laws.Padding.{spaces-columns}
+use Rattle.html_render_pictures.specs.laws.Padding.{repeated-columns}
 use Rattle.html_render_pictures.specs.laws.Heights.{marked_behind-length}
 use Rattle.html_render_pictures.proofs.Ends.{marked_behind-end}
 
@@ -70,7 +71,7 @@ module _ {T M : Type 0} where
   filled_line_wide : (tag : T) (w : ℕ) (l : Line T M) → w ≤ columns l → filled_line tag w l ≡ l
   filled_line_wide tag w l h =
       let none : w - columns l ≡ 0 = omega (arith, h) in
-      ap (λ n. l ++ spaces tag n) none ∙ append-nil l
+      ap (λ n. l ++ repeated tag 0x20 n) none ∙ append-nil l
 
   pub filled_wide : (tag : T) (w : ℕ) (ls : List (Line T M)) → AllAtLeast w ls → filled (Some tag) w ls ≡ ls
   filled_wide tag w [] wide = refl
@@ -79,7 +80,7 @@ module _ {T M : Type 0} where
       ∙ ap (λ ks. l ∷ ks) (filled_wide tag w ls (All-tail (λ (l : Line T M). w ≤ columns l) l ls wide))
 
   filled_line_at_least : (tag : T) (w : ℕ) (l : Line T M) → w ≤ columns (filled_line tag w l)
-  filled_line_at_least tag w l = omega (arith, columns-append l (spaces tag (w - columns l)), spaces-columns M tag (w - columns l))
+  filled_line_at_least tag w l = omega (arith, columns-append l (repeated tag 0x20 (w - columns l)), repeated-columns M tag 0x20 (w - columns l) width-space)
 
   pub filled_at_least : (tag : T) (w : ℕ) (ls : List (Line T M)) → AllAtLeast w (filled (Some tag) w ls)
   filled_at_least tag w [] = All-nil (λ (l : Line T M). w ≤ columns l)
@@ -203,8 +204,7 @@ module _ {T M : Type 0} where
   -- ---- lines of stretches
 
   pub lines_of-append : (ps qs : List (List (Line T M))) → lines_of (ps ++ qs) ≡ lines_of ps ++ lines_of qs
-  lines_of-append [] qs = refl
-  lines_of-append (p ∷ ps) qs = ap (λ l. p ++ l) (lines_of-append ps qs) ∙ sym (append_assoc p (lines_of ps) (lines_of qs))
+  lines_of-append ps qs = flat_map-append (λ (s : List (Line T M)). s) ps qs
 
   pub lines_of-end : (ps : List (List (Line T M))) (p : List (Line T M)) → lines_of (ps ++ p ∷ []) ≡ lines_of ps ++ p
   lines_of-end ps p = lines_of-append ps (p ∷ []) ∙ ap (λ l. lines_of ps ++ l) (append-nil p)

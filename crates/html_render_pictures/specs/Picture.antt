@@ -2,6 +2,7 @@
 use Rattle.std.specs.Prelude.{ℕ, ◌-◌, ◌++◌, Bool, true, false, not, ◌&&◌, ◌||◌, ◌==◌, List, [], ◌∷◌, length, map, max, fold, get_or}
 use Rattle.std.specs.Prelude.{flat_map, replicate, Some, if◌then◌else◌}
 use Rattle.std.specs.List.{range_with_len, list_any}
+use Rattle.html_render_glyphs.specs.declared.borders.TheConstants.{BORDERS}
 use Rattle.html_render_lines.specs.declared.line.Element.{Element}
 use Rattle.html_render_lines.specs.declared.line.Element.TheVariants.{Character}
 use Rattle.html_render_lines.specs.Line.{Line}
@@ -32,13 +33,9 @@ has_lines {T} {M} cells = list_any (λ (c : KeptCell T M). not (is_empty c.lines
 abbrev pub is_drawn : {T M : Type 0} → TableRow T M → Bool
 is_drawn row = has_lines row.cells || (row.has_placeholder && not (is_empty row.cells))
 
--- the marks of a cell without lines wait for a line
-abbrev pub waiting_of : {T M : Type 0} → KeptCell T M → List M
-waiting_of c = if is_empty c.lines then c.marks else []
-
--- those of cells, from left to right
+-- the marks of cells without lines wait for a line, from left to right
 abbrev pub waiting_in : {T M : Type 0} → List (KeptCell T M) → List M
-waiting_in {T} {M} cells = flat_map (λ (c : KeptCell T M). waiting_of c) cells
+waiting_in {T} {M} cells = flat_map (λ (c : KeptCell T M). if is_empty c.lines then c.marks else []) cells
 
 -- a row that is drawn, with the marks that stand before it
 pub record DrawnRow (T M : Type 0) : Type 0 where
@@ -71,10 +68,10 @@ next_separators (d ∷ ds) = separators_of d.cells
 
 -- what a border has at a column, by whether the row above and the row below have a separator there
 abbrev pub joint : (above below : Bool) → ℕ
-joint true true = 0x253C
-joint true false = 0x2534
-joint false true = 0x252C
-joint false false = 0x2500
+joint true true = BORDERS.cross
+joint true false = BORDERS.above
+joint false true = BORDERS.below
+joint false false = BORDERS.line
 
 -- ---- lines
 
@@ -84,7 +81,7 @@ height {T} {M} cells = fold (λ h (c : KeptCell T M). max h (length c.lines)) 1 
 
 -- what stands between cells
 abbrev pub separator : {T : Type 0} → Frame T → ℕ
-separator frame = if frame.borders then 0x2502 else 0x20
+separator frame = if frame.borders then BORDERS.separator else 0x20
 
 -- the top border is drawn where the table has a width, also above no row
 abbrev pub has_top : {T : Type 0} → Frame T → Bool
@@ -122,15 +119,14 @@ module _ {T M : Type 0} (frame : Frame T) where
       ++ (if frame.borders then border (separators_of d.cells) (next_separators ds) ∷ [] else [])
       ++ rows_lines ds
 
-  -- the border above the first row
-  abbrev pub top_border : List (DrawnRow T M) → Line T M
-  top_border ds = border (replicate frame.width false) (next_separators ds)
+  -- the rows, below the border above the first
+  abbrev pub topped_lines : List (DrawnRow T M) → List (Line T M)
+  topped_lines ds = border (replicate frame.width false) (next_separators ds) ∷ rows_lines ds
 
   -- the picture's lines
   abbrev pub picture_lines : (waiting : List M) → List (TableRow T M) → List (Line T M)
   picture_lines waiting rows =
-      if has_top frame then marked_before waiting (top_border (drawn_rows [] rows) ∷ rows_lines (drawn_rows [] rows))
-      else rows_lines (drawn_rows waiting rows)
+      if has_top frame then marked_before waiting (topped_lines (drawn_rows [] rows)) else rows_lines (drawn_rows waiting rows)
 
   -- THE PICTURE of rows behind marks that wait: its lines, and the marks that wait behind them
   abbrev pub picture : (waiting : List M) → List (TableRow T M) → List (Line T M) × List M

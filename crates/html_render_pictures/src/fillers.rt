@@ -2,9 +2,11 @@
 //! once.
 
 ghost use Rattle.std.specs.Prelude.{◌≡◌, ◌≤◌, ◌++◌, OnOk, replicate};
-ghost use Rattle.std.specs.Str.{chars};
-ghost use Rattle.html_render_pictures.specs.Padding.{character_of, fillers};
+ghost use Rattle.std.specs.Str.{chars, encode_utf8_all};
+ghost use Rattle.html_render_pictures.specs.Padding.{character_of, repeated};
 
+pub use html_render_glyphs::borders::FEW;
+use html_render_glyphs::borders::{BORDERS, LINES, SLASHES};
 use html_render_lines::line::Line;
 use html_render_lines::tag::Tag;
 use std::alloc::AllocError;
@@ -21,39 +23,23 @@ pub enum Filler {
 }
 
 /// As many spaces as are written at once.
-const FEW_SPACES: &str = "                                                                ";
+const SPACES: &str = "                                                                ";
 
-/// As many slashes as are written at once.
-const FEW_SLASHES: &str = "////////////////////////////////////////////////////////////////";
-
-/// As many dashes as are written at once.
-const FEW_DASHES: &str = "────────────────────────────────────────────────────────────────";
-
-/// How many these are.
-pub const FEW: usize = 64;
+/// So many of a character, of a text that has it as often as it is written at once.
+fn first_of(text: &'static str, character: char, count: usize) -> &'static str
+    requires text { text.now ≡ encode_utf8_all (replicate FEW character) }
+    requires few { count ≤ FEW }
+    ensures { chars result.now ≡ replicate count character }
+{
+    &text[..count * character.len_utf8()]
+}
 
 /// So many spaces, without an allocation.
 pub fn few_spaces(count: usize) -> &'static str
     requires { count ≤ FEW }
     ensures { chars result.now ≡ replicate count 0x20 }
 {
-    &FEW_SPACES[..count]
-}
-
-/// So many slashes, without an allocation.
-fn few_slashes(count: usize) -> &'static str
-    requires { count ≤ FEW }
-    ensures { chars result.now ≡ replicate count 0x2F }
-{
-    &FEW_SLASHES[..count]
-}
-
-/// So many dashes, without an allocation. Each takes three bytes.
-fn few_dashes(count: usize) -> &'static str
-    requires { count ≤ FEW }
-    ensures { chars result.now ≡ replicate count 0x2500 }
-{
-    &FEW_DASHES[..count * 3]
+    first_of(SPACES, ' ', count)
 }
 
 /// So many of a character, without an allocation.
@@ -63,8 +49,8 @@ fn few(filler: Filler, count: usize) -> &'static str
 {
     match filler {
         Filler::Space => few_spaces(count),
-        Filler::Slash => few_slashes(count),
-        Filler::Dash => few_dashes(count),
+        Filler::Slash => first_of(SLASHES, BORDERS.slash, count),
+        Filler::Dash => first_of(LINES, BORDERS.line, count),
     }
 }
 
@@ -80,7 +66,7 @@ pub fn push_fillers<T: Tag, M: Copy>(
     count: usize,
     tag: T,
 ) -> Result<(), AllocError>
-    ensures { OnOk result (line.new ≡ line.old ++ fillers filler tag count) }
+    ensures { OnOk result (line.new ≡ line.old ++ repeated tag (character_of filler) count) }
 {
     let mut left = count;
     while left > 0 {

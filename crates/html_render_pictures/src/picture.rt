@@ -6,12 +6,13 @@ ghost use Rattle.html_render_pictures.specs.Picture.{TableRow};
 ghost use Rattle.html_render_pictures.specs.Drawing as drawing;
 ghost use Rattle.html_render_pictures.specs.declared.fillers.Filler.TheVariants as filler;
 ghost use Rattle.html_render_pictures.specs.Marked.{marked_behind};
-ghost use Rattle.html_render_pictures.specs.Padding.{filled, filled_line, fillers};
+ghost use Rattle.html_render_pictures.specs.Padding.{filled, filled_line, repeated, character_of};
 
 use crate::fillers::{Filler, push_fillers};
 use crate::finished::{append_filled, fill_all, mark_behind, put_marks_front, reserve_all};
 use crate::line::lengthen;
 use crate::lines::Lines;
+use html_render_glyphs::borders::BORDERS;
 use html_render_lines::line::Line;
 use html_render_lines::tag::Tag;
 use html_render_values::Error;
@@ -110,11 +111,13 @@ fn height<T: Tag, M: Copy>(cells: &mut Vec<Cell<T, M>>) -> Result<usize, AllocEr
     Ok(height)
 }
 
-/// As many bytes as a line of a row may have: its columns, and the separators, of three bytes each.
+/// As many bytes as a line of a row may have: its columns, and the separators.
 fn room_of<T, M>(cells: &[Cell<T, M>]) -> usize {
     let mut room: usize = 0;
     for cell in cells {
-        room = room.saturating_add(cell.width).saturating_add(3);
+        room = room
+            .saturating_add(cell.width)
+            .saturating_add(BORDERS.separator.len_utf8());
     }
     room
 }
@@ -140,7 +143,7 @@ fn is_drawn<T: Tag, M: Copy>(row: &Row<T, M>) -> bool
 
 /// Adds the marks of a cell without lines to those that wait.
 fn wait_for_line<T: Tag, M: Copy>(waiting: &mut Vec<M>, cell: &Cell<T, M>) -> Result<(), AllocError>
-    ensures { OnOk result (waiting.new.items ≡ waiting.old.items ++ definition.waiting_of cell.now) }
+    ensures { OnOk result (waiting.new.items ≡ waiting.old.items ++ definition.waiting_in (cell.now ∷ [])) }
 {
     if cell.lines.is_empty() {
         waiting.extend_from_slice(cell.marks.as_slice())?;
@@ -192,10 +195,10 @@ fn joint(above: bool, below: bool) -> char
     ensures { result ≡ definition.joint above below }
 {
     match (above, below) {
-        (true, true) => '┼',
-        (true, false) => '┴',
-        (false, true) => '┬',
-        (false, false) => '─',
+        (true, true) => BORDERS.cross,
+        (true, false) => BORDERS.above,
+        (false, true) => BORDERS.below,
+        (false, false) => BORDERS.line,
     }
 }
 
@@ -211,7 +214,7 @@ impl<T: Tag> Frame<T> {
     fn separator(&self) -> char
         ensures { result ≡ definition.separator self.now }
     {
-        if self.borders { '│' } else { ' ' }
+        if self.borders { BORDERS.separator } else { ' ' }
     }
 
     /// Draws what a border has where a separator stands above or below.
@@ -237,8 +240,8 @@ impl<T: Tag> Frame<T> {
         below: bool,
     ) -> Result<(), AllocError>
         requires { dashes.old + 1 < 2 ^ 64 }
-        ensures drawn { OnOk result (line.new ++ fillers filler.Dash self.now.tag dashes.new
-            ≡ (line.old ++ fillers filler.Dash self.now.tag dashes.old) ++ definition.drawn self.now (definition.joint above below) ∷ []) }
+        ensures drawn { OnOk result (line.new ++ repeated self.now.tag (character_of filler.Dash) dashes.new
+            ≡ (line.old ++ repeated self.now.tag (character_of filler.Dash) dashes.old) ++ definition.drawn self.now (definition.joint above below) ∷ []) }
         ensures due { OnOk result (dashes.new ≤ dashes.old + 1) }
     {
         if above || below {
@@ -261,7 +264,7 @@ impl<T: Tag> Frame<T> {
         ensures { IfOk result (λ l. l ≡ definition.border self.now above.now below.now) }
     {
         let width = above.len().max(below.len());
-        let mut line = Line::with_capacity(alloc, width.saturating_mul(3))?;
+        let mut line = Line::with_capacity(alloc, width.saturating_mul(BORDERS.line.len_utf8()))?;
         let mut dashes = 0;
         for column in 0..width {
             let (up, down) = (separator_at(above, column), separator_at(below, column));

@@ -11,16 +11,15 @@ use Rattle.html_render_parts.specs.declared.table.PlacedCell.{PlacedCell}
 use Rattle.html_render_parts.specs.declared.widths.shares.ColumnNeed.{ColumnNeed}
 use Rattle.html_render_parts.specs.Shares.{widths_across}
 use Rattle.html_render_pictures.specs.Marked.{marked_before, marked_behind}
-use Rattle.html_render_pictures.specs.Padding.{filled}
+use Rattle.html_render_pictures.specs.Padding.{filled, repeated}
 use Rattle.html_render_pictures.specs.Picture.{picture}
-use Rattle.html_render_pictures.specs.laws.Glyphs.{border_width, slash_width}
 use Rattle.html_render_blocks.specs.declared.block.BlockSetting.{BlockSetting}
 use Rattle.html_render_blocks.specs.Block.{paragraph_setting, inner_width, mark_items, empty_block}
 use Rattle.html_render_blocks.specs.Closing.{line_setting}
 use Rattle.html_render_blocks.specs.Definition.{Fed, definition, DefinedBlock, operations, ending}
 use Rattle.html_render_blocks.specs.Joined.{fitting, joined, prefixed}
-use Rattle.html_render_blocks.specs.OpenRows.{OpenRow, open_row, next_width, with_cell, whole_row}
-use Rattle.html_render_blocks.specs.Tables.{Rows, frame_of, rule}
+use Rattle.html_render_blocks.specs.OpenRows.{OpenRow, open_row, next_width, past_cell, whole_row}
+use Rattle.html_render_blocks.specs.Tables.{Rows, frame_of}
 use Rattle.html_render_paragraphs.specs.laws.Answers.{Both, Both-weaken}
 use Rattle.html_render_blocks.specs.laws.Related.{OptionTags, Relates, RelatesEnds, RelatesParts, Related, operations-related, ends-related}
 use Rattle.html_render_blocks.specs.laws.Related.{empty-related, later-related}
@@ -44,7 +43,7 @@ pub record Holds {T : Type 0} (g : Bool → Bool) (N M : Type 0) (Cut : Bool →
   pub behind : (v : ℕ) (a b : List (Line T ℕ)) → OnLines v a → OnLines v b → OnLines v (a ++ b)
   pub before_marks : (v : ℕ) (ms : List ℕ) (a : List (Line T ℕ)) → OnLines v a → OnLines v (marked_before ms a)
   pub behind_marks : (v : ℕ) (ms : List ℕ) (a : List (Line T ℕ)) → OnLines v a → OnLines v (marked_behind ms a)
-  pub line : (v : ℕ) (t : T) (character : ℕ) → width_of character ≡ 1 → OnLines v (rule t character v ∷ [])
+  pub line : (v : ℕ) (t : T) (character : ℕ) → width_of character ≡ 1 → OnLines v (repeated t character v ∷ [])
   pub begun : (v : ℕ) (needs : List ColumnNeed) (widths : List ℕ) (borders : Bool) (t : T) (ms : List ℕ) → widths_across v needs ≡ Some widths →
       OnPicture v widths (record { frame = frame_of t borders widths; waiting = ms; rows = [] })
   pub with_row : (v : ℕ) (widths : List ℕ) (p : Rows T ℕ) (r : OpenRow T ℕ) → OnPicture v widths p → OnRow v r →
@@ -52,8 +51,8 @@ pub record Holds {T : Type 0} (g : Bool → Bool) (N M : Type 0) (Cut : Bool →
   pub finished : (v : ℕ) (widths : List ℕ) (p : Rows T ℕ) → OnPicture v widths p → OnLines v (picture p.frame p.waiting p.rows).0
   pub opened : (v : ℕ) (widths : List ℕ) (p : Rows T ℕ) (cells : List PlacedCell) → OnPicture v widths p → OnRow v (open_row widths cells)
   pub kept : (v x : ℕ) (r : OpenRow T ℕ) (a : List (Line T ℕ)) (ms : List ℕ) → OnRow v r → next_width r.ahead ≡ Some x → OnLines x a →
-      OnRow v (with_cell r (record { width = x; lines = a; marks = ms } ∷ []))
-  pub skipped : (v : ℕ) (r : OpenRow T ℕ) → OnRow v r → OnRow v (with_cell r [])
+      OnRow v (past_cell r (record { width = x; lines = a; marks = ms } ∷ []))
+  pub skipped : (v : ℕ) (r : OpenRow T ℕ) → OnRow v r → OnRow v (past_cell r [])
 
 module _ {T W : Type 0} (g : Bool → Bool) (N M : Type 0) (Tags : W → T → T → Type 0) (same : (w : W) (t u : T) → Tags w t u → u ≡ t)
     (Cut : Bool → Type 0) (OnOverflow : Bool → Type 0) (OnOwn : ℕ → Setting → Type 0) (OnLines : ℕ → List (Line T ℕ) → Type 0)
@@ -137,8 +136,7 @@ module _ {T W : Type 0} (g : Bool → Bool) (N M : Type 0) (Tags : W → T → T
     count = λ v w a b k. ap (λ (z : List (Line T ℕ)). length z) (sym k.0);
     before_marks = λ v w ms a b k. (ap (marked_before ms) k.0, h.before_marks v ms a k.1);
     behind_marks = λ v w ms a b k. (ap (marked_behind ms) k.0, h.behind_marks v ms a k.1);
-    line = λ v w t u x. (ap (λ z. rule z 0x2500 v ∷ []) (same w t u x), h.line v t 0x2500 border_width);
-    slashes = λ v w t u x. (ap (λ z. rule z 0x2F v ∷ []) (same w t u x), h.line v t 0x2F slash_width);
+    rule = λ v w t u character one x. (ap (λ z. repeated z character v ∷ []) (same w t u x), h.line v t character one);
     joined = λ v x w s r ms ns t u first later a b k y l. joined-beside v w s r ms ns t u first later a b k (same w t u y) l.0;
     start = λ v w s r k. (
       (
@@ -171,11 +169,11 @@ module _ {T W : Type 0} (g : Bool → Bool) (N M : Type 0) (Tags : W → T → T
     opened = λ v w widths p q cells k. (refl, h.opened v widths p cells k.1);
     ahead = λ v w r k x. ap (λ (z : OpenRow T ℕ). z.ahead) x.0;
     kept = λ v x w r k a b ms y e l. (
-      ap (λ z. with_cell z (record { width = x; lines = b; marks = ms } ∷ [])) y.0
-          ∙ ap (λ z. with_cell r (record { width = x; lines = z; marks = ms } ∷ [])) l.0,
+      ap (λ z. past_cell z (record { width = x; lines = b; marks = ms } ∷ [])) y.0
+          ∙ ap (λ z. past_cell r (record { width = x; lines = z; marks = ms } ∷ [])) l.0,
       h.kept v x r a ms y.1 e l.1,
     );
-    skipped = λ v w r k x. (ap (λ z. with_cell z []) x.0, h.skipped v r x.1);
+    skipped = λ v w r k x. (ap (λ z. past_cell z []) x.0, h.skipped v r x.1);
   }
 
   text-beside : (v : ℕ) (w : W) (cut : Bool) (s r : BlockSetting) (t u : T) (cs : List ℕ) → Cut cut → Settings v s r → Tags w t u →

@@ -1,16 +1,12 @@
 -- What is said of a block's lines: with overflow off none passes its width; with overflow on no operation refuses, and the lines are the same.
-use Rattle.std.proofs.Common.{◌≡◌, ℕ, ◌-◌, ◌≤◌, ◌+◌, suc, zero, sum, ◌++◌, Bool, true, false, cond, leb, ◌||◌, ◌&&◌}
+use Rattle.std.proofs.Common.{◌≡◌, ℕ, ◌-◌, ◌≤◌, ◌+◌, sum, Bool, true, false, cond, leb, ◌||◌, ◌&&◌}
 use Rattle.std.proofs.Common.{List, [], ◌∷◌, length, Option, Some, None}
 use Rattle.std.proofs.Common.{refl, sym, ap, subst, arith, IfSome, All}
 use Rattle.std.proofs.lemmas.Bool.{leb-true}
-use Rattle.std.proofs.lemmas.List.Elements.{All-append, All-nil, All-cons, All-head, All-tail, All-push, All-weaker}
+use Rattle.std.proofs.lemmas.List.Elements.{All-append, All-nil, All-cons, All-push, All-weaker}
 use Rattle.std.proofs.lemmas.List.Sums.{sum_by-cons}
 use Rattle.html_render_lines.specs.declared.character.Item.{Item}
-use Rattle.html_render_lines.specs.declared.line.Element.{Element}
-use Rattle.html_render_lines.specs.declared.line.Element.TheVariants.{Character}
-use Rattle.html_render_lines.specs.Character.{width_of}
-use Rattle.html_render_lines.specs.Line.{Line, columns, element_width, marks_line, AllWithinWidth}
-use Rattle.html_render_lines.specs.laws.Columns.{columns-append, columns-marks}
+use Rattle.html_render_lines.specs.Line.{Line, columns, AllWithinWidth}
 use Rattle.html_render_paragraphs.specs.CutText.{cut_lines, text_lines}
 use Rattle.html_render_paragraphs.specs.Paragraph.{Page, Setting, without_overflow, with_overflow, paragraph, all_lines}
 use Rattle.html_render_paragraphs.specs.laws.Answers.{Both, Both-weaken}
@@ -18,54 +14,24 @@ use Rattle.html_render_paragraphs.specs.laws.Beside.{paragraph-beside, cut-besid
 use Rattle.html_render_paragraphs.specs.laws.Overflow.{answers as page_answers, refines as page_refines}
 use Rattle.html_render_paragraphs.specs.laws.Within.{IsWithin, with_line_within, within as page_within}
 use Rattle.html_render_parts.specs.laws.Needs.{across_within}
-use Rattle.html_render_pictures.specs.Marked.{marked_before, marked_behind}
-use Rattle.html_render_pictures.specs.Padding.{filled}
+use Rattle.html_render_pictures.specs.Padding.{filled, repeated}
 use Rattle.html_render_pictures.specs.Picture.{KeptCell}
 use Rattle.html_render_pictures.specs.Widths.{KeepsToWidth, RowWithin}
-use Rattle.html_render_pictures.specs.laws.Padding.{filled-within}
-use Rattle.html_render_pictures.specs.laws.Widths.{picture_within}
+use Rattle.html_render_pictures.specs.laws.Padding.{filled-within, repeated-columns}
+use Rattle.html_render_pictures.specs.laws.Widths.{marked_before-within, marked_behind-within, picture_within}
 use Rattle.html_render_blocks.specs.Block.{wrap_width}
 use Rattle.html_render_blocks.specs.Joined.{are_within, fitting}
 use Rattle.html_render_blocks.specs.OpenRows.{whole_row}
-use Rattle.html_render_blocks.specs.Tables.{Rows, rule}
+use Rattle.html_render_blocks.specs.Tables.{Rows}
 use Rattle.html_render_blocks.specs.laws.Beside.{Holds}
 use Rattle.html_render_blocks.specs.laws.TableWithin.{OpenWithin, columns_room, place_room, open-within, cell-within, whole-within}
-use Rattle.html_render_blocks.specs.laws.TableWithin.{table_width_within, columns_room-within}
+use Rattle.html_render_blocks.specs.laws.TableWithin.{frame_width_within, columns_room-within}
 
 -- ---- lines within a width
 
 wrap_width-le : (w : ℕ) (most : Option ℕ) → wrap_width w most ≤ w
 wrap_width-le w None = omega arith
 wrap_width-le w (Some most) = omega arith
-
-marked_before_within : {T M : Type 0} (w : ℕ) (ms : List M) (ls : List (Line T M)) → AllWithinWidth w ls → AllWithinWidth w (marked_before ms ls)
-marked_before_within w ms [] h = h
-marked_before_within {T} {M} w ms (l ∷ ls) h =
-    All-cons (λ (l : Line T M). columns l ≤ w) (marks_line ms ++ l) ls
-    (let k = All-head (λ (l : Line T M). columns l ≤ w) l ls h in omega (arith, k, columns-append (marks_line ms) l, columns-marks T ms))
-    (All-tail (λ (l : Line T M). columns l ≤ w) l ls h)
-
-marked_behind_within : {T M : Type 0} (w : ℕ) (ms : List M) (ls : List (Line T M)) → AllWithinWidth w ls → AllWithinWidth w (marked_behind ms ls)
-marked_behind_within w ms [] h = h
-marked_behind_within {T} {M} w ms (l ∷ []) h =
-    All-cons (λ (l : Line T M). columns l ≤ w) (l ++ marks_line ms) []
-    (let k = All-head (λ (l : Line T M). columns l ≤ w) l [] h in omega (arith, k, columns-append l (marks_line ms), columns-marks T ms))
-    (All-nil (λ (l : Line T M). columns l ≤ w))
-marked_behind_within {T} {M} w ms (l ∷ k ∷ ls) h =
-    All-cons (λ (l : Line T M). columns l ≤ w) l (marked_behind ms (k ∷ ls)) (All-head (λ (l : Line T M). columns l ≤ w) l (k ∷ ls) h)
-    (marked_behind_within w ms (k ∷ ls) (All-tail (λ (l : Line T M). columns l ≤ w) l (k ∷ ls) h))
-
--- the characters of rules take a column
-rule-columns : {T : Type 0} (M : Type 0) (tag : T) (character n : ℕ) → width_of character ≡ 1 →
-    columns (rule {M = M} tag character n) ≡ n
-rule-columns M tag character zero one = refl
-rule-columns {T} M tag character (suc n) one =
-    omega (
-      arith,
-      one,
-      rule-columns M tag character n one,
-      sum_by-cons (λ (e : Element T M). element_width e) (Character character tag) (rule tag character n),
-    )
 
 -- no line is wider, as a test
 within-test : {T M : Type 0} (w : ℕ) (ls : List (Line T M)) → are_within w ls ≡ true → AllWithinWidth w ls
@@ -107,14 +73,14 @@ module _ (T : Type 0) where
     none = λ v. All-nil (λ (l : Line T ℕ). columns l ≤ v);
     gap = λ v. All-cons (λ (l : Line T ℕ). columns l ≤ v) [] [] (omega arith) (All-nil (λ (l : Line T ℕ). columns l ≤ v));
     behind = λ v a b k l. All-append (λ (l : Line T ℕ). columns l ≤ v) a b k l;
-    before_marks = marked_before_within;
-    behind_marks = marked_behind_within;
-    line = λ v t character one. All-cons (λ (l : Line T ℕ). columns l ≤ v) (rule t character v) []
-        (let e = rule-columns ℕ t character v one in omega (arith, e)) (All-nil (λ (l : Line T ℕ). columns l ≤ v));
+    before_marks = marked_before-within;
+    behind_marks = marked_behind-within;
+    line = λ v t character one. All-cons (λ (l : Line T ℕ). columns l ≤ v) (repeated t character v) []
+        (let e = repeated-columns ℕ t character v one in omega (arith, e)) (All-nil (λ (l : Line T ℕ). columns l ≤ v));
     begun = λ v needs widths borders t ms e.
         let k : sum widths + (length widths - 1) ≤ v =
         subst (λ o. IfSome o (λ ws. sum ws + (length ws - 1) ≤ v)) e (across_within v needs) in (
-          (let w = table_width_within widths in omega (arith, w, k), All-nil (RowWithin {T = T} {M = ℕ} v)),
+          (let w = frame_width_within widths in omega (arith, w, k), All-nil (RowWithin {T = T} {M = ℕ} v)),
           columns_room-within v widths k,
         );
     with_row = λ v widths p r k l. ((k.0.0, All-push (RowWithin v) p.rows (whole_row r) k.0.1 (whole-within v r l)), k.1);

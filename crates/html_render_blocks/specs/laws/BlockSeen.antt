@@ -1,5 +1,5 @@
 -- What is seen of the tags of a block that is fed character by character is what is seen of the definition's, under each operation.
-use Rattle.std.proofs.Common.{◌≡◌, ℕ, zero, suc, Bool, true, false, leb, ◌||◌, ◌&&◌, List, [], ◌∷◌, ◌++◌, map, length, Option, Some, None}
+use Rattle.std.proofs.Common.{◌≡◌, ℕ, Bool, true, false, leb, ◌||◌, ◌&&◌, List, [], ◌∷◌, ◌++◌, map, length, Option, Some, None}
 use Rattle.std.proofs.Common.{refl, sym, ap, ◌∙◌, subst, option_map, IfSome}
 use Rattle.std.proofs.lemmas.List.{map-append, length-map}
 use Rattle.std.proofs.lemmas.Option.{same_Some}
@@ -20,13 +20,13 @@ use Rattle.html_render_paragraphs.specs.laws.Tags.{style_with, item_with, page_w
 use Rattle.html_render_paragraphs.specs.laws.Whole.{finished-after, after-append}
 use Rattle.html_render_pictures.specs.Drawing.{Drawing, begun, with_row, with_rows}
 use Rattle.html_render_pictures.specs.Marked.{marked_behind, marked_before}
-use Rattle.html_render_pictures.specs.Padding.{filled}
+use Rattle.html_render_pictures.specs.Padding.{filled, repeated}
 use Rattle.html_render_pictures.specs.Picture.{KeptCell, TableRow}
 use Rattle.html_render_pictures.specs.Tags.{cell_with, row_with, drawing_with, drawn_with}
 use Rattle.html_render_pictures.specs.laws.Lines.{marked_behind-with}
-use Rattle.html_render_pictures.specs.laws.Padding.{filled-with}
+use Rattle.html_render_pictures.specs.laws.Padding.{filled-with, repeated-with}
 use Rattle.html_render_pictures.specs.laws.Rows.{drawn_is}
-use Rattle.html_render_pictures.specs.laws.Tags.{with_row-with, begun-with, finished-with as picture-with}
+use Rattle.html_render_pictures.specs.laws.Tags.{lines-append, marked_before-with, with_row-with, begun-with, finished-with as picture-with}
 use Rattle.html_render_blocks.specs.declared.block.BlockSetting.{BlockSetting}
 use Rattle.html_render_blocks.specs.declared.block.rows.RowPlace.{RowPlace}
 use Rattle.html_render_blocks.specs.Block.{paragraph_setting, inner_width, mark_items, empty_block}
@@ -36,8 +36,8 @@ use Rattle.html_render_blocks.specs.Definition.{Fed, definition, DefinedBlock}
 use Rattle.html_render_blocks.specs.Joined.{behind, prefixed, are_within, fitting, joined}
 use Rattle.html_render_blocks.specs.Machine as worked
 use Rattle.html_render_blocks.specs.Machine.{machine, MachineBlock}
-use Rattle.html_render_blocks.specs.OpenRows.{OpenRow, empty_cell, empty_cells, before_cell, with_cell, whole_row}
-use Rattle.html_render_blocks.specs.Tables.{Rows, frame_of, rule}
+use Rattle.html_render_blocks.specs.OpenRows.{OpenRow, empty_cell, empty_cells, before_cell, past_cell, whole_row}
+use Rattle.html_render_blocks.specs.Tables.{Rows, frame_of}
 use Rattle.html_render_paragraphs.specs.laws.Answers.{Both}
 use Rattle.html_render_blocks.specs.laws.Related.{OptionTags, Relates, RelatesEnds, RelatesParts, Related, operations-related, ends-related}
 use Rattle.html_render_blocks.specs.laws.Related.{empty-related, later-related}
@@ -45,14 +45,6 @@ use Rattle.html_render_blocks.specs.laws.Related.{empty-related, later-related}
 -- ---- lines under other tags
 
 module _ {T U M : Type 0} (f : T → U) where
-  pub lines-behind : (ls ks : List (Line T M)) → lines_with f ls ++ lines_with f ks ≡ lines_with f (ls ++ ks)
-  lines-behind ls ks = sym (map-append (line_with f) ls ks)
-
-  marked_before-with : (ms : List M) (ls : List (Line T M)) → marked_before ms (lines_with f ls) ≡ lines_with f (marked_before ms ls)
-  marked_before-with ms [] = refl
-  marked_before-with ms (l ∷ ls) = ap (λ x. x ∷ lines_with f ls)
-      (ap (λ x. x ++ line_with f l) (sym (marks-with f ms)) ∙ sym (map-append (element_with f) (marks_line ms) l))
-
   under-with : (t : T) (cs : List ℕ) → under (f t) cs ≡ line_with f (under {M = M} t cs)
   under-with t [] = refl
   under-with t (c ∷ cs) = ap (λ l. Character c (f t) ∷ l) (under-with t cs)
@@ -112,11 +104,11 @@ module _ {T U M : Type 0} (f : T → U) where
       ∙ ap (λ cs. cs ++ map (cell_with f) (empty_cells ps)) (empty_cell-with p.width)
       ∙ ap (λ cs. empty_cell p.width ++ cs) (empty_cells-with ps)
 
-  with_cell-with : (r : OpenRow T M) (cell : List (KeptCell T M)) →
-      with_cell (open_row_with r) (map (cell_with f) cell) ≡ open_row_with (with_cell r cell)
-  with_cell-with r cell =
+  past_cell-with : (r : OpenRow T M) (cell : List (KeptCell T M)) →
+      past_cell (open_row_with r) (map (cell_with f) cell) ≡ open_row_with (past_cell r cell)
+  past_cell-with r cell =
       let before : List (KeptCell T M) = empty_cells (before_cell r.ahead) in
-      ap (λ cs. record (open_row_with (with_cell r cell)) { cells = cs })
+      ap (λ cs. record (open_row_with (past_cell r cell)) { cells = cs })
       (ap (λ cs. (map (cell_with f) r.cells ++ cs) ++ map (cell_with f) cell) (sym (empty_cells-with (before_cell r.ahead)))
       ∙ ap (λ cs. cs ++ map (cell_with f) cell) (sym (map-append (cell_with f) r.cells before))
       ∙ sym (map-append (cell_with f) (r.cells ++ before) cell))
@@ -124,10 +116,6 @@ module _ {T U M : Type 0} (f : T → U) where
   whole_row-with : (r : OpenRow T M) → whole_row (open_row_with r) ≡ row_with f (whole_row r)
   whole_row-with r = ap (λ cs. record (row_with f (whole_row r)) { cells = cs })
       (ap (λ cs. map (cell_with f) r.cells ++ cs) (sym (empty_cells-with r.ahead)) ∙ sym (map-append (cell_with f) r.cells (empty_cells r.ahead)))
-
-  rule-with : (tag : T) (character width : ℕ) → line_with f (rule {M = M} tag character width) ≡ rule (f tag) character width
-  rule-with tag character zero = refl
-  rule-with tag character (suc n) = ap (λ l. Character character (f tag) ∷ l) (rule-with tag character n)
 
 -- ---- without tags
 
@@ -295,18 +283,18 @@ module _ {W T A V : Type 0} (shown : W → T → V) (seen : A → V) (Later : W 
     none = λ v w l a. refl;
     gap = λ v w l a. refl;
     behind = λ v w a e b f k m l x.
-        sym (lines-behind (shown l) a e)
+        lines-append (shown l) a e
         ∙ ap (λ z. z ++ lines_with (shown l) e) (k l x)
         ∙ ap (λ z. lines_with seen b ++ z) (m l x)
-        ∙ lines-behind seen b f;
+        ∙ sym (lines-append seen b f);
     count = λ v w a b k.
         sym (length-map a (line_with (shown w))) ∙ ap (λ z. length z) (k w (stays w)) ∙ length-map b (line_with seen);
     before_marks = λ v w ms a b k l x.
         sym (marked_before-with (shown l) ms a) ∙ ap (marked_before ms) (k l x) ∙ marked_before-with seen ms b;
     behind_marks = λ v w ms a b k l x.
         marked_behind-with (shown l) ms a ∙ ap (marked_behind ms) (k l x) ∙ sym (marked_behind-with seen ms b);
-    line = λ v w t u x. rules 0x2500 v w t u x;
-    slashes = λ v w t u x. rules 0x2F v w t u x;
+    rule = λ v w t u character one x l a. ap (λ z. z ∷ [])
+        (repeated-with (shown l) t character v ∙ ap (λ z. repeated z character v) (x l a) ∙ sym (repeated-with seen u character v));
     joined = λ v x w s r ms ns t u first later a b k y m.
         subst (λ z. Both (Unit {0}) ⊥ (Lines v w) (joined s.width s.overflow ms (under t first) (under t later) a ns)
         (joined z.width z.overflow ms (under u first) (under u later) b ns)) (sym k.1)
@@ -356,20 +344,16 @@ module _ {W T A V : Type 0} (shown : W → T → V) (seen : A → V) (Later : W 
     opened = λ v w widths p q cells k l a. refl;
     ahead = λ v w r k x. sym (ap (λ (z : OpenRow V ℕ). z.ahead) (x w (stays w)));
     kept = λ v x w r k a b ms y e m l z.
-        sym (with_cell-with (shown l) r (record { width = x; lines = a; marks = ms } ∷ []))
-        ∙ ap (λ i. with_cell i (record { width = x; lines = lines_with (shown l) a; marks = ms } ∷ [])) (y l z)
-        ∙ ap (λ i. with_cell (open_row_with seen k) (record { width = x; lines = i; marks = ms } ∷ [])) (m l z)
-        ∙ with_cell-with seen k (record { width = x; lines = b; marks = ms } ∷ []);
-    skipped = λ v w r k x l a. sym (with_cell-with (shown l) r []) ∙ ap (λ z. with_cell z []) (x l a) ∙ with_cell-with seen k [];
+        sym (past_cell-with (shown l) r (record { width = x; lines = a; marks = ms } ∷ []))
+        ∙ ap (λ i. past_cell i (record { width = x; lines = lines_with (shown l) a; marks = ms } ∷ [])) (y l z)
+        ∙ ap (λ i. past_cell (open_row_with seen k) (record { width = x; lines = i; marks = ms } ∷ [])) (m l z)
+        ∙ past_cell-with seen k (record { width = x; lines = b; marks = ms } ∷ []);
+    skipped = λ v w r k x l a. sym (past_cell-with (shown l) r []) ∙ ap (λ z. past_cell z []) (x l a) ∙ past_cell-with seen k [];
   }
     where
       itself : (o : Option ℕ) → Both (Unit {0}) ⊥ (λ x y. x ≡ y) o o
       itself None = tt
       itself (Some x) = refl
-
-      rules : (character v : ℕ) (w : W) (t : T) (u : A) → Tags w t u → Lines v w (rule t character v ∷ []) (rule u character v ∷ [])
-      rules character v w t u x l a =
-          ap (λ z. z ∷ []) (rule-with (shown l) t character v ∙ ap (λ z. rule z character v) (x l a) ∙ sym (rule-with seen u character v))
 
       pictures : (w : W) (p : Drawing T ℕ) (q : Rows A ℕ) → Seen (λ l. drawing_with (shown l)) (λ q. drawing_with seen (drawing_of q)) w p q →
           Seen (λ l p. drawn_with (shown l) (machine.pictures.finished p)) (λ q. drawn_with seen (definition.pictures.finished q)) w p q

@@ -3,8 +3,10 @@ use Rattle.std.proofs.Common.{◌≡◌, ℕ, ◌+◌, ◌≤◌, Bool, true, fa
 use Rattle.std.proofs.Common.{refl, sym, ap, ◌∙◌, subst, arith, append_assoc, append-nil, IfSome, option_map}
 use Rattle.std.specs.Char.{is_whitespace}
 use Rattle.std.specs.List.{list_all}
-use Rattle.std.proofs.lemmas.Bool.{eqb-true}
+use Rattle.std.proofs.lemmas.Bool.{eqb-true, and_parts}
+use Rattle.std.proofs.lemmas.List.Concat.{flat_map-append}
 use Rattle.std.proofs.lemmas.Option.{IfSome_then}
+use Rattle.html_render_glyphs.specs.declared.borders.TheConstants.{BORDERS}
 use Rattle.html_render_values.specs.declared.white_space.WhiteSpace.{WhiteSpace}
 use Rattle.html_render_values.specs.declared.white_space.WhiteSpace.TheVariants.{Normal, Pre, PreWrap}
 use Rattle.html_render_lines.specs.declared.character.Item.{Item}
@@ -18,29 +20,29 @@ use Rattle.html_render_lines.specs.TaggedText.{under}
 use Rattle.html_render_lines.specs.Visible.{is_visible, if_visible, visible_in_items, visible_in_line, visible_in_lines}
 use Rattle.html_render_lines.specs.laws.Cases.{if_cases}
 use Rattle.html_render_paragraphs.specs.laws.Visible.{paragraph_keeps}
-use Rattle.html_render_lines.specs.laws.Visible.{visible_in_line-append, visible_in_line-marks}
+use Rattle.html_render_lines.specs.laws.Visible.{visible_in_line-append}
 use Rattle.html_render_blocks.specs.laws.Operations.{Counts}
 use Rattle.html_render_pictures.specs.laws.Padding.{filled-visible}
 use Rattle.html_render_pictures.specs.laws.Lines.{lines-append, marked_behind_same, count-append}
-use Rattle.html_render_pictures.specs.Padding.{filled}
+use Rattle.html_render_pictures.specs.Padding.{filled, repeated}
 use Rattle.html_render_blocks.specs.laws.Cases.{map_if, then_if, any}
 use Rattle.html_render_blocks.specs.Joined.{behind, prefixed, are_within, fitting, joined}
 use Rattle.html_render_pictures.specs.Marked.{marked_behind, marked_before}
 use Rattle.html_render_blocks.specs.Block.{flush, add_page, add_lines, unended, start_block, feed, is_blank, mark_items, inner_width, inner_block}
-use Rattle.html_render_blocks.specs.Block.{append_lines, append, with_picture, end_open, end_table, add_border, table_begun, kept_cell, put_lines}
+use Rattle.html_render_blocks.specs.Block.{append_lines, append, with_picture, end_open, end_table, add_border, with_table_begun, kept_cell, put_lines}
 use Rattle.html_render_blocks.specs.Block.{put_below, put_stacked, cell_added, add_cell, row_ended, operations as operations_of}
 use Rattle.html_render_blocks.specs.Definition.{definition, DefinedBlock, operations}
 use Rattle.html_render_blocks.specs.declared.block.tables.OpenTable.{OpenTable}
 use Rattle.html_render_blocks.specs.declared.block.tables.OpenTable.TheVariants.{Across, Stacked}
 use Rattle.html_render_blocks.specs.declared.block.rows.RowPlace.{RowPlace}
-use Rattle.html_render_blocks.specs.OpenRows.{OpenRow, open_row, empty_cell, empty_cells, before_cell, with_cell, whole_row}
-use Rattle.html_render_blocks.specs.Tables.{Rows, defined_pictures, rule, stacked_border, with_row_open, next_cell_width, skipped, with_open, with_ahead}
+use Rattle.html_render_blocks.specs.OpenRows.{OpenRow, open_row, empty_cell, empty_cells, before_cell, past_cell, whole_row}
+use Rattle.html_render_blocks.specs.Tables.{Rows, defined_pictures, stacked_border, with_row_open, next_cell_width, skipped, with_open, with_ahead}
 use Rattle.html_render_parts.specs.declared.table.PlacedCell.{PlacedCell}
 use Rattle.html_render_parts.specs.TableCells.{CellGrid, rows_on}
 use Rattle.html_render_parts.specs.declared.widths.shares.ColumnNeed.{ColumnNeed}
 use Rattle.html_render_parts.specs.Shares.{widths_across}
 use Rattle.html_render_pictures.specs.Picture.{KeptCell, TableRow, is_empty, picture_lines}
-use Rattle.html_render_pictures.specs.laws.Visible.{picture_times}
+use Rattle.html_render_pictures.specs.laws.Visible.{marked_before_same, picture_times}
 use Rattle.html_render_blocks.specs.Visible.{visible_in_text, visible_in_block, text_count, row_count, table_count, visible_count}
 use Rattle.html_render_pictures.specs.Visible.{count, visible_in_cells, visible_in_rows}
 
@@ -75,10 +77,13 @@ flush_same {T} {M} d =
       refl,
     ))
 
-marked_before_same : {T M : Type 0} (ms : List M) (ls : List (Line T M)) → visible_in_lines (marked_before ms ls) ≡ visible_in_lines ls
-marked_before_same ms [] = refl
-marked_before_same {T} ms (l ∷ ls) = ap (λ r. r ++ visible_in_lines ls)
-    (visible_in_line-append (marks_line ms) l ∙ ap (λ r. r ++ visible_in_line l) (visible_in_line-marks T ms))
+-- marks that are fed to a block are nothing
+marks_same : {T M : Type 0} (d : DefinedBlock T M) (ms : List M) → Same d (feed definition d (mark_items ms))
+marks_same {T} d ms = (
+  ap (λ r. visible_in_lines d.lines ++ r) (items-append d.paragraph.items (mark_items ms)
+      ∙ ap (λ r. visible_in_items d.paragraph.items ++ r) (items-marks T ms) ∙ append-nil (visible_in_items d.paragraph.items)),
+  refl,
+)
 
 -- one after another
 pub then_same : {T M : Type 0} (d e f : DefinedBlock T M) → Same e f → Same d e → Same d f
@@ -128,14 +133,10 @@ hidden c e = by (is_whitespace c) e
     by true e = refl
     by false e = cc
 
-and_true : (a b : Bool) → (a && b) ≡ true → (a ≡ true) × (b ≡ true)
-and_true true b e = (refl, e)
-and_true false b e = cc
-
 collapsible_hidden : (cs : List ℕ) → list_all is_collapsible cs ≡ true → visible_in_text cs ≡ []
 collapsible_hidden [] e = refl
 collapsible_hidden (c ∷ cs) e =
-    let h = and_true (is_collapsible c) (list_all is_collapsible cs) e in
+    let h = and_parts (is_collapsible c) (list_all is_collapsible cs) e in
     ap (λ r. r ++ visible_in_text cs) (hidden c h.0) ∙ collapsible_hidden cs h.1
 
 blank_hidden : (mode : WhiteSpace) (cs : List ℕ) → is_blank mode cs ≡ true → visible_in_text cs ≡ []
@@ -198,34 +199,27 @@ joined_count {T} {M} c w o ns p q ls ms =
     (subst (λ cs. count c cs ≤ count c (visible_in_lines all)) (marked_behind_same ms ls)
     (prefixed_count c (marks_line ns ++ p) q marked)))
 
-append_lines_count : {T M : Type 0} (c : ℕ) (d : DefinedBlock T M) (p q : Line T M) (ls : List (Line T M)) (ms : List M) →
-    IfSome (append_lines definition d p q ls ms) (λ e. visible_count c d + count c (visible_in_lines ls) ≤ visible_count c e)
-append_lines_count {T} {M} c d p q [] ms =
-    let marks = mark_items {T = T} ms in
-    let fed : count c (visible_in_items (d.paragraph.items ++ marks)) ≡ count c (visible_in_items d.paragraph.items) =
-    ap (count c) (items-append d.paragraph.items marks ∙ ap (λ r. visible_in_items d.paragraph.items ++ r) (items-marks T ms)
-    ∙ append-nil (visible_in_items d.paragraph.items)) in
+-- lines behind those of a block
+lines_added : {T M : Type 0} (c : ℕ) (d : DefinedBlock T M) (ls : List (Line T M)) →
+    count c (visible_in_block (record d { lines = d.lines ++ ls })) ≡ count c (visible_in_block d) + count c (visible_in_lines ls)
+lines_added c d ls =
     omega (
       arith,
-      fed,
+      ap (count c) (lines-append d.lines ls),
+      count-append c (visible_in_lines d.lines) (visible_in_lines ls),
+      count-append c (visible_in_lines (d.lines ++ ls)) (visible_in_items d.paragraph.items),
       count-append c (visible_in_lines d.lines) (visible_in_items d.paragraph.items),
-      count-append c (visible_in_lines d.lines) (visible_in_items (d.paragraph.items ++ marks)),
     )
+
+append_lines_count : {T M : Type 0} (c : ℕ) (d : DefinedBlock T M) (p q : Line T M) (ls : List (Line T M)) (ms : List M) →
+    IfSome (append_lines definition d p q ls ms) (λ e. visible_count c d + count c (visible_in_lines ls) ≤ visible_count c e)
+append_lines_count c d p q [] ms = let same = ap (count c) (marks_same d ms).0 in omega (arith, same)
 append_lines_count {T} {M} c d p q (l ∷ ls) ms =
     map_if (λ (all : List (Line T M)). count c (visible_in_lines (l ∷ ls)) ≤ count c (visible_in_lines all))
     (λ (e : DefinedBlock T M). visible_count c d + count c (visible_in_lines (l ∷ ls)) ≤ visible_count c e) _
     (joined d.setting.width d.setting.overflow d.paragraph.waiting p q (l ∷ ls) ms)
     (joined_count c d.setting.width d.setting.overflow d.paragraph.waiting p q (l ∷ ls) ms)
-    (λ all h.
-    let lines : count c (visible_in_lines (d.lines ++ all)) ≡ count c (visible_in_lines d.lines) + count c (visible_in_lines all) =
-    ap (count c) (lines-append d.lines all) ∙ count-append c (visible_in_lines d.lines) (visible_in_lines all) in
-    omega (
-      arith,
-      h,
-      lines,
-      count-append c (visible_in_lines d.lines) (visible_in_items d.paragraph.items),
-      count-append c (visible_in_lines (d.lines ++ all)) (visible_in_items d.paragraph.items),
-    ))
+    (λ all h. let added = lines_added c d all in omega (arith, h, added))
 
 -- nothing is fed to a block that is flushed
 pub flush_empties : {T M : Type 0} (d : DefinedBlock T M) → IfSome (flush definition d) (λ e. e.paragraph.items ≡ [])
@@ -244,14 +238,10 @@ lines_count {T} {M} c d h k =
 -- ---- tables
 
 rows-append : {T M : Type 0} (rs qs : List (TableRow T M)) → visible_in_rows (rs ++ qs) ≡ visible_in_rows rs ++ visible_in_rows qs
-rows-append [] qs = refl
-rows-append (r ∷ rs) qs = ap (λ x. visible_in_cells r.cells ++ x) (rows-append rs qs)
-    ∙ sym (append_assoc (visible_in_cells r.cells) (visible_in_rows rs) (visible_in_rows qs))
+rows-append {T} {M} rs qs = flat_map-append (λ (r : TableRow T M). visible_in_cells r.cells) rs qs
 
 cells-append : {T M : Type 0} (cs ds : List (KeptCell T M)) → visible_in_cells (cs ++ ds) ≡ visible_in_cells cs ++ visible_in_cells ds
-cells-append [] ds = refl
-cells-append (c ∷ cs) ds = ap (λ x. visible_in_lines c.lines ++ x) (cells-append cs ds)
-    ∙ sym (append_assoc (visible_in_lines c.lines) (visible_in_cells cs) (visible_in_cells ds))
+cells-append {T} {M} cs ds = flat_map-append (λ (k : KeptCell T M). visible_in_lines k.lines) cs ds
 
 empty-visible : (T M : Type 0) (width : Option ℕ) → visible_in_cells (empty_cell {T = T} {M = M} width) ≡ []
 empty-visible T M None = refl
@@ -265,9 +255,9 @@ empties-visible T M (p ∷ ps) =
     ∙ empties-visible T M ps
 
 -- a row has what its cells have
-with_cell_count : {T M : Type 0} (c : ℕ) (r : OpenRow T M) (cell : List (KeptCell T M)) →
-    count c (visible_in_cells (with_cell r cell).cells) ≡ count c (visible_in_cells r.cells) + count c (visible_in_cells cell)
-with_cell_count {T} {M} c r cell =
+past_cell_count : {T M : Type 0} (c : ℕ) (r : OpenRow T M) (cell : List (KeptCell T M)) →
+    count c (visible_in_cells (past_cell r cell).cells) ≡ count c (visible_in_cells r.cells) + count c (visible_in_cells cell)
+past_cell_count {T} {M} c r cell =
     let before : List (KeptCell T M) = empty_cells (before_cell r.ahead) in
     omega (
       arith,
@@ -313,19 +303,10 @@ with_ahead_count {T} {M} c p widths (cells ∷ rest) =
 -- a picture behind the lines
 with_picture_count : {T M : Type 0} (c : ℕ) (d : DefinedBlock T M) (ls : List (Line T M)) (ms : List M) →
     visible_count c (with_picture definition d (ls, ms)) ≡ count c (visible_in_block d) + count c (visible_in_lines ls)
-with_picture_count {T} {M} c d ls ms =
-    let marks = mark_items {T = T} ms in
-    let fed : count c (visible_in_items (d.paragraph.items ++ marks)) ≡ count c (visible_in_items d.paragraph.items) =
-    ap (count c) (items-append d.paragraph.items marks ∙ ap (λ r. visible_in_items d.paragraph.items ++ r) (items-marks T ms)
-    ∙ append-nil (visible_in_items d.paragraph.items)) in
-    omega (
-      arith,
-      fed,
-      ap (count c) (lines-append d.lines ls),
-      count-append c (visible_in_lines d.lines) (visible_in_lines ls),
-      count-append c (visible_in_lines (d.lines ++ ls)) (visible_in_items (d.paragraph.items ++ marks)),
-      count-append c (visible_in_lines d.lines) (visible_in_items d.paragraph.items),
-    )
+with_picture_count c d ls ms =
+    let same = ap (count c) (marks_same (record d { lines = d.lines ++ ls; table = None }) ms).0 in
+    let added = lines_added c d ls in
+    omega (arith, same, added)
 
 end_open_count : {T M : Type 0} (c : ℕ) (d : DefinedBlock T M) (o : Option (OpenTable (Rows T M) T M)) →
     d.table ≡ o → visible_count c d ≤ visible_count c (end_open definition d o)
@@ -396,10 +377,6 @@ add_inline_text_count c d style cs =
     let table = ap (table_count c) h.1 in
     omega (arith, block, table, count-append c (visible_in_block d) (visible_in_text cs)))
 
-add_mark_same : {T M : Type 0} (d : DefinedBlock T M) (m : M) → Same d (feed definition d (mark_items (m ∷ [])))
-add_mark_same d m =
-    (ap (λ r. visible_in_lines d.lines ++ r) (items-append d.paragraph.items (Mark m ∷ []) ∙ append-nil (visible_in_items d.paragraph.items)), refl)
-
 sub_block_count : {T M : Type 0} (c : ℕ) (d : DefinedBlock T M) (prefix inner : ℕ) →
     IfSome ((operations_of definition).sub_block d prefix inner) (λ e. visible_count c e ≡ 0)
 sub_block_count {T} {M} c d prefix inner =
@@ -411,15 +388,8 @@ add_lines_gains : {T M : Type 0} (c : ℕ) (d : DefinedBlock T M) (ls : List (Li
 add_lines_gains c d ls =
     let more = marked_before d.paragraph.waiting ls in
     let same = ap (count c) (marked_before_same d.paragraph.waiting ls) in
-    let e : count c (visible_in_lines (d.lines ++ more)) ≡ count c (visible_in_lines d.lines) + count c (visible_in_lines more) =
-    ap (count c) (lines-append d.lines more) ∙ count-append c (visible_in_lines d.lines) (visible_in_lines more) in
-    omega (
-      arith,
-      e,
-      same,
-      count-append c (visible_in_lines d.lines) (visible_in_items d.paragraph.items),
-      count-append c (visible_in_lines (d.lines ++ more)) (visible_in_items d.paragraph.items),
-    )
+    let added = lines_added c d more in
+    omega (arith, same, added)
 
 pub add_lines_count : {T M : Type 0} (c : ℕ) (d : DefinedBlock T M) (ls : List (Line T M)) → visible_count c d ≤ visible_count c (add_lines definition d ls)
 add_lines_count c d ls = let gains = add_lines_gains c d ls in omega (arith, gains)
@@ -427,20 +397,20 @@ add_lines_count c d ls = let gains = add_lines_gains c d ls in omega (arith, gai
 add_border_count : {T M : Type 0} (c : ℕ) (d : DefinedBlock T M) (border : Option T) (character : ℕ) →
     visible_count c d ≤ visible_count c (add_border definition d border character)
 add_border_count c d None character = omega arith
-add_border_count c d (Some tag) character = add_lines_count c d (rule tag character d.setting.width ∷ [])
+add_border_count c d (Some tag) character = add_lines_count c d (repeated tag character d.setting.width ∷ [])
 
 border_table : {T M : Type 0} (d : DefinedBlock T M) (border : Option T) (character : ℕ) → (add_border definition d border character).table ≡ d.table
 border_table d None character = refl
 border_table d (Some tag) character = refl
 
-table_begun_count : {T M : Type 0} (c : ℕ) (d : DefinedBlock T M) (tag : T) (borders : Bool) (ahead : List (List PlacedCell)) (o : Option (List ℕ)) →
-    d.table ≡ None → visible_count c d ≤ visible_count c (table_begun definition d tag borders ahead o)
-table_begun_count c d tag borders ahead None none =
+with_table_begun_count : {T M : Type 0} (c : ℕ) (d : DefinedBlock T M) (tag : T) (borders : Bool) (ahead : List (List PlacedCell)) (o : Option (List ℕ)) →
+    d.table ≡ None → visible_count c d ≤ visible_count c (with_table_begun definition d tag borders ahead o)
+with_table_begun_count c d tag borders ahead None none =
     let border = stacked_border tag borders d.setting.width in
-    let table = ap (table_count c) (border_table d border 0x2500) in
+    let table = ap (table_count c) (border_table d border BORDERS.line) in
     let own = ap (table_count c) none in
-    omega (arith, table, own, add_border_count c d border 0x2500)
-table_begun_count c d tag borders ahead (Some ws) none = let own = ap (table_count c) none in omega (arith, own)
+    omega (arith, table, own, add_border_count c d border BORDERS.line)
+with_table_begun_count c d tag borders ahead (Some ws) none = let own = ap (table_count c) none in omega (arith, own)
 
 begin_table_count : {T M : Type 0} (c : ℕ) (d : DefinedBlock T M) (tag : T) (borders stacked : Bool) (grid : CellGrid)
     (needs : List ColumnNeed) → IfSome ((operations_of definition).begin_table d tag borders stacked grid needs)
@@ -451,7 +421,7 @@ begin_table_count {T} {M} c d tag borders stacked grid needs =
     (λ e h.
     let block = ap (count c) h.0 in
     let table = ap (table_count c) h.1 in
-    let begun = table_begun_count c e tag borders (rows_on grid) (cond stacked None (widths_across e.setting.width needs)) (h.1 ∙ ended_none d) in
+    let begun = with_table_begun_count c e tag borders (rows_on grid) (cond stacked None (widths_across e.setting.width needs)) (h.1 ∙ ended_none d) in
     omega (arith, block, table, begun, end_table_count c d))
 
 begin_row_count : {T M : Type 0} (c : ℕ) (o : Option (OpenTable (Rows T M) T M)) →
@@ -464,7 +434,7 @@ begin_row_count c (Some (Stacked border has_lines)) = refl
 skip_cell_count : {T M : Type 0} (c : ℕ) (o : Option (OpenTable (Rows T M) T M)) → table_count c (option_map skipped o) ≡ table_count c o
 skip_cell_count c None = refl
 skip_cell_count c (Some (Across p widths ahead None)) = refl
-skip_cell_count c (Some (Across p widths ahead (Some row))) = omega (arith, with_cell_count c row [])
+skip_cell_count c (Some (Across p widths ahead (Some row))) = omega (arith, past_cell_count c row [])
 skip_cell_count c (Some (Stacked border has_lines)) = refl
 
 cell_block_count : {T M : Type 0} (c : ℕ) (d : DefinedBlock T M) → IfSome ((operations_of definition).cell_block d) (λ e. visible_count c e ≡ 0)
@@ -476,21 +446,9 @@ cell_block_count {T} {M} c d =
 abbrev Gains : {T M : Type 0} → (c n : ℕ) → DefinedBlock T M → DefinedBlock T M → Type 0
 Gains c n d e = visible_count c d + n ≤ visible_count c e
 
--- marks that are fed to a block are nothing
-add_marks_count : {T M : Type 0} (c : ℕ) (d : DefinedBlock T M) (ms : List M) → visible_count c (feed definition d (mark_items ms)) ≡ visible_count c d
-add_marks_count {T} {M} c d ms =
-    let fed = ap (count c) (items-append d.paragraph.items (mark_items {T = T} ms)
-    ∙ ap (λ r. visible_in_items d.paragraph.items ++ r) (items-marks T ms) ∙ append-nil (visible_in_items d.paragraph.items)) in
-    omega (
-      arith,
-      fed,
-      count-append c (visible_in_lines d.lines) (visible_in_items d.paragraph.items),
-      count-append c (visible_in_lines d.lines) (visible_in_items (d.paragraph.items ++ mark_items {T = T} ms)),
-    )
-
 put_lines_count : {T M : Type 0} (c : ℕ) (d : DefinedBlock T M) (ls : List (Line T M)) (ms : List M) →
     Gains c (count c (visible_in_lines ls)) d (put_lines definition d ls ms)
-put_lines_count c d [] ms = let same = add_marks_count c d ms in omega (arith, same)
+put_lines_count c d [] ms = let same = ap (count c) (marks_same d ms).0 in omega (arith, same)
 put_lines_count c d (l ∷ ls) ms =
     let same = ap (count c) (marked_behind_same ms (l ∷ ls)) in
     let gains = add_lines_gains c d (marked_behind ms (l ∷ ls)) in
@@ -513,8 +471,9 @@ put_stacked_count {T} {M} c d cell border has_lines more none = by (has_lines &&
         omega (arith, gains, table, le, empty)
 
     by : (b : Bool) → Gains c (count c (visible_in_lines cell.lines)) d
-        (record (put_below definition (cond b (add_border definition d border 0x2F) d) cell) { table = Some (Stacked border (has_lines || more)) })
-    by true = put (add_border definition d border 0x2F) (add_border_count c d border 0x2F) (ap (table_count c) (border_table d border 0x2F) ∙ none)
+        (record (put_below definition (cond b (add_border definition d border BORDERS.slash) d) cell) { table = Some (Stacked border (has_lines || more)) })
+    by true = put (add_border definition d border BORDERS.slash) (add_border_count c d border BORDERS.slash)
+        (ap (table_count c) (border_table d border BORDERS.slash) ∙ none)
     by false = put d (omega arith) none
 
 -- what a flush is followed by
@@ -539,7 +498,7 @@ cell_added_count c d (Some (Across p widths ahead (Some row))) cell e =
     omega (
       arith,
       ap (table_count c) e,
-      with_cell_count c row (kept_cell definition cell ∷ []),
+      past_cell_count c row (kept_cell definition cell ∷ []),
       ap (count c) (append-nil (visible_in_lines cell.lines)),
     )
 cell_added_count c d (Some (Stacked border has_lines)) cell e =
@@ -565,8 +524,8 @@ row_ended_count {T} {M} c d (Some (Stacked border true)) e =
     let block = ap (count c) h.0 in
     let table = ap (table_count c) (h.1 ∙ e) in
     let own = ap (table_count c) e in
-    let after = ap (table_count c) (border_table f border 0x2500) in
-    omega (arith, block, table, own, after, add_border_count c f border 0x2500))
+    let after = ap (table_count c) (border_table f border BORDERS.line) in
+    omega (arith, block, table, own, after, add_border_count c f border BORDERS.line))
 row_ended_count c d (Some (Stacked border false)) e = omega arith
 
 -- THE LAW: a visible character stands in a block as often as it was fed, or more often
@@ -574,7 +533,7 @@ pub operations_keep_visible : {T : Type 0} (c : ℕ) → Counts (visible_count c
 unfolding operations
 operations_keep_visible c = record {
   add_inline_text = add_inline_text_count c;
-  add_mark = λ d m. let same = add_mark_same d m in ap (λ cs. count c cs + table_count c d.table) same.0;
+  add_mark = λ d m. ap (λ cs. count c cs + table_count c d.table) (marks_same d (m ∷ [])).0;
   new_line = λ d. same_count c d (flush definition d) (flush_same d);
   new_line_hard = λ d. same_count c d ((operations_of definition).new_line_hard d) (new_line_hard_same d);
   start_block = λ d. same_count c d (start_block definition d) (start_block_same d);

@@ -12,22 +12,25 @@ use Rattle.html_render_parts.specs.declared.widths.shares.ColumnNeed.{ColumnNeed
 use Rattle.html_render_parts.specs.Shares.{widths_across}
 use Rattle.html_render_parts.specs.TableCells.{CellGrid, rows_on}
 use Rattle.html_render_pictures.specs.Marked.{marked_before, marked_behind}
-use Rattle.html_render_pictures.specs.Padding.{filled}
+use Rattle.html_render_pictures.specs.Padding.{filled, repeated}
+use Rattle.html_render_pictures.specs.laws.Glyphs.{joint_width, slash_width}
+use Rattle.html_render_glyphs.specs.declared.borders.TheConstants.{BORDERS}
+use Rattle.html_render_lines.specs.Character.{width_of}
 use Rattle.html_render_pictures.specs.Picture.{is_empty}
 use Rattle.html_render_blocks.specs.declared.block.BlockSetting.{BlockSetting}
 use Rattle.html_render_blocks.specs.declared.block.tables.OpenTable.{OpenTable}
 use Rattle.html_render_blocks.specs.declared.block.tables.OpenTable.TheVariants.{Across, Stacked}
 use Rattle.html_render_blocks.specs.Block.{Block, paragraph_setting, is_blank, inner_width, mark_items, empty_block, add_page, flush, add_lines, unended}
 use Rattle.html_render_blocks.specs.Block.{start_block, feed, inner_block, append_lines, with_picture, end_open, end_table, add_border, stacked_begun}
-use Rattle.html_render_blocks.specs.Block.{table_begun, kept_cell, put_lines, put_below, put_stacked, cell_added, add_cell, row_ended, append, end_behind}
+use Rattle.html_render_blocks.specs.Block.{with_table_begun, kept_cell, put_lines, put_below, put_stacked, cell_added, add_cell, row_ended, append, end_behind}
 use Rattle.html_render_blocks.specs.Block.{finish, add_closing_lines, operations, ending}
 use Rattle.html_render_blocks.specs.Closing.{line_setting, on_one_line, closing_lines}
 use Rattle.html_render_paragraphs.specs.CutText.{text_lines}
 use Rattle.html_render_blocks.specs.Joined.{joined}
-use Rattle.html_render_blocks.specs.OpenRows.{OpenRow, open_row, next_width, with_cell, whole_row}
+use Rattle.html_render_blocks.specs.OpenRows.{OpenRow, open_row, next_width, past_cell, whole_row}
 use Rattle.html_render_blocks.specs.Parts.{Parts}
-use Rattle.html_render_blocks.specs.Operations.{Operations, Ending}
-use Rattle.html_render_blocks.specs.Tables.{frame_of, rule, stacked_border, with_row_open, next_cell_width, skipped, with_open, with_ahead, picture_of}
+use Rattle.html_render_blocks.specs.Operations.{Operations, DocumentEnd}
+use Rattle.html_render_blocks.specs.Tables.{frame_of, stacked_border, with_row_open, next_cell_width, skipped, with_open, with_ahead, picture_of}
 use Rattle.html_render_paragraphs.specs.laws.Answers.{Both, Both-then, Both-map, Both-weaken}
 
 -- each operation keeps blocks related; a block inside another has an i of its own. W is what tags stand for, and Later how that may go on
@@ -58,7 +61,7 @@ pub record Relates {I W B C T U : Type 0} (o : Operations B T) (p : Operations C
   pub end_table : (i : I) (w : W) (b : B) (c : C) → Blocks i w b c → Blocks i w (o.end_table b) (p.end_table c)
 
 -- and so do those that a document ends with; closing lines are cut or left whole as Cut says
-pub record RelatesEnds {I W B C T U : Type 0} (o : Ending B T) (p : Ending C U) (N M : Type 0) (Cut : Bool → Type 0)
+pub record RelatesEnds {I W B C T U : Type 0} (o : DocumentEnd B T) (p : DocumentEnd C U) (N M : Type 0) (Cut : Bool → Type 0)
     (Tags : W → T → U → Type 0) (Blocks : I → W → B → C → Type 0) : Type 0 where
   pub finish : (i : I) (w : W) (b : B) (c : C) → Blocks i w b c → Both N M (Blocks i w) (o.finish b) (p.finish c)
   pub add_closing_lines : (i : I) (w : W) (cut : Bool) (t : T) (u : U) (texts : List (List ℕ)) → Cut cut → Tags w t u → (b : B) (c : C) →
@@ -91,8 +94,8 @@ pub record RelatesParts {P R Q S T U W : Type 0} (from : Parts P R T ℕ) (to : 
       Lines v w (marked_before ms a) (marked_before ms b)
   pub behind_marks : (v : ℕ) (w : W) (ms : List ℕ) (a : List (Line T ℕ)) (b : List (Line U ℕ)) → Lines v w a b →
       Lines v w (marked_behind ms a) (marked_behind ms b)
-  pub line : (v : ℕ) (w : W) (t : T) (u : U) → Tags w t u → Lines v w (rule t 0x2500 v ∷ []) (rule u 0x2500 v ∷ [])
-  pub slashes : (v : ℕ) (w : W) (t : T) (u : U) → Tags w t u → Lines v w (rule t 0x2F v ∷ []) (rule u 0x2F v ∷ [])
+  pub rule : (v : ℕ) (w : W) (t : T) (u : U) (character : ℕ) → width_of character ≡ 1 → Tags w t u →
+      Lines v w (repeated t character v ∷ []) (repeated u character v ∷ [])
   pub joined : (v x : ℕ) (w : W) (s r : BlockSetting) (ms ns : List ℕ) (t : T) (u : U) (first later : List ℕ) (a : List (Line T ℕ))
       (b : List (Line U ℕ)) → Settings v s r → Tags w t u → Lines x w a b →
       Both N M (Lines v w) (joined s.width s.overflow ms (under t first) (under t later) a ns)
@@ -125,8 +128,8 @@ pub record RelatesParts {P R Q S T U W : Type 0} (from : Parts P R T ℕ) (to : 
   pub ahead : (v : ℕ) (w : W) (r : OpenRow T ℕ) (k : OpenRow U ℕ) → Rows v w r k → k.ahead ≡ r.ahead
   pub kept : (v x : ℕ) (w : W) (r : OpenRow T ℕ) (k : OpenRow U ℕ) (a : List (Line T ℕ)) (b : List (Line U ℕ)) (ms : List ℕ) → Rows v w r k →
       next_width r.ahead ≡ Some x → Lines x w a b →
-      Rows v w (with_cell r (record { width = x; lines = a; marks = ms } ∷ [])) (with_cell k (record { width = x; lines = b; marks = ms } ∷ []))
-  pub skipped : (v : ℕ) (w : W) (r : OpenRow T ℕ) (k : OpenRow U ℕ) → Rows v w r k → Rows v w (with_cell r []) (with_cell k [])
+      Rows v w (past_cell r (record { width = x; lines = a; marks = ms } ∷ [])) (past_cell k (record { width = x; lines = b; marks = ms } ∷ []))
+  pub skipped : (v : ℕ) (w : W) (r : OpenRow T ℕ) (k : OpenRow U ℕ) → Rows v w r k → Rows v w (past_cell r []) (past_cell k [])
 
 module _ {P R Q S T U W : Type 0} (from : Parts P R T ℕ) (to : Parts Q S U ℕ) (N M : Type 0) (weak : M → N) (Later : W → W → Type 0)
     (Tags : W → T → U → Type 0) (Settings : ℕ → BlockSetting → BlockSetting → Type 0)
@@ -415,22 +418,22 @@ module _ {P R Q S T U W : Type 0} (from : Parts P R T ℕ) (to : Parts Q S U ℕ
       (append_lines-related v x w t u first later y d g m a.lines i.lines (from.waiting a.paragraph) n.0.lines)))
 
   -- a border of one character
-  add_border-related : (v : ℕ) (w : W) (character : ℕ) → ((t : T) (u : U) → Tags w t u → Lines v w (rule t character v ∷ []) (rule u character v ∷ [])) →
+  add_border-related : (v : ℕ) (w : W) (character : ℕ) → width_of character ≡ 1 →
       (border : Option T) (other : Option U) → OptionTags Tags w border other → (b : First) (c : Second) → Flushed v w b c →
       Flushed v w (add_border from b border character) (add_border to c other character)
-  add_border-related v w character line None None x b c k = k
-  add_border-related v w character line None (Some u) x b c k = absurd x
-  add_border-related v w character line (Some t) None x b c k = absurd x
-  add_border-related v w character line (Some t) (Some u) x b c k =
+  add_border-related v w character one None None x b c k = k
+  add_border-related v w character one None (Some u) x b c k = absurd x
+  add_border-related v w character one (Some t) None x b c k = absurd x
+  add_border-related v w character one (Some t) (Some u) x b c k =
       let wide = h.width v b.setting c.setting k.0.settings in
       add_lines-related v w b c _ _ k
-      (subst (λ n. Lines v w (rule t character n ∷ []) (rule u character c.setting.width ∷ [])) (sym wide.0)
-      (subst (λ n. Lines v w (rule t character v ∷ []) (rule u character n ∷ [])) (sym wide.1) (line t u x)))
+      (subst (λ n. Lines v w (repeated t character n ∷ []) (repeated u character c.setting.width ∷ [])) (sym wide.0)
+      (subst (λ n. Lines v w (repeated t character v ∷ []) (repeated u character n ∷ [])) (sym wide.1) (h.rule v w t u character one x)))
 
   stacked_begun-related : (v : ℕ) (w : W) (border : Option T) (other : Option U) → OptionTags Tags w border other → (b : First) (c : Second) →
       Flushed v w b c → Related v w (stacked_begun from b border) (stacked_begun to c other)
   stacked_begun-related v w border other x b c k =
-      with_table v w _ _ _ _ (add_border-related v w 0x2500 (λ t u y. h.line v w t u y) border other x b c k).0
+      with_table v w _ _ _ _ (add_border-related v w BORDERS.line (joint_width false false) border other x b c k).0
       (record { other = other; is = refl; borders = x })
 
   borders-related : (w : W) (t : T) (u : U) (borders : Bool) (n : ℕ) → Tags w t u →
@@ -441,15 +444,15 @@ module _ {P R Q S T U W : Type 0} (from : Parts P R T ℕ) (to : Parts Q S U ℕ
       by true = x
       by false = tt
 
-  table_begun-related : (v : ℕ) (w : W) (t : T) (u : U) (borders : Bool) (needs : List ColumnNeed) (ahead : List (List PlacedCell)) → Tags w t u →
+  with_table_begun-related : (v : ℕ) (w : W) (t : T) (u : U) (borders : Bool) (needs : List ColumnNeed) (ahead : List (List PlacedCell)) → Tags w t u →
       (b : First) (c : Second) → Flushed v w b c → (o : Option (List ℕ)) → ((widths : List ℕ) → o ≡ Some widths → widths_across v needs ≡ Some widths) →
-      Related v w (table_begun from b t borders ahead o) (table_begun to c u borders ahead o)
-  table_begun-related v w t u borders needs ahead x b c k None is =
+      Related v w (with_table_begun from b t borders ahead o) (with_table_begun to c u borders ahead o)
+  with_table_begun-related v w t u borders needs ahead x b c k None is =
       let wide = h.width v b.setting c.setting k.0.settings in
       stacked_begun-related v w (stacked_border t borders b.setting.width) (stacked_border u borders c.setting.width)
       (subst (λ n. OptionTags Tags w (stacked_border t borders b.setting.width) (stacked_border u borders n)) (wide.0 ∙ sym wide.1)
       (borders-related w t u borders b.setting.width x)) b c k
-  table_begun-related v w t u borders needs ahead x b c k (Some widths) is =
+  with_table_begun-related v w t u borders needs ahead x b c k (Some widths) is =
       let q = h.without v w b.paragraph c.paragraph k.1 in
       let picture = from.pictures.begun (frame_of t borders widths) (from.waiting b.paragraph) in
       let other = to.pictures.begun (frame_of u borders widths) (to.waiting c.paragraph) in record {
@@ -474,11 +477,11 @@ module _ {P R Q S T U W : Type 0} (from : Parts P R T ℕ) (to : Parts Q S U ℕ
   begin_table-related v w t u borders stacked grid needs x b c k =
       Both-map N M (Flushed v w) (Related v w) _ _ (flush from (end_table from b)) (flush to (end_table to c)) (ended_flush v w b c k) (λ e f m.
       let wide = h.width v e.setting f.setting m.0.settings in
-      subst (λ n. Related v w (table_begun from e t borders (rows_on grid) (cond stacked None (widths_across n needs)))
-      (table_begun to f u borders (rows_on grid) (cond stacked None (widths_across f.setting.width needs)))) (sym wide.0)
-      (subst (λ n. Related v w (table_begun from e t borders (rows_on grid) (cond stacked None (widths_across v needs)))
-      (table_begun to f u borders (rows_on grid) (cond stacked None (widths_across n needs)))) (sym wide.1)
-      (table_begun-related v w t u borders needs (rows_on grid) x e f m (cond stacked None (widths_across v needs)) (across stacked))))
+      subst (λ n. Related v w (with_table_begun from e t borders (rows_on grid) (cond stacked None (widths_across n needs)))
+      (with_table_begun to f u borders (rows_on grid) (cond stacked None (widths_across f.setting.width needs)))) (sym wide.0)
+      (subst (λ n. Related v w (with_table_begun from e t borders (rows_on grid) (cond stacked None (widths_across v needs)))
+      (with_table_begun to f u borders (rows_on grid) (cond stacked None (widths_across n needs)))) (sym wide.1)
+      (with_table_begun-related v w t u borders needs (rows_on grid) x e f m (cond stacked None (widths_across v needs)) (across stacked))))
     where
       across : (z : Bool) (widths : List ℕ) → cond z None (widths_across v needs) ≡ Some widths → widths_across v needs ≡ Some widths
       across true widths e = cc
@@ -520,10 +523,10 @@ module _ {P R Q S T U W : Type 0} (from : Parts P R T ℕ) (to : Parts Q S U ℕ
   }
   skipped-related v w (Some (Across picture widths ahead (Some row))) p t = record {
     other = t.other;
-    other_row = Some (with_cell t.rows.0 []);
+    other_row = Some (past_cell t.rows.0 []);
     is = ap (option_map skipped) t.is ∙ ap (λ r. option_map skipped (Some (Across t.other widths ahead r))) t.rows.1.0;
     pictures = t.pictures;
-    rows = (with_cell t.rows.0 [], (refl, h.skipped v w row t.rows.0 t.rows.1.1));
+    rows = (past_cell t.rows.0 [], (refl, h.skipped v w row t.rows.0 t.rows.1.1));
   }
   skipped-related v w (Some (Stacked border has_lines)) p t =
       record { other = t.other; is = ap (option_map skipped) t.is; borders = t.borders }
@@ -548,8 +551,9 @@ module _ {P R Q S T U W : Type 0} (from : Parts P R T ℕ) (to : Parts Q S U ℕ
   put_stacked-related v w border other has_lines more x e f l b c k =
       with_table v w _ _ _ _ (by (has_lines && more)) (record { other = other; is = refl; borders = x })
     where
-      by : (z : Bool) → Related v w (put_below from (cond z (add_border from b border 0x2F) b) e) (put_below to (cond z (add_border to c other 0x2F) c) f)
-      by true = put_below-related v w e f l _ _ (add_border-related v w 0x2F (λ t u y. h.slashes v w t u y) border other x b c k)
+      by : (z : Bool) → Related v w (put_below from (cond z (add_border from b border BORDERS.slash) b) e)
+          (put_below to (cond z (add_border to c other BORDERS.slash) c) f)
+      by true = put_below-related v w e f l _ _ (add_border-related v w BORDERS.slash slash_width border other x b c k)
       by false = put_below-related v w e f l b c k
 
   -- a cell of x columns that stands below the block's lines
@@ -575,19 +579,19 @@ module _ {P R Q S T U W : Type 0} (from : Parts P R T ℕ) (to : Parts Q S U ℕ
       (sym (t.is ∙ ap (λ r. Some (Across t.other widths ahead r)) t.rows.1.0))
       (with_table v w b c _ _ k (record {
         other = t.other;
-        other_row = Some (with_cell r (kept_cell to f ∷ []));
+        other_row = Some (past_cell r (kept_cell to f ∷ []));
         is = refl;
         pictures = t.pictures;
         rows = (
-          with_cell r (kept_cell to f ∷ []),
+          past_cell r (kept_cell to f ∷ []),
           (
             refl,
-            subst (λ n. Rows v w (with_cell row (record { width = n; lines = e.lines; marks = from.waiting e.paragraph } ∷ [])) (with_cell r (kept_cell to f ∷ [])))
+            subst (λ n. Rows v w (past_cell row (record { width = n; lines = e.lines; marks = from.waiting e.paragraph } ∷ [])) (past_cell r (kept_cell to f ∷ [])))
                 (sym wide.0)
-                (subst (λ n. Rows v w (with_cell row (record { width = x; lines = e.lines; marks = from.waiting e.paragraph } ∷ []))
-                (with_cell r (record { width = n; lines = f.lines; marks = to.waiting f.paragraph } ∷ []))) (sym wide.1)
-                (subst (λ ms. Rows v w (with_cell row (record { width = x; lines = e.lines; marks = from.waiting e.paragraph } ∷ []))
-                (with_cell r (record { width = x; lines = f.lines; marks = ms } ∷ []))) (sym (h.waiting x w e.paragraph f.paragraph l.1))
+                (subst (λ n. Rows v w (past_cell row (record { width = x; lines = e.lines; marks = from.waiting e.paragraph } ∷ []))
+                (past_cell r (record { width = n; lines = f.lines; marks = to.waiting f.paragraph } ∷ []))) (sym wide.1)
+                (subst (λ ms. Rows v w (past_cell row (record { width = x; lines = e.lines; marks = from.waiting e.paragraph } ∷ []))
+                (past_cell r (record { width = x; lines = f.lines; marks = ms } ∷ []))) (sym (h.waiting x w e.paragraph f.paragraph l.1))
                 (h.kept v x w row r e.lines f.lines (from.waiting e.paragraph) t.rows.1.1 n l.0.lines))),
           ),
         );

@@ -10,8 +10,8 @@ use Rattle.html_render_pictures.specs.Picture.{KeptCell}
 use Rattle.html_render_pictures.specs.Widths.{row_width, KeepsToWidth, RowWithin}
 use Rattle.html_render_blocks.specs.declared.block.rows.RowPlace.{RowPlace}
 use Rattle.html_render_blocks.specs.OpenRows.{OpenRow, cell_width, places, next_width, behind_cell, empty_cell, empty_cells, before_cell}
-use Rattle.html_render_blocks.specs.OpenRows.{open_row, with_cell, whole_row}
-use Rattle.html_render_blocks.specs.Tables.{table_width}
+use Rattle.html_render_blocks.specs.OpenRows.{open_row, past_cell, whole_row}
+use Rattle.html_render_blocks.specs.Tables.{frame_width}
 
 -- the columns of cells, each with a separator
 abbrev pub cells_room : {T M : Type 0} → List (KeptCell T M) → ℕ
@@ -110,7 +110,7 @@ module _ {T M : Type 0} where
 
   -- a row with a cell that keeps to its place
   pub cell-within : (w : ℕ) (r : OpenRow T M) (cell : List (KeptCell T M)) → OpenWithin w r → All KeepsToWidth cell →
-      cells_room cell ≤ place_room (next_width r.ahead) → OpenWithin w (with_cell r cell)
+      cells_room cell ≤ place_room (next_width r.ahead) → OpenWithin w (past_cell r cell)
   cell-within w r cell h keeps room =
       let before : List (KeptCell T M) = empty_cells (before_cell r.ahead) in
       let n = h.1 in (
@@ -135,8 +135,8 @@ module _ {T M : Type 0} where
       )
 
 -- a table is no wider than its columns and the separators between them
-pub table_width_within : (ws : List ℕ) → table_width ws ≤ sum ws + (length ws - 1)
-table_width_within ws = omega (arith, count_by-le-length (λ w. not (w == 0)) ws)
+pub frame_width_within : (ws : List ℕ) → frame_width ws ≤ sum ws + (length ws - 1)
+frame_width_within ws = omega (arith, count_by-le-length (λ w. not (w == 0)) ws)
 
 pub columns_room-within : (w : ℕ) (ws : List ℕ) → sum ws + (length ws - 1) ≤ w → columns_room ws ≤ w + 1
 columns_room-within w ws h = omega (arith, h)

@@ -6,11 +6,11 @@ ghost use Rattle.html_render_values.specs.Outcome.{Refuses};
 ghost use Rattle.html_render_parts.specs.Shares.{widths_across};
 ghost use Rattle.html_render_parts.specs.TableCells.{rows_on};
 ghost use Rattle.html_render_blocks.specs.declared.block.tables.OpenTable.TheVariants.{Stacked};
-ghost use Rattle.html_render_blocks.specs.Tables.{frame_of, rule, stacked_border};
+ghost use Rattle.html_render_blocks.specs.Tables.{frame_of, stacked_border};
 ghost use Rattle.html_render_blocks.specs.Block as block;
 ghost use Rattle.html_render_blocks.specs.Machine as machine;
 ghost use Rattle.html_render_blocks.specs.Machine.{machine};
-ghost use Rattle.html_render_pictures.specs.Padding.{character_of};
+ghost use Rattle.html_render_pictures.specs.Padding.{character_of, repeated};
 
 use super::Block;
 use super::rows::Widths;
@@ -60,7 +60,7 @@ fn frame_of<T: Tag>(tag: T, borders: bool, widths: &Widths) -> Frame<T>
 {
     Frame {
         borders,
-        width: widths.table_width(),
+        width: widths.frame_width(),
         tag,
     }
 }
@@ -83,7 +83,7 @@ fn rule<T: Tag, M: Copy>(
     filler: Filler,
     width: usize,
 ) -> Result<Line<T, M>, AllocError>
-    ensures { IfOk result (λ line. line ≡ rule tag (character_of filler) width) }
+    ensures { IfOk result (λ line. line ≡ repeated tag (character_of filler) width) }
 {
     let mut line = Line::with_capacity(alloc, width)?;
     push_fillers(&mut line, filler, width, tag)?;
@@ -136,7 +136,7 @@ impl<T: Tag, M: Copy> Block<T, M> {
         grid: &TableCells,
         widths: Widths,
     ) -> Result<(), Error>
-        ensures ok { OnOk result (self.new ≡ block.table_begun machine self.old tag borders (rows_on grid.now) (Some widths)) }
+        ensures ok { OnOk result (self.new ≡ block.with_table_begun machine self.old tag borders (rows_on grid.now) (Some widths)) }
         ensures err { IfErr result (λ e. e ≡ Error.OutOfMemory) }
     {
         let ahead = rows_of(self.alloc, grid)?;
@@ -161,7 +161,7 @@ impl<T: Tag, M: Copy> Block<T, M> {
         grid: &TableCells,
         widths: Option<Widths>,
     ) -> Result<(), Error>
-        ensures ok { OnOk result (self.new ≡ block.table_begun machine self.old tag borders (rows_on grid.now) widths) }
+        ensures ok { OnOk result (self.new ≡ block.with_table_begun machine self.old tag borders (rows_on grid.now) widths) }
         ensures err { IfErr result (λ e. e ≡ Error.OutOfMemory) }
     {
         match widths {

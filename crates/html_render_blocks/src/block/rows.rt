@@ -2,7 +2,7 @@
 
 ghost use Rattle.std.specs.Prelude.{◌≡◌, ◌+◌, ◌-◌, ◌^◌, ◌<◌, ◌++◌, ◌∷◌, [], length, reverse, sum, take, drop, count_by, not, ◌==◌, OnOk, IfOk};
 ghost use Rattle.html_render_blocks.specs.OpenRows as rows;
-ghost use Rattle.html_render_blocks.specs.Tables.{table_width};
+ghost use Rattle.html_render_blocks.specs.Tables.{frame_width};
 
 use html_render_lines::tag::Tag;
 use html_render_parts::table::{CellKind, PlacedCell};
@@ -210,9 +210,9 @@ impl Widths {
     }
 
     /// The columns of the table: those of its columns, and the separators between the ones that aren't empty.
-    #[tactic(auto, using(crate::specs::laws::TableWithin::table_width_within))]
-    pub fn table_width(&self) -> usize
-        ensures { result ≡ table_width self.now }
+    #[tactic(auto, using(crate::specs::laws::TableWithin::frame_width_within))]
+    pub fn frame_width(&self) -> usize
+        ensures { result ≡ frame_width self.now }
     {
         let widths = self.widths.as_slice();
         total(widths) + count_filled(widths).saturating_sub(1)
@@ -246,14 +246,14 @@ impl<T: Tag, M: Copy> OpenRow<T, M> {
 
     /// Skips the next cell.
     pub fn skip_cell(&mut self, alloc: Global) -> Result<(), AllocError>
-        ensures { OnOk result (self.new ≡ rows.with_cell self.old []) }
+        ensures { OnOk result (self.new ≡ rows.past_cell self.old []) }
     {
         pass_cell(alloc, &mut self.ahead, &mut self.cells)
     }
 
     /// Puts a cell in its place.
     pub fn add_cell(&mut self, alloc: Global, cell: Cell<T, M>) -> Result<(), AllocError>
-        ensures { OnOk result (self.new ≡ rows.with_cell self.old (cell ∷ [])) }
+        ensures { OnOk result (self.new ≡ rows.past_cell self.old (cell ∷ [])) }
     {
         pass_cell(alloc, &mut self.ahead, &mut self.cells)?;
         self.cells.push(cell)?;

@@ -1,5 +1,6 @@
 -- The characters that tables are drawn with take one column each. Their widths are read off the tables of Unicode.
-use Rattle.std.specs.Prelude.{◌≡◌, false, Some, map, replicate, refl}
+use Rattle.std.proofs.Common.{◌≡◌, ℕ, false, Some, None, map, replicate, get_or, refl, ap}
+use Rattle.std.specs.Prelude.{unwrap_or}
 use Rattle.unicode_width.specs.Width.{char_width, alone}
 use Rattle.unicode_width.specs.Kind.{kind, named_kind, named_rows, unnamed_kind, letter_kind, width_kind}
 use Rattle.unicode_width.specs.Kind.{is_ambiguous, is_ambiguous_symbol, is_jamo_after_lead, is_marked_ambiguous, is_prepended, is_wide, is_zero_width}
@@ -36,3 +37,7 @@ unfolding char_width alone kind named_kind named_rows unnamed_kind letter_kind w
     is_default_ignorable_code_point is_grapheme_extend default_ignorable_code_point_ranges grapheme_extend_ranges east_asian_width
     east_asian_width_rows hangul_syllable_type hangul_syllable_type_rows decomposition decomposition_rows
 glyph_widths = refl
+
+-- that of the character at a place of the list
+pub width_at : (place : ℕ) → unwrap_or (get_or (map (char_width false) glyphs) place None) 0 ≡ unwrap_or (get_or (replicate 7 (Some 1)) place None) 0
+width_at place = ap (λ ws. unwrap_or (get_or ws place None) 0) glyph_widths

@@ -3,11 +3,11 @@ use Rattle.std.proofs.Common.{ℕ, Bool, List, map, IfSome}
 use Rattle.std.specs.Str.{chars}
 use Rattle.html_render_parts.specs.Decoration.{Decoration}
 use Rattle.html_render_layout.specs.laws.Answers.{IfSome-then}
-use Rattle.html_render_blocks.specs.Operations.{Ending}
+use Rattle.html_render_blocks.specs.Operations.{DocumentEnd}
 use Rattle.html_render_layout.specs.declared.layout.state.LayoutState.{LayoutState}
 use Rattle.html_render_layout.specs.Ending.{closing_texts, ended}
 
-module _ {S A K T B : Type 0} (d : Decoration S A) (end : Ending B T) (link_footnotes wrap_links : Bool) (tag : T) where
+module _ {S A K T B : Type 0} (d : Decoration S A) (end : DocumentEnd B T) (link_footnotes wrap_links : Bool) (tag : T) where
   abbrev texts : LayoutState S K T B → List (List ℕ)
   texts s = map chars (closing_texts d link_footnotes s.decorator s.targets)
 

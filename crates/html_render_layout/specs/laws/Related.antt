@@ -14,7 +14,7 @@ use Rattle.html_render_nodes.specs.Pass.{Place, Bare, Skipped, Within, Places, b
 use Rattle.html_render_nodes.specs.Pass.{placed, run_at, run, nodes_at, visited, open_at, most_open}
 use Rattle.html_render_nodes.specs.laws.Visits.{from}
 use Rattle.html_render_paragraphs.specs.laws.Answers.{Both, Both-then, Both-weaken}
-use Rattle.html_render_blocks.specs.Operations.{Operations, Ending}
+use Rattle.html_render_blocks.specs.Operations.{Operations, DocumentEnd}
 use Rattle.html_render_blocks.specs.laws.Related.{Relates, RelatesEnds}
 use Rattle.html_render_layout.specs.declared.layout.state.LayoutState.{LayoutState}
 use Rattle.html_render_layout.specs.declared.layout.state.TextContext.{TextContext}
@@ -625,7 +625,7 @@ module _ {S A K T B L U C I : Type 0} (m : Means S A K T B) (pull : L → U → 
 
   -- ---- what is shown
 
-  module _ (end : Ending B T) (other_end : Ending C U) (Cut : Bool → Type 0) (ends : RelatesEnds end other_end N M Cut Tags Blocks) where
+  module _ (end : DocumentEnd B T) (other_end : DocumentEnd C U) (Cut : Bool → Type 0) (ends : RelatesEnds end other_end N M Cut Tags Blocks) where
     ended-related : (footnotes cut : Bool) (tag : T) (other_tag : U) (i : I) (s : State) (v : Different) → Cut cut →
         Tags (stacks_of s v) tag other_tag → Holds i s v →
         Both N M (Reached i (stacks_of s v)) (ended m.decoration end footnotes cut tag s)

@@ -14,7 +14,7 @@ use Rattle.html_render_nodes.specs.Pass.{Place, Bare, Skipped, Within, Places, b
 use Rattle.html_render_nodes.specs.Pass.{placed, run_at, run, nodes_at, open_at}
 use Rattle.html_render_nodes.specs.laws.Visits.{from}
 use Rattle.html_render_estimates.specs.Passes.{is_table, has_table, without_size, without_sizes, with_needed_sizes}
-use Rattle.html_render_blocks.specs.Operations.{Ending}
+use Rattle.html_render_blocks.specs.Operations.{DocumentEnd}
 use Rattle.html_render_layout.specs.declared.layout.state.LayoutState.{LayoutState}
 use Rattle.html_render_layout.specs.declared.settings.LayoutSettings.{LayoutSettings}
 use Rattle.html_render_layout.specs.Layout.{Means, digits_of, superscript, shape_of, style_steps, perform_all, shape_layout, layout_of, shown_after}
@@ -178,7 +178,7 @@ module _ {S A K T B : Type 0} (m : Means S A K T B) where
       by false e = run-same t bare 0 s e
 
   -- THE LAW: they show the same
-  pub shown-needed : {L : Type 0} (end : Ending B T) (shown : State → L) (t : Forest RenderNode) (s : State) →
+  pub shown-needed : {L : Type 0} (end : DocumentEnd B T) (shown : State → L) (t : Forest RenderNode) (s : State) →
       shown_after m end shown (with_needed_sizes t) s ≡ shown_after m end shown t s
   shown-needed end shown t s = ap (option_and_then _) (run-needed t s)
 

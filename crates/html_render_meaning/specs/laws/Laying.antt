@@ -31,8 +31,7 @@ lay s page (Marked m ∷ ps) = lay s (with_waiting_mark page m) ps
 
 no_space_by : {T M : Type 0} (b : Bool) (page : Page T M) (line : Line T M) → cond b (with_due_space_by page line None) page ≡ page
 no_space_by true page [] = refl
-no_space_by true page (e ∷ es) = refl
-no_space_by false page line = refl
+no_space_by b page line = refl
 
 no_space : {T M : Type 0} (s : Setting) (page : Page T M) → with_fitting_space s page None ≡ page
 no_space s page = no_space_by _ page page.line

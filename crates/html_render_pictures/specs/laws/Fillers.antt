@@ -1,119 +1,106 @@
 -- Characters that stand many times in a row: what is spelt by texts of them, and how many columns they take.
-use Rattle.std.proofs.Common.{◌≡◌, ℕ, suc, zero, ◌+◌, ◌-◌, ◌*◌, ◌<◌, ◌≤◌, true, List}
-use Rattle.std.proofs.Common.{[], ◌∷◌, ◌++◌, take, get_or, replicate, refl, sym, ap, ◌∙◌, arith, append_assoc}
-use Rattle.std.proofs.Math.Utf8.{encode, encodes, scalars}
-use Rattle.std.proofs.lemmas.List.{take-replicate, replicate-append-replicate}
+use Rattle.std.proofs.Common.{◌≡◌, ℕ, suc, zero, ◌+◌, ◌-◌, ◌*◌, ◌<◌, ◌≤◌, true, false, List, ◌&&◌}
+use Rattle.std.proofs.Common.{[], ◌∷◌, ◌++◌, take, length, replicate, refl, sym, ap, ◌∙◌, subst, arith, append_assoc, length-append}
+use Rattle.std.proofs.Math.Utf8.{encode, encodes, scalar, scalars}
+use Rattle.std.proofs.lemmas.List.{take_at, replicate-append-replicate}
 use Rattle.std.proofs.lemmas.List.Elements.{All-replicate}
 use Rattle.std.proofs.lemmas.List.Folds.{sum_by-replicate}
-use Rattle.std.proofs.lemmas.Str.{chars-IsAscii, chars-encodes}
+use Rattle.std.proofs.lemmas.Str.{chars-IsAscii, chars-encodes, encodes-append, length-encode, IsCharBoundary-at_seam}
 use Rattle.std.proofs.lemmas.Str.Ascii.{IsAscii-from_all}
+use Rattle.std.specs.Char.{len_utf8}
 use Rattle.std.specs.List.{slice_range}
-use Rattle.std.specs.Str.{chars}
+use Rattle.std.specs.Str.{chars, IsCharBoundary}
 use Rattle.html_render_lines.specs.declared.line.Element.TheVariants.{Character}
 use Rattle.html_render_lines.specs.Character.{width_of}
 use Rattle.html_render_lines.specs.Line.{Line}
 use Rattle.html_render_lines.specs.TaggedText.{text_columns, under}
-use Rattle.html_render_pictures.specs.Padding.{character_of, fillers, filled_line}
+use Rattle.html_render_pictures.specs.Padding.{character_of, repeated, filled_line}
 use Rattle.html_render_pictures.specs.declared.fillers.Filler.{Filler}
 use Rattle.html_render_pictures.specs.declared.fillers.Filler.TheVariants.{Space, Slash, Dash}
-use Rattle.html_render_pictures.specs.laws.Glyphs.{space_width, slash_width, border_width}
+use Rattle.html_render_pictures.specs.laws.Glyphs.{space_width, slash_width, joint_width}
 
--- ---- spaces and slashes are the bytes that they are spelt with
+-- ---- the first of more are spelt by the first bytes
 
-chars-ascii : (c : ℕ) → c < 128 → (count : ℕ) → chars (replicate count c) ≡ replicate count c
-chars-ascii c h count = chars-IsAscii (replicate count c) (IsAscii-from_all (replicate count c) (All-replicate (λ b. b < 128) count c h))
+encodes-length : (c n : ℕ) → length (encodes (replicate n c)) ≡ n * len_utf8 c
+encodes-length c zero = omega arith
+encodes-length c (suc n) =
+    grind (arith, length-append (encode c) (encodes (replicate n c)), length-encode c, encodes-length c n)
 
+scalars-replicate : (c n : ℕ) → scalar c ≡ true → scalars (replicate n c) ≡ true
+scalars-replicate c zero s = refl
+scalars-replicate c (suc n) s = ap (λ b. b && scalars (replicate n c)) s ∙ scalars-replicate c n s
+
+parted : (c count all : ℕ) → count ≤ all → encodes (replicate all c) ≡ encodes (replicate count c) ++ encodes (replicate (all - count) c)
+parted c count all h =
+    ap (λ n. encodes (replicate n c)) (together count all h) ∙ ap encodes (sym (replicate-append-replicate count (all - count) c))
+    ∙ encodes-append (replicate count c) (replicate (all - count) c)
+  where
+    together : (count all : ℕ) → count ≤ all → all ≡ count + (all - count)
+    together count all h = omega (arith, h)
+
+-- as many of a text's first bytes as so many characters have
+module _ (c count all bytes : ℕ) (text : List ℕ) (s : scalar c ≡ true) (is : text ≡ encodes (replicate all c)) (each : bytes ≡ len_utf8 c)
+    (h : count ≤ all) where
+  first_length : length (encodes (replicate count c)) ≡ count * bytes
+  first_length = encodes-length c count ∙ ap (λ n. count * n) (sym each)
+
+  pub first_boundary : IsCharBoundary text (count * bytes)
+  first_boundary = subst (IsCharBoundary text) first_length
+      (IsCharBoundary-at_seam text (encodes (replicate count c)) (encodes (replicate (all - count) c)) (is ∙ parted c count all h)
+      (replicate (all - count) c, (scalars-replicate c (all - count) s, refl)))
+
+  pub first_chars : chars (slice_range text 0 (count * bytes)) ≡ replicate count c
+  first_chars =
+      ap (λ n. chars (take n text)) (same (count * bytes))
+      ∙ ap (λ bs. chars (take (count * bytes) bs)) (is ∙ parted c count all h)
+      ∙ ap chars (take_at (encodes (replicate count c)) (encodes (replicate (all - count) c)) (count * bytes) first_length)
+      ∙ chars-encodes (replicate count c) (scalars-replicate c count s)
+    where
+      same : (n : ℕ) → n - 0 ≡ n
+      same n = omega arith
+
+-- spaces are the bytes that they are spelt with
 pub chars-spaces : (count : ℕ) → chars (replicate count 0x20) ≡ replicate count 0x20
-chars-spaces count = chars-ascii 0x20 (omega arith) count
-
--- the first of more
-pub chars-few : (c count all : ℕ) → c < 128 → count ≤ all → chars (slice_range (replicate all c) 0 count) ≡ replicate count c
-chars-few c count all ascii h =
-    ap (λ n. chars (take n (replicate all c))) (same count) ∙ ap chars (take-replicate count all c h) ∙ chars-ascii c ascii count
-  where
-    same : (n : ℕ) → n - 0 ≡ n
-    same n = omega arith
-
--- ---- a dash is spelt with three bytes
-
-abbrev pub spelt_dashes : ℕ → List ℕ
-spelt_dashes zero = []
-spelt_dashes (suc n) = 226 ∷ 148 ∷ 128 ∷ spelt_dashes n
-
-three-more : (n : ℕ) → suc n * 3 ≡ suc (suc (suc (n * 3)))
-three-more n = omega arith
-
-dashes-encoded : (n : ℕ) → encodes (replicate n 0x2500) ≡ spelt_dashes n
-unfolding encode
-dashes-encoded zero = refl
-dashes-encoded (suc n) = ap (λ bs. 226 ∷ 148 ∷ 128 ∷ bs) (dashes-encoded n)
-
-scalar-dashes : (n : ℕ) → scalars (replicate n 0x2500) ≡ true
-scalar-dashes zero = refl
-scalar-dashes (suc n) = scalar-dashes n
-
-chars-dashes : (n : ℕ) → chars (spelt_dashes n) ≡ replicate n 0x2500
-chars-dashes n = ap chars (sym (dashes-encoded n)) ∙ chars-encodes (replicate n 0x2500) (scalar-dashes n)
-
-first-dashes : (count all : ℕ) → count ≤ all → take (count * 3) (spelt_dashes all) ≡ spelt_dashes count
-first-dashes zero all h = refl
-first-dashes (suc count) zero h = absurd (omega (arith, h))
-first-dashes (suc count) (suc all) h =
-    ap (λ n. take n (spelt_dashes (suc all))) (three-more count)
-    ∙ ap (λ bs. 226 ∷ 148 ∷ 128 ∷ bs) (first-dashes count all (omega (arith, h)))
-
--- the first of more
-pub chars-few-dashes : (count all : ℕ) → count ≤ all → chars (slice_range (spelt_dashes all) 0 (count * 3)) ≡ replicate count 0x2500
-chars-few-dashes count all h =
-    ap (λ n. chars (take n (spelt_dashes all))) (same (count * 3)) ∙ ap chars (first-dashes count all h) ∙ chars-dashes count
-  where
-    same : (n : ℕ) → n - 0 ≡ n
-    same n = omega arith
-
--- behind some dashes the next one begins
-pub dash-behind : (count all : ℕ) → count < all → get_or (spelt_dashes all) (count * 3) 0 ≡ 226
-dash-behind count zero h = absurd (omega (arith, h))
-dash-behind zero (suc all) h = refl
-dash-behind (suc count) (suc all) h =
-    ap (λ n. get_or (spelt_dashes (suc all)) n 0) (three-more count) ∙ dash-behind count all (omega (arith, h))
+chars-spaces count = chars-IsAscii (replicate count 0x20) (IsAscii-from_all (replicate count 0x20) (All-replicate (λ b. b < 128) count 0x20 (omega arith)))
 
 -- ---- on a line
 
 character_width : (filler : Filler) → width_of (character_of filler) ≡ 1
 character_width Space = space_width
 character_width Slash = slash_width
-character_width Dash = border_width
+character_width Dash = joint_width false false
 
 -- as many columns as characters
 pub fillers_width : (filler : Filler) (count : ℕ) → text_columns (replicate count (character_of filler)) ≡ count
 fillers_width filler count =
     omega (arith, sum_by-replicate width_of count (character_of filler), ap (λ w. count * w) (character_width filler))
 
-under-fillers : {T : Type 0} (M : Type 0) (filler : Filler) (tag : T) (count : ℕ) →
-    under {M = M} tag (replicate count (character_of filler)) ≡ fillers filler tag count
-under-fillers M filler tag zero = refl
-under-fillers M filler tag (suc count) = ap (λ l. Character (character_of filler) tag ∷ l) (under-fillers M filler tag count)
+under-replicate : {T : Type 0} (M : Type 0) (tag : T) (c count : ℕ) → under {M = M} tag (replicate count c) ≡ repeated tag c count
+under-replicate M tag c zero = refl
+under-replicate M tag c (suc count) = ap (λ l. Character c tag ∷ l) (under-replicate M tag c count)
 
 -- some of them, and the ones that are left, are all of them
 pub fillers_parted : {T M : Type 0} (filler : Filler) (tag : T) (line : Line T M) (next left : ℕ) → next ≤ left →
-    (line ++ under tag (replicate next (character_of filler))) ++ fillers filler tag (left - next) ≡ line ++ fillers filler tag left
+    (line ++ under tag (replicate next (character_of filler))) ++ repeated tag (character_of filler) (left - next)
+    ≡ line ++ repeated tag (character_of filler) left
 fillers_parted {T} {M} filler tag line next left h =
-    ap (λ l. (line ++ l) ++ fillers filler tag (left - next)) (under-fillers M filler tag next)
-    ∙ append_assoc line (fillers filler tag next) (fillers filler tag (left - next))
-    ∙ ap (λ l. line ++ l) (replicate-append-replicate next (left - next) (Character (character_of filler) tag))
-    ∙ ap (λ n. line ++ fillers filler tag n) (together next left h)
+    let c = character_of filler in
+    ap (λ l. (line ++ l) ++ repeated tag c (left - next)) (under-replicate M tag c next)
+    ∙ append_assoc line (repeated tag c next) (repeated tag c (left - next))
+    ∙ ap (λ l. line ++ l) (replicate-append-replicate next (left - next) (Character c tag))
+    ∙ ap (λ n. line ++ repeated tag c n) (together next left h)
   where
     together : (next left : ℕ) → next ≤ left → next + (left - next) ≡ left
     together next left h = omega (arith, h)
 
 -- one more
 pub filler_more : {T M : Type 0} (filler : Filler) (tag : T) (count : ℕ) →
-    fillers {M = M} filler tag count ++ Character (character_of filler) tag ∷ [] ≡ fillers filler tag (count + 1)
+    repeated {M = M} tag (character_of filler) count ++ Character (character_of filler) tag ∷ [] ≡ repeated tag (character_of filler) (count + 1)
 filler_more filler tag count = replicate-append-replicate count 1 (Character (character_of filler) tag)
 
 -- an empty line is filled with spaces alone
-pub blank_filled : {T M : Type 0} (tag : T) (width : ℕ) → filled_line {M = M} tag width [] ≡ fillers Space tag width
-blank_filled {T} {M} tag width = ap (λ n. fillers {M = M} Space tag n) (same width)
+pub blank_filled : {T M : Type 0} (tag : T) (width : ℕ) → filled_line {M = M} tag width [] ≡ repeated tag (character_of Space) width
+blank_filled {T} {M} tag width = ap (λ n. repeated {M = M} tag 0x20 n) (same width)
   where
     same : (n : ℕ) → n - 0 ≡ n
     same n = omega arith

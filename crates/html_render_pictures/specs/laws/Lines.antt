@@ -1,6 +1,7 @@
 -- Lines beside each other and marks at their ends, to a map of tags and to the visible characters.
-use Rattle.std.proofs.Common.{◌≡◌, ℕ, ◌+◌, cond, eqb, List, [], ◌∷◌, ◌++◌, refl, sym, ap, ◌∙◌, append_assoc, append-nil}
+use Rattle.std.proofs.Common.{◌≡◌, ℕ, ◌+◌, cond, eqb, List, [], ◌∷◌, ◌++◌, refl, ap, ◌∙◌, append-nil}
 use Rattle.std.proofs.lemmas.List.{map-append}
+use Rattle.std.proofs.lemmas.List.Concat.{flat_map-append}
 use Rattle.std.proofs.lemmas.List.Sums.{sum_by-append}
 use Rattle.html_render_lines.specs.Line.{Line, marks_line}
 use Rattle.html_render_lines.specs.Tags.{element_with, line_with, lines_with}
@@ -11,9 +12,7 @@ use Rattle.html_render_pictures.specs.Marked.{marked_behind}
 use Rattle.html_render_pictures.specs.Visible.{count}
 
 pub lines-append : {T M : Type 0} (ls ks : List (Line T M)) → visible_in_lines (ls ++ ks) ≡ visible_in_lines ls ++ visible_in_lines ks
-lines-append [] ks = refl
-lines-append (l ∷ ls) ks = ap (λ r. visible_in_line l ++ r) (lines-append ls ks)
-    ∙ sym (append_assoc (visible_in_line l) (visible_in_lines ls) (visible_in_lines ks))
+lines-append {T} {M} ls ks = flat_map-append (λ (l : Line T M). visible_in_line l) ls ks
 
 pub marked_behind_same : {T M : Type 0} (ms : List M) (ls : List (Line T M)) → visible_in_lines (marked_behind ms ls) ≡ visible_in_lines ls
 marked_behind_same ms [] = refl

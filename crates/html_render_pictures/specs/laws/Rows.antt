@@ -5,7 +5,7 @@ use Rattle.html_render_lines.specs.Line.{Line}
 use Rattle.html_render_pictures.specs.Marked.{marked_before}
 use Rattle.html_render_pictures.specs.declared.picture.Frame.{Frame}
 use Rattle.html_render_pictures.specs.Picture.{TableRow, DrawnRow, is_drawn, waiting_in, separators_of, next_separators, drawn_rows}
-use Rattle.html_render_pictures.specs.Picture.{left_waiting, border, row_lines, rows_lines, has_top, top_border, picture}
+use Rattle.html_render_pictures.specs.Picture.{left_waiting, border, row_lines, rows_lines, has_top, topped_lines, picture}
 use Rattle.html_render_pictures.specs.Drawing.{Drawing, due_lines, due_below, with_cells, with_rows, begun, finished}
 
 module _ {T M : Type 0} where
@@ -60,8 +60,7 @@ drawn_is {T} {M} frame waiting rows = by (has_top frame)
 
     by : (b : Bool) → finished (with_rows (cond b top bare) rows)
         ≡ (
-          cond b (marked_before waiting (top_border frame (drawn_rows [] rows) ∷ rows_lines frame (drawn_rows [] rows)))
-              (rows_lines frame (drawn_rows waiting rows)),
+          cond b (marked_before waiting (topped_lines frame (drawn_rows [] rows))) (rows_lines frame (drawn_rows waiting rows)),
           left_waiting (cond b [] waiting) rows,
         )
     by true = leads top rows

@@ -11,7 +11,7 @@ use Rattle.html_render_pictures.specs.Padding.{filled}
 use Rattle.html_render_pictures.specs.laws.Lines.{marked_behind-with}
 use Rattle.html_render_pictures.specs.laws.Padding.{filled-with}
 use Rattle.html_render_pictures.specs.declared.picture.Frame.{Frame}
-use Rattle.html_render_pictures.specs.Picture.{KeptCell, TableRow, is_empty, has_lines, is_drawn, waiting_of, waiting_in}
+use Rattle.html_render_pictures.specs.Picture.{KeptCell, TableRow, is_empty, has_lines, is_drawn, waiting_in}
 use Rattle.html_render_pictures.specs.Picture.{separators_of, joint, height, separator, has_top, drawn, border}
 use Rattle.html_render_pictures.specs.Picture.{cell_lines, beside, row_lines, picture}
 use Rattle.html_render_pictures.specs.Drawing.{Drawing, DueBorder, due_lines, due_below, with_cells, with_row, with_rows, begun, finished}
@@ -19,10 +19,10 @@ use Rattle.html_render_pictures.specs.Tags.{cell_with, row_with, frame_with, dra
 use Rattle.html_render_pictures.specs.laws.Rows.{drawn_is}
 
 module _ {T U M : Type 0} (f : T → U) where
-  lines-append : (a b : List (Line T M)) → lines_with f (a ++ b) ≡ lines_with f a ++ lines_with f b
+  pub lines-append : (a b : List (Line T M)) → lines_with f (a ++ b) ≡ lines_with f a ++ lines_with f b
   lines-append a b = map-append (line_with f) a b
 
-  marked_before-with : (ms : List M) (ls : List (Line T M)) → marked_before ms (lines_with f ls) ≡ lines_with f (marked_before ms ls)
+  pub marked_before-with : (ms : List M) (ls : List (Line T M)) → marked_before ms (lines_with f ls) ≡ lines_with f (marked_before ms ls)
   marked_before-with ms [] = refl
   marked_before-with ms (l ∷ ls) =
       ap (λ l. l ∷ lines_with f ls) (ap (λ m. m ++ line_with f l) (sym (marks-with f ms)) ∙ sym (map-append (element_with f) (marks_line ms) l))
@@ -115,7 +115,7 @@ module _ {T U M : Type 0} (f : T → U) where
   waiting-with [] = refl
   waiting-with (c ∷ cs) =
       ap (λ n. cond (n == 0) c.marks [] ++ waiting_in (map (cell_with f) cs)) (length-map c.lines (line_with f))
-      ∙ ap (λ ms. waiting_of c ++ ms) (waiting-with cs)
+      ∙ ap (λ ms. cond (length c.lines == 0) c.marks [] ++ ms) (waiting-with cs)
 
   -- ---- row by row
 

@@ -40,7 +40,7 @@ none_before {T} {M} (l ∷ ls) b cs e h = by (is_empty (l ∷ ls)) refl e
 module _ {T M : Type 0} where
   -- ---- what marks and spaces leave as it is
 
-  marked_before_same : (ms : List M) (ls : List (Line T M)) → visible_in_lines (marked_before ms ls) ≡ visible_in_lines ls
+  pub marked_before_same : (ms : List M) (ls : List (Line T M)) → visible_in_lines (marked_before ms ls) ≡ visible_in_lines ls
   marked_before_same ms [] = refl
   marked_before_same ms (l ∷ ls) = ap (λ r. r ++ visible_in_lines ls)
       (visible_in_line-append (marks_line ms) l ∙ ap (λ r. r ++ visible_in_line l) (visible_in_line-marks T ms))

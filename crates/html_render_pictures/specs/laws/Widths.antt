@@ -1,24 +1,23 @@
 -- How wide the lines of a picture are.
-use Rattle.std.proofs.Common.{◌≡◌, ℕ, zero, suc, ◌+◌, ◌-◌, ◌≤◌, ◌++◌, Bool, true, false, cond, List, [], ◌∷◌, All, length, map, max, sum_by, get_or}
+use Rattle.std.proofs.Common.{◌≡◌, ℕ, ◌+◌, ◌-◌, ◌≤◌, ◌++◌, Bool, true, false, cond, List, [], ◌∷◌, All, length, map, max, sum_by, get_or}
 use Rattle.std.proofs.Common.{replicate, fold, refl, subst, sym, ◌∙◌, arith}
 use Rattle.std.specs.List.{range_with_len, flat_map}
 use Rattle.std.proofs.lemmas.List.{length-append, length-replicate}
 use Rattle.std.proofs.lemmas.List.FromFn.{length-range_with_len}
 use Rattle.std.proofs.lemmas.List.Sums.{sum_by-cons}
 use Rattle.std.proofs.lemmas.List.Elements.{All-nil, All-cons, All-head, All-tail, All-append, All-map, All-replicate, All-weaker}
-use Rattle.html_render_lines.specs.declared.line.Element.{Element}
-use Rattle.html_render_lines.specs.declared.line.Element.TheVariants.{Character}
 use Rattle.html_render_lines.specs.Character.{width_of}
-use Rattle.html_render_lines.specs.Line.{Line, columns, element_width, marks_line, AllWithinWidth}
-use Rattle.html_render_lines.specs.laws.Columns.{columns-append, columns-marks, width-space}
+use Rattle.html_render_lines.specs.Line.{Line, columns, marks_line, AllWithinWidth}
+use Rattle.html_render_lines.specs.laws.Columns.{columns-append, columns-cons, columns-marks, width-space}
 use Rattle.html_render_pictures.specs.Marked.{marked_before, marked_behind}
-use Rattle.html_render_pictures.specs.Padding.{spaces, filled_line}
+use Rattle.html_render_pictures.specs.Padding.{repeated, filled_line}
 use Rattle.html_render_pictures.specs.declared.picture.Frame.{Frame}
 use Rattle.html_render_pictures.specs.Picture.{KeptCell, TableRow, DrawnRow, is_drawn, waiting_in, drawn_rows, separators_of, next_separators}
 use Rattle.html_render_pictures.specs.Picture.{joint, height, separator, has_top, drawn, border, cell_lines, beside, row_lines, rows_lines}
-use Rattle.html_render_pictures.specs.Picture.{top_border, picture_lines}
+use Rattle.html_render_pictures.specs.Picture.{topped_lines, picture_lines}
 use Rattle.html_render_pictures.specs.Widths.{row_width, KeepsToWidth, RowWithin, AllAsWide}
 use Rattle.html_render_pictures.specs.laws.Glyphs.{joint_width, separator_width}
+use Rattle.html_render_pictures.specs.laws.Padding.{repeated-columns}
 use Rattle.html_render_pictures.specs.laws.Heights.{IsNoHigher, row_highest, cell-height, beside-height}
 
 module _ {T M : Type 0} where
@@ -28,19 +27,16 @@ module _ {T M : Type 0} where
   abbrev IsAsWide : ℕ → Line T M → Type 0
   IsAsWide w l = columns l ≡ w
 
-  columns-cons : (e : Element T M) (l : Line T M) → columns (e ∷ l) ≡ element_width e + columns l
-  columns-cons e l = sum_by-cons (λ (e : Element T M). element_width e) e l
-
   -- ---- marks take no column
 
-  marked_before-within : (w : ℕ) (ms : List M) (ls : List (Line T M)) → AllWithinWidth w ls → AllWithinWidth w (marked_before ms ls)
+  pub marked_before-within : (w : ℕ) (ms : List M) (ls : List (Line T M)) → AllWithinWidth w ls → AllWithinWidth w (marked_before ms ls)
   marked_before-within w ms [] h = h
   marked_before-within w ms (l ∷ ls) h =
       All-cons (IsWithin w) (marks_line ms ++ l) ls
       (let here = All-head (IsWithin w) l ls h in omega (arith, here, columns-append (marks_line ms) l, columns-marks T ms))
       (All-tail (IsWithin w) l ls h)
 
-  marked_behind-within : (w : ℕ) (ms : List M) (ls : List (Line T M)) → AllWithinWidth w ls → AllWithinWidth w (marked_behind ms ls)
+  pub marked_behind-within : (w : ℕ) (ms : List M) (ls : List (Line T M)) → AllWithinWidth w ls → AllWithinWidth w (marked_behind ms ls)
   marked_behind-within w ms [] h = h
   marked_behind-within w ms (l ∷ []) h =
       All-cons (IsWithin w) (l ++ marks_line ms) []
@@ -91,18 +87,13 @@ module _ {T : Type 0} (M : Type 0) (frame : Frame T) where
   border-within : (w : ℕ) (above below : List Bool) → length above ≤ w → length below ≤ w → columns (border {M = M} frame above below) ≤ w
   border-within w above below h k = omega (arith, border-columns above below)
 
-  spaces-columns : (n : ℕ) → columns (spaces {M = M} frame.tag n) ≡ n
-  spaces-columns zero = refl
-  spaces-columns (suc n) =
-      let e = columns-cons {M = M} (Character 32 frame.tag) (spaces frame.tag n) in omega (arith, e, width-space, spaces-columns n)
-
 module _ {T M : Type 0} (frame : Frame T) where
   -- ---- rows
 
   filled_line-columns : (w : ℕ) (l : Line T M) → columns l ≤ w → columns (filled_line frame.tag w l) ≡ w
   filled_line-columns w l h =
-      let e = columns-append l (spaces frame.tag (w - columns l)) in
-      omega (arith, e, h, spaces-columns M frame (w - columns l))
+      let e = columns-append l (repeated frame.tag 0x20 (w - columns l)) in
+      omega (arith, e, h, repeated-columns M frame.tag 0x20 (w - columns l) width-space)
 
   cell-width : (h : ℕ) (c : KeptCell T M) → KeepsToWidth c → AllAsWide c.width (cell_lines frame h c)
   cell-width h c keeps =
@@ -204,12 +195,13 @@ module _ {T M : Type 0} (frame : Frame T) where
       let ds = drawn_rows [] rows in
       let within = drawn-within w [] rows k in
       let above = replicate frame.width false in
-      let top : IsWithin w (top_border frame ds) =
+      let border_above = border {M = M} frame above (next_separators ds) in
+      let top : IsWithin w border_above =
       border-within M frame w above (next_separators ds) (omega (arith, h, length-replicate frame.width false)) (next-within w ds within) in
       elim (has_top frame) as (λ b. AllWithinWidth w
-      (cond b (marked_before waiting (top_border frame ds ∷ rows_lines frame ds)) (rows_lines frame (drawn_rows waiting rows)))) [
+      (cond b (marked_before waiting (topped_lines frame ds)) (rows_lines frame (drawn_rows waiting rows)))) [
         | true ↦
-            marked_before-within w waiting (top_border frame ds ∷ rows_lines frame ds)
-            (All-cons (IsWithin w) (top_border frame ds) (rows_lines frame ds) top (rows-within w ds within))
+            marked_before-within w waiting (topped_lines frame ds)
+            (All-cons (IsWithin w) border_above (rows_lines frame ds) top (rows-within w ds within))
         | false ↦ rows-within w (drawn_rows waiting rows) (drawn-within w waiting rows k)
       ]

@@ -1,7 +1,7 @@
 use Rattle.std.proofs.Common.{◌≡◌, ◌++◌, ◌∷◌, [], ℕ, get_or, false, sym, ap, ◌∙◌, arith}
 use Rattle.std.proofs.lemmas.List.FromFn.{map-range_with_len_more}
 use Rattle.html_render_pictures.specs.declared.fillers.Filler.TheVariants.{Dash}
-use Rattle.html_render_pictures.specs.Padding.{fillers}
+use Rattle.html_render_pictures.specs.Padding.{character_of, repeated}
 use Rattle.html_render_pictures.specs.Picture.{drawn, joint}
 use Rattle.html_render_pictures.proofs.picture.Frame.border.Goals as goal
 
@@ -9,7 +9,7 @@ pub loop-column-preserved : goal.loop-column-preserved
 loop-column-preserved g c =
     let shown = λ (x : ℕ). drawn {M = g.row.M.Denot} c.args.self.now (joint (get_or c.args.above.now x false) (get_or c.args.below.now x false)) in
     let e = map-range_with_len_more shown 0 c.loop-column.column c.loop-column.column (omega arith) in
-    let due = c.loop-column.line ++ fillers Dash c.args.self.now.tag c.loop-column.dashes in
+    let due = c.loop-column.line ++ repeated c.args.self.now.tag (character_of Dash) c.loop-column.dashes in
     let both : joint c.separator_at-up.result c.separator_at-down.result
     ≡ joint (get_or c.args.above.now c.loop-column.column false) (get_or c.args.below.now c.loop-column.column false) =
     cc in
