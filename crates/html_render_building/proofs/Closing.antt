@@ -1,7 +1,6 @@
 -- An element that is closed: what it becomes has come to the element that it stands in.
 use Rattle.std.proofs.Common.{◌≡◌, ◌≤◌, ◌<◌, Bool, true, false, List, [], ◌∷◌, ◌++◌, length, take, Option, Some, None}
 use Rattle.std.proofs.Common.{refl, sym, ap, subst, ◌∙◌, arith, length-append, option_map}
-use Rattle.std.proofs.lemmas.List.{same_from_push}
 use Rattle.html_render_values.specs.Forest.{Forest, count, followed_by}
 use Rattle.html_render_values.specs.Outcome.{◌>>=◌}
 use Rattle.html_render_dom.specs.Dom.{Dom, IsNode, trees_of}
@@ -23,7 +22,7 @@ use Rattle.html_render_building.specs.Order.{children_in}
 use Rattle.html_render_building.specs.Spans.{spans_of_parts}
 use Rattle.html_render_building.proofs.Coming.{arrive-before, before}
 use Rattle.html_render_building.proofs.Paths.{AreSound, Converting, Converting-after, Path, Step, ahead_of, elements_of, holding, made_of_path}
-use Rattle.html_render_building.proofs.Paths.{remaining, resumed, resumed_from}
+use Rattle.html_render_building.proofs.Paths.{innermost, resumed, resumed_from}
 
 -- what stands behind an element is of no matter to what is closed in it
 closed_into-before : (h p : Holding) (rest : Forest Draft) → closed_into h (before rest p) ≡ option_map (before rest) (closed_into h p)
@@ -57,50 +56,34 @@ some_same a b e = cc
 -- where the innermost element is to be closed
 pub record Ending (rules : List StyleRule) (dom : Dom) (elements : List Open) (o : Open) (drafts : Forest Draft) : Type 0 where
   pub path : Path
-  pub top : Step
+  pub kept : Forest Draft
   pub elements_are : elements ≡ elements_of path
-  pub drafts_are : drafts ≡ made_of_path (top ∷ path)
-  pub top_is : top.opened ≡ o
-  pub result : resumed_from rules dom (holding top) path ≡ document_drafts rules dom
-  pub sound : AreSound dom (top ∷ path)
+  pub drafts_are : drafts ≡ followed_by kept (made_of_path path)
+  pub start_is : o.start ≡ count (made_of_path path)
+  pub result : resumed_from rules dom (record { element = o.element; drafts = kept }) path ≡ document_drafts rules dom
+  pub sound : AreSound dom path
 
 module _ (rules : List StyleRule) (dom : Dom) where
-  ending_at : (elements : List Open) (o : Open) (drafts : Forest Draft) (path : Path) → o.ahead ≡ 0 →
-      elements ++ o ∷ [] ≡ elements_of path → drafts ≡ made_of_path path → resumed rules dom path ≡ document_drafts rules dom → AreSound dom path →
-      Ending rules dom elements o drafts
-  ending_at elements o drafts [] ahead elements_are drafts_are result sound =
-      absurd (omega (arith, ap length elements_are, length-append elements (o ∷ [])))
-  ending_at elements o drafts (x ∷ path) ahead elements_are drafts_are result sound =
-      let same = same_from_push elements (elements_of path) o x.opened elements_are in
-      let over : remaining dom x.opened ≡ [] =
-      ap (λ (e : Open). remaining dom e) (sym same.1) ∙ ap (λ k. take k (children_in dom o.children)) ahead in
-      record {
-        path = path;
-        top = x;
-        elements_are = same.0;
-        drafts_are = drafts_are;
-        top_is = sym same.1;
-        result = sym (nothing_ahead x over) ∙ result;
-        sound = sound;
-      }
-    where
-      nothing_ahead : (x : Step) → remaining dom x.opened ≡ [] →
-          (ahead_of rules dom x.opened (holding x) >>= (λ h. resumed_from rules dom h path)) ≡ resumed_from rules dom (holding x) path
-      nothing_ahead x over = ap (λ hs. arrivals rules (trees_of dom hs) All (holding x) >>= (λ h. resumed_from rules dom h path)) over
-
   pub Converting-ending : (elements : List Open) (o : Open) (drafts : Forest Draft) → o.ahead ≡ 0 →
       Converting rules dom (elements ++ o ∷ []) drafts → Ending rules dom elements o drafts
   Converting-ending elements o drafts ahead c =
-      ending_at elements o drafts c.path ahead c.elements_are c.drafts_are c.result c.sound
+      let i = innermost rules dom elements o drafts c in
+      let h : Holding = record { element = o.element; drafts = i.kept } in
+      record {
+        path = i.path;
+        kept = i.kept;
+        elements_are = i.elements_are;
+        drafts_are = i.drafts_are;
+        start_is = i.sound.0.start_is;
+        result = sym (ap (λ k. arrivals rules (trees_of dom (take k (children_in dom o.children))) All h
+            >>= (λ q. resumed_from rules dom q i.path)) ahead) ∙ i.result;
+        sound = i.sound.1;
+      }
 
   -- what was kept of the element
   pub Ending-split : (elements : List Open) (o : Open) (drafts : Forest Draft) → Ending rules dom elements o drafts → SplitAt drafts o.start
-  Ending-split elements o drafts e = record {
-    children = e.top.drafts;
-    beside = made_of_path e.path;
-    is = e.drafts_are;
-    mark_is = ap (λ (p : Open). p.start) (sym e.top_is) ∙ e.sound.0.start_is;
-  }
+  Ending-split elements o drafts e =
+      record { children = e.kept; beside = made_of_path e.path; is = e.drafts_are; mark_is = e.start_is }
 
   -- ---- an element that stands in another
 
@@ -111,75 +94,62 @@ module _ (rules : List StyleRule) (dom : Dom) where
         Closed below p es_now ds_now (closed_into (record { element = o.element; drafts = s.children })
         (record { element = p.element; drafts = s.beside }))
 
-    closes : (top y : Step) (path : Path) (c : Option Holding) → c ≡ closed_into (holding top) (holding y) →
-        AreSound dom (y ∷ path) → (w : Option Holding) → w ≡ option_map (before (made_of_path path)) c →
-        Closed (elements_of path) y.opened es_now ds_now w →
+    closes : (y : Step) (path : Path) (c : Option Holding) → AreSound dom (y ∷ path) →
+        Closed (elements_of path) y.opened es_now ds_now (option_map (before (made_of_path path)) c) →
         (c >>= (λ p. ahead_of rules dom y.opened p >>= (λ q. resumed_from rules dom q path))) ≡ document_drafts rules dom →
         Converting rules dom es_now ds_now
-    closes top y path None c_is sound w w_is d result = absurd (none_of_some (sym w_is ∙ d.wanted_is))
-    closes top y path (Some g) c_is sound w w_is d result =
-        let same : d.holding ≡ before (made_of_path path) g = some_same d.holding (before (made_of_path path) g) (sym d.wanted_is ∙ w_is) in
+    closes y path None sound d result = absurd (none_of_some d.wanted_is)
+    closes y path (Some g) sound d result =
+        let same : d.holding ≡ before (made_of_path path) g = some_same d.holding (before (made_of_path path) g) (sym d.wanted_is) in
         Converting-after rules dom path y sound es_now ds_now g (subst (IsAfter (elements_of path) y.opened es_now ds_now) same d.after) result
 
-    close_at : (e : Ending rules dom elements o drafts) → ClosesAs → (path : Path) → elements ≡ elements_of path →
-        drafts ≡ followed_by e.top.drafts (made_of_path path) → o.start ≡ count (made_of_path path) →
-        resumed_from rules dom (holding e.top) path ≡ document_drafts rules dom → AreSound dom path → 0 < length elements →
-        Converting rules dom es_now ds_now
-    close_at e c [] elements_are drafts_are start_is result sound some = absurd (omega (arith, some, ap length elements_are))
-    close_at e c (y ∷ path) elements_are drafts_are start_is result sound some =
-        let s : SplitAt drafts o.start = record {
-          children = e.top.drafts;
-          beside = made_of_path (y ∷ path);
-          is = drafts_are;
-          mark_is = start_is;
-        } in
-        let h : Holding = record { element = o.element; drafts = e.top.drafts } in
-        let top_is : h ≡ holding e.top = ap (λ (p : Open). (let q : Holding = record { element = p.element; drafts = e.top.drafts } in q)) (sym e.top_is) in
-        closes e.top y path (closed_into (holding e.top) (holding y)) refl sound
-        (closed_into h (before (made_of_path path) (holding y)))
-        (closed_into-before h (holding y) (made_of_path path)
-        ∙ ap (λ x. option_map (before (made_of_path path)) (closed_into x (holding y))) top_is)
-        (c (elements_of path) y.opened elements_are s) result
-
     pub Converting-closed : Ending rules dom elements o drafts → ClosesAs → 0 < length elements → Converting rules dom es_now ds_now
-    Converting-closed e c some =
-        close_at e c e.path e.elements_are e.drafts_are (ap (λ (p : Open). p.start) (sym e.top_is) ∙ e.sound.0.start_is) e.result e.sound.1 some
+    Converting-closed e c some = at e.path e.elements_are e.drafts_are e.start_is e.result e.sound
+      where
+        h : Holding
+        h = record { element = o.element; drafts = e.kept }
+
+        at : (path : Path) → elements ≡ elements_of path → drafts ≡ followed_by e.kept (made_of_path path) →
+            o.start ≡ count (made_of_path path) → resumed_from rules dom h path ≡ document_drafts rules dom → AreSound dom path →
+            Converting rules dom es_now ds_now
+        at [] elements_are drafts_are start_is result sound = absurd (omega (arith, some, ap length elements_are))
+        at (y ∷ path) elements_are drafts_are start_is result sound =
+            let s : SplitAt drafts o.start =
+            record { children = e.kept; beside = made_of_path (y ∷ path); is = drafts_are; mark_is = start_is } in
+            closes y path (closed_into h (holding y)) sound
+            (subst (Closed (elements_of path) y.opened es_now ds_now) (closed_into-before h (holding y) (made_of_path path))
+            (c (elements_of path) y.opened elements_are s)) result
 
   -- where that fails, there are no drafts
-  fails_at : (elements : List Open) (o : Open) (drafts : Forest Draft) (e : Ending rules dom elements o drafts) (r : Error) →
-      ((p : Holding) (kept : Forest Draft) → Fails r (closed_into (record { element = o.element; drafts = kept }) p)) →
-      (path : Path) → elements ≡ elements_of path → resumed_from rules dom (holding e.top) path ≡ document_drafts rules dom → 0 < length elements →
-      Fails r (document_drafts rules dom)
-  fails_at elements o drafts e TooNarrow h [] elements_are result some = absurd (omega (arith, some, ap length elements_are))
-  fails_at elements o drafts e TooNarrow h (y ∷ path) elements_are result some = h (holding y) e.top.drafts
-  fails_at elements o drafts e Fail h [] elements_are result some = absurd (omega (arith, some, ap length elements_are))
-  fails_at elements o drafts e Fail h (y ∷ path) elements_are result some =
-      sym result
-      ∙ ap (λ (p : Open). closed_into (record { element = p.element; drafts = e.top.drafts }) (holding y)
-      >>= (λ q. ahead_of rules dom y.opened q >>= (λ g. resumed_from rules dom g path))) e.top_is
-      ∙ ap (λ c. c >>= (λ q. ahead_of rules dom y.opened q >>= (λ g. resumed_from rules dom g path))) (h (holding y) e.top.drafts)
-  fails_at elements o drafts e OutOfMemory h path elements_are result some = tt
-
   pub Ending-fails : (elements : List Open) (o : Open) (drafts : Forest Draft) → Ending rules dom elements o drafts → 0 < length elements →
       (r : Error) → ((p : Holding) (kept : Forest Draft) → Fails r (closed_into (record { element = o.element; drafts = kept }) p)) →
       Fails r (document_drafts rules dom)
-  Ending-fails elements o drafts e some r h = fails_at elements o drafts e r h e.path e.elements_are e.result some
+  Ending-fails elements o drafts e some r h = at r h e.path e.elements_are e.result
+    where
+      at : (r : Error) → ((p : Holding) (kept : Forest Draft) → Fails r (closed_into (record { element = o.element; drafts = kept }) p)) →
+          (path : Path) → elements ≡ elements_of path →
+          resumed_from rules dom (record { element = o.element; drafts = e.kept }) path ≡ document_drafts rules dom →
+          Fails r (document_drafts rules dom)
+      at TooNarrow h (y ∷ path) elements_are result = h (holding y) e.kept
+      at Fail h (y ∷ path) elements_are result =
+          sym result
+          ∙ ap (λ c. c >>= (λ q. ahead_of rules dom y.opened q >>= (λ g. resumed_from rules dom g path))) (h (holding y) e.kept)
+      at OutOfMemory h path elements_are result = tt
+      at r h [] elements_are result = absurd (omega (arith, some, ap length elements_are))
 
   -- ---- the document itself
 
-  last_at : (elements : List Open) (o : Open) (drafts : Forest Draft) (e : Ending rules dom elements o drafts) → length elements ≡ 0 →
-      (path : Path) → elements ≡ elements_of path → drafts ≡ followed_by e.top.drafts (made_of_path path) →
-      resumed_from rules dom (holding e.top) path ≡ document_drafts rules dom →
-      document_of (record { element = o.element; drafts = drafts }) ≡ document_drafts rules dom
-  last_at elements o drafts e none_left [] elements_are drafts_are result =
-      ap (λ d. document_of (record { element = o.element; drafts = d })) (drafts_are ∙ followed_by-none e.top.drafts)
-      ∙ ap (λ (p : Open). document_of (record { element = p.element; drafts = e.top.drafts })) (sym e.top_is) ∙ result
-  last_at elements o drafts e none_left (y ∷ path) elements_are drafts_are result =
-      absurd (omega (arith, none_left, ap length elements_are, length-append (elements_of path) (y.opened ∷ [])))
-
   pub Ending-last : (elements : List Open) (o : Open) (drafts : Forest Draft) → Ending rules dom elements o drafts → length elements ≡ 0 →
       document_of (record { element = o.element; drafts = drafts }) ≡ document_drafts rules dom
-  Ending-last elements o drafts e none_left = last_at elements o drafts e none_left e.path e.elements_are e.drafts_are e.result
+  Ending-last elements o drafts e none_left = at e.path e.elements_are e.drafts_are e.result
+    where
+      at : (path : Path) → elements ≡ elements_of path → drafts ≡ followed_by e.kept (made_of_path path) →
+          resumed_from rules dom (record { element = o.element; drafts = e.kept }) path ≡ document_drafts rules dom →
+          document_of (record { element = o.element; drafts = drafts }) ≡ document_drafts rules dom
+      at [] elements_are drafts_are result =
+          ap (λ d. document_of (record { element = o.element; drafts = d })) (drafts_are ∙ followed_by-none e.kept) ∙ result
+      at (y ∷ path) elements_are drafts_are result =
+          absurd (omega (arith, none_left, ap length elements_are, length-append (elements_of path) (y.opened ∷ [])))
 
   -- where no element is open, there are none
   none_at : (elements : List Open) (path : Path) → length elements ≡ 0 → elements ≡ elements_of path →
@@ -194,14 +164,7 @@ module _ (rules : List StyleRule) (dom : Dom) where
 
   -- ---- the innermost element
 
-  top_at : (elements : List Open) (o : Open) (path : Path) → elements ++ o ∷ [] ≡ elements_of path → AreSound dom path →
-      IsNode dom o.children.element × (o.ahead ≤ length (children_in dom o.children))
-  top_at elements o [] elements_are sound = absurd (omega (arith, ap length elements_are, length-append elements (o ∷ [])))
-  top_at elements o (x ∷ path) elements_are sound =
-      let same = same_from_push elements (elements_of path) o x.opened elements_are in
-      subst (λ (e : Open). IsNode dom e.children.element × (e.ahead ≤ length (children_in dom e.children))) (sym same.1)
-      (sound.0.is_node, sound.0.ahead_within)
-
   pub Converting-top : (elements : List Open) (o : Open) (drafts : Forest Draft) → Converting rules dom (elements ++ o ∷ []) drafts →
       IsNode dom o.children.element × (o.ahead ≤ length (children_in dom o.children))
-  Converting-top elements o drafts c = top_at elements o c.path c.elements_are c.sound
+  Converting-top elements o drafts c =
+      let own = (innermost rules dom elements o drafts c).sound.0 in (own.is_node, own.ahead_within)

@@ -39,9 +39,8 @@ module _ (dom : Dom) where
       (has_own_order dom hs ≡ false → (others ≡ hs) × (feet ≡ []) × (captions ≡ [])) →
       ((if not caption && not foot then h ∷ others else others) ≡ h ∷ hs) × ((if foot then h ∷ feet else feet) ≡ [])
       × ((if caption then h ∷ captions else captions) ≡ [])
-  one_more h hs others feet captions true foot e ih = cc
-  one_more h hs others feet captions false true e ih = cc
   one_more h hs others feet captions false false e ih = (ap (λ l. h ∷ l) (ih e).0, (ih e).1, (ih e).2)
+  one_more h hs others feet captions caption foot e ih = cc
 
   in_order : (hs : List ℕ) → has_own_order dom hs ≡ false →
       (picked Others dom hs ≡ hs) × (picked Feet dom hs ≡ []) × (picked Captions dom hs ≡ [])

@@ -105,6 +105,29 @@ Converting-after rules dom path top sound es ds g after result = record {
   );
 }
 
+-- the same of the innermost element, with what it has kept
+pub record Innermost (rules : List StyleRule) (dom : Dom) (elements : List Open) (o : Open) (drafts : Forest Draft) : Type 0 where
+  pub path : Path
+  pub kept : Forest Draft
+  pub elements_are : elements ≡ elements_of path
+  pub drafts_are : drafts ≡ followed_by kept (made_of_path path)
+  pub result : (do
+    h ← ahead_of rules dom o (record { element = o.element; drafts = kept })
+    resumed_from rules dom h path) ≡ document_drafts rules dom
+  pub sound : AreSound dom ((record { opened = o; drafts = kept }) ∷ path)
+
+pub innermost : (rules : List StyleRule) (dom : Dom) (elements : List Open) (o : Open) (drafts : Forest Draft) →
+    Converting rules dom (elements ++ o ∷ []) drafts → Innermost rules dom elements o drafts
+innermost rules dom elements o drafts c = at c.path c.elements_are c.drafts_are c.result c.sound
+  where
+    at : (path : Path) → elements ++ o ∷ [] ≡ elements_of path → drafts ≡ made_of_path path →
+        resumed rules dom path ≡ document_drafts rules dom → AreSound dom path → Innermost rules dom elements o drafts
+    at [] elements_are drafts_are result sound = absurd (omega (arith, ap length elements_are, length-append elements (o ∷ [])))
+    at (x ∷ path) elements_are drafts_are result sound =
+        let same = same_from_push elements (elements_of path) o x.opened elements_are in
+        subst (λ p. Innermost rules dom elements p drafts) (sym same.1)
+        (record { path = path; kept = x.drafts; elements_are = same.0; drafts_are = drafts_are; result = result; sound = sound })
+
 -- and where a child is to be opened that was ahead
 pub record Opening (rules : List StyleRule) (dom : Dom) (h : ℕ) (elements : List Open) (drafts : Forest Draft) : Type 0 where
   pub path : Path
@@ -138,44 +161,27 @@ module _ (rules : List StyleRule) (dom : Dom) (f : IsForest dom) where
       ∙ ap (λ t. arrivals rules t All p) (trees_of-append dom (take n children) (h ∷ []))
       ∙ arrivals-followed_by rules All (trees_of dom (take n children)) (tree_of dom h) p
 
-  child_at : (elements : List Open) (o : Open) (n : ℕ) (drafts : Forest Draft) (h : ℕ) (path : Path) → o.ahead ≡ suc n →
-      h ≡ get_or (children_in dom o.children) n h → elements ++ o ∷ [] ≡ elements_of path → drafts ≡ made_of_path path →
-      resumed rules dom path ≡ document_drafts rules dom → AreSound dom path → Opening rules dom h (elements ++ record o { ahead = n } ∷ []) drafts
-  child_at elements o n drafts h [] ahead at elements_are drafts_are result sound =
-      absurd (omega (arith, ap length elements_are, length-append elements (o ∷ [])))
-  child_at elements o n drafts h (x ∷ path) ahead at elements_are drafts_are result sound =
-      let same = same_from_push elements (elements_of path) o x.opened elements_are in
-      let shorter : Open = record o { ahead = n } in
-      let top : Step = record { opened = shorter; drafts = x.drafts } in
-      let within : n < length (children_in dom o.children) =
-      omega (arith, ahead, subst (λ (e : Open). e.ahead ≤ length (children_in dom e.children)) (sym same.1) sound.0.ahead_within) in
-      record {
-        path = path;
-        top = top;
-        elements_are = ap (λ es. es ++ shorter ∷ []) same.0;
-        drafts_are = drafts_are;
-        result =
-            sym (bind-bind (arrivals rules (tree_of dom h) All (holding top)) (λ q. ahead_of rules dom shorter q) (λ q. resumed_from rules dom q path))
-            ∙ ap (λ r. r >>= (λ q. resumed_from rules dom q path)) (sym (ahead-last o n h (holding top) ahead within at))
-            ∙ ap (λ (e : Open). ahead_of rules dom e (record { element = e.element; drafts = x.drafts }) >>= (λ q. resumed_from rules dom q path)) same.1
-            ∙ result;
-        sound = (
-          record {
-            is_node = subst (λ (e : Open). IsNode dom e.children.element) (sym same.1) sound.0.is_node;
-            ahead_within = omega (arith, within);
-            are_nodes = subst (λ (e : Open). (k d : ℕ) → k < length (children_in dom e.children) →
-                IsNode dom (get_or (children_in dom e.children) k d)) (sym same.1) sound.0.are_nodes;
-            start_is = ap (λ (e : Open). e.start) same.1 ∙ sound.0.start_is;
-          },
-          sound.1,
-        );
-        is_node = subst (λ c. IsNode dom c) (sym at)
-            ((subst (λ (e : Open). (k d : ℕ) → k < length (children_in dom e.children) →
-            IsNode dom (get_or (children_in dom e.children) k d)) (sym same.1) sound.0.are_nodes) n h within);
-      }
-
   pub Converting-child : (elements : List Open) (o : Open) (n : ℕ) (drafts : Forest Draft) (h : ℕ) →
       o.ahead ≡ suc n → h ≡ get_or (children_in dom o.children) n h → Converting rules dom (elements ++ o ∷ []) drafts →
       Opening rules dom h (elements ++ record o { ahead = n } ∷ []) drafts
   Converting-child elements o n drafts h ahead at c =
-      child_at elements o n drafts h c.path ahead at c.elements_are c.drafts_are c.result c.sound
+      let i = innermost rules dom elements o drafts c in
+      let shorter : Open = record o { ahead = n } in
+      let top : Step = record { opened = shorter; drafts = i.kept } in
+      let own = i.sound.0 in
+      let within : n < length (children_in dom o.children) = omega (arith, ahead, own.ahead_within) in
+      record {
+        path = i.path;
+        top = top;
+        elements_are = ap (λ es. es ++ shorter ∷ []) i.elements_are;
+        drafts_are = i.drafts_are;
+        result =
+            sym (bind-bind (arrivals rules (tree_of dom h) All (holding top)) (λ q. ahead_of rules dom shorter q)
+            (λ q. resumed_from rules dom q i.path))
+            ∙ ap (λ r. r >>= (λ q. resumed_from rules dom q i.path)) (sym (ahead-last o n h (holding top) ahead within at)) ∙ i.result;
+        sound = (
+          record { is_node = own.is_node; ahead_within = omega (arith, within); are_nodes = own.are_nodes; start_is = own.start_is },
+          i.sound.1,
+        );
+        is_node = subst (λ c. IsNode dom c) (sym at) (own.are_nodes n h within);
+      }

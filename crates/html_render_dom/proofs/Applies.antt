@@ -101,24 +101,6 @@ with_declarations-none s = λ i. record {
   internal_pre = s.internal_pre;
 }
 
--- a style in which each property is what the declaration makes of it
-pub each_property : (s t : ElementStyle) (declarations : List Applied) → t.colour ≡ with_more colour_in s.colour declarations →
-    t.bg_colour ≡ with_more bg_colour_in s.bg_colour declarations → t.display ≡ with_more display_in s.display declarations →
-    t.white_space ≡ with_more white_space_in s.white_space declarations → t.content ≡ with_more content_in s.content declarations →
-    t.content_before ≡ with_more content_before_in s.content_before declarations →
-    t.content_after ≡ with_more content_after_in s.content_after declarations → t.internal_pre ≡ s.internal_pre →
-    t ≡ with_declarations s declarations
-each_property s t declarations a b c d e f g h = λ i. record {
-  colour = a i;
-  bg_colour = b i;
-  display = c i;
-  white_space = d i;
-  content = e i;
-  content_before = f i;
-  content_after = g i;
-  internal_pre = h i;
-}
-
 -- a declaration of one property
 module _ (s : ElementStyle) (important : Bool) (origin : StyleOrigin) (specificity : Specificity) where
   abbrev one : Option PseudoElement → StyleValue → List Applied
@@ -129,78 +111,51 @@ module _ (s : ElementStyle) (important : Bool) (origin : StyleOrigin) (specifici
   abbrev update_to : {T : Type 0} → T → Update T
   update_to x = record { important = important; origin = origin; specificity = specificity; value = x }
 
+  -- where each other property is as it was
+  still : s ≡ with_declarations s []
+  still = sym (with_declarations-none s)
+
   pub colour_taken : (x : Colour) (new : Option (Update Colour)) → Takes s.colour (update_to x) new →
       record s { colour = new } ≡ with_declarations s (one None (set.colour x))
-  colour_taken x new h = each_property s (record s { colour = new }) (one None (set.colour x)) (taken s.colour (update_to x) new h)
-      (untouched s.bg_colour) (untouched s.display) (untouched s.white_space) (untouched s.content) (untouched s.content_before)
-      (untouched s.content_after) refl
+  colour_taken x new h = λ i. record (still i) { colour = taken s.colour (update_to x) new h i }
 
   pub bg_colour_taken : (x : Colour) (new : Option (Update Colour)) → Takes s.bg_colour (update_to x) new →
       record s { bg_colour = new } ≡ with_declarations s (one None (set.bg_colour x))
-  bg_colour_taken x new h = each_property s (record s { bg_colour = new }) (one None (set.bg_colour x)) (untouched s.colour)
-      (taken s.bg_colour (update_to x) new h) (untouched s.display) (untouched s.white_space) (untouched s.content)
-      (untouched s.content_before) (untouched s.content_after) refl
+  bg_colour_taken x new h = λ i. record (still i) { bg_colour = taken s.bg_colour (update_to x) new h i }
 
   pub display_taken : (x : Display) (new : Option (Update Display)) → Takes s.display (update_to x) new →
       record s { display = new } ≡ with_declarations s (one None (set.display x))
-  display_taken x new h = each_property s (record s { display = new }) (one None (set.display x)) (untouched s.colour)
-      (untouched s.bg_colour) (taken s.display (update_to x) new h) (untouched s.white_space) (untouched s.content)
-      (untouched s.content_before) (untouched s.content_after) refl
+  display_taken x new h = λ i. record (still i) { display = taken s.display (update_to x) new h i }
 
   pub white_space_taken : (x : WhiteSpace) (new : Option (Update WhiteSpace)) → Takes s.white_space (update_to x) new →
       record s { white_space = new } ≡ with_declarations s (one None (set.white_space x))
-  white_space_taken x new h =
-      each_property s (record s { white_space = new }) (one None (set.white_space x)) (untouched s.colour) (untouched s.bg_colour)
-      (untouched s.display) (taken s.white_space (update_to x) new h) (untouched s.content) (untouched s.content_before)
-      (untouched s.content_after) refl
+  white_space_taken x new h = λ i. record (still i) { white_space = taken s.white_space (update_to x) new h i }
 
   pub content_taken : (x : List ℕ) (new : Option (Update (List ℕ))) → new ≡ winner (option_to_list s.content ++ update_to x ∷ []) →
       record s { content = new } ≡ with_declarations s (one None (set.content x))
-  content_taken x new h = each_property s (record s { content = new }) (one None (set.content x)) (untouched s.colour)
-      (untouched s.bg_colour) (untouched s.display) (untouched s.white_space) h (untouched s.content_before)
-      (untouched s.content_after) refl
+  content_taken x new h = λ i. record (still i) { content = h i }
 
   pub content_before_taken : (x : List ℕ) (new : Option (Update (List ℕ))) →
       new ≡ winner (option_to_list s.content_before ++ update_to x ∷ []) →
       record s { content_before = new } ≡ with_declarations s (one (Some Before) (set.content x))
-  content_before_taken x new h =
-      each_property s (record s { content_before = new }) (one (Some Before) (set.content x)) (untouched s.colour) (untouched s.bg_colour)
-      (untouched s.display) (untouched s.white_space) (untouched s.content) h (untouched s.content_after) refl
+  content_before_taken x new h = λ i. record (still i) { content_before = h i }
 
   pub content_after_taken : (x : List ℕ) (new : Option (Update (List ℕ))) →
       new ≡ winner (option_to_list s.content_after ++ update_to x ∷ []) →
       record s { content_after = new } ≡ with_declarations s (one (Some After) (set.content x))
-  content_after_taken x new h =
-      each_property s (record s { content_after = new }) (one (Some After) (set.content x)) (untouched s.colour) (untouched s.bg_colour)
-      (untouched s.display) (untouched s.white_space) (untouched s.content) (untouched s.content_before) h refl
+  content_after_taken x new h = λ i. record (still i) { content_after = h i }
 
   -- beside an element's children only content counts
   pub other_beside : (place : PseudoElement) (style : Style) → ((text : String Global) → style ≡ Content text → ⊥) →
       s ≡ with_declarations s (one (Some place) (set.style_value_of style))
-  other_beside Before (ColourSet x) h =
-      each_property s s (one (Some Before) (set.style_value_of (ColourSet x))) (untouched s.colour) (untouched s.bg_colour)
-      (untouched s.display) (untouched s.white_space) (untouched s.content) (untouched s.content_before) (untouched s.content_after) refl
-  other_beside After (ColourSet x) h =
-      each_property s s (one (Some After) (set.style_value_of (ColourSet x))) (untouched s.colour) (untouched s.bg_colour)
-      (untouched s.display) (untouched s.white_space) (untouched s.content) (untouched s.content_before) (untouched s.content_after) refl
-  other_beside Before (BgColour x) h =
-      each_property s s (one (Some Before) (set.style_value_of (BgColour x))) (untouched s.colour) (untouched s.bg_colour)
-      (untouched s.display) (untouched s.white_space) (untouched s.content) (untouched s.content_before) (untouched s.content_after) refl
-  other_beside After (BgColour x) h =
-      each_property s s (one (Some After) (set.style_value_of (BgColour x))) (untouched s.colour) (untouched s.bg_colour)
-      (untouched s.display) (untouched s.white_space) (untouched s.content) (untouched s.content_before) (untouched s.content_after) refl
-  other_beside Before (DisplaySet x) h =
-      each_property s s (one (Some Before) (set.style_value_of (DisplaySet x))) (untouched s.colour) (untouched s.bg_colour)
-      (untouched s.display) (untouched s.white_space) (untouched s.content) (untouched s.content_before) (untouched s.content_after) refl
-  other_beside After (DisplaySet x) h =
-      each_property s s (one (Some After) (set.style_value_of (DisplaySet x))) (untouched s.colour) (untouched s.bg_colour)
-      (untouched s.display) (untouched s.white_space) (untouched s.content) (untouched s.content_before) (untouched s.content_after) refl
-  other_beside Before (WhiteSpaceSet x) h =
-      each_property s s (one (Some Before) (set.style_value_of (WhiteSpaceSet x))) (untouched s.colour) (untouched s.bg_colour)
-      (untouched s.display) (untouched s.white_space) (untouched s.content) (untouched s.content_before) (untouched s.content_after) refl
-  other_beside After (WhiteSpaceSet x) h =
-      each_property s s (one (Some After) (set.style_value_of (WhiteSpaceSet x))) (untouched s.colour) (untouched s.bg_colour)
-      (untouched s.display) (untouched s.white_space) (untouched s.content) (untouched s.content_before) (untouched s.content_after) refl
+  other_beside Before (ColourSet x) h = still
+  other_beside After (ColourSet x) h = still
+  other_beside Before (BgColour x) h = still
+  other_beside After (BgColour x) h = still
+  other_beside Before (DisplaySet x) h = still
+  other_beside After (DisplaySet x) h = still
+  other_beside Before (WhiteSpaceSet x) h = still
+  other_beside After (WhiteSpaceSet x) h = still
   other_beside place (Content text) h = absurd (h text refl)
 
 -- the declarations of one thing more

@@ -18,12 +18,9 @@ on_ok (Err y) p f = tt
 
 -- a first tree's lines, then those of the trees beside it
 pub dump-beside : (i : ℕ) (c : Content) (k b : Forest Content) → dump i (node c k b) ≡ dump i (node c k none) ++ dump i b
-dump-beside i document k b = rw append-nil refl
-dump-beside i (doctype name public_id system_id) k b = rw append-nil refl
-dump-beside i (text contents) k b = rw append-nil refl
 dump-beside i (comment contents) k b = refl
-dump-beside i (element name properties template_contents integration_point) k b = rw append-nil refl
 dump-beside i (instruction target contents) k b = refl
+dump-beside i c k b = rw append-nil refl
 
 pub rest-push : (dom : Dom) (fs : List Frame) (f : Frame) → rest dom (fs ++ f ∷ []) ≡ rest_of dom f ++ rest dom fs
 rest-push dom [] f = sym (append-nil (rest_of dom f))

@@ -1,4 +1,5 @@
 pub mod Applies
+pub mod Changed
 pub mod Dumps
 pub mod Forests
 pub mod Keeps

@@ -11,16 +11,6 @@ use Rattle.html_render_dom.specs.NameKeys.{Tells, key_of}
 use Rattle.html_render_dom.specs.Rules.{Rule}
 use Rattle.html_render_dom.specs.Selectors.{Subject, has_class, matches_part, selects}
 
-pub Tells-none : (keys : List Bool) → Tells keys []
-Tells-none keys s e = refl
-
-pub Tells-all : (rules : List Rule) → Tells (replicate 64 true) rules
-Tells-all rules s e = cc-at (get_or-replicate 64 (key_of s.name) true true (omega arith)) e
-  where
-    cc-at : get_or (replicate 64 true) (key_of s.name) true ≡ true → get_or (replicate 64 true) (key_of s.name) true ≡ false →
-        is_selected rules s ≡ false
-    cc-at t f = cc
-
 -- an element whose name has another key isn't selected by a rule that states this name
 unselected : (rule : Rule) (name : List ℕ) (s : Subject) → rule.element ≡ Some name → (key_of s.name ≡ key_of name → false ≡ true) → selects rule s ≡ false
 unselected rule name s states other =

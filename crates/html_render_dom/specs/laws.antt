@@ -1,4 +1,5 @@
 pub mod Forests
+pub mod Changes
 pub mod Members
 pub mod Names
 pub mod Orders

@@ -123,13 +123,7 @@ module _ (measured_by : RenderNode → (children : Forest RenderNode) → Render
   pub length-after : (t : Forest RenderNode) → length (flatten (after t)) ≡ length (flatten t)
   length-after none = refl
   length-after (node n children beside) =
-      omega (
-        arith,
-        length-append (flatten (after children)) (flatten (after beside)),
-        length-append (flatten children) (flatten beside),
-        length-after children,
-        length-after beside,
-      )
+      omega (arith, length-append {A = Entry RenderNode}, length-after children, length-after beside)
 
   -- the nodes from one place on are measured, those before are as they were
   pub record Measuring (t : Forest RenderNode) (now : List (Entry RenderNode)) (at : ℕ) : Type 0 where
@@ -198,15 +192,7 @@ module _ (measured_by : RenderNode → (children : Forest RenderNode) → Render
       record {
         children = s.children;
         size = size;
-        end = omega (
-          arith,
-          w.within,
-          w.many,
-          size,
-          ap length filled,
-          length-drop (before + 1) now,
-          length-append (flatten (after s.children)) (flatten (after s.beside)),
-        );
+        end = omega (arith, w.within, w.many, size, ap length filled, length-drop (before + 1) now, length-append {A = Entry RenderNode});
         entry = drop_more old before e (omega (arith, w.within, one)) ∙ ap (λ x. x ∷ drop (before + 1) old) (sym (is ∙ there));
         under = ap (λ n. take n (drop (before + 1) now)) less ∙ ap (take (length (flatten (after s.children)))) filled
             ∙ take-append_seam (flatten (after s.children)) (flatten (after s.beside));

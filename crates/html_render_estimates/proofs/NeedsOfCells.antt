@@ -20,18 +20,16 @@ abbrev pub OnColumns : (columns : ℕ) → GridCell → Type 0
 OnColumns columns c = (c.first + c.columns ≤ columns) × (0 < c.columns)
 
 row_is : (columns : ℕ) (cells : List GridCell) (t : Forest RenderNode) → All (OnColumns columns) cells → AreCells columns (row_needs cells t)
-row_is columns [] t h = All-nil (IsCell columns)
-row_is columns (c ∷ cs) none h = All-nil (IsCell columns)
 row_is columns (c ∷ cs) (node n children beside) h =
     let first = All-head (OnColumns columns) c cs h in
     All-cons (IsCell columns) (record { start = c.first; count = c.columns; size = n.estimate.size; least = n.estimate.least })
     (row_needs cs beside) (record { over = first.0; some = first.1 }) (row_is columns cs beside (All-tail (OnColumns columns) c cs h))
+row_is columns cells t h = All-nil (IsCell columns)
 
 pub cells_are : (columns : ℕ) (rows : List (List GridCell)) (t : Forest RenderNode) → All (All (OnColumns columns)) rows →
     AreCells columns (cell_needs rows t)
-cells_are columns [] t h = All-nil (IsCell columns)
-cells_are columns (cells ∷ more) none h = All-nil (IsCell columns)
 cells_are columns (cells ∷ more) (node n children beside) h =
     All-append (IsCell columns) (row_needs cells children) (cell_needs more beside)
     (row_is columns cells children (All-head (All (OnColumns columns)) cells more h))
     (cells_are columns more beside (All-tail (All (OnColumns columns)) cells more h))
+cells_are columns rows t h = All-nil (IsCell columns)

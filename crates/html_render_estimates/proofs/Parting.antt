@@ -7,9 +7,6 @@ use Rattle.html_render_nodes.specs.declared.tree.Entry.{Entry}
 use Rattle.html_render_nodes.specs.Preorder.{flatten, forest_of}
 use Rattle.html_render_nodes.specs.laws.Preorder.{IsForest, IsForest-flatten}
 
-pub no_trees : {K : Type 0} (es : List (Entry K)) → es ≡ [] → forest_of es ≡ none
-no_trees es e = ap forest_of e
-
 -- the nodes behind an entry, where these many are below it
 pub record Parted {K : Type 0} (t : Forest K) (e : Entry K) (es : List (Entry K)) : Type 0 where
   pub below : Forest K

@@ -30,8 +30,7 @@ size_on (suc k) spaced cs = suc k + columns_of spaced cs
 pub size_on-none : (k : ℕ) (spaced : Bool) → size_on k spaced [] ≡ k
 size_on-none zero false = refl
 size_on-none zero true = refl
-size_on-none (suc k) false = omega arith
-size_on-none (suc k) true = omega arith
+size_on-none (suc k) spaced = omega arith
 
 pub size_on-least : (k : ℕ) (spaced : Bool) (cs : List ℕ) → k ≤ size_on k spaced cs
 size_on-least zero spaced cs = omega arith

@@ -143,12 +143,7 @@ pub record Over (wanted nodes : List (Entry RenderNode)) (frames : List Opened) 
 none_of : (t : Forest Draft) (rest drafts : List (Entry Draft)) → reverse drafts ≡ flatten t ++ rest → length drafts ≡ length rest → t ≡ none
 none_of none rest drafts e same = refl
 none_of (node d children others) rest drafts e same =
-    absurd (omega (
-      arith,
-      ap length e,
-      length-reverse drafts,
-      length-append (flatten (node d children others)) rest,
-    ))
+    absurd (omega (arith, ap length e, length-reverse drafts, length-append (flatten (node d children others)) rest))
 
 pub writing_over : (wanted nodes : List (Entry RenderNode)) (all frames : List Opened) (o : Opened) (drafts : List (Entry Draft)) →
     Writing wanted nodes all drafts → all ≡ frames ++ o ∷ [] → o.left ≡ length drafts → Over wanted nodes frames o drafts

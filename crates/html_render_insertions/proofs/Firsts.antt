@@ -55,15 +55,7 @@ low_length : (d : Draft) (children others : Forest Draft) (low : List (Entry Dra
     place + 1 ≡ length low + count (node d children others) →
     place ≡ length (low ++ (reverse (flatten others) ++ reverse (flatten children)))
 low_length d children others low place at =
-    omega (
-      arith,
-      length-append low (reverse (flatten others) ++ reverse (flatten children)),
-      length-append (reverse (flatten others)) (reverse (flatten children)),
-      length-reverse (flatten others),
-      length-reverse (flatten children),
-      length-flatten others,
-      length-flatten children,
-    )
+    omega (arith, length-append {A = Entry Draft}, length-reverse {A = Entry Draft}, length-flatten others, length-flatten children)
 
 -- the first tree's top is reached at once
 pub reached_top : (t : Forest Draft) (entries : List (Entry Draft)) (place : ℕ) → entries ≡ reverse (flatten t) →
@@ -164,10 +156,9 @@ lost_below t entries steps place depth e r own single whole further change =
 -- where there is no tree there is none
 pub lost_nowhere : (t : Forest Draft) (entries : List (Entry Draft)) (depth : ℕ) → entries ≡ reverse (flatten t) →
     length entries ≡ 0 → (change : Draft → Draft) → at_first depth change t ≡ t
-lost_nowhere none entries zero whole empty change = refl
-lost_nowhere none entries (suc depth) whole empty change = refl
 lost_nowhere (node d children others) entries depth whole empty change =
     absurd (omega (arith, ap length whole, length-reverse (flatten (node d children others))))
+lost_nowhere none entries depth whole empty change = refl
 
 -- the draft that is reached
 pub found : (t : Forest Draft) (entries : List (Entry Draft)) (steps place depth : ℕ) → Reached t entries steps place →

@@ -1,4 +1,3 @@
-mod Apart
 mod OwnNodes
 mod Rendered
 mod Sayings

@@ -1,44 +1,35 @@
 -- A text that is put behind a node's children becomes a node of its own.
 use Rattle.std.proofs.Common.{◌≡◌, ◌≢◌, ℕ, ◌<◌, ◌+◌, List, [], ◌∷◌, ◌++◌, length, Option, Some, None, refl, sym, ap, ◌∙◌, subst, arith, length-append}
-use Rattle.std.proofs.Common.{slice_set, Bool, false, inl, inr}
+use Rattle.std.proofs.Common.{Bool, false, inl, inr}
 use Rattle.std.specs.Option.{is_some}
 use Rattle.std.proofs.lemmas.Bool.Decides.{eqb_tells}
-use Rattle.std.proofs.lemmas.List.{get_or_append_left, get_or-append-add, get_or-set_same, get_or-set_other, length-set}
 use Rattle.html_render_dom.specs.declared.dom.settings.ElementFlags.{ElementFlags}
-use Rattle.html_render_dom.specs.Content.{Content, Name, Property, document, text, element}
-use Rattle.html_render_dom.specs.Dom.{Node, Dom, IsNode, lone, node_in, node_count, children_at}
-use Rattle.html_render_dom.specs.Edits.{attached, attached_new, created, element_created, last_text, text_put, with_children, with_parent}
-use Rattle.html_render_dom.specs.Moves.{reparented, with_parents}
+use Rattle.html_render_dom.specs.Content.{Content, Name, Property, text, element}
+use Rattle.html_render_dom.specs.Dom.{Node, Dom, IsForest, IsNode, IsInclusiveAncestor, lone, node_in, node_count, children_at, content_at}
+use Rattle.html_render_dom.specs.Edits.{attached, attached_new, created, element_created, last_text, text_put}
+use Rattle.html_render_dom.specs.Moves.{reparented}
+use Rattle.html_render_dom.specs.laws.Changes.{made, older, created-shape, above_no_older, Rewrites, rewritten, reparented-facts}
 use Rattle.html_render_dom.specs.laws.Forests.{children_at-past}
+use Rattle.html_render_dom.specs.laws.Members.{Contains-single}
 use Rattle.html_render_json.specs.Built.{HasOwn}
 
--- ---- what stands at a node after a write
+-- a document with a node more, and with that as a node's last child
+abbrev with_new : Dom → Content → Dom
+with_new old c = record old { nodes = created old.nodes c }
 
-there : {X : Type 0} (f : Node → X) (nodes : List Node) (i : ℕ) (n : Node) → i < length nodes → f (node_in (slice_set nodes i n) i) ≡ f n
-there f nodes i n at = ap f (get_or-set_same nodes i n (lone document) at)
+abbrev with_last : Dom → Content → ℕ → Dom
+with_last old c p = record old { nodes = attached_new old.nodes c p }
 
-elsewhere : {X : Type 0} (f : Node → X) (nodes : List Node) (i : ℕ) (n : Node) (h : ℕ) → h ≢ i →
-    f (node_in (slice_set nodes i n) h) ≡ f (node_in nodes h)
-elsewhere f nodes i n h other = ap f (get_or-set_other nodes i h n (lone document) other)
+pub count-new : (old : Dom) (c : Content) → node_count (with_new old c) ≡ node_count old + 1
+count-new old c = length-append old.nodes (lone c ∷ [])
 
--- what the write leaves as it was
-kept : {X : Type 0} (f : Node → X) (nodes : List Node) (i : ℕ) (n : Node) → i < length nodes → f n ≡ f (node_in nodes i) → (h : ℕ) →
-    f (node_in (slice_set nodes i n) h) ≡ f (node_in nodes h)
-kept f nodes i n at same h =
-    elim (eqb_tells h i) [
-      | inl e ↦ rw e.1 (there f nodes i n at ∙ same)
-      | inr d ↦ elsewhere f nodes i n h d.1
-    ]
+content-new : (old : Dom) (c : Content) (h : ℕ) → IsNode old h → content_at (with_new old c) h ≡ content_at old h
+content-new old c h at = ap (λ (n : Node). n.content) (older old.nodes c h at)
 
-pub length-attached : (nodes : List Node) (p h : ℕ) → length (attached nodes p h) ≡ length nodes
-length-attached nodes p h = length-set (with_children nodes p _) h _ ∙ length-set nodes p _
-
--- the node that is made, and those before it
-made : (nodes : List Node) (c : Content) → node_in (created nodes c) (length nodes) ≡ lone c
-made nodes c = subst (λ n. node_in (created nodes c) n ≡ lone c) (omega arith) (get_or-append-add nodes (lone c ∷ []) 0 (lone document))
-
-older : (nodes : List Node) (c : Content) (h : ℕ) → h < length nodes → node_in (created nodes c) h ≡ node_in nodes h
-older nodes c h at = get_or_append_left nodes (lone c ∷ []) (lone document) h at
+pub last-written : (old : Dom) (p : ℕ) (c : Content) → IsNode old p →
+    Rewrites (with_new old c) (with_last old c p) p (children_at (with_new old c) p ++ node_count old ∷ []) (node_count old) (Some p)
+last-written old p c at =
+    rewritten (with_new old c) p _ (node_count old) (Some p) (omega (arith, at, count-new old c)) (omega (arith, count-new old c))
 
 -- ---- a text behind other nodes
 
@@ -49,37 +40,18 @@ no_text (Some h) b e f = cc
 
 pub own_new : (old : Dom) (p : ℕ) (c : Content) → IsNode old p → HasOwn old (record old { nodes = attached_new old.nodes c p }) p c
 own_new old p c at =
-    let n = length old.nodes in
-    let all = created old.nodes c in
-    let count : length all ≡ n + 1 = length-append old.nodes (lone c ∷ []) in
-    let parent = record (node_in all p) { children = (node_in all p).children ++ n ∷ [] } in
-    let listed = slice_set all p parent in
-    let same : length listed ≡ length all = length-set all p parent in
-    let child = record (node_in listed n) { parent = Some p } in
-    let new = record old { nodes = attached_new old.nodes c p } in
-    let new_count : node_count new ≡ n + 1 = length-attached all p n ∙ count in
-    let p_in : p < length all = omega (arith, at, count) in
-    let n_in : n < length listed = omega (arith, same, count) in
-    let apart : n ≢ p = λ e. omega (arith, at, e) in
-    let alone : children_at new n ≡ [] =
-    kept (λ x. x.children) listed n child n_in refl n ∙ elsewhere (λ x. x.children) all p parent n apart
-    ∙ ap (λ (x : Node). x.children) (made old.nodes c) in
+    let n = node_count old in
+    let r = last-written old p c at in
+    let list = (created-shape old c).children in
     record {
       node = n;
       is_new = omega arith;
-      is_node = omega (arith, new_count);
-      is_last = kept (λ x. x.children) listed n child n_in refl p ∙ there (λ x. x.children) all p parent p_in
-          ∙ ap (λ (x : Node). x.children ++ n ∷ []) (older old.nodes c p at);
-      holds = kept (λ x. x.content) listed n child n_in refl n ∙ elsewhere (λ x. x.content) all p parent n apart
-          ∙ ap (λ (x : Node). x.content) (made old.nodes c);
-      are_alone = λ h past. elim (eqb_tells h n) [
-        | inl e ↦ ap (λ k. children_at new k) e.1 ∙ alone
-        | inr d ↦ children_at-past new h (omega (arith, past, d.1, new_count))
-      ];
-      contents = λ h in_old. kept (λ x. x.content) listed n child n_in refl h ∙ kept (λ x. x.content) all p parent p_in refl h
-          ∙ ap (λ (x : Node). x.content) (older old.nodes c h in_old);
-      lists = λ h in_old other. kept (λ x. x.children) listed n child n_in refl h ∙ elsewhere (λ x. x.children) all p parent h other
-          ∙ ap (λ (x : Node). x.children) (older old.nodes c h in_old);
+      is_node = omega (arith, r.count, count-new old c);
+      is_last = r.list_there ∙ ap (λ cs. cs ++ n ∷ []) (list p);
+      holds = r.contents n ∙ ap (λ (x : Node). x.content) (made old.nodes c);
+      are_alone = λ h past. r.lists_elsewhere h (λ e. omega (arith, past, at, e)) ∙ list h ∙ children_at-past old h past;
+      contents = λ h in_old. r.contents h ∙ content-new old c h in_old;
+      lists = λ h in_old other. r.lists_elsewhere h other ∙ list h;
     }
 
 pub own_new-node : (old : Dom) (p : ℕ) (c : Content) (at : IsNode old p) → (own_new old p c at).node ≡ node_count old
@@ -110,90 +82,70 @@ own_directly old new p b at no_text e =
     subst (λ d. HasOwn old d p (text b))
     (sym (e ∙ ap (λ t. record old { nodes = text_put old.nodes p t b }) no_text)) (own_new old p (text b) at)
 
--- ---- a text that was made below a comment
+-- ---- a text that was made below a node of its own
 
--- the one child of a node moved behind another's children
-moved_one : (nodes : List Node) (a p t : ℕ) → (node_in nodes a).children ≡ t ∷ [] →
-    reparented nodes a p
-    ≡ with_parent (with_children (with_children nodes a []) p ((node_in (with_children nodes a []) p).children ++ t ∷ [])) t (Some p)
-moved_one nodes a p t e =
-    ap (λ m. with_parents (with_children (with_children nodes a []) p ((node_in (with_children nodes a []) p).children ++ m)) m p) e
+-- the document with both
+abbrev with_two : Dom → Content → List ℕ → Dom
+with_two old c b = with_last (with_new old c) (text b) (node_count old)
 
-own_moved : (old mid new : Dom) (a p : ℕ) (b : List ℕ) → (c : Content) → IsNode old p → a ≡ node_count old →
-    (h : HasOwn (record old { nodes = created old.nodes c }) mid a (text b)) → node_count mid ≡ node_count old + 2 →
-    h.node ≡ node_count old + 1 → new ≡ record mid { nodes = reparented mid.nodes a p } → HasOwn old new p (text b)
-own_moved old mid new a p b c at is_a h count is_t e =
-    let t = h.node in
-    let one : (node_in mid.nodes a).children ≡ t ∷ [] =
-    h.is_last ∙ ap (λ cs. cs ++ t ∷ []) (ap (λ n. (node_in (created old.nodes c) n).children) is_a ∙ ap (λ (x : Node). x.children) (made old.nodes c)) in
-    let gone = record (node_in mid.nodes a) { children = [] } in
-    let cleared = slice_set mid.nodes a gone in
-    let parent = record (node_in cleared p) { children = (node_in cleared p).children ++ t ∷ [] } in
-    let listed = slice_set cleared p parent in
-    let child = record (node_in listed t) { parent = Some p } in
-    let shown : new.nodes ≡ slice_set listed t child = ap (λ (d : Dom). d.nodes) e ∙ moved_one mid.nodes a p t one in
-    let len_cleared : length cleared ≡ length mid.nodes = length-set mid.nodes a gone in
-    let len_listed : length listed ≡ length cleared = length-set cleared p parent in
-    let a_in : a < length mid.nodes = omega (arith, is_a, count) in
-    let p_in : p < length cleared = omega (arith, at, count, len_cleared) in
-    let t_in : t < length listed = omega (arith, is_t, count, len_cleared, len_listed) in
-    let p_a : p ≢ a = λ s. omega (arith, at, is_a, s) in
-    let t_p : t ≢ p = λ s. omega (arith, at, is_t, s) in
-    let t_a : t ≢ a = λ s. omega (arith, is_a, is_t, s) in
-    let content-at : (k : ℕ) → (node_in new.nodes k).content ≡ (node_in mid.nodes k).content =
-    λ k. ap (λ ns. (node_in ns k).content) shown ∙ kept (λ x. x.content) listed t child t_in refl k
-    ∙ kept (λ x. x.content) cleared p parent p_in refl k ∙ kept (λ x. x.content) mid.nodes a gone a_in refl k in
-    let children-kept : (k : ℕ) → (node_in new.nodes k).children ≡ (node_in listed k).children =
-    λ k. ap (λ ns. (node_in ns k).children) shown ∙ kept (λ x. x.children) listed t child t_in refl k in
-    let new_count : node_count new ≡ node_count mid =
-    ap length shown ∙ length-set listed t child ∙ len_listed ∙ len_cleared in
-    let t_alone : children_at new t ≡ [] =
-    children-kept t ∙ elsewhere (λ x. x.children) cleared p parent t t_p
-    ∙ elsewhere (λ x. x.children) mid.nodes a gone t t_a ∙ h.are_alone t h.is_new in
-    let a_alone : children_at new a ≡ [] =
-    children-kept a ∙ elsewhere (λ x. x.children) cleared p parent a (λ s. p_a (sym s))
-    ∙ there (λ x. x.children) mid.nodes a gone a_in in
-    let in_mid : (k : ℕ) → IsNode old k → k < length (created old.nodes c) =
-    λ k in_old. omega (arith, in_old, length-append old.nodes (lone c ∷ [])) in
-    let not_a : (k : ℕ) → IsNode old k → k ≢ a = λ k in_old s. omega (arith, in_old, is_a, s) in
+is_with_two : (old made_apart filled : Dom) (c : Content) (a : ℕ) (b : List ℕ) → a ≡ node_count old → made_apart ≡ with_new old c →
+    filled ≡ record made_apart { nodes = text_put made_apart.nodes a (last_text made_apart.nodes a) b } → filled ≡ with_two old c b
+is_with_two old made_apart filled c a b is_a is_made is_filled =
+    let lone_there : node_in (created old.nodes c) (node_count old) ≡ lone c = made old.nodes c in
+    is_filled ∙ ap (λ (d : Dom). record d { nodes = text_put d.nodes a (last_text d.nodes a) b }) is_made
+    ∙ ap (λ k. record old { nodes = text_put (created old.nodes c) k (last_text (created old.nodes c) k) b }) is_a ∙ rw lone_there refl
+
+-- the node that it was made below hangs nowhere, and is above no older node
+pub apart : (old mid new : Dom) (c : Content) (more : List ℕ) (a h : ℕ) → IsForest old → a ≡ node_count old →
+    mid ≡ record old { nodes = created old.nodes c } →
+    new ≡ record mid { nodes = text_put mid.nodes a (last_text mid.nodes a) more } → IsNode old h → ¬ IsInclusiveAncestor new a h
+apart old mid new c more a h f next is_mid filled at up =
+    let n = node_count old in
+    let r = last-written (with_new old c) n (text more) (omega (arith, count-new old c)) in
+    above_no_older f
+    (λ k in_old. r.parents_elsewhere k (λ e. omega (arith, e, in_old, count-new old c)) ∙ (created-shape (with_new old c) (text more)).parents k
+    ∙ (created-shape old c).parents k) h at
+    (subst (λ d. IsInclusiveAncestor d n h) (is_with_two old mid new c a more next is_mid filled) (subst (λ k. IsInclusiveAncestor new k h) next up))
+
+-- it moves behind another's children
+own_moved : (old : Dom) (p : ℕ) (b : List ℕ) (c : Content) → IsNode old p →
+    HasOwn old (record old { nodes = reparented (with_two old c b).nodes (node_count old) p }) p (text b)
+unfolding own_new
+own_moved old p b c at =
+    let n = node_count old in
+    let count = count-new old c in
+    let more = count-new (with_new old c) (text b) in
+    let list = (created-shape old c).children in
+    let h = own_new (with_new old c) n (text b) (omega (arith, count)) in
+    let t : ℕ = h.node in
+    let is_t : t ≡ n + 1 = count in
+    let written = last-written (with_new old c) n (text b) (omega (arith, count)) in
+    let one : children_at (with_two old c b) n ≡ t ∷ [] = h.is_last ∙ ap (λ cs. cs ++ t ∷ []) (list n ∙ children_at-past old n (omega arith)) in
+    let other : n ≢ p = λ e. omega (arith, at, e) in
+    let r = reparented-facts (with_two old c b) n p (omega (arith, count, more, written.count)) (omega (arith, at, count, more, written.count)) other
+    (rw one (Contains-single (IsNode (with_two old c b)) t h.is_node)) in
+    let in_mid : (k : ℕ) → IsNode old k → IsNode (with_new old c) k = λ k in_old. omega (arith, in_old, count) in
     record {
       node = t;
       is_new = omega (arith, is_t);
-      is_node = omega (arith, is_t, count, new_count);
-      is_last = children-kept p ∙ there (λ x. x.children) cleared p parent p_in
-          ∙ ap (λ cs. cs ++ t ∷ []) (elsewhere (λ x. x.children) mid.nodes a gone p p_a
-          ∙ h.lists p (in_mid p at) p_a ∙ ap (λ (x : Node). x.children) (older old.nodes c p at));
-      holds = content-at t ∙ h.holds;
-      are_alone = λ k past. elim (eqb_tells k a) [
-        | inl e ↦ ap (λ m. children_at new m) e.1 ∙ a_alone
-        | inr d ↦ elim (eqb_tells k t) [
-          | inl e ↦ ap (λ m. children_at new m) e.1 ∙ t_alone
-          | inr f ↦ children_at-past new k (omega (arith, past, d.1, f.1, is_a, is_t, count, new_count))
-        ]
+      is_node = omega (arith, h.is_node, r.count);
+      is_last = r.list_to ∙ ap (λ cs. cs ++ children_at (with_two old c b) n) (h.lists p (in_mid p at) (λ e. other (sym e)) ∙ list p)
+          ∙ ap (λ cs. children_at old p ++ cs) one;
+      holds = r.contents t ∙ h.holds;
+      are_alone = λ k past. elim (eqb_tells k n) [
+        | inl e ↦ rw e.1 r.list_from
+        | inr d ↦ r.lists_elsewhere k d.1 (λ e. omega (arith, past, at, e)) ∙ h.are_alone k (omega (arith, past, d.1, count))
       ];
-      contents = λ k in_old. content-at k ∙ h.contents k (in_mid k in_old) ∙ ap (λ (x : Node). x.content) (older old.nodes c k in_old);
-      lists = λ k in_old other. children-kept k ∙ elsewhere (λ x. x.children) cleared p parent k other
-          ∙ elsewhere (λ x. x.children) mid.nodes a gone k (not_a k in_old) ∙ h.lists k (in_mid k in_old) (not_a k in_old)
-          ∙ ap (λ (x : Node). x.children) (older old.nodes c k in_old);
+      contents = λ k in_old. r.contents k ∙ h.contents k (in_mid k in_old) ∙ content-new old c k in_old;
+      lists = λ k in_old away. (let not_n : k ≢ n = λ e. omega (arith, in_old, e) in
+          r.lists_elsewhere k not_n away ∙ h.lists k (in_mid k in_old) not_n ∙ list k);
     }
 
 pub own_apart : (old made_apart filled new : Dom) (c : Content) (a p : ℕ) (b : List ℕ) → IsNode old p → a ≡ node_count old →
     made_apart ≡ record old { nodes = created old.nodes c } →
     filled ≡ record made_apart { nodes = text_put made_apart.nodes a (last_text made_apart.nodes a) b } →
     new ≡ record filled { nodes = reparented filled.nodes a p } → HasOwn old new p (text b)
-unfolding own_new
 own_apart old made_apart filled new c a p b at is_a is_made is_filled is_new =
-    let mid = record old { nodes = created old.nodes c } in
-    let n = length old.nodes in
-    let count : length mid.nodes ≡ n + 1 = length-append old.nodes (lone c ∷ []) in
-    let lone_there : node_in mid.nodes a ≡ lone c = ap (node_in mid.nodes) is_a ∙ made old.nodes c in
-    let no_text : last_text mid.nodes a ≡ None = rw lone_there refl in
-    let full = record mid { nodes = attached_new mid.nodes (text b) a } in
-    let is_full : filled ≡ full =
-    is_filled ∙ ap (λ (d : Dom). record d { nodes = text_put d.nodes a (last_text d.nodes a) b }) is_made
-    ∙ ap (λ t. record mid { nodes = text_put mid.nodes a t b }) no_text in
-    let h = own_new mid a (text b) (omega (arith, is_a, count)) in
-    let last : h.node ≡ length mid.nodes = refl in
-    own_moved old full new a p b c at is_a h
-    (omega (arith, count, length-append mid.nodes (lone (text b) ∷ []), length-attached (created mid.nodes (text b)) a (length mid.nodes)))
-    (omega (arith, count, last)) (is_new ∙ ap (λ (d : Dom). record d { nodes = reparented d.nodes a p }) is_full)
+    subst (λ d. HasOwn old d p (text b))
+    (sym (is_new ∙ ap (λ (d : Dom). record d { nodes = reparented d.nodes a p }) (is_with_two old made_apart filled c a b is_a is_made is_filled)
+    ∙ ap (λ k. record old { nodes = reparented (with_two old c b).nodes k p }) is_a)) (own_moved old p b c at)

@@ -11,11 +11,12 @@ use Rattle.html_render_dom.specs.declared.dom.names.Attribute.{Attribute}
 use Rattle.html_render_dom.specs.Content.{Content, document, doctype, text, comment, element, instruction, space_of, property_of}
 use Rattle.html_render_dom.specs.Dom.{Dom, lone, empty_dom, node_count, IsNode, content_at, children_at, HaveTrees}
 use Rattle.html_render_dom.specs.Edits.{attached_new, created}
+use Rattle.html_render_dom.specs.laws.Changes.{HaveTrees-append}
 use Rattle.html_render_dom.specs.laws.Forests.{children_at-past, below_or_not}
 use Rattle.html_render_json.specs.Built.{HasOwn, HasSaid}
 use Rattle.html_render_json.specs.Said.{Said, beside, beside_all, over, leaf, said, below_document, document_tree}
 use Rattle.html_render_json.specs.declared.documents.Node.{Node, Element, Text, Comment, Doctype, Instruction, the_lemmas}
-use Rattle.html_render_json.proofs.OwnNodes.{own_new, own_new-node, length-attached}
+use Rattle.html_render_json.proofs.OwnNodes.{own_new, own_new-node, count-new, last-written}
 
 -- ---- forests
 
@@ -51,13 +52,6 @@ from_both b [] ks a d = d
 from_both b (h ∷ hs) ks a d = (a.0, from_both b hs ks a.1 d)
 
 -- ---- trees
-
-pub HaveTrees-append : (dom : Dom) (t u : Forest Content) (hs ks : List ℕ) → HaveTrees dom hs t → HaveTrees dom ks u →
-    HaveTrees dom (hs ++ ks) (followed_by t u)
-HaveTrees-append dom none u [] ks g h = h
-HaveTrees-append dom none u (x ∷ hs) ks g h = absurd g
-HaveTrees-append dom (node c k s) u [] ks g h = absurd g
-HaveTrees-append dom (node c k s) u (x ∷ hs) ks g h = (g.0, g.1, g.2, HaveTrees-append dom s u hs ks g.3 h)
 
 no_tops : (dom : Dom) (hs : List ℕ) → HaveTrees dom hs none → hs ≡ []
 no_tops dom [] h = refl
@@ -168,8 +162,7 @@ over_new old new p c s at grows b =
     let mid = record old { nodes = attached_new old.nodes c p } in
     let e = node_count old in
     let o = own_new old p c at in
-    let count : node_count mid ≡ e + 1 =
-    length-attached (created old.nodes c) p (length old.nodes) ∙ length-append old.nodes (lone c ∷ []) in
+    let count : node_count mid ≡ e + 1 = (last-written old p c at).count ∙ count-new old c in
     let in_mid : (h : ℕ) → IsNode old h → IsNode mid h = λ h in_old. omega (arith, in_old, count) in
     let not_top : e ≢ 0 = λ z. omega (arith, at, z) in
     let is_new : node_count old ≤ e = omega arith in

@@ -51,14 +51,7 @@ elements_columns (run.Mark m ∷ rs) bs cuts = omega (arith, columns-cons (eleme
 elements_columns {T} {M} (run.Text n tag ∷ rs) bs cuts =
     let whole : chars bs ≡ chars (take n bs) ++ chars (drop n bs) =
     ap chars (sym (take-append-drop n bs)) ∙ chars-append (take n bs) (drop n bs) cuts.1 in
-    omega (
-      arith,
-      columns-append (under {M = M} tag (chars (take n bs))) (elements_of rs (drop n bs)),
-      columns-under M tag (chars (take n bs)),
-      elements_columns rs (drop n bs) cuts.2,
-      ap text_columns whole,
-      sum_by-append width_of (chars (take n bs)) (chars (drop n bs)),
-    )
+    omega (arith, columns-append {T = T} {M = M}, columns-under M tag, elements_columns rs (drop n bs) cuts.2, ap text_columns whole, sum_by-append width_of)
 
 open_columns : {T : Type 0} (M : Type 0) (tag : Option T) (bs : List ℕ) → HasTag tag bs →
     columns (open_elements {M = M} tag bs) ≡ text_columns (chars bs)
@@ -68,68 +61,31 @@ open_columns M (Some tag) bs none = columns-under M tag (chars bs)
 reverse_columns : {T M : Type 0} (es : Line T M) → columns (reverse es) ≡ columns es
 reverse_columns [] = refl
 reverse_columns {T} {M} (e ∷ es) =
-    omega (
-      arith,
-      ap columns (reverse-append (e ∷ []) es),
-      columns-append (reverse es) (e ∷ []),
-      columns-single e,
-      columns-cons e es,
-      reverse_columns es,
-    )
+    omega (arith, ap columns (reverse-append (e ∷ []) es), columns-append {T = T} {M = M}, columns-single e, columns-cons e es, reverse_columns es)
 
 -- a line's columns, with an element put at its front
 pub columns-with_front : {T M : Type 0} (e : Element T M) (front new text : Line T M) → new ≡ front ++ e ∷ [] →
     columns (reverse front ++ text) + element_width e ≡ columns (reverse new ++ text)
-columns-with_front e front new text n =
-    omega (
-      arith,
-      columns-append (reverse front) text,
-      columns-append (reverse new) text,
-      reverse_columns front,
-      reverse_columns new,
-      ap columns n,
-      columns-append front (e ∷ []),
-      columns-single e,
-    )
+columns-with_front {T} {M} e front new text n =
+    omega (arith, columns-append {T = T} {M = M}, reverse_columns {T = T} {M = M}, ap columns n, columns-single e)
 
 -- a line's columns, with a text, a character or a mark behind it
 pub columns-with_text : {T M : Type 0} (front old new : Line T M) (tag : T) (cs : List ℕ) (width : ℕ) → width ≡ text_columns cs →
     new ≡ old ++ under tag cs → columns (front ++ old) + width ≡ columns (front ++ new)
 columns-with_text {T} {M} front old new tag cs width w n =
-    omega (
-      arith,
-      columns-append front old,
-      columns-append front new,
-      ap columns n,
-      columns-append old (under tag cs),
-      columns-under M tag cs,
-    )
+    omega (arith, columns-append {T = T} {M = M}, ap columns n, columns-under M tag cs)
 
 pub columns-with_character : {T M : Type 0} (front old new : Line T M) (tag : T) (c width : ℕ) → width ≡ width_of c →
     new ≡ old ++ element.Character c tag ∷ [] → columns (front ++ old) + width ≡ columns (front ++ new)
 columns-with_character {T} {M} front old new tag c width w n =
     let single = columns-single {T = T} {M = M} (element.Character c tag) in
-    omega (
-      arith,
-      columns-append front old,
-      columns-append front new,
-      ap columns n,
-      columns-append old (element.Character c tag ∷ []),
-      single,
-    )
+    omega (arith, columns-append {T = T} {M = M}, ap columns n, single)
 
 pub columns-with_mark : {T M : Type 0} (front old new : Line T M) (m : M) → new ≡ old ++ element.Mark m ∷ [] →
     columns (front ++ old) ≡ columns (front ++ new)
 columns-with_mark {T} {M} front old new m n =
     let single = columns-single {T = T} {M = M} (element.Mark m) in
-    omega (
-      arith,
-      columns-append front old,
-      columns-append front new,
-      ap columns n,
-      columns-append old (element.Mark m ∷ []),
-      single,
-    )
+    omega (arith, columns-append {T = T} {M = M}, ap columns n, single)
 
 -- the columns of a line by its parts
 pub columns-parts : {T M : Type 0} (front : Line T M) (rs : List (Run T M)) (tag : Option T) (closed behind : List ℕ) (text : Line T M) →
@@ -137,15 +93,7 @@ pub columns-parts : {T M : Type 0} (front : Line T M) (rs : List (Run T M)) (tag
     HasTag tag behind → elements_of rs closed ++ open_elements tag behind ≡ text →
     columns front + text_columns (chars closed) + text_columns (chars behind) ≡ columns (reverse front ++ text)
 columns-parts {T} {M} front rs tag closed behind text cuts none e =
-    omega (
-      arith,
-      columns-append (reverse front) text,
-      reverse_columns front,
-      ap columns e,
-      columns-append (elements_of rs closed) (open_elements tag behind),
-      elements_columns rs closed cuts,
-      open_columns M tag behind none,
-    )
+    omega (arith, columns-append {T = T} {M = M}, reverse_columns front, ap columns e, elements_columns rs closed cuts, open_columns M tag behind none)
 
 -- a line at whose front nothing stands is empty where its text is
 pub empty-without_front : {A : Type 0} (front text : List A) → (length front == 0) ≡ true →

@@ -105,10 +105,6 @@ all-opened rs (Some other) tag start bs cut e = cc
 all-opened {T} {M} rs None tag start bs cut e =
     ap (λ es. elements_of rs (take start bs) ++ es) (ap (λ cs. under {M = M} tag (chars cs)) cut.has_tag ∙ ap (under {M = M} tag) chars-nil)
 
-pub is-opened : {T M : Type 0} (rs : List (Run T M)) (from : Option T) (tag : T) (start : ℕ) (bs : List ℕ) → IsCut rs from start bs →
-    IsCut rs (Some tag) start bs
-is-opened rs from tag start bs cut = record { within = cut.within; closed = cut.closed; ending = cut.ending; has_tag = tt }
-
 -- ---- text at the end of the open run
 
 pub all-longer : {T M : Type 0} (rs : List (Run T M)) (some : Option T) (tag : T) (start : ℕ) (bs cs : List ℕ) → IsCut rs some start bs →

@@ -24,17 +24,10 @@ capped_sum-zero (x ∷ xs) = omega (arith, capped_sum-cons 0 x xs, capped_sum-ze
 
 -- no range is above the greatest
 pub capped_sum-greatest : (ms ss : List ℕ) (l : ℕ) → largest_slack ms ss ≤ l → capped_sum l (ranges ms ss) ≡ sum (ranges ms ss)
-capped_sum-greatest [] ss l h = refl
-capped_sum-greatest (m ∷ ms) [] l h = refl
 capped_sum-greatest (m ∷ ms) (s ∷ ss) l h =
     let here : s - m ≤ l = omega arith in
-    omega (
-      arith,
-      here,
-      capped_sum-cons l (s - m) (ranges ms ss),
-      sum_by-cons (λ x. x) (s - m) (ranges ms ss),
-      capped_sum-greatest ms ss l (omega arith),
-    )
+    omega (arith, here, capped_sum-cons l (s - m) (ranges ms ss), sum_by-cons (λ x. x), capped_sum-greatest ms ss l (omega arith))
+capped_sum-greatest ms ss l h = refl
 
 -- what is above the wanted sum is less than a unit a column, and only there at a level above 0
 pub excess-some : (level : ℕ) (xs : List ℕ) (w : ℕ) → IsLevel level xs w → 0 < capped_sum level xs - w →
@@ -53,13 +46,11 @@ excess-below (suc l) xs w h =
 pub sum-below : (ms rs ws : List ℕ) (l : ℕ) → length ws ≡ length ms → length rs ≡ length ms →
     ((k : ℕ) → k < length ms → get_or ws k 0 ≤ get_or ms k 0 + min (get_or rs k 0) l) → sum ws ≤ sum ms + capped_sum l rs
 sum-below [] rs [] l e f h = omega arith
-sum-below [] rs (w ∷ ws) l e f h = cc
-sum-below (m ∷ ms) [] ws l e f h = cc
-sum-below (m ∷ ms) (r ∷ rs) [] l e f h = cc
 sum-below (m ∷ ms) (r ∷ rs) (w ∷ ws) l e f h =
     let here : w ≤ m + min r l = h 0 (omega arith) in
     let rest = sum-below ms rs ws l (omega arith) (omega arith) (λ k less. h (suc k) (omega arith)) in
     omega (arith, here, rest, sum_by-cons (λ x. x) w ws, sum_by-cons (λ x. x) m ms, capped_sum-cons l r rs)
+sum-below ms rs ws l e f h = cc
 
 -- ---- halving
 

@@ -9,10 +9,10 @@ use Rattle.std.proofs.lemmas.List.Elements.{All-nil, All-cons, All-head, All-tai
 use Rattle.std.proofs.lemmas.List.Elements.{Contains-append_right}
 use Rattle.std.proofs.lemmas.List.Kept.{AllPairs-cons, AllPairs-from_increasing}
 use Rattle.std.proofs.lemmas.List.Sums.{sum_by-cons}
+use Rattle.std.proofs.lemmas.Bool.Decides.{nat_tests}
 use Rattle.html_render_parts.specs.Placement.{rising, rising_with}
 use Rattle.html_render_parts.specs.Grid.{rank, IsNumbering, IsLeastNumbering}
-use Rattle.html_render_parts.proofs.NumberTests.{ltb-tells}
-use Rattle.html_render_parts.proofs.RisingEnds.{All-rising_with}
+use Rattle.html_render_parts.proofs.RisingEnds.{All-rising_with, rising-step}
 
 abbrev Rise : List ℕ → Type 0
 Rise xs = AllPairs (λ x y. x < y) xs
@@ -43,15 +43,12 @@ Contains-cons x n xs h = by h.0 h.1 h.2
 
 Rise-with : (n : ℕ) (ms : List ℕ) → Rise ms → Rise (rising_with n ms)
 Rise-with n [] h = AllPairs-cons (λ x y. x < y) n [] (All-nil (λ y. n < y)) h
-Rise-with n (m ∷ ms) h = elim (ltb-tells n m) [
-  | inl t ↦ rw t.0 (AllPairs-cons (λ x y. x < y) n (m ∷ ms)
-      (All-cons (λ y. n < y) m ms t.1 (All-weaker (λ y. m < y) (λ y. n < y) (λ y less. omega arith) ms (Rise-head m ms h))) h)
-  | inr t ↦ elim (ltb-tells m n) [
-    | inl u ↦ rw (t.0, u.0) (AllPairs-cons (λ x y. x < y) m (rising_with n ms) (All-rising_with (λ y. m < y) n ms u.1 (Rise-head m ms h))
-        (Rise-with n ms (Rise-tail m ms h)))
-    | inr u ↦ rw (t.0, u.0) h
-  ]
-]
+Rise-with n (m ∷ ms) h = rising-step Rise n m ms
+    (λ less. AllPairs-cons (λ x y. x < y) n (m ∷ ms)
+    (All-cons (λ y. n < y) m ms less (All-weaker (λ y. m < y) (λ y. n < y) (λ y more. omega arith) ms (Rise-head m ms h))) h)
+    (λ less. AllPairs-cons (λ x y. x < y) m (rising_with n ms) (All-rising_with (λ y. m < y) n ms less (Rise-head m ms h))
+    (Rise-with n ms (Rise-tail m ms h)))
+    (λ e. h)
 
 Rise-rising : (ns : List ℕ) → Rise (rising ns)
 Rise-rising [] = λ i j d less inside. absurd (omega arith)
@@ -59,39 +56,26 @@ Rise-rising (n ∷ ns) = Rise-with n (rising ns) (Rise-rising ns)
 
 Contains-with : (n : ℕ) (ms : List ℕ) → Contains (rising_with n ms) n
 Contains-with n [] = Contains-here n []
-Contains-with n (m ∷ ms) = elim (ltb-tells n m) [
-  | inl t ↦ rw t.0 (Contains-here n (m ∷ ms))
-  | inr t ↦ elim (ltb-tells m n) [
-    | inl u ↦ rw (t.0, u.0) (Contains-there m n (rising_with n ms) (Contains-with n ms))
-    | inr u ↦ rw (t.0, u.0) (let e : m ≡ n = omega arith in subst (λ x. Contains (m ∷ ms) x) e (Contains-here m ms))
-  ]
-]
+Contains-with n (m ∷ ms) = rising-step (λ l. Contains l n) n m ms (λ less. Contains-here n (m ∷ ms))
+    (λ less. Contains-there m n (rising_with n ms) (Contains-with n ms)) (λ e. subst (Contains (m ∷ ms)) e (Contains-here m ms))
 
 Contains-with_more : (n k : ℕ) (ms : List ℕ) → Contains ms k → Contains (rising_with n ms) k
 Contains-with_more n k [] h = absurd (Contains-nil k h)
-Contains-with_more n k (m ∷ ms) h = elim (ltb-tells n m) [
-  | inl t ↦ rw t.0 (Contains-there n k (m ∷ ms) h)
-  | inr t ↦ elim (ltb-tells m n) [
-    | inl u ↦ rw (t.0, u.0) (elim (Contains-cons m k ms h) [
-      | inl e ↦ subst (λ x. Contains (m ∷ rising_with n ms) x) e (Contains-here m (rising_with n ms))
+Contains-with_more n k (m ∷ ms) h = rising-step (λ l. Contains l k) n m ms (λ less. Contains-there n k (m ∷ ms) h)
+    (λ less. elim (Contains-cons m k ms h) [
+      | inl e ↦ subst (Contains (m ∷ rising_with n ms)) e (Contains-here m (rising_with n ms))
       | inr g ↦ Contains-there m k (rising_with n ms) (Contains-with_more n k ms g)
     ])
-    | inr u ↦ rw (t.0, u.0) h
-  ]
-]
+    (λ e. h)
 
 Contains-from_with : (n k : ℕ) (ms : List ℕ) → Contains (rising_with n ms) k → (n ≡ k) ⊎ Contains ms k
-Contains-from_with n k [] h = Contains-cons n k [] h
-Contains-from_with n k (m ∷ ms) h = elim (ltb-tells n m) [
-  | inl t ↦ Contains-cons n k (m ∷ ms) (rw t.0 at h)
-  | inr t ↦ elim (ltb-tells m n) [
-    | inl u ↦ elim (Contains-cons m k (rising_with n ms) (rw (t.0, u.0) at h)) [
-      | inl e ↦ inr (subst (λ x. Contains (m ∷ ms) x) e (Contains-here m ms))
+Contains-from_with n k [] = Contains-cons n k []
+Contains-from_with n k (m ∷ ms) = rising-step (λ l. Contains l k → (n ≡ k) ⊎ Contains (m ∷ ms) k) n m ms (λ less. Contains-cons n k (m ∷ ms))
+    (λ less h. elim (Contains-cons m k (rising_with n ms) h) [
+      | inl e ↦ inr (subst (Contains (m ∷ ms)) e (Contains-here m ms))
       | inr g ↦ elim (Contains-from_with n k ms g) [ inl e ↦ inl e | inr f ↦ inr (Contains-there m k ms f) ]
-    ]
-    | inr u ↦ inr (rw (t.0, u.0) at h)
-  ]
-]
+    ])
+    (λ e h. inr h)
 
 pub Contains-rising : (k : ℕ) (ns : List ℕ) → Contains ns k → Contains (rising ns) k
 Contains-rising k [] h = h
@@ -184,22 +168,13 @@ rank-cons x xs t = sum_by-cons (λ e. cond (nat_lt e t) 1 0) x xs
 
 pub rank-mono : (xs : List ℕ) (a b : ℕ) → a ≤ b → rank xs a ≤ rank xs b
 rank-mono [] a b le = omega arith
-rank-mono (x ∷ xs) a b le = rw (rank-cons x xs a, rank-cons x xs b) (let ih = rank-mono xs a b le in elim (ltb-tells x a) [
-  | inl t ↦ elim (ltb-tells x b) [ inl u ↦ rw (t.0, u.0) (omega arith) | inr u ↦ absurd (omega arith) ]
-  | inr t ↦ elim (ltb-tells x b) [ inl u ↦ rw (t.0, u.0) (omega arith) | inr u ↦ rw (t.0, u.0) (omega arith) ]
-])
+rank-mono (x ∷ xs) a b le = rw (rank-cons x xs a, rank-cons x xs b) (let ih = rank-mono xs a b le in grind (arith, nat_tests))
 
 pub rank-less : (xs : List ℕ) (a b : ℕ) → Contains xs a → a < b → rank xs a < rank xs b
 rank-less [] a b h less = absurd (Contains-nil a h)
 rank-less (x ∷ xs) a b h less = rw (rank-cons x xs a, rank-cons x xs b) (elim (Contains-cons x a xs h) [
-  | inl e ↦ let mono = rank-mono xs a b (omega arith) in elim (ltb-tells x a) [
-    | inl t ↦ absurd (omega arith)
-    | inr t ↦ elim (ltb-tells x b) [ inl u ↦ rw (t.0, u.0) (omega arith) | inr u ↦ absurd (omega arith) ]
-  ]
-  | inr g ↦ let ih = rank-less xs a b g less in elim (ltb-tells x a) [
-    | inl t ↦ elim (ltb-tells x b) [ inl u ↦ rw (t.0, u.0) (omega arith) | inr u ↦ absurd (omega arith) ]
-    | inr t ↦ elim (ltb-tells x b) [ inl u ↦ rw (t.0, u.0) (omega arith) | inr u ↦ rw (t.0, u.0) (omega arith) ]
-  ]
+  | inl e ↦ let mono = rank-mono xs a b (omega arith) in grind (arith, nat_tests)
+  | inr g ↦ let ih = rank-less xs a b g less in grind (arith, nat_tests)
 ])
 
 pub rank-numbering : (xs : List ℕ) → IsNumbering xs (rank xs)
@@ -210,7 +185,7 @@ rank-none [] t h = refl
 rank-none (x ∷ xs) t h =
     let here : t < x = All-head (λ y. t < y) x xs h in
     let ih = rank-none xs t (All-tail (λ y. t < y) x xs h) in
-    elim (ltb-tells x t) [ inl u ↦ absurd (omega arith) | inr u ↦ rw (rank-cons x xs t, u.0) (omega arith) ]
+    rw (rank-cons x xs t) (grind (arith, nat_tests))
 
 least-from : (xs : List ℕ) (k : ℕ) (number : ℕ → ℕ) → Rise xs → IsNumbering xs number → ((x : ℕ) → Contains xs x → k ≤ number x) →
     (e : ℕ) → Contains xs e → rank xs e + k ≤ number e
@@ -220,7 +195,7 @@ least-from (x ∷ xs) k number p is low e h = elim (Contains-cons x e xs h) [
       let none : rank xs x ≡ 0 = rank-none xs x (Rise-head x xs p) in
       let here : k ≤ number x = low x (Contains-here x xs) in
       subst (λ y. rank (x ∷ xs) y + k ≤ number y) f
-      (rw (rank-cons x xs x) (elim (ltb-tells x x) [ inl u ↦ absurd (omega arith) | inr u ↦ rw (u.0, none) (omega arith) ]))
+      (rw (rank-cons x xs x) (grind (arith, nat_tests)))
   | inr g ↦
       let less : x < e = All-contains (λ m. x < m) xs e (Rise-head x xs p) g in
       let ih : rank xs e + (k + 1) ≤ number e = least-from xs (k + 1) number (Rise-tail x xs p)
@@ -231,7 +206,7 @@ least-from (x ∷ xs) k number p is low e h = elim (Contains-cons x e xs h) [
       is x y (Contains-here x xs) (Contains-there x y xs in_y) (All-contains (λ m. x < m) xs y (Rise-head x xs p) in_y) in
       omega arith)
       e g in
-      rw (rank-cons x xs e) (elim (ltb-tells x e) [ inl u ↦ rw u.0 (omega arith) | inr u ↦ absurd (omega arith) ])
+      rw (rank-cons x xs e) (grind (arith, nat_tests))
 ]
 
 pub rank-least : (xs : List ℕ) → IsStrictlyIncreasing xs → IsLeastNumbering xs (rank xs)
@@ -242,14 +217,13 @@ rank-least xs h = λ number is e in_e. let t = least-from xs 0 number (AllPairs-
 pub rank-below : (xs : List ℕ) (e : ℕ) → Contains xs e → rank xs e < length xs
 rank-below [] e h = absurd (Contains-nil e h)
 rank-below (x ∷ xs) e h = rw (rank-cons x xs e) (elim (Contains-cons x e xs h) [
-  | inl f ↦ let most = rank-most xs e in elim (ltb-tells x e) [ inl t ↦ absurd (omega arith) | inr t ↦ rw t.0 (omega arith) ]
-  | inr g ↦ let ih = rank-below xs e g in elim (ltb-tells x e) [ inl t ↦ rw t.0 (omega arith) | inr t ↦ rw t.0 (omega arith) ]
+  | inl f ↦ let most = rank-most xs e in grind (arith, nat_tests)
+  | inr g ↦ let ih = rank-below xs e g in grind (arith, nat_tests)
 ])
   where
     rank-most : (ys : List ℕ) (t : ℕ) → rank ys t ≤ length ys
     rank-most [] t = omega arith
-    rank-most (y ∷ ys) t = rw (rank-cons y ys t) (let ih = rank-most ys t in
-        elim (ltb-tells y t) [ inl u ↦ rw u.0 (omega arith) | inr u ↦ rw u.0 (omega arith) ])
+    rank-most (y ∷ ys) t = rw (rank-cons y ys t) (let ih = rank-most ys t in grind (arith, nat_tests))
 
 -- where those below t stand in front, t's rank is how many they are
 pub rank-split : (xs : List ℕ) (t i : ℕ) → i ≤ length xs → AllWithin (λ y. nat_lt y t ≡ true) xs 0 i →
@@ -274,14 +248,11 @@ rank-gets xs e h has = by xs (AllPairs-from_increasing xs h) has
     by (x ∷ xs) p in_e = elim (Contains-cons x e xs in_e) [
       | inl f ↦
           let none : rank xs e ≡ 0 = rank-none xs e (subst (λ y. All (λ z. y < z) xs) f (Rise-head x xs p)) in
-          elim (ltb-tells x e) [ inl u ↦ absurd (omega arith) | inr u ↦ rw (rank-cons x xs e, u.0, none) f ]
+          let first : rank (x ∷ xs) e ≡ 0 = rw (rank-cons x xs e) (grind (arith, nat_tests)) in rw first f
       | inr g ↦
           let less : x < e = All-contains (λ m. x < m) xs e (Rise-head x xs p) g in
           let ih = by xs (Rise-tail x xs p) g in
-          elim (ltb-tells x e) [
-            | inl u ↦ let next : rank (x ∷ xs) e ≡ suc (rank xs e) = rw (rank-cons x xs e, u.0) (omega arith) in rw next ih
-            | inr u ↦ absurd (omega arith)
-          ]
+          let next : rank (x ∷ xs) e ≡ suc (rank xs e) = rw (rank-cons x xs e) (grind (arith, nat_tests)) in rw next ih
     ]
 
 pub IsNonDecreasing-rising : (xs : List ℕ) → IsStrictlyIncreasing xs → IsNonDecreasingBy (λ x. x) xs
@@ -300,7 +271,7 @@ rank-first xs t i h none some behind =
     (λ k d a b.
     let le : get_or xs 0 0 ≤ get_or xs k 0 = rises 0 k 0 a b in
     let same : get_or xs k d ≡ get_or xs k 0 = get_or_default xs k d 0 b in
-    rw same (elim (ltb-tells (get_or xs k 0) t) [ inl u ↦ absurd (omega arith) | inr u ↦ u.0 ]))
+    rw same (grind (arith, nat_tests)))
 
 -- a position behind an edge, and not behind the next one
 pub rank-between : (xs : List ℕ) (t i : ℕ) → IsStrictlyIncreasing xs → 0 < i → i < length xs → get_or xs (i - 1) 0 < t → t ≤ get_or xs i 0 →
@@ -311,8 +282,8 @@ rank-between xs t i h some inside before behind =
     (λ k d a b.
     let le : get_or xs k 0 ≤ get_or xs (i - 1) 0 = rises k (i - 1) 0 (omega arith) (omega arith) in
     let same : get_or xs k d ≡ get_or xs k 0 = get_or_default xs k d 0 (omega arith) in
-    rw same (elim (ltb-tells (get_or xs k 0) t) [ inl u ↦ u.0 | inr u ↦ absurd (omega arith) ]))
+    rw same (grind (arith, nat_tests)))
     (λ k d a b.
     let le : get_or xs i 0 ≤ get_or xs k 0 = rises i k 0 a b in
     let same : get_or xs k d ≡ get_or xs k 0 = get_or_default xs k d 0 b in
-    rw same (elim (ltb-tells (get_or xs k 0) t) [ inl u ↦ absurd (omega arith) | inr u ↦ u.0 ]))
+    rw same (grind (arith, nat_tests)))

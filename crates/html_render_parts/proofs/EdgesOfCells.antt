@@ -1,11 +1,16 @@
 -- The edges are 0 and the ends of the grid's cells.
-use Rattle.std.proofs.Common.{◌≡◌, ℕ, ◌<◌, List, [], ◌∷◌, length, get_or, map, Any, Contains, sym, subst, arith, inl, inr, ◌⊎◌, suc, zero}
+use Rattle.std.proofs.Common.{◌≡◌, ℕ, ◌<◌, List, [], ◌∷◌, length, get_or, map, Any, Contains, refl, sym, subst, arith, inl, inr, ◌⊎◌, suc, zero}
 use Rattle.std.proofs.lemmas.List.Elements.{Contains-append_cases, Contains-append_left, Contains-append_right}
 use Rattle.html_render_parts.specs.declared.table.PlacedCell.{PlacedCell}
 use Rattle.html_render_parts.specs.declared.table.placement.Place.{Place}
 use Rattle.html_render_parts.specs.Grid.{edges_of, ends, numbered}
 use Rattle.html_render_parts.proofs.EdgeRanks.{Contains-cons, Contains-from_rising, Contains-here, Contains-rising, Contains-there}
-use Rattle.html_render_parts.proofs.PlacingRows.{Any-head, Any-tail}
+
+Any-head : {X : Type 0} (P : X → Type 0) (x : X) (xs : List X) → P x → Any P (x ∷ xs)
+Any-head P x xs h = (0, x, omega arith, refl, h)
+
+Any-tail : {X : Type 0} (P : X → Type 0) (x : X) (xs : List X) → Any P xs → Any P (x ∷ xs)
+Any-tail P x xs h = (suc h.0, h.1, let inside = h.2 in omega arith, h.3, h.4)
 
 Any-nil : {X : Type 0} (P : X → Type 0) → Any P [] → ⊥
 Any-nil P h = let inside = h.2 in omega arith

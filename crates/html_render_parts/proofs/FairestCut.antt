@@ -75,14 +75,11 @@ wanted-le ms ss w h = let e = sum-ranges ms ss h.lengths h.each in omega arith
 pub sum-full_width : (ms ss ws : List ℕ) (l : ℕ) → length ws ≡ length ms → length ss ≡ length ms →
     ((k : ℕ) → k < length ms → get_or ws k 0 ≡ get_or ms k 0 + min (get_or ss k 0) l) → sum ws ≡ sum ms + capped_sum l ss
 sum-full_width [] [] [] l e f h = refl
-sum-full_width [] [] (w ∷ ws) l e f h = cc
-sum-full_width [] (s ∷ ss) ws l e f h = cc
-sum-full_width (m ∷ ms) [] ws l e f h = cc
-sum-full_width (m ∷ ms) (s ∷ ss) [] l e f h = cc
 sum-full_width (m ∷ ms) (s ∷ ss) (w ∷ ws) l e f h =
     let here : w ≡ m + min s l = h 0 (omega arith) in
     let rest = sum-full_width ms ss ws l (omega arith) (omega arith) (λ k less. h (suc k) (omega arith)) in
     omega (arith, here, rest, sum_by-cons (λ x. x) w ws, sum_by-cons (λ x. x) m ms, sum_by-cons (λ x. min x l) s ss)
+sum-full_width ms ss ws l e f h = cc
 
 -- lowered full widths are the level form
 pub form-lowered : (ms ss : List ℕ) (w : ℕ) (old ws : List ℕ) (level lowered : ℕ) → CutFits ms ss w →

@@ -7,6 +7,7 @@ use Rattle.html_render_parts.specs.declared.table.Span.{Span}
 use Rattle.html_render_parts.specs.declared.table.placement.Standing.{Standing}
 use Rattle.html_render_parts.specs.Placement.{by_column_with, by_column, hangs_into, hanging, due_end, not_due, own_from}
 use Rattle.html_render_parts.specs.PlacementSteps.{AllFrom, IsByColumn}
+use Rattle.std.proofs.lemmas.Bool.Decides.{nat_tests}
 
 -- ---- two lists in one, by own column: of equal ones the first list's comes first
 
@@ -178,10 +179,7 @@ merged-due cursor (h ∷ hs) o os e = elim (leb_tells h.column cursor) [
       ]
   | inr t ↦
       let f = rw t.0 at e in
-      elim (leb_tells h.column o.column) [
-        | inl u ↦ absurd (omega arith)
-        | inr u ↦ rw (t.0, u.0) refl
-      ]
+      grind (arith, nat_tests)
 ]
 
 in_row-merged : (row cursor : ℕ) (hs : List Standing) (ss : List Span) → in_row row cursor hs ss ≡ merged hs (own_from row cursor hs ss)

@@ -11,6 +11,7 @@ use Rattle.html_render_parts.specs.PlacementSteps.{IsNextBottom, Placing, RowSoF
 use Rattle.html_render_parts.specs.Refusal.{Fails}
 use Rattle.html_render_parts.proofs.NumberTests.{ltb-tells}
 use Rattle.html_render_parts.proofs.PlacingRows.{bottom-made, bottom-past}
+use Rattle.std.proofs.lemmas.Bool.Decides.{nat_tests}
 
 -- the cells that end after n
 abbrev later : ℕ → List Standing → List Standing
@@ -54,17 +55,20 @@ rising_with-front n [] h = refl
 rising_with-front n (m ∷ ms) h =
     let P : ℕ → Type 0 = λ k. n < k in
     let here : n < m = All-head P m ms h in
-    elim (ltb-tells n m) [ inl t ↦ rw t.0 refl | inr t ↦ absurd (omega arith) ]
+    grind (arith, nat_tests)
+
+-- what holds of a number put among others, by where it comes
+pub rising-step : (P : List ℕ → Type 0) (n m : ℕ) (ms : List ℕ) → (n < m → P (n ∷ m ∷ ms)) → (m < n → P (m ∷ rising_with n ms)) →
+    (m ≡ n → P (m ∷ ms)) → P (rising_with n (m ∷ ms))
+rising-step P n m ms first later same = elim (ltb-tells n m) [
+  | inl t ↦ rw t.0 (first t.1)
+  | inr t ↦ elim (ltb-tells m n) [ inl u ↦ rw (t.0, u.0) (later u.1) | inr u ↦ rw (t.0, u.0) (same (omega arith)) ]
+]
 
 pub All-rising_with : (P : ℕ → Type 0) (n : ℕ) (ms : List ℕ) → P n → All P ms → All P (rising_with n ms)
 All-rising_with P n [] p h = All-cons P n [] p (All-nil P)
-All-rising_with P n (m ∷ ms) p h = elim (ltb-tells n m) [
-  | inl t ↦ rw t.0 (All-cons P n (m ∷ ms) p h)
-  | inr t ↦ elim (ltb-tells m n) [
-    | inl u ↦ rw (t.0, u.0) (All-cons P m (rising_with n ms) (All-head P m ms h) (All-rising_with P n ms p (All-tail P m ms h)))
-    | inr u ↦ rw (t.0, u.0) h
-  ]
-]
+All-rising_with P n (m ∷ ms) p h = rising-step (All P) n m ms (λ less. All-cons P n (m ∷ ms) p h)
+    (λ less. All-cons P m (rising_with n ms) (All-head P m ms h) (All-rising_with P n ms p (All-tail P m ms h))) (λ e. h)
 
 All-rising-map : (P : ℕ → Type 0) (cs : List Standing) → All (λ c. P (end_of c)) cs → All P (rising (map end_of cs))
 All-rising-map P [] h = All-nil P
@@ -91,10 +95,7 @@ least-first n (c ∷ cs) h =
       | inr t ↦
           let same : end_of c ≡ n = omega arith in
           inl (elim (least-first n cs (All-tail P c cs h)) [
-            | inl e ↦ elim (ltb-tells (end_of c) n) [
-              | inl u ↦ absurd (omega arith)
-              | inr u ↦ rw (e, u.0, t.0) refl
-            ]
+            | inl e ↦ grind (arith, nat_tests)
             | inr a ↦
                 let f = rising_with-front n (rising (map end_of cs)) (All-rising-map (λ m. n < m) cs a) in
                 rw (t.0, later-all n cs a, same, f) refl
@@ -154,7 +155,7 @@ later-shorter hung first has = shorter hung has.0 has.1 has.2
     ]
     shorter (c ∷ cs) (suc k) inside at =
         let more = shorter cs k (omega arith) at in
-        elim (ltb-tells (end_of first) (end_of c)) [ inl t ↦ rw t.0 (omega arith) | inr t ↦ rw t.0 (omega arith) ]
+        grind (arith, nat_tests)
 
 -- a row that was put together below the last one is the next one there
 pub next-bottom : (done next : Placing) (hung : List Standing) (first : Standing) (l : RowSoFar) → done.hanging ≡ hung →

@@ -8,17 +8,12 @@ use Rattle.std.proofs.lemmas.List.Elements.{All-get_or}
 use Rattle.html_render_parts.specs.declared.widths.spans.Span.{Span}
 use Rattle.html_render_parts.specs.Spans.{covers, given, greatest_at, AreOver, AreGreatest}
 use Rattle.html_render_parts.specs.SpanSteps.{no_span, span_at, Reaches, IsSpread, split_at, raised_at}
+use Rattle.std.proofs.lemmas.Bool.Decides.{nat_tests}
 
 -- ---- what is given a column
 
 covers-true : (s : Span) (j : ℕ) → s.start ≤ j → j < s.start + s.count → covers s j ≡ true
-covers-true s j a b = elim (leb_tells s.start j) [
-  | inl y ↦ elim (ltb-tells j (s.start + s.count)) [
-    | inl z ↦ rw (y.0, z.0) refl
-    | inr n ↦ absurd (omega (arith, n.1, b))
-  ]
-  | inr n ↦ absurd (omega (arith, n.1, a))
-]
+covers-true s j a b = grind (arith, nat_tests)
 
 given-value : (s : Span) (j : ℕ) → s.start ≤ j → j < s.start + s.count → given s j ≡ s.value
 given-value s j a b = ap (λ t. cond t s.value 0) (covers-true s j a b)
@@ -82,16 +77,10 @@ begun all most spans values over places zeros counts = record {
 }
 
 split-more : (offset : ℕ) (values : List ℕ) (k : ℕ) → slice_index values k ≤ split_at offset values k
-split-more offset values k = elim (leb_tells offset k) [
-  | inl y ↦ rw (y.0) (omega arith)
-  | inr n ↦ rw (n.0) (omega arith)
-]
+split-more offset values k = grind (arith, nat_tests)
 
 split-before : (offset : ℕ) (values : List ℕ) (k : ℕ) → offset ≤ k → slice_index values (k - offset) ≤ split_at offset values k
-split-before offset values k h = elim (leb_tells offset k) [
-  | inl y ↦ rw (y.0) (omega arith)
-  | inr n ↦ absurd (omega (arith, n.1, h))
-]
+split-before offset values k h = grind (arith, nat_tests)
 
 split-le : (offset : ℕ) (values : List ℕ) (k bound : ℕ) → slice_index values k ≤ bound →
     (offset ≤ k → slice_index values (k - offset) ≤ bound) → split_at offset values k ≤ bound

@@ -23,14 +23,6 @@ module _ {T : Type 0} (equal : T → T → Bool) where
       (λ f. rw (e, same, f) (ap (λ x. Str x old ∷ ps) (append_assoc text next more)))
       (λ f. rw (e, same, f) refl)
 
-  -- behind one under another tag it stands for itself
-  pub in_front-ended : (text next : List ℕ) (old tag : T) (ps : List (Piece T)) → equal old tag ≡ false →
-      Str text old ∷ in_front equal next tag ps ≡ in_front equal text old (in_front equal next tag ps)
-  in_front-ended text next old tag [] e = rw e refl
-  in_front-ended text next old tag (FragmentStart name ∷ ps) e = rw e refl
-  in_front-ended text next old tag (Str more other ∷ ps) e =
-      if_cases (λ (x : List (Piece T)). Str text old ∷ x ≡ in_front equal text old x) (equal tag other) _ _ (λ f. rw e refl) (λ f. rw e refl)
-
   -- the characters of a text, one after the other
   grouped-under : IsEquivalence equal → (names : List (List ℕ)) (tag : T) (c : ℕ) (cs : List ℕ) (more : Line T ℕ) →
       grouped equal names (under tag (c ∷ cs) ++ more) ≡ in_front equal (c ∷ cs) tag (grouped equal names more)

@@ -30,9 +30,6 @@ line_with-under f tag [] more = refl
 line_with-under f tag (c ∷ cs) more = ap (λ es. element.Character c (f tag) ∷ es) (line_with-under f tag cs more)
 
 module _ {A : Type 0} (eq : A → A → Bool) (stacks : List (List A)) (names : List (List ℕ)) where
-  pub Takes-nothing : (p : Progress A) → Takes eq stacks names p [] p
-  Takes-nothing p = λ more. refl
-
   -- a text without bytes
   pub Takes-empty : (p : Progress A) (bs : List ℕ) (tag : ℕ) → length bs ≡ 0 → Takes eq stacks names p (under tag (chars bs)) p
   Takes-empty p [] tag e = λ more.

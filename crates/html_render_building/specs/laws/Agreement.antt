@@ -3,7 +3,7 @@ use Rattle.std.proofs.Common.{◌≡◌, Bool, true, false, if◌then◌else◌,
 use Rattle.std.specs.Prelude.{filter, option_to_list}
 use Rattle.html_render_values.specs.Forest.{Forest, none, node}
 use Rattle.html_render_values.specs.Outcome.{◌>>=◌}
-use Rattle.html_render_dom.specs.Content.{Content, document, doctype, text, comment, element, instruction}
+use Rattle.html_render_dom.specs.Content.{Content, document, text, element}
 use Rattle.html_render_dom.specs.Dom as documents
 use Rattle.html_render_dom.specs.Dom.{Dom, IsForest, node_count, children_at, content_at, below}
 use Rattle.html_render_dom.specs.laws.Trees.{below-children}
@@ -31,7 +31,7 @@ use Rattle.html_render_building.specs.laws.ElementShown.{styled-any}
 use Rattle.html_render_building.specs.laws.Mappings.{element_fits}
 use Rattle.html_render_building.specs.laws.Parting.{add, picked_results, results-parted, results-picked}
 use Rattle.html_render_building.specs.laws.PartsShown.{all-kept}
-use Rattle.html_render_building.specs.laws.Shown.{AllShow, Gives}
+use Rattle.html_render_building.specs.laws.Shown.{shows_by, AllShow, Gives}
 use Rattle.html_render_building.specs.laws.TableParted.{AllShowAny, AnyShows, show-elsewhere}
 use Rattle.std.specs.Prelude.{◌&&◌, codes}
 use Rattle.std.specs.Str.{bytes_eq}
@@ -44,11 +44,7 @@ one-more : (in_table : Bool) (a : Option (Option Arrival)) (r : Option (Option R
       rest ← xs
       x ← a
       Some (option_to_list x ++ rest)) (add r rs)
-one-more in_table None None h None None k = tt
-one-more in_table None None h (Some xs) (Some rs) k = tt
-one-more in_table (Some None) (Some None) h None None k = tt
 one-more in_table (Some None) (Some None) h (Some xs) (Some rs) k = k
-one-more in_table (Some (Some a)) (Some (Some r)) h None None k = tt
 one-more in_table (Some (Some a)) (Some (Some r)) h (Some xs) (Some rs) k = (h, k)
 one-more in_table (Some None) (Some (Some r)) h xs rs k = elim h [ ]
 one-more in_table (Some (Some a)) (Some None) h xs rs k = elim h [ ]
@@ -56,6 +52,7 @@ one-more in_table None (Some r) h xs rs k = elim h [ ]
 one-more in_table (Some a) None h xs rs k = elim h [ ]
 one-more in_table a r h None (Some rs) k = elim k [ ]
 one-more in_table a r h (Some xs) None k = elim k [ ]
+one-more in_table a r h xs rs k = tt
 
 -- a document in a document
 document-any : (in_table : Bool) (x : Option (List Arrival)) (o : Option (List Result)) → AllShowAny false x o →
@@ -64,11 +61,10 @@ document-any : (in_table : Bool) (x : Option (List Arrival)) (o : Option (List R
       inside ← o
       Some (Some (over (without_style Container) inside)))
 document-any in_table None None h = tt
-document-any in_table None (Some rs) h = elim h [ ]
-document-any in_table (Some xs) None h = elim h [ ]
 document-any in_table (Some xs) (Some rs) h =
     subst (λ l. ShowsIn in_table (closed in_table (all_arrive xs (fresh (Node Container) no_style Stands []))) (Some (over (without_style Container) l)))
     (all-kept rs) (node_closed in_table Container no_style Stands None None None refl xs rs (show-elsewhere xs rs h))
+document-any in_table x o h = elim h [ ]
 
 -- what comes of a node shows its result
 node-any : (rules : List StyleRule) (in_table : Bool) (content : Content) (children : Forest Content) →
@@ -79,7 +75,7 @@ node-any rules in_table document children below =
     document-any in_table (all_came rules children All false) (results rules children)
     (subst (AllShowAny false (all_came rules children All false)) (sym (results-picked rules children)) (below All false))
 node-any rules in_table (text contents) children below =
-    record { role_is = refl; kind_is = refl; children_are = refl; gives = (refl, refl); rows_are_plain = tt }
+    shows_by refl refl refl (refl, refl) tt
 node-any rules in_table (element name properties template_contents integration_point) children below =
     styled-any in_table (own_style rules name properties) (mark_of name properties) (λ k t. all_came rules children k t) (results rules children)
     (picked_results rules children Feet) (picked_results rules children Others) (picked_results rules children Captions)
@@ -87,9 +83,7 @@ node-any rules in_table (element name properties template_contents integration_p
     (below Feet false) (below Others false) (below Captions true) (results-parted rules children)
     (is_html name.space && bytes_eq name.local (codes "caption")) (is_html name.space && bytes_eq name.local (codes "tfoot"))
     (element_mapping name.space name.local properties children) (element_fits name.space name.local properties children)
-node-any rules in_table (doctype name public_id system_id) children below = tt
-node-any rules in_table (comment contents) children below = tt
-node-any rules in_table (instruction target contents) children below = tt
+node-any rules in_table content children below = tt
 
 -- WHAT COMES of trees shows their results
 pub all-shown : (rules : List StyleRule) (t : Forest Content) (pick : Pick) (in_table : Bool) →
@@ -136,9 +130,8 @@ document-shown xs rs h =
 all-agree : (x : Option (List Arrival)) (o : Option (List Result)) → AllShowAny false x o →
     option_map expanded (option_map (λ xs. all_arrive xs document_start) x >>= document_of) ≡ option_map container_over (o >>= trees_of)
 all-agree None None h = refl
-all-agree None (Some rs) h = elim h [ ]
-all-agree (Some xs) None h = elim h [ ]
 all-agree (Some xs) (Some rs) h = document-shown xs rs (show-elsewhere xs rs h)
+all-agree x o h = elim h [ ]
 
 -- THE NODES that the drafts of a document become are its results in a Container, and there are none where these aren't
 documents_agree : (rules : List StyleRule) (t : Forest Content) →

@@ -7,7 +7,6 @@ use Rattle.html_render_dom.specs.Content.{Content}
 use Rattle.html_render_dom.specs.Rules.{Rule as StyleRule}
 use Rattle.html_render_nodes.specs.declared.tree.NodeStyle.{NodeStyle}
 use Rattle.html_render_conversion.specs.declared.mapping.ElementKind.{ElementKind}
-use Rattle.html_render_conversion.specs.declared.mapping.ElementKind.TheVariants as becomes
 use Rattle.html_render_conversion.specs.declared.mapping.ElementKind.TheVariants.{Part}
 use Rattle.html_render_conversion.specs.declared.tables.CellSpan.{CellSpan}
 use Rattle.html_render_conversion.specs.declared.tables.Part.TheVariants as part
@@ -106,12 +105,7 @@ no_rows k h = refl
 
 opened-no_table : (k : ElementKind) → is_table (opened_kind k) ≡ false
 opened-no_table (Part part.Table) = refl
-opened-no_table (Part part.Body) = refl
-opened-no_table (Part part.Foot) = refl
-opened-no_table (Part part.Row) = refl
-opened-no_table (Part (part.Cell span)) = refl
-opened-no_table (Part part.Caption) = refl
-opened-no_table (becomes.Node k) = refl
+opened-no_table k = refl
 
 any-same : (a : Option Arrival) (p : Holding) → is_captioned (arrive_any a p).element.kind ≡ is_captioned p.element.kind
 any-same None p = refl
@@ -223,10 +217,9 @@ module _ (q : Holding) (f : Pick → Holding → Option Holding) (g : Pick → B
   of-told k style e has_children i h = all-told k style e has_children i refl refl
 
   come-told : (o : Outline) → come o f q ≡ option_map to_q (came in_table o g)
-  come-told outline.Nothing = refl
-  come-told (Alone n) = refl
   come-told (Over k style e has_children mark before after) =
       of-told (opened_kind k) style e has_children (inserted_of mark before after) (opened-no_table k)
+  come-told o = refl
 
 -- THE ELEMENT, once all have come of some trees, is what the list of them makes of it
 pub arrivals_told : (rules : List StyleRule) (t : Forest Content) (pick : Pick) (p : Holding) →

@@ -7,7 +7,6 @@ use Rattle.html_render_values.specs.Outcome.{◌>>=◌}
 use Rattle.html_render_nodes.specs.declared.tree.NodeKind.{NodeKind}
 use Rattle.html_render_nodes.specs.declared.tree.NodeKind.TheVariants.{Link}
 use Rattle.html_render_nodes.specs.declared.tree.NodeStyle.{NodeStyle}
-use Rattle.html_render_nodes.specs.laws.Splits.{followed_by-none}
 use Rattle.html_render_insertions.specs.declared.drafts.Draft.{Draft}
 use Rattle.html_render_insertions.specs.declared.drafts.Insertions.{Insertions}
 use Rattle.html_render_insertions.specs.Drafts.{draft, inserted_of}
@@ -27,7 +26,7 @@ use Rattle.html_render_conversion.specs.Results.{keeps as keeps_kind}
 use Rattle.html_render_building.specs.Building.{Arrival, Holding, arrive, beside_insertions, goes_beside, closed, fresh, made_of, mark_left, node_made, with_insertions}
 use Rattle.html_render_building.specs.laws.Arrivals.{all_arrive}
 use Rattle.html_render_building.specs.laws.Mappings.{stands_as_is}
-use Rattle.html_render_building.specs.laws.Shown.{Agrees, AllShow, Gives, Shows, both, caption-meant, alone-meant, own_trees, together}
+use Rattle.html_render_building.specs.laws.Shown.{Agrees, AllShow, Gives, Shows, both, both-none, caption-meant, alone-meant, own_trees, together}
 use Rattle.html_render_building.specs.laws.Shown.{children-shown, results-shown, trees_shown}
 use Rattle.html_render_building.specs.laws.Inserting.{ShowsAny, inserted-noted, mark-shown, node_shown, with_noted}
 
@@ -98,6 +97,43 @@ abbrev pub closed_as : (in_table : Bool) → OpenKind → NodeStyle → IfEmpty 
 closed_as in_table k style e has_results has_children is_stray i drafts =
     if vanishes e has_results then mark_left i else made_of in_table k style i has_children is_stray drafts
 
+-- what it is
+module _ (in_table : Bool) (p : Holding) (keeps_result counts_result : Result → Bool) (places : new.Role → Bool)
+    (agrees : Agrees p.element.kind keeps_result counts_result places) (xs : List Arrival) (rs : List Result) (shown : AllShow xs rs) where
+  pub closed-is : (k : OpenKind) → (all_arrive xs p).element.kind ≡ k →
+      closed in_table (all_arrive xs p)
+      ≡ closed_as in_table k p.element.style p.element.if_empty (p.element.has_results || list_any counts_result rs)
+      (p.element.has_children || is_filled (filter keeps_result rs)) (all_arrive xs p).element.is_stray p.element.inserted (all_arrive xs p).drafts
+  closed-is k kind_is =
+      let q = all_arrive xs p in
+      let i = p.element.inserted in
+      let style = p.element.style in
+      let e = p.element.if_empty in
+      let any = p.element.has_results || list_any counts_result rs in
+      let some = p.element.has_children || is_filled (filter keeps_result rs) in
+      ap (λ x. closed_as in_table x q.element.style q.element.if_empty q.element.has_results q.element.has_children q.element.is_stray
+      q.element.inserted q.drafts) kind_is
+      ∙ ap (λ x. closed_as in_table k x q.element.if_empty q.element.has_results q.element.has_children q.element.is_stray
+      q.element.inserted q.drafts) (all-stays (λ e. e.style) (λ e b. refl) (λ r s e. refl) xs p)
+      ∙ ap (λ x. closed_as in_table k style x q.element.has_results q.element.has_children q.element.is_stray
+      q.element.inserted q.drafts) (all-stays (λ e. e.if_empty) (λ e b. refl) (λ r s e. refl) xs p)
+      ∙ ap (λ x. closed_as in_table k style e x q.element.has_children q.element.is_stray q.element.inserted q.drafts)
+      (results-shown p keeps_result counts_result places agrees xs rs shown)
+      ∙ ap (λ x. closed_as in_table k style e any x q.element.is_stray q.element.inserted q.drafts)
+      (children-shown p keeps_result counts_result places agrees xs rs shown)
+      ∙ ap (λ x. closed_as in_table k style e any some q.element.is_stray x q.drafts)
+      (all-stays (λ e. e.inserted) (λ e b. refl) (λ r s e. refl) xs p)
+
+pub mark-in : (in_table : Bool) (mark before after : Option (List ℕ)) →
+    ShowsIn in_table (mark_left (inserted_of mark before after)) (completed mark before after None)
+mark-in in_table mark before after = by (mark_left (inserted_of mark before after)) mark (mark-shown mark before after)
+  where
+    by : (a : Option Arrival) (m : Option (List ℕ)) → ShowsAny a (completed m before after None) →
+        ShowsIn in_table a (completed m before after None)
+    by None None h = tt
+    by (Some a) (Some name) h = h
+    by a m h = elim h [ ]
+
 module _ (in_table : Bool) (k : OpenKind) (style : NodeStyle) (e : IfEmpty) (mark before after : Option (List ℕ))
     (keeps_result counts_result : Result → Bool) (places : new.Role → Bool) (agrees : Agrees k keeps_result counts_result places) where
   abbrev pub noted : List Insertions
@@ -105,16 +141,6 @@ module _ (in_table : Bool) (k : OpenKind) (style : NodeStyle) (e : IfEmpty) (mar
 
   abbrev pub start : Holding
   start = fresh k style e noted
-
-  mark-in : ShowsIn in_table (mark_left noted) (completed mark before after None)
-  mark-in = by (mark_left noted) mark (mark-shown mark before after)
-    where
-      by : (a : Option Arrival) (m : Option (List ℕ)) → ShowsAny a (completed m before after None) →
-          ShowsIn in_table a (completed m before after None)
-      by None None h = tt
-      by None (Some name) h = elim h [ ]
-      by (Some a) None h = elim h [ ]
-      by (Some a) (Some name) h = h
 
   -- it shows a result, if what it is made of does
   pub close-shown : (xs : List Arrival) (rs : List Result) → AllShow xs rs → (gathered : OpenKind) →
@@ -126,36 +152,21 @@ module _ (in_table : Bool) (k : OpenKind) (style : NodeStyle) (e : IfEmpty) (mar
   close-shown xs rs h gathered kind_is r made =
       let q = all_arrive xs start in
       subst (λ o. ShowsIn in_table o (completed mark before after (if vanishes e (list_any counts_result rs) then None else Some r)))
-      (sym (ap (λ x. closed_as in_table x q.element.style q.element.if_empty q.element.has_results q.element.has_children q.element.is_stray
-      q.element.inserted q.drafts) kind_is
-      ∙ ap (λ x. closed_as in_table gathered x q.element.if_empty q.element.has_results q.element.has_children q.element.is_stray
-      q.element.inserted q.drafts) (all-stays (λ e. e.style) (λ e b. refl) (λ r s e. refl) xs start)
-      ∙ ap (λ x. closed_as in_table gathered style x q.element.has_results q.element.has_children q.element.is_stray
-      q.element.inserted q.drafts) (all-stays (λ e. e.if_empty) (λ e b. refl) (λ r s e. refl) xs start)
-      ∙ ap (λ x. closed_as in_table gathered style e x q.element.has_children q.element.is_stray q.element.inserted q.drafts)
-      (results-shown start keeps_result counts_result places agrees xs rs h)
-      ∙ ap (λ x. closed_as in_table gathered style e (list_any counts_result rs) x q.element.is_stray q.element.inserted q.drafts)
-      (children-shown start keeps_result counts_result places agrees xs rs h)
-      ∙ ap (λ x. closed_as in_table gathered style e (list_any counts_result rs) (is_filled (filter keeps_result rs)) q.element.is_stray x q.drafts)
-      (all-stays (λ e. e.inserted) (λ e b. refl) (λ r s e. refl) xs start)))
+      (sym (closed-is in_table start keeps_result counts_result places agrees xs rs h gathered kind_is))
       (by (vanishes e (list_any counts_result rs))
       (made_of in_table gathered style noted (is_filled (filter keeps_result rs)) q.element.is_stray q.drafts) made)
     where
       by : (b : Bool) (o : Option Arrival) → ShowsIn in_table o (Some (with_noted noted r)) →
           ShowsIn in_table (if b then mark_left noted else o) (completed mark before after (if b then None else Some r))
-      by true o made = mark-in
+      by true o made = mark-in in_table mark before after
       by false o made = subst (λ x. ShowsIn in_table o (Some x)) (sym (inserted-noted mark before after r)) made
 
   -- and it has the trees of what it keeps
   pub close-gives : (xs : List Arrival) (rs : List Result) → AllShow xs rs →
       Gives (all_arrive xs start).element.is_stray (all_arrive xs start).drafts (together places (filter keeps_result rs))
   close-gives xs rs h =
-      subst (Gives (all_arrive xs start).element.is_stray (all_arrive xs start).drafts) (by (together places (filter keeps_result rs)))
+      subst (Gives (all_arrive xs start).element.is_stray (all_arrive xs start).drafts) (both-none (together places (filter keeps_result rs)))
       (trees_shown start keeps_result counts_result places agrees xs rs h (Some none) (refl, refl))
-    where
-      by : (o : Option Nodes) → both o (Some none) ≡ o
-      by None = refl
-      by (Some t) = ap Some (followed_by-none t)
 
 -- ---- nodes
 
@@ -211,10 +222,7 @@ agrees-node k h = record {
 
 node-gathered : (k : NodeKind) (r : Role) → gathered r (Node k) ≡ Node k
 node-gathered k role.Contents = refl
-node-gathered k role.Caption = refl
-node-gathered k (role.Rows behind rows) = refl
-node-gathered k (role.Row cells) = refl
-node-gathered k (role.Cell span) = refl
+node-gathered k r = refl
 
 pub made-role : (k : NodeKind) (style : NodeStyle) (i : List Insertions) (has_children s : Bool) (below : Forest Draft) →
     is_caption (node_made (draft k style i) has_children s below).role ≡ false

@@ -17,7 +17,7 @@ use Rattle.html_render_building.specs.declared.elements.OpenKind.{OpenKind}
 use Rattle.html_render_building.specs.declared.elements.OpenKind.TheVariants.{Cell, Caption, Row, Rows}
 use Rattle.html_render_building.specs.Building.{Arrival, Holding, closed, fresh}
 use Rattle.html_render_building.specs.laws.Arrivals.{all_arrive}
-use Rattle.html_render_building.specs.laws.Shown.{AllShow}
+use Rattle.html_render_building.specs.laws.Shown.{shows_by, AllShow}
 use Rattle.html_render_building.specs.laws.Closing.{ShowsIn}
 use Rattle.html_render_conversion.specs.declared.mapping.IfEmpty.TheVariants.{Vanishes}
 use Rattle.html_render_conversion.specs.Results.{as_block, captioned, have_rows, joined, table_over}
@@ -64,21 +64,18 @@ module _ (in_table : Bool) (style : NodeStyle) (mark before after : Option (List
   table-any : (xf xu xc : Option (List Arrival)) (all f u c : Option (List Result)) → AllShowAny false xf f → AllShowAny false xu u →
       AllShowAny true xc c → Parted all f u c →
       AnyShows in_table (table_came in_table style mark before after xf xu xc) (table_becomes in_table style mark before after all)
-  table-any None xu xc None None u c hf hu hc h = tt
-  table-any None xu xc (Some rs) None u c hf hu hc h = elim h [ ]
   table-any None xu xc all (Some f) u c hf hu hc h = elim hf [ ]
   table-any (Some xf) xu xc all None u c hf hu hc h = elim hf [ ]
-  table-any (Some xf) None xc None (Some f) None c hf hu hc h = tt
-  table-any (Some xf) None xc (Some rs) (Some f) None c hf hu hc h = elim h [ ]
   table-any (Some xf) None xc all (Some f) (Some u) c hf hu hc h = elim hu [ ]
   table-any (Some xf) (Some xu) xc all (Some f) None c hf hu hc h = elim hu [ ]
   table-any (Some xf) (Some xu) None None (Some f) (Some u) None hf hu hc h = nothing-after xf xu
-  table-any (Some xf) (Some xu) None (Some rs) (Some f) (Some u) None hf hu hc h = elim h [ ]
   table-any (Some xf) (Some xu) None all (Some f) (Some u) (Some c) hf hu hc h = elim hc [ ]
   table-any (Some xf) (Some xu) (Some xc) all (Some f) (Some u) None hf hu hc h = elim hc [ ]
   table-any (Some xf) (Some xu) (Some xc) None (Some f) (Some u) (Some c) hf hu hc h = cc
   table-any (Some xf) (Some xu) (Some xc) (Some rs) (Some f) (Some u) (Some c) hf hu hc h =
       parted-shown in_table style mark before after xf xu xc rs f u c (show-elsewhere xf f hf) (show-elsewhere xu u hu) hc h
+  table-any xf xu xc (Some rs) f u c hf hu hc h = elim h [ ]
+  table-any xf xu xc None f u c hf hu hc h = tt
 
 -- ---- any other element
 
@@ -96,9 +93,8 @@ module _ (in_table : Bool) (style : NodeStyle) (mark before after : Option (List
           Some (if vanishes e (list_any counts_result results) then None else Some r))
         Some (completed mark before after made))
   other-any None None h = tt
-  other-any None (Some rs) h = elim h [ ]
-  other-any (Some xs) None h = elim h [ ]
   other-any (Some xs) (Some rs) h = shows xs rs (show-elsewhere xs rs h)
+  other-any x o h = elim h [ ]
 
 module _ (in_table : Bool) (style : NodeStyle) (mark before after : Option (List ℕ)) (inside : Pick → Bool → Option (List Arrival))
     (all f u c : Option (List Result)) (ha : AllShowAny false (inside All false) all) (hf : AllShowAny false (inside Feet false) f)
@@ -160,7 +156,7 @@ module _ (in_table : Bool) (style : ElementStyle) (mark : Option (List ℕ)) (in
       by : (m : Option (List ℕ)) → AnyShows in_table (came in_table (mark_alone m) inside)
           (Some (option_map (λ name. over (fragment_start name) []) m))
       by None = tt
-      by (Some name) = record { role_is = refl; kind_is = refl; children_are = refl; gives = (refl, refl); rows_are_plain = tt }
+      by (Some name) = shows_by refl refl refl (refl, refl) tt
 
   hidden-or : (hidden : Bool) (o : Outline) (r : Option (Option Result)) → AnyShows in_table (came in_table o inside) r →
       AnyShows in_table (came in_table (if hidden then outline.Nothing else o) inside) (if hidden then Some None else r)

@@ -16,7 +16,7 @@ use Rattle.html_render_building.specs.Kinds.{holds_insertions}
 use Rattle.html_render_building.specs.Building.{Arrival, are_any, leaf_arrival, mark_left, node_made, with_insertions, beside_insertions}
 use Rattle.html_render_building.specs.declared.elements.Role.TheVariants as role
 use Rattle.html_render_building.specs.laws.Mappings.{stands_as_is}
-use Rattle.html_render_building.specs.laws.Shown.{AllPlain, Gives, Shows}
+use Rattle.html_render_building.specs.laws.Shown.{shows_by, AllPlain, Gives, Shows}
 
 -- ---- what one element inserts
 
@@ -40,13 +40,7 @@ inserted-noted (Some a) (Some b) (Some c) r = refl
 
 pub mark-noted : (mark before after : Option (List ℕ)) → mark_in (inserted_of mark before after) ≡ mark
 mark-noted None None None = refl
-mark-noted None None (Some c) = refl
-mark-noted None (Some b) None = refl
-mark-noted None (Some b) (Some c) = refl
-mark-noted (Some a) None None = refl
-mark-noted (Some a) None (Some c) = refl
-mark-noted (Some a) (Some b) None = refl
-mark-noted (Some a) (Some b) (Some c) = refl
+mark-noted mark before after = refl
 
 -- ---- a node over what is shown
 
@@ -90,7 +84,7 @@ pub node_shown : (k : NodeKind) (style : NodeStyle) (i : List Insertions) (has_c
     Shows (node_made (draft k style i) has_children s below)
     (with_noted i (record { role = Contents; node = in_style style k; has_children = has_children; below = o }))
 node_shown k style [] has_children s below o h g =
-    record { role_is = refl; kind_is = refl; children_are = refl; gives = gives-alone s k style below o g; rows_are_plain = tt }
+    shows_by refl refl refl (gives-alone s k style below o g) tt
 node_shown k style (x ∷ xs) has_children s below o h g =
     subst (λ w. Shows (node_made (draft k style (x ∷ xs)) has_children s below) (inserted w (front (x ∷ xs)) (back (x ∷ xs)) r))
     (sym (into-holds k h)) (by (holds_insertions k))
@@ -103,20 +97,8 @@ node_shown k style (x ∷ xs) has_children s below o h g =
         else with_insertions role.Contents (draft k style (x ∷ xs)) has_children s below)
         (inserted (if b then Inside else Beside) (front (x ∷ xs)) (back (x ∷ xs))
         (record { role = Contents; node = in_style style k; has_children = has_children; below = o }))
-    by true = record {
-      role_is = refl;
-      kind_is = refl;
-      children_are = refl;
-      gives = gives-over s (draft k style (x ∷ xs)) below o g;
-      rows_are_plain = tt;
-    }
-    by false = record {
-      role_is = refl;
-      kind_is = refl;
-      children_are = refl;
-      gives = gives-beside s k style (x ∷ xs) below o g;
-      rows_are_plain = tt;
-    }
+    by true = shows_by refl refl refl (gives-over s (draft k style (x ∷ xs)) below o g) tt
+    by false = shows_by refl refl refl (gives-beside s k style (x ∷ xs) below o g) tt
 
 -- what is left of an element that becomes nothing
 pub mark-shown : (mark before after : Option (List ℕ)) →
@@ -128,7 +110,7 @@ mark-shown mark before after =
     by : (m : Option (List ℕ)) → ShowsAny (option_map (λ name. leaf_arrival (plain_draft (FragmentStart name))) m)
         (option_map (λ name. over (fragment_start name) []) m)
     by None = tt
-    by (Some name) = record { role_is = refl; kind_is = refl; children_are = refl; gives = (refl, refl); rows_are_plain = tt }
+    by (Some name) = shows_by refl refl refl (refl, refl) tt
 
 -- ---- inside the first cell
 

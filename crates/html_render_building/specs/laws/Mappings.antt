@@ -4,7 +4,7 @@ use Rattle.std.specs.Prelude.{codes}
 use Rattle.std.specs.Str.{bytes_eq}
 use Rattle.std.proofs.lemmas.Slice.Eq.{bytes_eq-Decides}
 use Rattle.html_render_values.specs.Forest.{Forest}
-use Rattle.html_render_dom.specs.Content.{Content, Property, Space, no_space, html, svg, mathml, other}
+use Rattle.html_render_dom.specs.Content.{Content, Property, Space, html, svg}
 use Rattle.html_render_nodes.specs.declared.tree.NodeKind.{NodeKind}
 use Rattle.html_render_nodes.specs.declared.tree.NodeKind.TheVariants.{Table, TableRow, TableCell}
 use Rattle.html_render_conversion.specs.declared.mapping.ElementKind.{ElementKind}
@@ -87,7 +87,5 @@ pub element_fits : (space : Space) (name : List ℕ) (properties : List Property
     fits (is_html space && bytes_eq name (codes "caption")) (is_html space && bytes_eq name (codes "tfoot"))
     (element_mapping space name properties below) ≡ true
 element_fits html name properties below = simp (fits-if, fits-link, if-true, if-itself, body-named)
-element_fits no_space name properties below = refl
 element_fits svg name properties below = simp (fits-if, if-true)
-element_fits mathml name properties below = refl
-element_fits (other address) name properties below = refl
+element_fits space name properties below = refl

@@ -74,9 +74,7 @@ to-captions (Some (Some x)) h (Some rs) (Some f) (Some u) (Some c) p = (
   ap (λ b. first_if b x (of_role (new.are_rows false) rs)) (role-first true false x.role h refl) ∙ p.1,
   ap (λ b. first_if b x (of_role (new.are_rows true) rs)) (role-behind true false x.role h refl) ∙ p.2,
 )
-to-captions (Some (Some x)) h (Some rs) None u c p = elim p [ ]
-to-captions (Some (Some x)) h (Some rs) (Some f) None c p = elim p [ ]
-to-captions (Some (Some x)) h (Some rs) (Some f) (Some u) None p = elim p [ ]
+to-captions (Some (Some x)) h (Some rs) f u c p = elim p [ ]
 
 -- a foot
 to-feet : (r : Option (Option Result)) → FitsAny false true r → (all f u c : Option (List Result)) → Parted all f u c →
@@ -92,9 +90,7 @@ to-feet (Some (Some x)) h (Some rs) (Some f) (Some u) (Some c) p = (
   ap (first_if (new.are_rows true x.role) x) p.2
       ∙ ap (λ b. first_if (b || new.are_rows true x.role) x (parts_of f)) (sym (role-first false true x.role h refl)),
 )
-to-feet (Some (Some x)) h (Some rs) None u c p = elim p [ ]
-to-feet (Some (Some x)) h (Some rs) (Some f) None c p = elim p [ ]
-to-feet (Some (Some x)) h (Some rs) (Some f) (Some u) None p = elim p [ ]
+to-feet (Some (Some x)) h (Some rs) f u c p = elim p [ ]
 
 -- any other
 to-others : (r : Option (Option Result)) → FitsAny false false r → (all f u c : Option (List Result)) → Parted all f u c →
@@ -140,8 +136,7 @@ one_name (element name properties template_contents integration_point) =
   where
     by : (h c : Bool) → bytes_eq name.local (codes "caption") ≡ c → ((h && c) && (h && bytes_eq name.local (codes "tfoot"))) ≡ false
     by true true e = named-once name.local (codes "caption") (codes "tfoot") refl e
-    by true false e = refl
-    by false c e = refl
+    by h c e = refl
 one_name content = refl
 
 -- THE RESULTS of trees, parted as they are picked

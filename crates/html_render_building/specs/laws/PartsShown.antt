@@ -1,9 +1,11 @@
 -- A cell, a caption, a row and the rows of a table show their results once they are closed.
-use Rattle.std.proofs.Common.{◌≡◌, ℕ, Bool, true, if◌then◌else◌, List, [], ◌∷◌, Option, Some, None, refl, sym, ap, subst, ◌∙◌}
+use Rattle.std.proofs.Common.{◌≡◌, ℕ, Bool, true, if◌then◌else◌, List, [], ◌∷◌, Option, Some, None, refl, ap, subst, ◌∙◌}
 use Rattle.std.specs.Prelude.{filter, flat_map}
 use Rattle.std.specs.List.{list_any}
-use Rattle.html_render_values.specs.Forest.{followed_by}
+use Rattle.html_render_values.specs.Forest.{Forest, followed_by}
 use Rattle.html_render_conversion.specs.declared.tables.CellSpan.{CellSpan}
+use Rattle.html_render_nodes.specs.declared.tree.NodeKind.{NodeKind}
+use Rattle.html_render_insertions.specs.declared.drafts.Draft.{Draft}
 use Rattle.html_render_nodes.specs.declared.tree.NodeKind.TheVariants.{Container, TableCell}
 use Rattle.html_render_nodes.specs.declared.tree.NodeStyle.{NodeStyle}
 use Rattle.html_render_insertions.specs.declared.drafts.Insertions.{Insertions}
@@ -17,13 +19,13 @@ use Rattle.html_render_building.specs.declared.elements.OpenKind.{OpenKind}
 use Rattle.html_render_building.specs.declared.elements.OpenKind.TheVariants.{Cell, Caption, Row, Rows}
 use Rattle.html_render_building.specs.declared.elements.Role.{Role}
 use Rattle.html_render_building.specs.declared.elements.Role.TheVariants as role
-use Rattle.html_render_building.specs.Elements.{gathered, is_row, keeps}
+use Rattle.html_render_building.specs.Elements.{gathered, keeps}
 use Rattle.html_render_building.specs.Building.{Arrival, Holding, closed, fresh, row_made, rows_made, with_insertions}
 use Rattle.html_render_building.specs.laws.Arrivals.{all_arrive}
 use Rattle.html_render_building.specs.laws.Shown.{Agrees, AllPlain, AllShow, Gives, RowsArePlain, cell-meant, row-meant, plain-followed_by}
 use Rattle.html_render_building.specs.laws.Inserting.{with_noted}
 use Rattle.html_render_building.specs.laws.Closing.{ShowsIn, close-gives, close-shown, kind-stays, shows-other, together-alone, places-alone}
-use Rattle.html_render_building.specs.laws.ClosingParts.{cell-shown, caption-shown, row-shown, rows-shown, row-kind, rows-kind, together-beside, cell-own, row-own}
+use Rattle.html_render_building.specs.laws.ClosingParts.{cell-shown, caption-shown, row-shown, rows-shown, row-one, rows-one, gathers, gathers-plain, together-beside}
 
 -- ---- cells and captions
 
@@ -39,17 +41,11 @@ agrees-caption = record { keeps_are = λ a r s. refl; counts_are = λ a r s. ref
 
 cell-gathered : (span : CellSpan) (r : Role) → gathered r (Cell span) ≡ Cell span
 cell-gathered span role.Contents = refl
-cell-gathered span role.Caption = refl
-cell-gathered span (role.Rows behind rows) = refl
-cell-gathered span (role.Row cells) = refl
-cell-gathered span (role.Cell other) = refl
+cell-gathered span r = refl
 
 caption-gathered : (r : Role) → gathered r Caption ≡ Caption
 caption-gathered role.Contents = refl
-caption-gathered role.Caption = refl
-caption-gathered (role.Rows behind rows) = refl
-caption-gathered (role.Row cells) = refl
-caption-gathered (role.Cell other) = refl
+caption-gathered r = refl
 
 module _ (in_table : Bool) (style : NodeStyle) (e : IfEmpty) (mark before after : Option (List ℕ)) (xs : List Arrival) (rs : List Result)
     (shown : AllShow xs rs) where
@@ -106,19 +102,10 @@ agrees-rows behind rows = record {
   places_are = λ a r s. refl;
 }
 
-rows-plain : (behind : Bool) (xs : List Arrival) (rs : List Result) → AllShow xs rs → (p : Holding) → p.element.kind ≡ Rows behind [] →
-    AllPlain p.drafts → AllPlain (all_arrive xs p).drafts
-rows-plain behind [] [] h p e f = f
-rows-plain behind (a ∷ xs) (r ∷ rs) h p e f =
-    subst (λ k. AllPlain (if keeps k a.role a.kind then followed_by a.drafts (all_arrive xs p).drafts else (all_arrive xs p).drafts))
-    (sym (rows-kind behind xs rs h.1 p e)) (by a.role h.0.rows_are_plain (rows-plain behind xs rs h.1 p e f))
-  where
-    by : (x : Role) → RowsArePlain x a.drafts → AllPlain (all_arrive xs p).drafts →
-        AllPlain (if is_row x then followed_by a.drafts (all_arrive xs p).drafts else (all_arrive xs p).drafts)
-    by (role.Row cells) g f = plain-followed_by a.drafts (all_arrive xs p).drafts g f
-    by x g f = f
-rows-plain behind [] (r ∷ rs) h p e f = elim h [ ]
-rows-plain behind (a ∷ xs) [] h p e f = elim h [ ]
+rows-plain : (behind : Bool) (x : Role) (n : NodeKind) (f : List (List CellSpan)) (d t : Forest Draft) → RowsArePlain x d → AllPlain t →
+    AllPlain (if keeps (Rows behind f) x n then followed_by d t else t)
+rows-plain behind (role.Row cells) n f d t g h = plain-followed_by d t g h
+rows-plain behind x n f d t g h = h
 
 module _ (in_table : Bool) (style : NodeStyle) (e : IfEmpty) (mark before after : Option (List ℕ)) (xs : List Arrival) (rs : List Result)
     (shown : AllShow xs rs) where
@@ -133,10 +120,10 @@ module _ (in_table : Bool) (style : NodeStyle) (e : IfEmpty) (mark before after 
       let cells = flat_map (λ (r : Result). new.cell_spans r.role) kept in
       let r = row_over style kept in
       close-shown in_table (Row []) style e mark before after (λ r. new.is_cell r.role) (λ r. true) (λ r. true) (agrees-row []) xs rs shown
-      (Row cells) (row-kind xs rs shown p refl) r
+      (Row cells) (gathers Row new.is_cell new.cell_spans row-one xs rs shown p refl) r
       (shows-other in_table (row_made cells style i (is_filled kept) q.element.is_stray q.drafts) (with_noted i r) refl
       (row-shown cells style i (is_filled kept) q.element.is_stray q.drafts (beside kept)
-      (subst (Gives q.element.is_stray q.drafts) (together-beside new.is_cell cell-own rs)
+      (subst (Gives q.element.is_stray q.drafts) (together-beside new.is_cell (λ b rows. refl) rs)
       (close-gives in_table (Row []) style e mark before after (λ r. new.is_cell r.role) (λ r. true) (λ r. true) (agrees-row []) xs rs shown))))
 
   pub rows-closed : (behind : Bool) →
@@ -150,15 +137,8 @@ module _ (in_table : Bool) (style : NodeStyle) (e : IfEmpty) (mark before after 
       let rows = flat_map (λ (r : Result). new.row_spans r.role) kept in
       let r = rows_over behind kept in
       close-shown in_table (Rows behind []) style e mark before after (λ r. new.is_row r.role) (λ r. true) (λ r. true) (agrees-rows behind []) xs rs shown
-      (Rows behind rows) (rows-kind behind xs rs shown p refl) r
+      (Rows behind rows) (gathers (Rows behind) new.is_row new.row_spans (rows-one behind) xs rs shown p refl) r
       (shows-other in_table (rows_made behind rows i (is_filled kept) q.element.is_stray q.drafts) (with_noted i r) refl
-      (rows-shown behind rows i (is_filled kept) q.element.is_stray q.drafts (beside kept) (rows-plain behind xs rs shown p refl tt)
-      (subst (Gives q.element.is_stray q.drafts) (together-beside new.is_row row-own rs)
+      (rows-shown behind rows i (is_filled kept) q.element.is_stray q.drafts (beside kept) (gathers-plain (Rows behind) new.is_row new.row_spans (rows-one behind) (rows-plain behind) xs rs shown p refl tt)
+      (subst (Gives q.element.is_stray q.drafts) (together-beside new.is_row (λ b rows. refl) rs)
       (close-gives in_table (Rows behind []) style e mark before after (λ r. new.is_row r.role) (λ r. true) (λ r. true) (agrees-rows behind []) xs rs shown))))
-
--- A PART of a table that is closed shows its result
-pub parts_closed : (in_table : Bool) (style : NodeStyle) (e : IfEmpty) (mark before after : Option (List ℕ)) (xs : List Arrival)
-    (rs : List Result) → AllShow xs rs → (behind : Bool) →
-    ShowsIn in_table (closed in_table (all_arrive xs (fresh (Rows behind []) style e (inserted_of mark before after))))
-    (completed mark before after (if vanishes e (list_any (λ r. true) rs) then None else Some (rows_over behind (filter (λ r. new.is_row r.role) rs))))
-parts_closed in_table style e mark before after xs rs shown = rows-closed in_table style e mark before after xs rs shown

@@ -6,7 +6,7 @@ use Rattle.std.specs.Str.{bytes_eq}
 use Rattle.html_render_values.specs.Forest.{Forest}
 use Rattle.html_render_values.specs.Outcome.{◌>>=◌}
 use Rattle.html_render_dom.specs.Cascade.{value_of}
-use Rattle.html_render_dom.specs.Content.{Content, document, doctype, text, comment, element, instruction}
+use Rattle.html_render_dom.specs.Content.{Content, document, text, element}
 use Rattle.html_render_dom.specs.ElementStyle.{ElementStyle}
 use Rattle.html_render_dom.specs.Rules.{Rule as StyleRule}
 use Rattle.html_render_nodes.specs.Tables.{TableParts, unmeasured_table}
@@ -17,7 +17,7 @@ use Rattle.html_render_conversion.specs.declared.tables.Part.TheVariants as part
 use Rattle.html_render_parts.specs.TableCells.{cell_grid_of}
 use Rattle.html_render_conversion.specs.declared.mapping.IfEmpty.{IfEmpty}
 use Rattle.html_render_conversion.specs.declared.mapping.Mapping.{Mapping}
-use Rattle.html_render_conversion.specs.declared.mapping.Mapping.TheVariants.{Nothing, Leaf, Parent}
+use Rattle.html_render_conversion.specs.declared.mapping.Mapping.TheVariants.{Leaf, Parent}
 use Rattle.html_render_conversion.specs.Conversion.{element_mapping, node_style, own_style, vanishes}
 use Rattle.html_render_conversion.specs.Insertion.{are_any, text_node}
 use Rattle.html_render_conversion.specs.Marks.{mark_of}
@@ -47,10 +47,8 @@ FitsAny caption foot (Some r) = Fits caption foot r
 module _ (caption foot : Bool) where
   fits-inserted : (w : Insertion) (front back : Nodes) (r : Result) → fits_role caption foot r.role ≡ true →
       fits_role caption foot (inserted w front back r).role ≡ true
-  fits-inserted Inside front back r h = h
-  fits-inserted FirstRow front back r h = h
-  fits-inserted FirstCell front back r h = h
   fits-inserted Beside front back r h = refl
+  fits-inserted w front back r h = h
 
   fits-completed : (mark before after : Option (List ℕ)) (r : Option Result) → Fits caption foot r →
       Fits caption foot (completed mark before after r)
@@ -81,18 +79,14 @@ module _ (caption foot : Bool) where
   fits-built : (k : ElementKind) (e : IfEmpty) (style : NodeStyle) (rs : List Result) → fits_kind caption foot e k ≡ true →
       Fits caption foot (built k style rs)
   fits-built (Part part.Table) e style rs h = fits-table style (of_role new.is_caption rs) (with_rows rs)
-  fits-built (Part part.Body) e style rs h = h
-  fits-built (Part part.Foot) e style rs h = h
   fits-built (Part part.Row) e style rs h = refl
   fits-built (Part (part.Cell span)) e style rs h = refl
-  fits-built (Part part.Caption) e style rs h = h
   fits-built (Node k) e style rs h = refl
+  fits-built k e style rs h = h
 
   fits-mapped : (m : Mapping) (style : NodeStyle) (inside : Option (List Result)) → fits caption foot m ≡ true →
       FitsAny caption foot (mapped m style inside)
-  fits-mapped Nothing style inside h = tt
   fits-mapped (Leaf k) style inside h = refl
-  fits-mapped (Parent k e) style None h = tt
   fits-mapped (Parent k e) style (Some rs) h = by (built k style rs) (fits-built k e style rs h)
     where
       vanishing : (b : Bool) (r : Result) → fits_role caption foot r.role ≡ true → Fits caption foot (if b then None else Some r)
@@ -104,6 +98,7 @@ module _ (caption foot : Bool) where
         Some (if vanishes e (list_any (new.counts k) rs) then None else Some r))
       by None h = tt
       by (Some r) h = vanishing (vanishes e (list_any (new.counts k) rs)) r h
+  fits-mapped m style inside h = tt
 
   fits-styled : (m : Mapping) (mark : Option (List ℕ)) (style : ElementStyle) (inside : Option (List Result)) → fits caption foot m ≡ true →
       FitsAny caption foot (styled m mark style inside)
@@ -113,20 +108,16 @@ module _ (caption foot : Bool) where
       shown : (b : Bool) (o : Option (Option Result)) → FitsAny caption foot o → FitsAny caption foot (if b then Some None else do
         made ← o
         Some (completed mark (value_of style.content_before) (value_of style.content_after) made))
-      shown true o h = tt
-      shown false None h = tt
       shown false (Some r) h = fits-completed mark (value_of style.content_before) (value_of style.content_after) r h
+      shown b o h = tt
 
 -- THE RESULT of a node is a caption's or a foot's only by its name
 pub result-fits : (rules : List StyleRule) (content : Content) (below : Forest Content) (inside : Option (List Result)) →
     FitsAny (is_named (codes "caption") content) (is_named (codes "tfoot") content) (result_of rules content below inside)
-result-fits rules document below None = tt
 result-fits rules document below (Some rs) = refl
 result-fits rules (text contents) below inside = refl
 result-fits rules (element name properties template_contents integration_point) below inside =
     fits-styled (is_html name.space && bytes_eq name.local (codes "caption")) (is_html name.space && bytes_eq name.local (codes "tfoot"))
     (element_mapping name.space name.local properties below) (mark_of name properties) (own_style rules name properties) inside
     (element_fits name.space name.local properties below)
-result-fits rules (doctype name public_id system_id) below inside = tt
-result-fits rules (comment contents) below inside = tt
-result-fits rules (instruction target contents) below inside = tt
+result-fits rules content below inside = tt

@@ -5,7 +5,7 @@ use Rattle.std.specs.List.{list_any}
 use Rattle.html_render_values.specs.Forest.{Forest, none, node, followed_by}
 use Rattle.html_render_values.specs.Outcome.{◌>>=◌}
 use Rattle.html_render_nodes.specs.declared.tree.RenderNode.{RenderNode}
-use Rattle.html_render_nodes.specs.laws.Splits.{followed_by-followed_by}
+use Rattle.html_render_nodes.specs.laws.Splits.{followed_by-followed_by, followed_by-none}
 use Rattle.html_render_insertions.specs.declared.drafts.Draft.{Draft}
 use Rattle.html_render_insertions.specs.Drafts.{expanded}
 use Rattle.html_render_insertions.specs.laws.Drafts.{expanded-followed_by}
@@ -33,31 +33,19 @@ meant (role.Cell span) = new.Cell span
 
 pub alone-meant : (r : Role) → stands_alone r ≡ new.stands_alone (meant r)
 alone-meant role.Contents = refl
-alone-meant role.Caption = refl
-alone-meant (role.Rows behind rows) = refl
-alone-meant (role.Row cells) = refl
-alone-meant (role.Cell span) = refl
+alone-meant r = refl
 
 pub caption-meant : (r : Role) → is_caption r ≡ new.is_caption (meant r)
 caption-meant role.Contents = refl
-caption-meant role.Caption = refl
-caption-meant (role.Rows behind rows) = refl
-caption-meant (role.Row cells) = refl
-caption-meant (role.Cell span) = refl
+caption-meant r = refl
 
 pub row-meant : (r : Role) → is_row r ≡ new.is_row (meant r)
 row-meant role.Contents = refl
-row-meant role.Caption = refl
-row-meant (role.Rows behind rows) = refl
-row-meant (role.Row cells) = refl
-row-meant (role.Cell span) = refl
+row-meant r = refl
 
 pub cell-meant : (r : Role) → is_cell r ≡ new.is_cell (meant r)
 cell-meant role.Contents = refl
-cell-meant role.Caption = refl
-cell-meant (role.Rows behind rows) = refl
-cell-meant (role.Row cells) = refl
-cell-meant (role.Cell span) = refl
+cell-meant r = refl
 
 pub rows-meant : (r : Role) → are_rows r ≡ (new.are_rows false (meant r) || new.are_rows true (meant r))
 rows-meant role.Contents = refl
@@ -75,6 +63,14 @@ both a b = do
   t ← a
   u ← b
   Some (followed_by t u)
+
+pub both-none : (o : Option Nodes) → both o (Some none) ≡ o
+both-none None = refl
+both-none (Some t) = ap Some (followed_by-none t)
+
+pub none-both : (o : Option Nodes) → both (Some none) o ≡ o
+none-both None = refl
+none-both (Some t) = refl
 
 -- the trees of a result: of rows those below it
 abbrev pub own_trees : new.Role → RenderNode → (below : Option Nodes) → Option Nodes
@@ -139,6 +135,11 @@ pub record Shows (a : Arrival) (r : Result) : Type 0 where
   pub gives : Gives a.is_stray a.drafts (own_trees r.role r.node r.below)
   pub rows_are_plain : RowsArePlain a.role a.drafts
 
+pub shows_by : {a : Arrival} {r : Result} → meant a.role ≡ r.role → a.kind ≡ r.node.kind → a.has_children ≡ r.has_children →
+    Gives a.is_stray a.drafts (own_trees r.role r.node r.below) → RowsArePlain a.role a.drafts → Shows a r
+shows_by role_is kind_is children_are gives plain =
+    record { role_is = role_is; kind_is = kind_is; children_are = children_are; gives = gives; rows_are_plain = plain }
+
 -- and all show all of them
 abbrev pub AllShow : List Arrival → List Result → Type 0
 AllShow [] [] = Unit {0}
@@ -181,10 +182,8 @@ or-assoc false false true = refl
 or-assoc false false false = refl
 
 both-assoc : (a b c : Option Nodes) → both a (both b c) ≡ both (both a b) c
-both-assoc None b c = refl
-both-assoc (Some t) None c = refl
-both-assoc (Some t) (Some u) None = refl
 both-assoc (Some t) (Some u) (Some v) = ap Some (sym (followed_by-followed_by t u v))
+both-assoc a b c = refl
 
 -- an element that has counted what comes, and then kept it or not
 abbrev counted : Arrival → Element → Element
@@ -223,8 +222,7 @@ module _ (p : Holding) (keeps_result counts_result : Result → Bool) (places : 
           ≡ ((all_arrive xs p).element.has_results || counts (all_arrive xs p).element.kind a.role a.kind a.has_children)
       by true = refl
       by false = refl
-  results-shown [] (r ∷ rs) h = elim h [ ]
-  results-shown (a ∷ xs) [] h = elim h [ ]
+  results-shown xs rs h = elim h [ ]
 
   pub children-shown : (xs : List Arrival) (rs : List Result) → AllShow xs rs →
       (all_arrive xs p).element.has_children ≡ (p.element.has_children || is_filled (filter keeps_result rs))
@@ -237,16 +235,11 @@ module _ (p : Holding) (keeps_result counts_result : Result → Bool) (places : 
           ≡ (p.element.has_children || is_filled (if b then r ∷ filter keeps_result rs else filter keeps_result rs))
       by true e = sym (or-true p.element.has_children)
       by false e = e
-  children-shown [] (r ∷ rs) h = elim h [ ]
-  children-shown (a ∷ xs) [] h = elim h [ ]
+  children-shown xs rs h = elim h [ ]
 
   pub trees_shown : (xs : List Arrival) (rs : List Result) → AllShow xs rs → (o : Option Nodes) → Gives p.element.is_stray p.drafts o →
       Gives (all_arrive xs p).element.is_stray (all_arrive xs p).drafts (both (together places (filter keeps_result rs)) o)
-  trees_shown [] [] h o g = subst (Gives p.element.is_stray p.drafts) (by o) g
-    where
-      by : (o : Option Nodes) → o ≡ both (Some none) o
-      by None = refl
-      by (Some t) = refl
+  trees_shown [] [] h o g = subst (Gives p.element.is_stray p.drafts) (sym (none-both o)) g
   trees_shown (a ∷ xs) (r ∷ rs) h o g =
       subst (λ b. Gives (after b a (all_arrive xs p).element).is_stray (drafts_after b a (all_arrive xs p).drafts)
       (both (together places (if keeps_result r then r ∷ filter keeps_result rs else filter keeps_result rs)) o))
@@ -266,8 +259,7 @@ module _ (p : Holding) (keeps_result counts_result : Result → Bool) (places : 
           (gives-both (a.is_stray || not (has_place (all_arrive xs p).element.kind a.role)) (all_arrive xs p).element.is_stray a.drafts
           (all_arrive xs p).drafts (placed_trees places r) (both (together places (filter keeps_result rs)) o) kept shown)
       by false shown = shown
-  trees_shown [] (r ∷ rs) h o g = elim h [ ]
-  trees_shown (a ∷ xs) [] h o g = elim h [ ]
+  trees_shown xs rs h o g = elim h [ ]
 
   -- where nothing is kept, nothing changes
   pub drafts-stay : (xs : List Arrival) (rs : List Result) → AllShow xs rs → is_filled (filter keeps_result rs) ≡ false →
@@ -281,8 +273,7 @@ module _ (p : Holding) (keeps_result counts_result : Result → Bool) (places : 
           drafts_after b a (all_arrive xs p).drafts ≡ p.drafts
       by true same e = cc
       by false same e = same e
-  drafts-stay [] (r ∷ rs) h e = elim h [ ]
-  drafts-stay (a ∷ xs) [] h e = elim h [ ]
+  drafts-stay xs rs h e = elim h [ ]
 
   pub stray-stays : (xs : List Arrival) (rs : List Result) → AllShow xs rs → is_filled (filter keeps_result rs) ≡ false →
       (all_arrive xs p).element.is_stray ≡ p.element.is_stray
@@ -295,5 +286,4 @@ module _ (p : Holding) (keeps_result counts_result : Result → Bool) (places : 
           (after b a (all_arrive xs p).element).is_stray ≡ p.element.is_stray
       by true same e = cc
       by false same e = same e
-  stray-stays [] (r ∷ rs) h e = elim h [ ]
-  stray-stays (a ∷ xs) [] h e = elim h [ ]
+  stray-stays xs rs h e = elim h [ ]

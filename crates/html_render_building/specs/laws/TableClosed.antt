@@ -13,13 +13,12 @@ use Rattle.html_render_insertions.specs.Drafts.{inserted_of, insert_first, front
 use Rattle.html_render_dom.specs.Selectors.{is_filled}
 use Rattle.html_render_conversion.specs.Results as new
 use Rattle.html_render_conversion.specs.Results.{Nodes, Result, beside, completed, in_first_cell, in_first_row, in_style, over, row_over, rows_over, trees_of}
-use Rattle.html_render_building.specs.declared.elements.OpenKind.{OpenKind}
 use Rattle.html_render_building.specs.declared.elements.Role.{Role}
 use Rattle.html_render_building.specs.declared.elements.Role.TheVariants as role
 use Rattle.html_render_building.specs.Elements.{gathered}
 use Rattle.html_render_building.specs.Building.{Arrival, Holding, closed, fresh}
 use Rattle.html_render_building.specs.laws.Arrivals.{all_arrive}
-use Rattle.html_render_building.specs.laws.Shown.{Agrees, AllPlain, AllShow, Gives, own_trees, both}
+use Rattle.html_render_building.specs.laws.Shown.{Agrees, AllPlain, AllShow, Gives, both}
 use Rattle.html_render_building.specs.laws.Inserting.{gives-alone, with_noted}
 use Rattle.html_render_building.specs.laws.Closing.{ShowsIn, kind-stays, seen, shows-other}
 use Rattle.std.specs.Prelude.{map}
@@ -31,51 +30,12 @@ use Rattle.html_render_conversion.specs.declared.mapping.IfEmpty.TheVariants.{Va
 use Rattle.html_render_conversion.specs.Results.{as_block, captioned, have_rows, joined, table_over}
 use Rattle.html_render_building.specs.declared.elements.OpenKind.TheVariants.{Captioned}
 use Rattle.html_render_building.specs.Building.{captioned_made, mark_left, table_made, table_stands}
-use Rattle.html_render_building.specs.laws.Shown.{caption-meant, results-shown, children-shown, trees_shown, drafts-stay, stray-stays}
-use Rattle.html_render_building.specs.laws.Inserting.{ShowsAny, inserted-noted, mark-shown, node_shown}
-use Rattle.html_render_building.specs.laws.Closing.{all-stays, closed_as}
+use Rattle.html_render_building.specs.laws.Shown.{caption-meant, none-both, shows_by, trees_shown, drafts-stay, stray-stays}
+use Rattle.html_render_building.specs.laws.Inserting.{ShowsAny, inserted-noted, node_shown}
+use Rattle.html_render_building.specs.laws.Closing.{closed-is, closed_as, mark-in}
 use Rattle.html_render_building.specs.laws.ClosingParts.{gives-row, together-beside}
 use Rattle.html_render_conversion.specs.Results.{built}
 use Rattle.html_render_nodes.specs.declared.tree.NodeKind.TheVariants.{Block}
-
--- ---- what a closed element is
-
-module _ (in_table : Bool) (p : Holding) (keeps_result counts_result : Result → Bool) (places : new.Role → Bool)
-    (agrees : Agrees p.element.kind keeps_result counts_result places) (xs : List Arrival) (rs : List Result) (shown : AllShow xs rs) where
-  pub closed-is : (k : OpenKind) → (all_arrive xs p).element.kind ≡ k →
-      closed in_table (all_arrive xs p)
-      ≡ closed_as in_table k p.element.style p.element.if_empty (p.element.has_results || list_any counts_result rs)
-      (p.element.has_children || is_filled (filter keeps_result rs)) (all_arrive xs p).element.is_stray p.element.inserted (all_arrive xs p).drafts
-  closed-is k kind_is =
-      let q = all_arrive xs p in
-      let i = p.element.inserted in
-      let style = p.element.style in
-      let e = p.element.if_empty in
-      let any = p.element.has_results || list_any counts_result rs in
-      let some = p.element.has_children || is_filled (filter keeps_result rs) in
-      ap (λ x. closed_as in_table x q.element.style q.element.if_empty q.element.has_results q.element.has_children q.element.is_stray
-      q.element.inserted q.drafts) kind_is
-      ∙ ap (λ x. closed_as in_table k x q.element.if_empty q.element.has_results q.element.has_children q.element.is_stray
-      q.element.inserted q.drafts) (all-stays (λ e. e.style) (λ e b. refl) (λ r s e. refl) xs p)
-      ∙ ap (λ x. closed_as in_table k style x q.element.has_results q.element.has_children q.element.is_stray
-      q.element.inserted q.drafts) (all-stays (λ e. e.if_empty) (λ e b. refl) (λ r s e. refl) xs p)
-      ∙ ap (λ x. closed_as in_table k style e x q.element.has_children q.element.is_stray q.element.inserted q.drafts)
-      (results-shown p keeps_result counts_result places agrees xs rs shown)
-      ∙ ap (λ x. closed_as in_table k style e any x q.element.is_stray q.element.inserted q.drafts)
-      (children-shown p keeps_result counts_result places agrees xs rs shown)
-      ∙ ap (λ x. closed_as in_table k style e any some q.element.is_stray x q.drafts)
-      (all-stays (λ e. e.inserted) (λ e b. refl) (λ r s e. refl) xs p)
-
-pub mark-in : (in_table : Bool) (mark before after : Option (List ℕ)) →
-    ShowsIn in_table (mark_left (inserted_of mark before after)) (completed mark before after None)
-mark-in in_table mark before after = by (mark_left (inserted_of mark before after)) mark (mark-shown mark before after)
-  where
-    by : (a : Option Arrival) (m : Option (List ℕ)) → ShowsAny a (completed m before after None) →
-        ShowsIn in_table a (completed m before after None)
-    by None None h = tt
-    by None (Some name) h = elim h [ ]
-    by (Some a) None h = elim h [ ]
-    by (Some a) (Some name) h = h
 
 -- ---- captions
 
@@ -88,10 +48,7 @@ agrees-captioned = record {
 
 captioned-gathered : (r : Role) → gathered r Captioned ≡ Captioned
 captioned-gathered role.Contents = refl
-captioned-gathered role.Caption = refl
-captioned-gathered (role.Rows behind rows) = refl
-captioned-gathered (role.Row cells) = refl
-captioned-gathered (role.Cell other) = refl
+captioned-gathered r = refl
 
 abbrev pub captions_of : List Result → List Result
 captions_of rs = filter (λ r. new.is_caption r.role) rs
@@ -122,16 +79,8 @@ any-map : (rs : List Result) → is_filled (map as_block rs) ≡ is_filled rs
 any-map [] = refl
 any-map (r ∷ rs) = refl
 
-caption-own : (x : new.Role) (n : RenderNode) (o : Option Nodes) → new.is_caption x ≡ true → own_trees x n o ≡ option_map (λ t. node n t none) o
-caption-own (new.Rows behind rows) n o h = cc
-caption-own x n o h = refl
-
 beside-append : (xs ys : List Result) → both (beside xs) (beside ys) ≡ beside (xs ++ ys)
-beside-append [] ys = by (beside ys)
-  where
-    by : (o : Option Nodes) → both (Some none) o ≡ o
-    by None = refl
-    by (Some t) = refl
+beside-append [] ys = none-both (beside ys)
 beside-append (x ∷ xs) ys = by x.below (beside xs) (beside ys) ∙ ap (λ o. do
   below ← x.below
   others ← o
@@ -157,21 +106,11 @@ beside-append (x ∷ xs) ys = by x.below (beside xs) (beside ys) ∙ ap (λ o. d
 alone-shown : (grid : TableParts) (style : NodeStyle) (i : List Insertions) (s : Bool) (rows : Forest Draft) (parts : List Result) →
     AllPlain rows → Gives s rows (joined parts) →
     ShowsAny (table_made style i s (node (plain_draft (kind.Table grid)) rows none)) (Some (with_noted i (table_over style grid parts)))
-alone-shown grid style [] s rows parts h g = record {
-  role_is = refl;
-  kind_is = refl;
-  children_are = refl;
-  gives = gives-alone s (kind.Table grid) style (insert_first 1 [] rows) (joined parts) (gives-row [] s rows (joined parts) h g);
-  rows_are_plain = tt;
-}
-alone-shown grid style (x ∷ xs) s rows parts h g = record {
-  role_is = refl;
-  kind_is = refl;
-  children_are = refl;
-  gives = gives-alone s (kind.Table grid) style (insert_first 1 (x ∷ xs) rows)
-      (option_map (in_first_row (front (x ∷ xs)) (back (x ∷ xs))) (joined parts)) (gives-row (x ∷ xs) s rows (joined parts) h g);
-  rows_are_plain = tt;
-}
+alone-shown grid style [] s rows parts h g = shows_by refl refl refl
+    (gives-alone s (kind.Table grid) style (insert_first 1 [] rows) (joined parts) (gives-row [] s rows (joined parts) h g)) tt
+alone-shown grid style (x ∷ xs) s rows parts h g = shows_by refl refl refl
+    (gives-alone s (kind.Table grid) style (insert_first 1 (x ∷ xs) rows)
+    (option_map (in_first_row (front (x ∷ xs)) (back (x ∷ xs))) (joined parts)) (gives-row (x ∷ xs) s rows (joined parts) h g)) tt
 
 -- what is shown is no caption
 module _ (in_table : Bool) where
@@ -286,7 +225,7 @@ module _ (in_table : Bool) (grid : TableParts) (style : NodeStyle) (mark before 
       ∙ ap (λ x. if not (b || is_filled (captions_of rs)) then mark_left noted else captioned_made style noted x q.element.is_stray q.drafts) some))
       (finished b refl (captions_of rs) (is_filled (captions_of rs)) refl q.element.is_stray q.drafts
       (subst (λ o. Gives q.element.is_stray q.drafts (both o (beside (table_among b))))
-      (together-beside new.is_caption caption-own seen_rs ∙ ap beside (seen-captions rs))
+      (together-beside new.is_caption (λ b rows. refl) seen_rs ∙ ap beside (seen-captions rs))
       (trees_shown p (λ r. new.is_caption r.role) (λ r. new.is_caption r.role) (λ r. true) (outer-agrees b) xs seen_rs h (beside (table_among b)) (outer-gives b)))
       (λ none_there. stray-stays p (λ r. new.is_caption r.role) (λ r. new.is_caption r.role) (λ r. true) (outer-agrees b) xs seen_rs h (some ∙ none_there))
       (λ none_there. drafts-stay p (λ r. new.is_caption r.role) (λ r. new.is_caption r.role) (λ r. true) (outer-agrees b) xs seen_rs h (some ∙ none_there)))

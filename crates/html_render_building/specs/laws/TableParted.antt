@@ -47,9 +47,8 @@ show-elsewhere xs rs h = subst (AllShow xs) (seen-elsewhere rs) h
 
 pub show-append : (xs ys : List Arrival) (rs zs : List Result) → AllShow xs rs → AllShow ys zs → AllShow (xs ++ ys) (rs ++ zs)
 show-append [] ys [] zs h k = k
-show-append [] ys (r ∷ rs) zs h k = elim h [ ]
-show-append (a ∷ xs) ys [] zs h k = elim h [ ]
 show-append (a ∷ xs) ys (r ∷ rs) zs h k = (h.0, show-append xs ys rs zs h.1 k)
+show-append xs ys rs zs h k = elim h [ ]
 
 all_arrive-append : (xs ys : List Arrival) (p : Holding) → all_arrive (xs ++ ys) p ≡ all_arrive xs (all_arrive ys p)
 all_arrive-append [] ys p = refl

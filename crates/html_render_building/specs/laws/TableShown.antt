@@ -1,12 +1,11 @@
 -- The rows of a table: what it gathers of them, and what it becomes over them.
-use Rattle.std.proofs.Common.{◌≡◌, Bool, true, false, ◌&&◌, ◌||◌, if◌then◌else◌, List, [], ◌∷◌, ◌++◌, Option, Some, None, option_map, refl, sym, ap, subst, ◌∙◌}
+use Rattle.std.proofs.Common.{◌≡◌, Bool, true, false, ◌&&◌, ◌||◌, if◌then◌else◌, List, [], ◌∷◌, ◌++◌, Option, Some, option_map, refl, ap, subst, ◌∙◌}
 use Rattle.std.specs.Prelude.{filter, flat_map}
 use Rattle.std.specs.List.{list_any}
 use Rattle.html_render_values.specs.Forest.{Forest, none, followed_by}
 use Rattle.html_render_values.specs.Outcome.{◌>>=◌}
 use Rattle.html_render_conversion.specs.declared.tables.CellSpan.{CellSpan}
 use Rattle.html_render_nodes.specs.declared.tree.RenderNode.{RenderNode}
-use Rattle.html_render_nodes.specs.laws.Splits.{followed_by-none}
 use Rattle.html_render_insertions.specs.declared.drafts.Draft.{Draft}
 use Rattle.html_render_conversion.specs.Results as new
 use Rattle.html_render_conversion.specs.Results.{Nodes, Result, beside, completed, in_first_cell, in_first_row, in_style, over, row_over, rows_over, trees_of}
@@ -15,7 +14,7 @@ use Rattle.html_render_building.specs.declared.elements.Role.TheVariants as role
 use Rattle.html_render_building.specs.Elements.{gathered, keeps}
 use Rattle.html_render_building.specs.Building.{Arrival, Holding, fresh}
 use Rattle.html_render_building.specs.laws.Arrivals.{all_arrive}
-use Rattle.html_render_building.specs.laws.Shown.{Agrees, AllPlain, AllShow, Gives, meant, own_trees, together, both, plain-followed_by}
+use Rattle.html_render_building.specs.laws.Shown.{Agrees, AllPlain, AllShow, Gives, meant, own_trees, together, both, both-none, plain-followed_by}
 use Rattle.html_render_nodes.specs.Tables.{TableParts, unmeasured_table}
 use Rattle.html_render_nodes.specs.RenderNodes.{no_style}
 use Rattle.html_render_parts.specs.TableCells.{cell_grid_of}
@@ -26,7 +25,8 @@ use Rattle.html_render_building.specs.Elements.{are_rows}
 use Rattle.html_render_building.specs.Spans.{spans_of_parts}
 use Rattle.html_render_building.specs.Building.{rows_of, closed_by, closed_into, table_stands}
 use Rattle.html_render_building.specs.laws.Shown.{RowsArePlain, rows-meant, results-shown, trees_shown}
-use Rattle.html_render_building.specs.laws.ClosingParts.{kind-after}
+use Rattle.html_render_building.specs.laws.ClosingParts.{gathers, gathers-plain}
+use Rattle.html_render_nodes.specs.declared.tree.NodeKind.{NodeKind}
 
 -- ---- what the table gathers
 
@@ -48,47 +48,24 @@ agrees-table parts = record {
   places_are = λ a r s. refl;
 }
 
-abbrev parts_with : new.Role → List (List (List CellSpan)) → List (List (List CellSpan))
-parts_with x rest = if any_rows x then part_rows x ++ rest else rest
+table-one : (x : Role) (n : NodeKind) (f : List (List (List CellSpan))) →
+    (if keeps (Table f) x n then gathered x (Table f) else Table f) ≡ Table (if any_rows (meant x) then part_rows (meant x) ++ f else f)
+table-one (role.Rows true rows) n f = refl
+table-one (role.Rows false rows) n f = refl
+table-one x n f = refl
 
 pub table-kind : (xs : List Arrival) (rs : List Result) → AllShow xs rs → (p : Holding) → p.element.kind ≡ Table [] →
     (all_arrive xs p).element.kind ≡ Table (flat_map (λ r. part_rows r.role) (parts_of rs))
-table-kind [] [] h p e = e
-table-kind (a ∷ xs) (r ∷ rs) h p e =
-    kind-after a (all_arrive xs p) ∙ ap (λ k. if keeps k a.role a.kind then gathered a.role k else k) (table-kind xs rs h.1 p e)
-    ∙ one a.role (flat_map (λ r. part_rows r.role) (parts_of rs))
-    ∙ ap (λ x. Table (parts_with x (flat_map (λ r. part_rows r.role) (parts_of rs)))) h.0.role_is
-    ∙ by (any_rows r.role)
-  where
-    one : (x : Role) (f : List (List (List CellSpan))) → (if are_rows x then gathered x (Table f) else Table f) ≡ Table (parts_with (meant x) f)
-    one role.Contents f = refl
-    one role.Caption f = refl
-    one (role.Rows true rows) f = refl
-    one (role.Rows false rows) f = refl
-    one (role.Row cells) f = refl
-    one (role.Cell span) f = refl
-
-    by : (b : Bool) →
-        Table (if b then part_rows r.role ++ flat_map (λ r. part_rows r.role) (parts_of rs) else flat_map (λ r. part_rows r.role) (parts_of rs))
-        ≡ Table (flat_map (λ r. part_rows r.role) (if b then r ∷ parts_of rs else parts_of rs))
-    by true = refl
-    by false = refl
-table-kind [] (r ∷ rs) h p e = elim h [ ]
-table-kind (a ∷ xs) [] h p e = elim h [ ]
+table-kind = gathers Table any_rows part_rows table-one
 
 pub table-plain : (xs : List Arrival) (rs : List Result) → AllShow xs rs → (p : Holding) → p.element.kind ≡ Table [] →
     AllPlain p.drafts → AllPlain (all_arrive xs p).drafts
-table-plain [] [] h p e f = f
-table-plain (a ∷ xs) (r ∷ rs) h p e f =
-    subst (λ k. AllPlain (if keeps k a.role a.kind then followed_by a.drafts (all_arrive xs p).drafts else (all_arrive xs p).drafts))
-    (sym (table-kind xs rs h.1 p e)) (by a.role h.0.rows_are_plain (table-plain xs rs h.1 p e f))
+table-plain = gathers-plain Table any_rows part_rows table-one plain
   where
-    by : (x : Role) → RowsArePlain x a.drafts → AllPlain (all_arrive xs p).drafts →
-        AllPlain (if are_rows x then followed_by a.drafts (all_arrive xs p).drafts else (all_arrive xs p).drafts)
-    by (role.Rows behind rows) g f = plain-followed_by a.drafts (all_arrive xs p).drafts g f
-    by x g f = f
-table-plain [] (r ∷ rs) h p e f = elim h [ ]
-table-plain (a ∷ xs) [] h p e f = elim h [ ]
+    plain : (x : Role) (n : NodeKind) (f : List (List (List CellSpan))) (d t : Forest Draft) → RowsArePlain x d → AllPlain t →
+        AllPlain (if keeps (Table f) x n then followed_by d t else t)
+    plain (role.Rows behind rows) n f d t g h = plain-followed_by d t g h
+    plain x n f d t g h = h
 
 pub spans-parts : (rs : List Result) → spans_of_parts (flat_map (λ r. part_rows r.role) rs) ≡ flat_map (λ r. new.spans_of r.role) rs
 spans-parts [] = refl
@@ -151,10 +128,6 @@ module _ (xs : List Arrival) (rs : List Result) (shown : AllShow xs rs) where
   pub table-gives : Gives (all_arrive xs table_start).element.is_stray (all_arrive xs table_start).drafts (joined (parts_of rs))
   table-gives =
       subst (Gives (all_arrive xs table_start).element.is_stray (all_arrive xs table_start).drafts)
-      (by (together (λ r. true) (parts_of rs)) ∙ together-joined rs)
+      (both-none (together (λ r. true) (parts_of rs)) ∙ together-joined rs)
       (trees_shown table_start (λ r. any_rows r.role) (λ r. r.has_children && any_rows r.role) (λ r. true) (agrees-table []) xs rs shown
       (Some none) (refl, refl))
-    where
-      by : (o : Option Nodes) → both o (Some none) ≡ o
-      by None = refl
-      by (Some t) = ap Some (followed_by-none t)

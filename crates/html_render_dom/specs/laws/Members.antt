@@ -1,5 +1,5 @@
 -- What stands in a list.
-use Rattle.std.proofs.Common.{◌≡◌, ℕ, true, false, List, [], ◌∷◌, ◌⊎◌, inl, inr, refl, sym, arith, eqb, Contains}
+use Rattle.std.proofs.Common.{◌≡◌, ℕ, true, false, List, [], ◌∷◌, ◌⊎◌, inl, inr, refl, sym, subst, arith, eqb, Contains}
 use Rattle.std.specs.List.{list_any}
 use Rattle.std.proofs.lemmas.Bool.{cases_Bool, false≢true}
 use Rattle.std.proofs.lemmas.Bool.Decides.{eqb_tells}
@@ -20,6 +20,10 @@ Contains-cons_cases x xs y h =
       | inl a ↦ elim (Contains-push_cases [] x y a) [ inl b ↦ absurd (Contains-nil y b) | inr e ↦ inl e ]
       | inr b ↦ inr b
     ]
+
+-- what holds of one element holds of all that stand in its list of one
+pub Contains-single : {X : Type 0} (P : X → Type 0) (x : X) → P x → (y : X) → Contains (x ∷ []) y → P y
+Contains-single P x p y h = elim (Contains-cons_cases x [] y h) [ inl e ↦ subst P e p | inr n ↦ absurd (Contains-nil y n) ]
 
 -- a number that a test finds stands in the list
 pub Contains-from_any : (xs : List ℕ) (y : ℕ) → list_any (eqb y) xs ≡ true → Contains xs y

@@ -19,11 +19,8 @@ space_eq-true (other a) (other b) e = ap other ((bytes_eq-Decides a b).0 e)
 space_eq-true _ _ e = absurd (false≢true e)
 
 space_eq-itself : (a : Space) → space_eq a a ≡ true
-space_eq-itself no_space = refl
-space_eq-itself html = refl
-space_eq-itself svg = refl
-space_eq-itself mathml = refl
 space_eq-itself (other a) = (bytes_eq-Decides a a).1 refl
+space_eq-itself a = refl
 
 -- the tests tell whether the values are equal
 pub space_eq-Decides : (a b : Space) → Decides (space_eq a b) (a ≡ b)

@@ -24,20 +24,17 @@ key_cmp-total =
 
 -- what comes after an order that tells two apart isn't asked
 then_both : (r s : Ordering) → ordering_then r s ≡ Equal → (r ≡ Equal) × (s ≡ Equal)
-then_both Less s e = cc
 then_both Equal s e = (refl, e)
-then_both Greater s e = cc
+then_both r s e = cc
 
 bool_tied : (a b : Bool) → bool_cmp a b ≡ Equal → a ≡ b
-bool_tied false false e = refl
 bool_tied false true e = cc
 bool_tied true false e = cc
-bool_tied true true e = refl
+bool_tied a b e = refl
 
 nat_tied : (m n : ℕ) (r : Ordering) → r ≡ nat_cmp m n → r ≡ Equal → m ≡ n
-nat_tied m n Less h e = cc
 nat_tied m n Equal h e = ranked m n Equal h
-nat_tied m n Greater h e = cc
+nat_tied m n r h e = cc
 
 specificity_tied : (a b : Specificity) → specificity_cmp a b ≡ Equal → a ≡ b
 specificity_tied a b e =
@@ -67,19 +64,16 @@ key_cmp-Equal a b = (key_tied a b, λ e. subst (λ c. key_cmp a c ≡ Equal) e (
 
 -- at most, and not at most
 le_from_not_gt : (r : Ordering) → is_gt r ≡ false → is_le r ≡ true
-le_from_not_gt Less e = refl
-le_from_not_gt Equal e = refl
 le_from_not_gt Greater e = cc
+le_from_not_gt r e = refl
 
 not_gt_from_le : (r : Ordering) → is_le r ≡ true → is_gt r ≡ false
-not_gt_from_le Less e = refl
-not_gt_from_le Equal e = refl
 not_gt_from_le Greater e = cc
+not_gt_from_le r e = refl
 
 turned_le : (r : Ordering) → is_le r ≡ false → is_le (ordering_reverse r) ≡ true
-turned_le Less e = cc
-turned_le Equal e = cc
 turned_le Greater e = refl
+turned_le r e = cc
 
 -- of two keys one is at most the other, and at most goes on
 pub key-turned : (a b : Key) → is_le (key_cmp a b) ≡ false → is_le (key_cmp b a) ≡ true

@@ -21,12 +21,10 @@ pub HaveTrees-unique : (dom : Dom) (t u : Forest Content) (hs : List ℕ) → Ha
 HaveTrees-unique dom none none [] g h = refl
 HaveTrees-unique dom none none (x ∷ hs) g h = refl
 HaveTrees-unique dom none (node d l e) [] g h = absurd h
-HaveTrees-unique dom none (node d l e) (x ∷ hs) g h = absurd g
-HaveTrees-unique dom (node c k b) none [] g h = absurd g
 HaveTrees-unique dom (node c k b) none (x ∷ hs) g h = absurd h
-HaveTrees-unique dom (node c k b) (node d l e) [] g h = absurd g
 HaveTrees-unique dom (node c k b) (node d l e) (x ∷ hs) g h =
     node-same (sym g.1 ∙ h.1) (HaveTrees-unique dom k l (children_at dom x) g.2 h.2) (HaveTrees-unique dom b e hs g.3 h.3)
+HaveTrees-unique dom t u hs g h = absurd g
 
 -- one of the trees beside each other, which is no larger and no deeper
 record OneOf (dom : Dom) (x : ℕ) (t : Forest Content) : Type 0 where
@@ -37,8 +35,6 @@ record OneOf (dom : Dom) (x : ℕ) (t : Forest Content) : Type 0 where
 
 one_of : (dom : Dom) (t : Forest Content) (hs : List ℕ) (x : ℕ) → Contains hs x → HaveTrees dom hs t → OneOf dom x t
 one_of dom none [] x m h = absurd (Contains-nil x m)
-one_of dom none (y ∷ hs) x m h = absurd h
-one_of dom (node c kids beside) [] x m h = absurd h
 one_of dom (node c kids beside) (y ∷ hs) x m h =
     elim (Contains-cons_cases y hs x m) [
       | inl e ↦ record {
@@ -50,6 +46,7 @@ one_of dom (node c kids beside) (y ∷ hs) x m h =
       | inr l ↦ (let r = one_of dom beside hs x l h.3 in
           record { tree = r.tree; has_tree = r.has_tree; smaller = omega (arith, r.smaller); flatter = omega (arith, r.flatter) })
     ]
+one_of dom t hs x m h = absurd h
 
 -- a child's tree is smaller and less deep than its parent's
 record Below (dom : Dom) (x : ℕ) (t : Forest Content) : Type 0 where
@@ -133,12 +130,11 @@ depth-le dom f t hs h =
 enough : (dom : Dom) (t : Forest Content) (hs : List ℕ) (n : ℕ) → HaveTrees dom hs t → depth t ≤ 1 + n →
     beside_each dom (below n dom) hs ≡ t
 enough dom none [] n h le = refl
-enough dom none (x ∷ hs) n h le = absurd h
-enough dom (node c kids beside) [] n h le = absurd h
 enough dom (node c none beside) (x ∷ hs) zero h le = node-same h.1 refl (enough dom beside hs zero h.3 (omega arith))
 enough dom (node c (node d l e) beside) (x ∷ hs) zero h le = absurd (omega arith)
 enough dom (node c kids beside) (x ∷ hs) (suc m) h le =
     node-same h.1 (enough dom kids (children_at dom x) m h.2 (omega arith)) (enough dom beside hs (suc m) h.3 (omega arith))
+enough dom t hs n h le = absurd h
 
 -- the trees that some nodes stand for
 pub HaveTrees-tree_of : (dom : Dom) → IsForest dom → (h : ℕ) → IsNode dom h → HaveTrees dom (h ∷ []) (tree_of dom h)

@@ -44,15 +44,13 @@ AreWithin-append [] ys h k = k
 AreWithin-append (x ∷ xs) ys h k = (h.0, AreWithin-append xs ys h.1 k)
 
 row_within : (cells : List GridCell) (t : Forest RenderNode) → AllWithin t → AreWithin (row_needs cells t)
-row_within [] t h = tt
-row_within (c ∷ cs) none h = tt
 row_within (c ∷ cs) (node n children beside) h = (h.0, row_within cs beside h.2)
+row_within cells t h = tt
 
 cells_within : (rows : List (List GridCell)) (t : Forest RenderNode) → AllWithin t → AreWithin (cell_needs rows t)
-cells_within [] t h = tt
-cells_within (cells ∷ more) none h = tt
 cells_within (cells ∷ more) (node n children beside) h =
     AreWithin-append (row_needs cells children) (cell_needs more beside) (row_within cells children h.1) (cells_within more beside h.2)
+cells_within rows t h = tt
 
 total_bounded : (t : Forest RenderNode) → total_size t ≤ 2 ^ 64 - 1
 total_bounded none = omega arith
@@ -86,8 +84,6 @@ module _ {D A : Type 0} (decoration : Decoration D A) (decorator : D) (min_wrap_
   node_within kind below h w = omega (arith, h)
 
   node_bounded : (kind : NodeKind) (below : Forest RenderNode) → (estimate kind below).size ≤ 2 ^ 64 - 1
-  node_bounded (FragmentStart name) below = omega arith
-  node_bounded Break below = omega arith
   node_bounded (Table grid) below = table_bounded (columns_of grid.cells) (cell_needs grid.cells.rows below) (trees below)
   node_bounded kind below = omega arith
 

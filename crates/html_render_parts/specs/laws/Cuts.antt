@@ -22,12 +22,11 @@ ranges-at (m ∷ ms) (s ∷ ss) (suc k) e h = ranges-at ms ss k (omega arith) (o
 pub sum-ranges : (ms ss : List ℕ) → length ms ≡ length ss → ((k : ℕ) → k < length ms → get_or ms k 0 ≤ get_or ss k 0) →
     sum (ranges ms ss) + sum ms ≡ sum ss
 sum-ranges [] [] e h = refl
-sum-ranges [] (s ∷ ss) e h = cc
-sum-ranges (m ∷ ms) [] e h = cc
 sum-ranges (m ∷ ms) (s ∷ ss) e h =
     let here : m ≤ s = h 0 (omega arith) in
     let rest = sum-ranges ms ss (omega arith) (λ k less. h (suc k) (omega arith)) in
     omega (arith, here, rest, sum_by-cons (λ x. x) (s - m) (ranges ms ss), sum_by-cons (λ x. x) m ms, sum_by-cons (λ x. x) s ss)
+sum-ranges ms ss e h = cc
 
 -- the minimums fit the sum that the widths are to have
 pub minimums-fit : (ms ss : List ℕ) (w : ℕ) → CutFits ms ss w → sum ms ≤ total_width ss w
@@ -39,8 +38,6 @@ minimums-fit ms ss w h = let e = sum-ranges ms ss h.lengths h.each in let l = h.
 pub same-from_le : (xs ys : List ℕ) → length xs ≡ length ys → sum xs ≡ sum ys → ((k : ℕ) → k < length xs → get_or ys k 0 ≤ get_or xs k 0) →
     xs ≡ ys
 same-from_le [] [] e s h = refl
-same-from_le [] (y ∷ ys) e s h = cc
-same-from_le (x ∷ xs) [] e s h = cc
 same-from_le (x ∷ xs) (y ∷ ys) e s h =
     let here : y ≤ x = h 0 (omega arith) in
     let rest = sum-le ys xs (omega arith) (λ k less. h (suc k) (omega arith)) in
@@ -54,13 +51,8 @@ same-from_le (x ∷ xs) (y ∷ ys) e s h =
     sum-le (a ∷ us) [] e h = cc
     sum-le (a ∷ us) (b ∷ vs) e h =
         let here : a ≤ b = h 0 (omega arith) in
-        omega (
-          arith,
-          here,
-          sum-le us vs (omega arith) (λ k less. h (suc k) (omega arith)),
-          sum_by-cons (λ z. z) a us,
-          sum_by-cons (λ z. z) b vs,
-        )
+        omega (arith, here, sum-le us vs (omega arith) (λ k less. h (suc k) (omega arith)), sum_by-cons (λ z. z))
+same-from_le xs ys e s h = cc
 
 -- some place of xs is below that of ys, or none is
 pub find-below : (xs ys : List ℕ) (n : ℕ) →

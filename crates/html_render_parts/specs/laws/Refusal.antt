@@ -19,8 +19,7 @@ Fails-same OutOfMemory o p q h = tt
 
 -- running out of memory says nothing
 pub Fails-memory : {X : Type 0} (e : Error) (o : Option X) → e ≡ OutOfMemory → Fails e o
-Fails-memory TooNarrow o h = cc
-Fails-memory Fail o h = cc
 Fails-memory OutOfMemory o h = tt
+Fails-memory e o h = cc
 
 pub ruleset refusals = (Fails-then, Fails-same, Fails-memory)

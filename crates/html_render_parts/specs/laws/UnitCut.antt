@@ -72,16 +72,9 @@ best-has ms ss ws i h inside best more = elim (cases_lt (get_or ms i 0) (get_or 
   where
     le-sum : (us vs : List ℕ) → length us ≡ length vs → ((j : ℕ) → j < length us → get_or us j 0 ≤ get_or vs j 0) → sum us ≤ sum vs
     le-sum [] [] e h = omega arith
-    le-sum [] (v ∷ vs) e h = cc
-    le-sum (u ∷ us) [] e h = cc
     le-sum (u ∷ us) (v ∷ vs) e h = let here : u ≤ v = h 0 (omega arith) in
-        omega (
-          arith,
-          here,
-          le-sum us vs (omega arith) (λ j less. h (suc j) (omega arith)),
-          sum_by-cons (λ z. z) u us,
-          sum_by-cons (λ z. z) v vs,
-        )
+        omega (arith, here, le-sum us vs (omega arith) (λ j less. h (suc j) (omega arith)), sum_by-cons (λ z. z))
+    le-sum us vs e h = cc
 
 -- ---- the loop
 

@@ -1,5 +1,4 @@
-use Rattle.html_render_json.proofs.Apart.{apart}
-use Rattle.html_render_json.proofs.OwnNodes.{no_text, own_apart, own_directly}
+use Rattle.html_render_json.proofs.OwnNodes.{apart, no_text, own_apart, own_directly}
 use Rattle.html_render_json.proofs.documents.append_text.Goals as goal
 
 pub reparent_children-requires-clause-away : goal.reparent_children-requires-clause-away
