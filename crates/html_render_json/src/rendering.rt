@@ -191,7 +191,7 @@ pub fn answer(
         Preset::WithDecorator(name) => match name {
             DecoratorName::Plain => job.answer(alloc, with_decorator(alloc, PlainDecorator::new())),
             DecoratorName::Rich => job.answer(alloc, with_decorator(alloc, RichDecorator::new())),
-            DecoratorName::Own(own) => job.answer(alloc, with_decorator(alloc, own)),
+            DecoratorName::Own(own) => job.answer(alloc, with_decorator(alloc, own.decorator())),
         },
     }
 }

@@ -25,3 +25,6 @@ pub use Rattle.html_render_nodes.specs.Dump
 -- what a decorator answers, and what those of plain and of rich text do, for callers that implement one
 pub use Rattle.html_render_parts.specs.Decoration
 pub use Rattle.html_render_parts.specs.Decorators
+-- what a decorator answers that changes some answers of another one
+pub use Rattle.html_render_alterations.specs.Alteration
+pub use Rattle.html_render_alterations.specs.declared.place.Place

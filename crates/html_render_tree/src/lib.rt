@@ -10,8 +10,15 @@ mod laws;
 mod texts;
 
 pub use html_render_dom::{Error, dom, style};
-pub use html_render_parts::decorate;
 pub use html_render_values::text;
+
+/// What is written round the parts of a document, and what its characters are annotated with.
+pub mod decorate {
+    pub use html_render_alterations::{Altered, Changes, Given, Place};
+    pub use html_render_parts::decorate::{
+        PlainDecorator, RichAnnotation, RichDecorator, TextDecorator,
+    };
+}
 
 /// The grid of a table.
 pub mod table {

@@ -1,17 +1,16 @@
 //! Decorators of one's own with annotations that may be equal though not the same, and with sub-blocks that answer
 //! otherwise.
 
-ghost use Rattle.std.specs.Prelude.{◌+◌, ◌-◌, ◌^◌, [], codes, length, min};
+ghost use Rattle.std.specs.Prelude.{None, ◌+◌, ◌-◌, ◌^◌, codes, length, min};
 ghost use Rattle.std.proofs.Common.{rules};
 ghost use Rattle.std.specs.List.{repeat};
-ghost use Rattle.html_render_tree.specs.Decorators.{plain};
+ghost use Rattle.test_calls.specs.Places.{annotated, before_quotes};
 
 use html_render_scripts::building::built;
 use html_render_tree::Error;
 use html_render_tree::block::TaggedLine;
 use html_render_tree::config::with_decorator;
-use html_render_tree::decorate::{PlainDecorator, TextDecorator};
-use html_render_tree::style::Colour;
+use html_render_tree::decorate::{Altered, Changes, Place, PlainDecorator};
 use html_render_tree::text::Text;
 use std::alloc::Global;
 use std::test::Fail;
@@ -33,141 +32,57 @@ struct Letters {
     blocks: usize,
 }
 
-impl TextDecorator for Letters {
+impl Changes<()> for Letters {
     type Annotation = Letter;
 
-    ghost decoration = { record (plain (record { letter = 110; number = 0 })) {
-      link_start = λ s target. record { text = codes "["; annotation = record { letter = 108; number = length target } };
-      em = record { start = λ s. record { text = []; annotation = record { letter = 101; number = s.blocks } }; end = λ s. [] };
-      strong = record { start = λ s. record { text = []; annotation = record { letter = s.strong; number = 0 } }; end = λ s. [] };
-      quote_prefix = λ s. repeat s.blocks (codes ">");
+    ghost alteration = { record {
+      text = λ s. before_quotes (repeat s.blocks (codes ">"));
+      annotation = λ s place below. annotated (λ target. record { letter = 108; number = length target })
+          (record { letter = 101; number = s.blocks }) (record { letter = s.strong; number = 0 }) (record { letter = 110; number = 0 }) place;
+      colour = λ s place. None;
+      lines = λ s targets below. below;
       subblock = λ s. record s { blocks = min (s.blocks + 1) (2 ^ 64 - 1) };
     } };
 
     ghost clone_is_same = { Prim.search rules };
 
-    fn decorate_link_start(&self, alloc: Global, url: &str) -> Result<(String, Letter), Error> {
-        let annotation = Letter {
-            letter: 'l',
-            number: url.len(),
+    fn text(&self, alloc: Global, place: &Place<'_>, below: String) -> Result<String, Error> {
+        match place {
+            Place::QuotePrefix => Ok(">".repeat(alloc, self.blocks)?),
+            _ => Ok(below),
+        }
+    }
+
+    fn annotation(&self, _alloc: Global, place: &Place<'_>, _below: ()) -> Result<Letter, Error> {
+        let (letter, number) = match place {
+            Place::LinkStart(target) => ('l', target.as_str().len()),
+            Place::EmStart => ('e', self.blocks),
+            Place::StrongStart => (self.strong, 0),
+            _ => ('n', 0),
         };
-        Ok((String::from_str(alloc, "[")?, annotation))
+        Ok(Letter { letter, number })
     }
 
-    fn decorate_link_end(&self, alloc: Global) -> Result<String, Error> {
-        PlainDecorator::new().decorate_link_end(alloc)
+    fn colour(&self, _alloc: Global, _place: &Place<'_>) -> Result<Option<Letter>, Error> {
+        Ok(None)
     }
 
-    fn decorate_em_start(&self, alloc: Global) -> Result<(String, Letter), Error> {
-        let annotation = Letter {
-            letter: 'e',
-            number: self.blocks,
-        };
-        Ok((String::new(alloc), annotation))
-    }
-
-    fn decorate_em_end(&self, alloc: Global) -> Result<String, Error> {
-        Ok(String::new(alloc))
-    }
-
-    fn decorate_strong_start(&self, alloc: Global) -> Result<(String, Letter), Error> {
-        let annotation = Letter {
-            letter: self.strong,
-            number: 0,
-        };
-        Ok((String::new(alloc), annotation))
-    }
-
-    fn decorate_strong_end(&self, alloc: Global) -> Result<String, Error> {
-        Ok(String::new(alloc))
-    }
-
-    fn decorate_strikeout_start(&self, alloc: Global) -> Result<(String, Letter), Error> {
-        let (text, _) = PlainDecorator::new().decorate_strikeout_start(alloc)?;
-        Ok((text, NOTHING))
-    }
-
-    fn decorate_strikeout_end(&self, alloc: Global) -> Result<String, Error> {
-        PlainDecorator::new().decorate_strikeout_end(alloc)
-    }
-
-    fn decorate_code_start(&self, alloc: Global) -> Result<(String, Letter), Error> {
-        let (text, _) = PlainDecorator::new().decorate_code_start(alloc)?;
-        Ok((text, NOTHING))
-    }
-
-    fn decorate_code_end(&self, alloc: Global) -> Result<String, Error> {
-        PlainDecorator::new().decorate_code_end(alloc)
-    }
-
-    fn decorate_superscript_start(&self, alloc: Global) -> Result<(String, Letter), Error> {
-        let (text, _) = PlainDecorator::new().decorate_superscript_start(alloc)?;
-        Ok((text, NOTHING))
-    }
-
-    fn decorate_superscript_end(&self, alloc: Global) -> Result<String, Error> {
-        PlainDecorator::new().decorate_superscript_end(alloc)
-    }
-
-    fn decorate_image(
+    fn lines(
         &self,
-        alloc: Global,
-        src: &str,
-        title: &str,
-    ) -> Result<(String, Letter), Error> {
-        let (text, _) = PlainDecorator::new().decorate_image(alloc, src, title)?;
-        Ok((text, NOTHING))
+        _alloc: Global,
+        _links: &[Text],
+        below: Vec<String>,
+    ) -> Result<Vec<String>, Error> {
+        Ok(below)
     }
 
-    fn decorate_preformat_first(&self, _alloc: Global) -> Result<Letter, Error> {
-        Ok(NOTHING)
-    }
-
-    fn decorate_preformat_cont(&self, _alloc: Global) -> Result<Letter, Error> {
-        Ok(NOTHING)
-    }
-
-    fn header_prefix(&self, alloc: Global, level: usize) -> Result<String, Error> {
-        PlainDecorator::new().header_prefix(alloc, level)
-    }
-
-    fn quote_prefix(&self, alloc: Global) -> Result<String, Error> {
-        Ok(">".repeat(alloc, self.blocks)?)
-    }
-
-    fn unordered_item_prefix(&self, alloc: Global) -> Result<String, Error> {
-        PlainDecorator::new().unordered_item_prefix(alloc)
-    }
-
-    fn ordered_item_prefix(&self, alloc: Global, number: i64) -> Result<String, Error> {
-        PlainDecorator::new().ordered_item_prefix(alloc, number)
-    }
-
-    fn push_colour(&self, _alloc: Global, _colour: Colour) -> Result<Option<Letter>, Error> {
-        Ok(None)
-    }
-
-    fn push_bgcolour(&self, _alloc: Global, _colour: Colour) -> Result<Option<Letter>, Error> {
-        Ok(None)
-    }
-
-    fn finalise(&self, alloc: Global, links: &[Text]) -> Result<Vec<String>, Error> {
-        PlainDecorator::new().finalise(alloc, links)
-    }
-
-    fn make_subblock_decorator(&self, _alloc: Global) -> Result<Letters, Error> {
+    fn subblock(&self, _alloc: Global) -> Result<Letters, Error> {
         Ok(Letters {
             strong: self.strong,
             blocks: self.blocks.saturating_add(1),
         })
     }
 }
-
-/// The annotation of what isn't told apart.
-const NOTHING: Letter = Letter {
-    letter: 'n',
-    number: 0,
-};
 
 /// Puts a line behind a text: each string behind its annotations, letters and numbers, and `|` behind it.
 fn push_line(text: &mut String, line: &TaggedLine<Vec<Letter>>) -> Result<(), Fail> {
@@ -186,7 +101,11 @@ fn push_line(text: &mut String, line: &TaggedLine<Vec<Letter>>) -> Result<(), Fa
 
 /// The tagged strings of a document under the decorator that annotates strong text with this letter.
 fn shown(alloc: Global, strong: char, script: &str) -> Result<String, Fail> {
-    let config = with_decorator(alloc, Letters { strong, blocks: 0 });
+    let decorator = Altered {
+        below: PlainDecorator::new(),
+        changes: Letters { strong, blocks: 0 },
+    };
+    let config = with_decorator(alloc, decorator);
     let tree = config.dom_to_render_tree(alloc, &built(alloc, script)?)?;
     let mut text = String::new(alloc);
     for line in &config.render_to_lines(alloc, tree, 20)? {

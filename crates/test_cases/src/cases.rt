@@ -1,8 +1,8 @@
 //! Plays the cases of a file.
 
 use crate::configs::{is_preset, is_setting};
+use crate::programs;
 use crate::rendering::{self, Question, is_rendering};
-use crate::{decorators, programs};
 use case_calls::calls::is_call;
 use case_calls::faults::Fault;
 use case_calls::pages::Page;
@@ -221,7 +221,7 @@ impl<'a> Case<'a> {
             "cut_fits" | "check_cut" | "column_widths" | "column_widths_metered" => {
                 tables::cut(alloc, asked, given, watch)
             }
-            "decorator" => decorators::answer(alloc, given, watch),
+            "decorator" => decorator_calls::answer(alloc, given, watch),
             "htree" => programs::answer(alloc, given, input),
             _ => answers::answer(alloc, &self.page, asked, given, watch),
         }

@@ -45,7 +45,6 @@
 
 mod cases;
 mod configs;
-mod decorators;
 mod display;
 mod programs;
 mod refusing;

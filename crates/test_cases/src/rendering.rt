@@ -3,13 +3,13 @@
 ghost use Rattle.std.specs.Prelude.{◌≡◌, IfErr};
 
 use crate::configs::{preset, settings};
-use crate::decorators::Shown;
 use crate::display::displayed;
-use crate::refusing::Refusing;
+use crate::refusing::plain_but;
 use crate::sweeps::{Kept, sweep};
 use case_calls::faults::Fault;
 use case_calls::texts::{number, printed, split_word};
 use case_calls::watch::Watch;
+use decorator_calls::Shown;
 use html_render_tree::Error;
 use html_render_tree::block::{TaggedLine, TaggedLineElement};
 use html_render_tree::config::{Config, plain, plain_no_decorate, rich, with_decorator};
@@ -61,10 +61,7 @@ pub fn answer(
     let watch = question.watch.only_if(question.asked == "settings");
     let settings = settings(alloc, others, watch)?;
     if let Some(name) = first.strip_prefix("with_decorator refusing:") {
-        let Some(refusing) = Refusing::of(name) else {
-            return Err(Fault::Malformed("no function of a decorator has this name"));
-        };
-        let config = with_decorator(alloc, refusing);
+        let config = with_decorator(alloc, plain_but(name));
         return answer_under(alloc, config, settings, dom, question);
     }
     match preset(first)? {
@@ -101,7 +98,13 @@ fn answer_decorated(
             answer_under(alloc, config, settings, dom, question)
         }
         DecoratorName::Own(own) => {
-            answer_under(alloc, with_decorator(alloc, own), settings, dom, question)
+            answer_under(
+                alloc,
+                with_decorator(alloc, own.decorator()),
+                settings,
+                dom,
+                question,
+            )
         }
     }
 }

@@ -1,14 +1,13 @@
 //! Values of the library's types: which are equal, how they are ordered, and what they are where nothing is said.
 
-use html_render_tree::Error;
-use html_render_tree::config::ImageRenderMode;
-use html_render_tree::decorate::{PlainDecorator, RichAnnotation, RichDecorator, TextDecorator};
-use html_render_tree::dom::{Attribute, Namespace, QualName};
-use html_render_tree::style::{
+use html_render_dom::dom::{Attribute, Namespace, QualName};
+use html_render_dom::style::{
     PseudoElement, Specificity, StyleOrigin, StyleRule, WhiteSpace, WithSpec,
 };
-use html_render_tree::table::{Span, spans_are_valid};
-use html_render_tree::text::Text;
+use html_render_parts::decorate::{PlainDecorator, RichAnnotation, RichDecorator, TextDecorator};
+use html_render_parts::table::{Span, spans_are_valid};
+use html_render_values::Error;
+use html_render_values::text::Text;
 use std::alloc::{AllocError, Global};
 use std::test::Fail;
 
@@ -149,31 +148,6 @@ fn a_sub_block_has_the_same_decorator(rt: HostRuntime) -> Result<(), Fail> {
     let (plain, rich) = (PlainDecorator::new(), RichDecorator::new());
     assert_eq!(rt; innermost(alloc, &plain)?, plain);
     assert_eq!(rt; innermost(alloc, &rich)?, rich);
-    Ok(())
-}
-
-#[test]
-fn images_without_a_title_are_left_out_where_nothing_is_said(rt: HostRuntime) {
-    assert!(rt; matches!(ImageRenderMode::default(), ImageRenderMode::IgnoreEmpty));
-}
-
-#[test]
-fn a_copy_of_an_image_mode_is_equal_to_it(rt: HostRuntime) -> Result<(), Fail> {
-    let alloc = rt.alloc();
-    for text in ["", "in place", "a title that takes memory of its own"] {
-        let mode = ImageRenderMode::Replace(Text::from(string(alloc, text)?));
-        let copy = mode.try_clone(alloc)?;
-        drop(mode);
-        let same = ImageRenderMode::Replace(Text::from(string(alloc, text)?));
-        assert_eq!(rt; copy, same);
-    }
-    for mode in [
-        ImageRenderMode::IgnoreEmpty,
-        ImageRenderMode::ShowAlways,
-        ImageRenderMode::Filename,
-    ] {
-        assert_eq!(rt; mode.try_clone(alloc)?, mode);
-    }
     Ok(())
 }
 

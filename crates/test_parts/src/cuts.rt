@@ -1,6 +1,6 @@
 //! Column cuts: the loop of single units for all small lists, and a hundred thousand columns.
 
-use html_render_tree::widths::{Meter, check_cut, column_widths, column_widths_metered, cut_fits};
+use html_render_parts::widths::{Meter, check_cut, column_widths, column_widths_metered, cut_fits};
 use std::alloc::{AllocError, Global};
 use std::process::Abort;
 use std::test::Fail;

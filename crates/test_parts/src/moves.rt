@@ -4,7 +4,7 @@ ghost use Rattle.std.specs.Prelude.{◌<◌, IsTrue};
 ghost use Rattle.html_render_dom.specs.Dom.{IsNode};
 ghost use Rattle.html_render_dom.specs.Edits.{CanAppend};
 
-use html_render_tree::dom::{ElementFlags, Handle, NodeOrText, QualName, RcDom};
+use html_render_dom::dom::{ElementFlags, Handle, NodeOrText, QualName, RcDom};
 use std::alloc::{AllocError, Global};
 use std::test::Fail;
 

@@ -1,39 +1,44 @@
-//! Questions for what a decorator answers, by the names of its calls, and annotations as cases show them.
+//! Questions for what a decorator answers, by the names of its calls.
 
+use crate::shown::{Shown, annotated_line, annotation_line, line_of_lines, text_line};
 use case_calls::faults::Fault;
 use case_calls::rules::colour;
-use case_calls::texts::{number, push_escaped, split_word};
+use case_calls::texts::{number, split_word};
 use case_calls::watch::Watch;
-use html_render_tree::decorate::{PlainDecorator, RichAnnotation, RichDecorator, TextDecorator};
-use html_render_tree::text::Text;
-use std::alloc::{AllocError, Global};
+use html_render_parts::decorate::{PlainDecorator, RichDecorator, TextDecorator};
+use html_render_values::Error;
+use html_render_values::text::Text;
+use std::alloc::Global;
 
-/// An annotation that a case can show.
-pub trait Shown: Drop {
-    /// Puts its name and what it holds behind a text.
-    fn push_to(&self, shown: &mut String) -> Result<(), AllocError>;
+/// What a call of a decorator answers.
+#[derive(Clone, Copy)]
+enum Answered {
+    /// A text and an annotation.
+    Start,
+    /// A text.
+    Text,
+    /// An annotation.
+    Annotation,
+    /// An annotation of a colour, or nothing.
+    Colour,
+    /// Lines.
+    Lines,
 }
 
-impl Shown for () {
-    fn push_to(&self, shown: &mut String) -> Result<(), AllocError> {
-        shown.push_str("()")
-    }
-}
-
-impl Shown for RichAnnotation {
-    fn push_to(&self, shown: &mut String) -> Result<(), AllocError> {
-        match self {
-            RichAnnotation::Default => shown.push_str("Default"),
-            RichAnnotation::Link(target) => write!(shown, "Link({})", target.as_str()),
-            RichAnnotation::Image(source) => write!(shown, "Image({})", source.as_str()),
-            RichAnnotation::Emphasis => shown.push_str("Emphasis"),
-            RichAnnotation::Strong => shown.push_str("Strong"),
-            RichAnnotation::Strikeout => shown.push_str("Strikeout"),
-            RichAnnotation::Code => shown.push_str("Code"),
-            RichAnnotation::Preformat(continues) => write!(shown, "Preformat({continues})"),
-            RichAnnotation::Colour(colour) => write!(shown, "Colour({colour})"),
-            RichAnnotation::BgColour(colour) => write!(shown, "BgColour({colour})"),
-        }
+/// What the call of a name answers.
+fn answer_of(name: &str) -> Answered {
+    match name {
+        "decorate_link_start"
+        | "decorate_em_start"
+        | "decorate_strong_start"
+        | "decorate_strikeout_start"
+        | "decorate_code_start"
+        | "decorate_superscript_start"
+        | "decorate_image" => Answered::Start,
+        "decorate_preformat_first" | "decorate_preformat_cont" => Answered::Annotation,
+        "push_colour" | "push_bgcolour" => Answered::Colour,
+        "finalise" => Answered::Lines,
+        _ => Answered::Text,
     }
 }
 
@@ -58,37 +63,22 @@ where
     D::Annotation: Shown,
 {
     let (name, given) = split_word(call);
-    if is_start(name) {
-        return started(alloc, decorator, name, given, watch);
+    match answer_of(name) {
+        Answered::Start => started(alloc, decorator, name, given, watch),
+        Answered::Text => written(alloc, decorator, name, given, watch),
+        Answered::Annotation => preformatted(alloc, decorator, name, watch),
+        Answered::Colour => coloured(alloc, decorator, name, given, watch),
+        Answered::Lines => finalised(alloc, decorator, given, watch),
     }
-    let mut shown = String::from_str(alloc, "|")?;
-    match name {
-        "decorate_preformat_first" | "decorate_preformat_cont" => {
-            preformatted(alloc, decorator, name, watch)?.push_to(&mut shown)?;
-        }
-        "push_colour" | "push_bgcolour" => match coloured(alloc, decorator, name, given, watch)? {
-            Some(annotation) => annotation.push_to(&mut shown)?,
-            None => shown.push_str("None")?,
-        },
-        "finalise" => {
-            for line in &finalised(alloc, decorator, given, watch)? {
-                shown.push('[')?;
-                push_escaped(&mut shown, line)?;
-                shown.push(']')?;
-            }
-        }
-        _ => push_escaped(&mut shown, &text_of(alloc, decorator, name, given, watch)?)?,
-    }
-    shown.push('\n')?;
-    Ok(shown)
 }
 
-/// Whether a call answers a text and an annotation.
-fn is_start(name: &str) -> bool {
-    name == "decorate_image" || name.ends_with("_start")
+/// What a call answered, after it is told of.
+fn told<T: Drop>(watch: Watch, came: Result<T, Error>) -> Result<T, Fault> {
+    watch.end(&came)?;
+    Ok(came?)
 }
 
-/// The annotation behind the text that a call answers, in braces.
+/// The text that stands before something, behind the annotation of what stands there.
 fn started<D: TextDecorator>(
     alloc: Global,
     decorator: &D,
@@ -110,18 +100,12 @@ where
         "decorate_superscript_start" => decorator.decorate_superscript_start(alloc),
         _ => decorator.decorate_image(alloc, source, title),
     };
-    watch.end(&came)?;
-    let (text, annotation) = came?;
-    let mut shown = String::from_str(alloc, "|{")?;
-    annotation.push_to(&mut shown)?;
-    shown.push('}')?;
-    push_escaped(&mut shown, &text)?;
-    shown.push('\n')?;
-    Ok(shown)
+    let (text, annotation) = told(watch, came)?;
+    Ok(annotated_line(alloc, &annotation, &text)?)
 }
 
-/// What stands behind or before something.
-fn text_of<D: TextDecorator>(
+/// The text that stands behind or before something.
+fn written<D: TextDecorator>(
     alloc: Global,
     decorator: &D,
     name: &str,
@@ -144,8 +128,8 @@ fn text_of<D: TextDecorator>(
         "ordered_item_prefix" => decorator.ordered_item_prefix(alloc, item),
         _ => return Err(Fault::Malformed("no call of a decorator has this name")),
     };
-    watch.end(&came)?;
-    Ok(came?)
+    let text = told(watch, came)?;
+    Ok(text_line(alloc, &text)?)
 }
 
 /// The annotation of a line of preformatted text.
@@ -154,25 +138,31 @@ fn preformatted<D: TextDecorator>(
     decorator: &D,
     name: &str,
     watch: Watch,
-) -> Result<D::Annotation, Fault> {
+) -> Result<String, Fault>
+where
+    D::Annotation: Shown,
+{
     watch.begin(name)?;
     let came = if name == "decorate_preformat_first" {
         decorator.decorate_preformat_first(alloc)
     } else {
         decorator.decorate_preformat_cont(alloc)
     };
-    watch.end(&came)?;
-    Ok(came?)
+    let annotation = told(watch, came)?;
+    Ok(annotation_line(alloc, &annotation)?)
 }
 
-/// The annotation of a colour, if there is one.
+/// The annotation of a colour, or `None`.
 fn coloured<D: TextDecorator>(
     alloc: Global,
     decorator: &D,
     name: &str,
     given: &str,
     watch: Watch,
-) -> Result<Option<D::Annotation>, Fault> {
+) -> Result<String, Fault>
+where
+    D::Annotation: Shown,
+{
     let colour = colour(given)?;
     watch.begin(name)?;
     let came = if name == "push_colour" {
@@ -180,8 +170,10 @@ fn coloured<D: TextDecorator>(
     } else {
         decorator.push_bgcolour(alloc, colour)
     };
-    watch.end(&came)?;
-    Ok(came?)
+    match told(watch, came)? {
+        Some(annotation) => Ok(annotation_line(alloc, &annotation)?),
+        None => Ok(text_line(alloc, "None")?),
+    }
 }
 
 /// A text of a string that another text gave back.
@@ -196,19 +188,24 @@ fn text(alloc: Global, word: &str, watch: Watch) -> Result<Text, Fault> {
     Ok(Text::from(string))
 }
 
+/// The places that words name.
+fn places(alloc: Global, words: &str, watch: Watch) -> Result<Vec<Text>, Fault> {
+    let mut places = Vec::new(alloc);
+    for word in words.split_whitespace() {
+        places.push(text(alloc, word, watch)?)?;
+    }
+    Ok(places)
+}
+
 /// The lines that stand behind a document with links to these places.
 fn finalised<D: TextDecorator>(
     alloc: Global,
     decorator: &D,
     given: &str,
     watch: Watch,
-) -> Result<Vec<String>, Fault> {
-    let mut links = Vec::new(alloc);
-    for word in given.split_whitespace() {
-        links.push(text(alloc, word, watch)?)?;
-    }
+) -> Result<String, Fault> {
+    let links = places(alloc, given, watch)?;
     watch.begin("finalise")?;
-    let came = decorator.finalise(alloc, &links);
-    watch.end(&came)?;
-    Ok(came?)
+    let lines = told(watch, decorator.finalise(alloc, &links))?;
+    Ok(line_of_lines(alloc, &lines)?)
 }
