@@ -3,11 +3,10 @@
 use Rattle.std.specs.Prelude.{ℕ, List, Option, Some, None}
 use Rattle.html_render_parts.specs.Decoration.{Decoration, Start, Round}
 use Rattle.html_render_alterations.specs.declared.place.Place.{Place}
-use Rattle.html_render_alterations.specs.declared.place.Place.TheVariants.{LinkStart, LinkEnd, EmStart, EmEnd, StrongStart, StrongEnd}
-use Rattle.html_render_alterations.specs.declared.place.Place.TheVariants.{StrikeoutStart, StrikeoutEnd, CodeStart, CodeEnd}
-use Rattle.html_render_alterations.specs.declared.place.Place.TheVariants.{SuperscriptStart, SuperscriptEnd, Image, PreformatFirst, PreformatCont}
-use Rattle.html_render_alterations.specs.declared.place.Place.TheVariants.{HeaderPrefix, QuotePrefix, UnorderedItemPrefix, OrderedItemPrefix}
-use Rattle.html_render_alterations.specs.declared.place.Place.TheVariants.{Colour, Background}
+use Rattle.html_render_alterations.specs.declared.place.Place.TheVariants.{LinkStart, LinkEnd, EmStart, EmEnd, StrongStart, StrongEnd, StrikeoutStart}
+use Rattle.html_render_alterations.specs.declared.place.Place.TheVariants.{StrikeoutEnd, CodeStart, CodeEnd, SuperscriptStart, SuperscriptEnd, Image}
+use Rattle.html_render_alterations.specs.declared.place.Place.TheVariants.{PreformatFirst, PreformatCont, HeaderPrefix, QuotePrefix}
+use Rattle.html_render_alterations.specs.declared.place.Place.TheVariants.{UnorderedItemPrefix, OrderedItemPrefix, Colour, Background}
 use Rattle.html_render_alterations.specs.declared.altered.Altered.{Altered}
 
 pub record Alteration (S B A : Type 0) : Type 0 where
@@ -41,7 +40,7 @@ abbrev pub coloured : {S B A : Type 0} → Alteration S B A → S → Place → 
 coloured c s place (Some below) = Some (c.annotation s place below)
 coloured c s place None = c.colour s place
 
--- what stands round a part, changed at its start and its end
+-- the decoration of a part, changed at its start and its end
 abbrev pub around : {D S B A : Type 0} → Alteration S B A → (start end : Place) → Round D B → Round (Altered D S) A
 around c start end part = record {
   start = λ s. changed c s.changes start (part.start s.below);

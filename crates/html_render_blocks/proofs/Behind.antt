@@ -1,15 +1,14 @@
 -- Lines that are added behind others are added behind what stands before these.
-use Rattle.std.proofs.Common.{◌≡◌, ℕ, ◌+◌, Bool, List, ◌++◌, Option, Some, None, option_map, length, ap, sym, refl, ◌∙◌}
-use Rattle.std.proofs.Common.{append_assoc, length-append}
+use Rattle.std.proofs.Common.{◌≡◌, ℕ, ◌+◌, Bool, List, ◌++◌, Option, Some, None, option_map, length, ap, sym, refl, ◌∙◌, append_assoc, length-append}
 use Rattle.html_render_lines.specs.Line.{Line, marks_line}
 use Rattle.html_render_blocks.specs.Joined.{prefixed, fitting, moved}
 use Rattle.html_render_paragraphs.specs.Paragraph.{Page, all_lines}
 use Rattle.html_render_paragraphs.specs.Stream.{State, start, finished}
 use Rattle.html_render_pictures.specs.Padding.{filled}
-use Rattle.html_render_blocks.specs.Block.{flush, add_page}
+use Rattle.html_render_blocks.specs.Block.{flush}
 use Rattle.html_render_blocks.specs.Machine.{machine, MachineBlock}
 
--- so many lines stand before others and before these with more behind them
+-- the number of lines of two lists, one behind the other
 pub length_append : {X : Type 0} (xs ys : List X) → length (xs ++ ys) ≡ length xs + length ys
 length_append xs ys = length-append xs ys
 
@@ -38,7 +37,10 @@ padded_flush {T} {M} b c p q r front last new same is_some h =
   where
     by : (o : Option (Page T M)) → option_map {U = List (Line T M) × State T M}
         (λ (g : Page T M). (last ++ filled c.padding c.setting.width (all_lines g), start q.setting g.waiting)) o ≡ Some (new, r) →
-        option_map (λ (g : Page T M). add_page machine (record c { lines = front ++ last; paragraph = Some q }) g) o
+        option_map (λ (g : Page T M). record c {
+          lines = (front ++ last) ++ filled c.padding c.setting.width (all_lines g);
+          paragraph = Some (start q.setting g.waiting);
+        }) o
         ≡ Some (record c { lines = front ++ new; paragraph = Some r })
     by None e = cc
     by (Some g) e =

@@ -1,6 +1,7 @@
 -- Closing lines as the code makes them: a text with a space for each newline, and text by text.
-use Rattle.std.proofs.Common.{◌≡◌, ℕ, Bool, true, false, eqb, ◌&&◌, List, [], ◌∷◌, ◌++◌, Option, Some, None, refl, sym, ap, ◌∙◌}
+use Rattle.std.proofs.Common.{◌≡◌, ℕ, Bool, true, cond, eqb, ◌&&◌, List, [], ◌∷◌, ◌++◌, Option, Some, None, refl, sym, ap, ◌∙◌}
 use Rattle.std.proofs.Common.{append-nil, append_assoc, option_map, option_and_then}
+use Rattle.std.proofs.lemmas.Bool.{and_parts}
 use Rattle.std.proofs.lemmas.List.{map-append}
 use Rattle.std.proofs.lemmas.Str.{chars-encodes, encodes-append}
 use Rattle.std.specs.Str.{chars, IsUtf8}
@@ -9,27 +10,23 @@ use Rattle.html_render_paragraphs.specs.CutText.{text_lines}
 use Rattle.html_render_lines.specs.Line.{Line}
 use Rattle.html_render_paragraphs.specs.Paragraph.{Setting}
 use Rattle.html_render_lines.specs.laws.Cases.{if_cases}
-use Rattle.html_render_blocks.specs.Closing.{unbroken, on_one_line, closing_lines}
+use Rattle.html_render_blocks.specs.Closing.{on_one_line, closing_lines}
 
 pub ruleset ends = (append-nil)
 
 -- ---- newlines
 
-pub encodes-unbroken : (cs : List ℕ) (c : ℕ) → encodes (on_one_line (cs ++ c ∷ [])) ≡ encodes (on_one_line cs) ++ encode (unbroken c)
+pub encodes-unbroken : (cs : List ℕ) (c : ℕ) → encodes (on_one_line (cs ++ c ∷ [])) ≡ encodes (on_one_line cs) ++ encode (cond (eqb c 10) 32 c)
 encodes-unbroken cs c =
-    ap encodes (map-append unbroken cs (c ∷ [])) ∙ encodes-append (on_one_line cs) (unbroken c ∷ [])
-    ∙ ap (λ bs. encodes (on_one_line cs) ++ bs) (append-nil (encode (unbroken c)))
+    ap encodes (map-append (λ d. cond (eqb d 10) 32 d) cs (c ∷ [])) ∙ encodes-append (on_one_line cs) (cond (eqb c 10) 32 c ∷ [])
+    ∙ ap (λ bs. encodes (on_one_line cs) ++ bs) (append-nil (encode (cond (eqb c 10) 32 c)))
 
 pub ruleset unbroken_text = (encodes-unbroken)
-
-and_true : (a b : Bool) → (a && b) ≡ true → (a ≡ true) × (b ≡ true)
-and_true true b e = (refl, e)
-and_true false b e = cc
 
 scalars-unbroken : (cs : List ℕ) → scalars cs ≡ true → scalars (on_one_line cs) ≡ true
 scalars-unbroken [] e = refl
 scalars-unbroken (c ∷ cs) e =
-    let h = and_true (scalar c) (scalars cs) e in
+    let h = and_parts (scalar c) (scalars cs) e in
     ap (λ b. b && scalars (on_one_line cs)) (if_cases (λ d. scalar d ≡ true) (eqb c 10) 32 c (λ _. refl) (λ _. h.0))
     ∙ scalars-unbroken cs h.1
 

@@ -1,18 +1,19 @@
 -- The places of a row as the code passes them, and columns that are parted.
-use Rattle.std.proofs.Common.{◌≡◌, ℕ, ◌+◌, ◌-◌, ◌<◌, Bool, true, false, List, [], ◌∷◌, ◌++◌, length, sum, take, drop, reverse, ap, ◌∙◌}
+use Rattle.std.proofs.Common.{◌≡◌, ℕ, suc, ◌+◌, ◌-◌, ◌<◌, Bool, List, [], ◌∷◌, ◌++◌, length, sum, take, drop, reverse, ap, ◌∙◌}
 use Rattle.std.proofs.Common.{arith, cond, get_or, sym, append_assoc, Option, length-append}
 use Rattle.std.proofs.lemmas.List.{take-append-drop, take_min, drop_min, reverse-append, at_drop_more}
 use Rattle.std.proofs.lemmas.List.Sums.{sum_by-append}
 use Rattle.html_render_parts.specs.declared.table.PlacedCell.{PlacedCell}
 use Rattle.html_render_blocks.specs.declared.block.rows.RowPlace.{RowPlace}
-use Rattle.html_render_blocks.specs.OpenRows.{is_cell, cell_width, places, next_width, behind_cell, before_cell, empty_cell, empty_cells}
+use Rattle.html_render_blocks.specs.OpenRows.{is_cell, cell_width, places, next_width, before_cell, empty_cells}
 
 pub ruleset columns_at = (take_min, drop_min)
 
 -- ---- a part of columns is no wider
 
-pub own_fits : (n b : ℕ) (ws : List ℕ) → sum ws + (length ws - 1) < b → sum (take n ws) + (length (take n ws) - 1) < b
-own_fits n b ws h =
+parts_fit : (n b : ℕ) (ws : List ℕ) → sum ws + (length ws - 1) < b →
+    (sum (take n ws) + (length (take n ws) - 1) < b) × (sum (drop n ws) + (length (drop n ws) - 1) < b)
+parts_fit n b ws h =
     let whole = take-append-drop n ws in
     omega (
       arith,
@@ -23,52 +24,31 @@ own_fits n b ws h =
       length-append (take n ws) (drop n ws),
     )
 
+pub own_fits : (n b : ℕ) (ws : List ℕ) → sum ws + (length ws - 1) < b → sum (take n ws) + (length (take n ws) - 1) < b
+own_fits n b ws h = (parts_fit n b ws h).0
+
 pub behind_fits : (n b : ℕ) (ws : List ℕ) → sum ws + (length ws - 1) < b → sum (drop n ws) + (length (drop n ws) - 1) < b
-behind_fits n b ws h =
-    let whole = take-append-drop n ws in
-    omega (
-      arith,
-      h,
-      ap sum whole,
-      sum_by-append (λ x. x) (take n ws) (drop n ws),
-      ap length whole,
-      length-append (take n ws) (drop n ws),
-    )
+behind_fits n b ws h = (parts_fit n b ws h).1
 
 -- ---- places that stand in reverse: the last one comes next
 
 last-first : {X : Type 0} (xs before : List X) (x : X) → xs ≡ before ++ x ∷ [] → reverse xs ≡ x ∷ reverse before
 last-first xs before x e = ap reverse e ∙ reverse-append before (x ∷ [])
 
--- a cell
-pub next-here : (xs before : List RowPlace) (p : RowPlace) → xs ≡ before ++ p ∷ [] → p.is_cell ≡ true → next_width (reverse xs) ≡ p.width
-next-here xs before p e stands = ap next_width (last-first xs before p e) ∙ ap (λ b. cond b p.width (next_width (reverse before))) stands
+pub next-reversed : (xs before : List RowPlace) (p : RowPlace) (stands : Bool) → xs ≡ before ++ p ∷ [] → p.is_cell ≡ stands →
+    next_width (reverse xs) ≡ cond stands p.width (next_width (reverse before))
+next-reversed xs before p stands e is = ap next_width (last-first xs before p e) ∙ ap (λ b. cond b p.width (next_width (reverse before))) is
 
-pub behind-here : (xs before : List RowPlace) (p : RowPlace) → xs ≡ before ++ p ∷ [] → p.is_cell ≡ true → behind_cell (reverse xs) ≡ reverse before
-behind-here xs before p e stands =
-    ap behind_cell (last-first xs before p e) ∙ ap (λ b. cond b (reverse before) (behind_cell (reverse before))) stands
+pub behind-reversed : (xs before : List RowPlace) (p : RowPlace) (stands : Bool) → xs ≡ before ++ p ∷ [] → p.is_cell ≡ stands →
+    drop (suc (length (before_cell (reverse xs)))) (reverse xs) ≡ drop (length (cond stands [] (p ∷ before_cell (reverse before)))) (reverse before)
+behind-reversed xs before p stands e is =
+    ap (λ ps. drop (suc (length (before_cell ps))) ps) (last-first xs before p e)
+    ∙ ap (λ b. drop (length (cond b [] (p ∷ before_cell (reverse before)))) (reverse before)) is
 
-pub none-here : {T M : Type 0} (xs before : List RowPlace) (p : RowPlace) → xs ≡ before ++ p ∷ [] → p.is_cell ≡ true →
-    empty_cells {T = T} {M = M} (before_cell (reverse xs)) ≡ []
-none-here {T} {M} xs before p e stands =
-    ap (λ ps. empty_cells {T = T} {M = M} (before_cell ps)) (last-first xs before p e)
-    ∙ ap (λ b. empty_cells {T = T} {M = M} (cond b [] (p ∷ before_cell (reverse before)))) stands
-
--- another place
-pub next-later : (xs before : List RowPlace) (p : RowPlace) → xs ≡ before ++ p ∷ [] → p.is_cell ≡ false →
-    next_width (reverse xs) ≡ next_width (reverse before)
-next-later xs before p e stands = ap next_width (last-first xs before p e) ∙ ap (λ b. cond b p.width (next_width (reverse before))) stands
-
-pub behind-later : (xs before : List RowPlace) (p : RowPlace) → xs ≡ before ++ p ∷ [] → p.is_cell ≡ false →
-    behind_cell (reverse xs) ≡ behind_cell (reverse before)
-behind-later xs before p e stands =
-    ap behind_cell (last-first xs before p e) ∙ ap (λ b. cond b (reverse before) (behind_cell (reverse before))) stands
-
-pub empties-later : {T M : Type 0} (xs before : List RowPlace) (p : RowPlace) → xs ≡ before ++ p ∷ [] → p.is_cell ≡ false →
-    empty_cells {T = T} {M = M} (before_cell (reverse xs)) ≡ empty_cell p.width ++ empty_cells (before_cell (reverse before))
-empties-later {T} {M} xs before p e stands =
-    ap (λ ps. empty_cells {T = T} {M = M} (before_cell ps)) (last-first xs before p e)
-    ∙ ap (λ b. empty_cells {T = T} {M = M} (cond b [] (p ∷ before_cell (reverse before)))) stands
+pub before-reversed : {T M : Type 0} (xs before : List RowPlace) (p : RowPlace) (stands : Bool) → xs ≡ before ++ p ∷ [] → p.is_cell ≡ stands →
+    empty_cells {T = T} {M = M} (before_cell (reverse xs)) ≡ empty_cells (cond stands [] (p ∷ before_cell (reverse before)))
+before-reversed xs before p stands e is =
+    ap (λ ps. empty_cells (before_cell ps)) (last-first xs before p e) ∙ ap (λ b. empty_cells (cond b [] (p ∷ before_cell (reverse before)))) is
 
 -- ---- the places of cells
 

@@ -1,7 +1,7 @@
 -- A BLOCK: its finished lines, the paragraph that is open and the table that is open in it, over what paragraphs and pictures offer.
 -- Its definition is over lists of what was fed, and its machine feeds character by character; both are these operations.
 use Rattle.std.specs.Prelude.{ℕ, ◌-◌, max, min, nat_le, Bool, true, false, not, ◌||◌, ◌&&◌, List, [], ◌∷◌, ◌++◌, map, length, ◌==◌}
-use Rattle.std.specs.Prelude.{Option, Some, None, option_map, if◌then◌else◌}
+use Rattle.std.specs.Prelude.{Option, Some, None, option_map, unwrap_or, if◌then◌else◌}
 use Rattle.std.specs.List.{list_all}
 use Rattle.html_render_glyphs.specs.declared.borders.TheConstants.{BORDERS}
 use Rattle.html_render_values.specs.Outcome.{◌>>=◌}
@@ -10,7 +10,7 @@ use Rattle.html_render_values.specs.declared.white_space.WhiteSpace.TheVariants.
 use Rattle.html_render_lines.specs.declared.character.Item.{Item}
 use Rattle.html_render_lines.specs.declared.character.Item.TheVariants.{Mark}
 use Rattle.html_render_lines.specs.Character.{is_collapsible}
-use Rattle.html_render_lines.specs.Line.{Line}
+use Rattle.html_render_lines.specs.Line.{Line, is_empty}
 use Rattle.html_render_lines.specs.TaggedText.{under}
 use Rattle.html_render_paragraphs.specs.Paragraph.{Setting, Page, all_lines}
 use Rattle.html_render_paragraphs.specs.Stream.{styled}
@@ -19,25 +19,20 @@ use Rattle.html_render_parts.specs.declared.table.PlacedCell.{PlacedCell}
 use Rattle.html_render_parts.specs.TableCells.{rows_on}
 use Rattle.html_render_pictures.specs.Marked.{marked_before, marked_behind}
 use Rattle.html_render_pictures.specs.Padding.{filled, repeated}
-use Rattle.html_render_pictures.specs.Picture.{KeptCell, is_empty}
+use Rattle.html_render_pictures.specs.Picture.{KeptCell}
 use Rattle.html_render_blocks.specs.declared.block.BlockSetting.{BlockSetting}
 use Rattle.html_render_blocks.specs.declared.block.tables.OpenTable.{OpenTable}
 use Rattle.html_render_blocks.specs.declared.block.tables.OpenTable.TheVariants.{Across, Stacked}
 use Rattle.html_render_blocks.specs.Closing.{line_setting, closing_lines}
-use Rattle.html_render_blocks.specs.Joined.{joined}
+use Rattle.html_render_blocks.specs.Joined.{prefixed, fitting}
 use Rattle.html_render_blocks.specs.OpenRows.{past_cell}
-use Rattle.html_render_blocks.specs.Operations.{OperationsOn, DocumentEnd}
+use Rattle.html_render_blocks.specs.Operations.{Operations, DocumentEnd}
 use Rattle.html_render_blocks.specs.Parts.{Parts}
-use Rattle.html_render_blocks.specs.Tables.{frame_of, stacked_border, with_row_open, next_cell_width, skipped, with_open, picture_of}
+use Rattle.html_render_blocks.specs.Tables.{frame_of, with_row_open, next_cell_width, skipped, with_open, with_ahead}
 
--- the columns of a paragraph's lines: those of its block, or fewer
-abbrev pub wrap_width : ℕ → Option ℕ → ℕ
-wrap_width width None = width
-wrap_width width (Some most) = min width most
-
--- the setting of a block's paragraphs
+-- the setting of a block's paragraphs: their lines have its columns, or fewer
 abbrev pub paragraph_setting : BlockSetting → Setting
-paragraph_setting s = record { width = wrap_width s.width s.max_wrap_width; overflow = s.overflow }
+paragraph_setting s = record { width = unwrap_or (option_map (min s.width) s.max_wrap_width) s.width; overflow = s.overflow }
 
 -- a text that shows nothing at a block's end
 abbrev pub is_blank : WhiteSpace → List ℕ → Bool
@@ -48,7 +43,7 @@ is_blank _ cs = false
 abbrev pub mark_items : {T M : Type 0} → List M → List (Item T M)
 mark_items {T} {M} ms = map (λ (m : M). Mark m) ms
 
--- the columns behind a prefix of so many columns, and at least so many; none where they aren't there, with overflow off
+-- the columns behind a prefix of `prefix` columns, at least `inner`; none where they aren't there, with overflow off
 abbrev pub inner_width : BlockSetting → ℕ → ℕ → Option ℕ
 inner_width s prefix inner = if s.overflow || nat_le inner (s.width - prefix) then Some (max (s.width - prefix) inner) else None
 
@@ -68,13 +63,12 @@ module _ {P R T M : Type 0} (parts : Parts P R T M) where
   empty_block s padding =
       record { setting = s; padding = padding; lines = []; paragraph = parts.start (paragraph_setting s) []; at_block_end = false; table = None }
 
-  -- the lines of a paragraph are added, filled up to the block's width if there is padding; the marks that wait begin another
-  abbrev pub add_page : Block P R T M → Page T M → Block P R T M
-  add_page b g = record b { lines = b.lines ++ filled b.padding b.setting.width (all_lines g); paragraph = parts.next b.paragraph g.waiting }
-
-  -- the lines of the open paragraph are finished; none where it is too narrow
+  -- the lines of the open paragraph are added, filled up to the block's width if there is padding, and the marks that wait begin another;
+  -- none where it is too narrow
   abbrev pub flush : Block P R T M → Option (Block P R T M)
-  flush b = option_map (λ (g : Page T M). add_page b g) (parts.finish b.paragraph)
+  flush b = option_map
+      (λ (g : Page T M). record b { lines = b.lines ++ filled b.padding b.setting.width (all_lines g); paragraph = parts.next b.paragraph g.waiting })
+      (parts.finish b.paragraph)
 
   -- lines that are added as they are: the marks that wait stand at the front of the first
   abbrev pub add_lines : Block P R T M → List (Line T M) → Block P R T M
@@ -94,28 +88,24 @@ module _ {P R T M : Type 0} (parts : Parts P R T M) where
 
   -- ---- blocks in blocks
 
-  -- an empty block inside a block, of so many columns
+  -- an empty block inside a block, of this width
   abbrev pub inner_block : Block P R T M → ℕ → Block P R T M
   inner_block b width = empty_block (record b.setting { width = width }) b.padding
 
-  -- the lines of another block, and the marks that wait in it, to a block that is flushed. Where it has no line, its marks
-  -- wait on
-  abbrev pub append_lines : Block P R T M → Line T M → Line T M → List (Line T M) → List M → Option (Block P R T M)
-  append_lines b first later [] ms = Some (feed b (mark_items ms))
-  append_lines b first later (l ∷ ls) ms =
-      option_map (λ (all : List (Line T M)). record b { lines = b.lines ++ all; paragraph = parts.without_waiting b.paragraph })
-      (joined b.setting.width b.setting.overflow (parts.waiting b.paragraph) first later (l ∷ ls) ms)
+  -- lines behind those of a flushed block: the marks that wait in it stand before them, and others at their end. Where there are no
+  -- lines, all of them wait
+  abbrev pub put_lines : Block P R T M → List (Line T M) → List M → Block P R T M
+  put_lines b [] ms = feed b (mark_items ms)
+  put_lines b (l ∷ ls) ms = add_lines b (marked_behind ms (l ∷ ls))
 
   -- ---- tables
 
-  -- a picture's lines behind those of the block; the marks that wait behind it wait on
-  abbrev pub with_picture : Block P R T M → List (Line T M) × List M → Block P R T M
-  with_picture b p = feed (record b { lines = b.lines ++ p.0; table = None }) (mark_items p.1)
-
-  -- the table that is open is over, if one is
+  -- the table that is open is over, if one is: a picture's lines are added, and the marks that wait behind it wait on
   abbrev pub end_open : Block P R T M → Option (OpenTable R T M) → Block P R T M
   end_open b None = b
-  end_open b (Some (Across picture widths ahead row)) = with_picture b (picture_of parts.pictures picture widths ahead row)
+  end_open b (Some (Across picture widths ahead row)) =
+      let p = parts.drawn (with_ahead parts widths ahead (with_open parts picture row)) in
+      feed (record b { lines = b.lines ++ p.0; table = None }) (mark_items p.1)
   end_open b (Some (Stacked border has_lines)) = record b { table = None }
 
   abbrev pub end_table : Block P R T M → Block P R T M
@@ -131,69 +121,50 @@ module _ {P R T M : Type 0} (parts : Parts P R T M) where
   stacked_begun b border = record (add_border b border BORDERS.line) { table = Some (Stacked border false) }
 
   abbrev pub with_table_begun : Block P R T M → T → (borders : Bool) → (ahead : List (List PlacedCell)) → Option (List ℕ) → Block P R T M
-  with_table_begun b tag borders ahead None = stacked_begun b (stacked_border tag borders b.setting.width)
+  with_table_begun b tag borders ahead None = stacked_begun b (if borders && not (b.setting.width == 0) then Some tag else None)
   with_table_begun b tag borders ahead (Some widths) =
-      let picture = parts.pictures.begun (frame_of tag borders widths) (parts.waiting b.paragraph) in
+      let picture = parts.begun (frame_of tag borders widths) (parts.waiting b.paragraph) in
       record b { paragraph = parts.without_waiting b.paragraph; table = Some (Across picture widths ahead None) }
-
-  -- a flushed block as a cell
-  abbrev pub kept_cell : Block P R T M → KeptCell T M
-  kept_cell b = record { width = b.setting.width; lines = b.lines; marks = parts.waiting b.paragraph }
-
-  -- lines behind the block's own: the marks that wait in it stand before them, and others at their end. Where there are no lines,
-  -- all of them wait
-  abbrev pub put_lines : Block P R T M → List (Line T M) → List M → Block P R T M
-  put_lines b [] ms = feed b (mark_items ms)
-  put_lines b (l ∷ ls) ms = add_lines b (marked_behind ms (l ∷ ls))
-
-  -- the lines of a flushed block behind the block's own
-  abbrev pub put_below : Block P R T M → Block P R T M → Block P R T M
-  put_below b cell = put_lines b cell.lines (parts.waiting cell.paragraph)
 
   -- a cell below others of its row: where there are lines above it and it has some more, a line of slashes stands between them
   abbrev pub put_stacked : Block P R T M → Option T → (has_lines more : Bool) → Block P R T M → Block P R T M
   put_stacked b border has_lines more cell =
-      record (put_below (if has_lines && more then add_border b border BORDERS.slash else b) cell) { table = Some (Stacked border (has_lines || more)) }
+      let above = if has_lines && more then add_border b border BORDERS.slash else b in
+      record (put_lines above cell.lines (parts.waiting cell.paragraph)) { table = Some (Stacked border (has_lines || more)) }
 
   -- the next cell is this flushed block
   abbrev pub cell_added : Block P R T M → Option (OpenTable R T M) → Block P R T M → Option (Block P R T M)
   cell_added b (Some (Across picture widths ahead (Some row))) cell =
-      Some (record b { table = Some (Across picture widths ahead (Some (past_cell row (kept_cell cell ∷ [])))) })
+      let kept : KeptCell T M = record { width = cell.setting.width; lines = cell.lines; marks = parts.waiting cell.paragraph } in
+      Some (record b { table = Some (Across picture widths ahead (Some (past_cell row (kept ∷ [])))) })
   cell_added b (Some (Stacked border has_lines)) cell =
       option_map (λ (e : Block P R T M). put_stacked e border has_lines (not (is_empty cell.lines)) cell) (flush b)
-  cell_added b _ cell = option_map (λ (e : Block P R T M). put_below e cell) (flush b)
-
-  -- the next cell is this block
-  abbrev pub add_cell : Block P R T M → Block P R T M → Option (Block P R T M)
-  add_cell b cell = do
-    c ← flush (end_table cell)
-    cell_added b b.table c
+  cell_added b _ cell = option_map (λ (e : Block P R T M). put_lines e cell.lines (parts.waiting cell.paragraph)) (flush b)
 
   -- the row that is open is over: below a row of cells one below another that have lines, there is a border
   abbrev pub row_ended : Block P R T M → Option (OpenTable R T M) → Option (Block P R T M)
   row_ended b (Some (Across picture widths ahead row)) =
-      Some (record b { table = Some (Across (with_open parts.pictures picture row) widths ahead None) })
+      Some (record b { table = Some (Across (with_open parts picture row) widths ahead None) })
   row_ended b (Some (Stacked border true)) = option_map (λ (e : Block P R T M). stacked_begun e border) (flush b)
   row_ended b _ = Some b
 
-  -- both blocks are flushed, and each line of the other stands behind its prefix
+  -- both blocks are flushed, and each line of the other stands behind its prefix, unless one passes the width with overflow off
   abbrev pub append : Block P R T M → Block P R T M → T → List ℕ → List ℕ → Option (Block P R T M)
   append b other tag first later = do
     b ← flush b
     other ← flush (end_table other)
-    append_lines b (under tag first) (under tag later) other.lines (parts.waiting other.paragraph)
+    option_map (λ (ls : List (Line T M)). put_lines b ls (parts.waiting other.paragraph))
+        (fitting b.setting.width b.setting.overflow (prefixed (under tag first) (under tag later) other.lines))
 
   -- ---- a document's end
 
-  -- the marks that wait, behind these lines; where there are none, they wait on
-  abbrev pub end_behind : Block P R T M → List (Line T M) → Block P R T M
-  end_behind b [] = b
-  end_behind b (l ∷ ls) =
-      record b { lines = marked_behind (parts.waiting b.paragraph) (l ∷ ls); paragraph = parts.without_waiting b.paragraph }
-
-  -- the end: flushed, with the marks that wait at the end of the last line
+  -- the end: flushed, with the marks that wait at the end of the last line; where there is none, they wait on
   abbrev pub finish : Block P R T M → Option (Block P R T M)
-  finish b = option_map (λ (e : Block P R T M). end_behind e e.lines) (flush (end_table b))
+  finish b = option_map
+      (λ (e : Block P R T M).
+      if is_empty e.lines then e
+      else record e { lines = marked_behind (parts.waiting e.paragraph) e.lines; paragraph = parts.without_waiting e.paragraph })
+      (flush (end_table b))
 
   -- texts that close the document, if there are any: a block of lines, cut at the block's width or left whole
   abbrev pub add_closing_lines : Block P R T M → (cut : Bool) → T → List (List ℕ) → Option (Block P R T M)
@@ -205,7 +176,7 @@ module _ {P R T M : Type 0} (parts : Parts P R T M) where
 
   -- ---- the operations that a layout is made of
 
-  abbrev pub operations : OperationsOn (Block P R T M) T M
+  abbrev pub operations : Operations (Block P R T M) T M
   operations = record {
     -- where a block ended, a blank text does nothing and another starts a block
     add_inline_text = λ b style cs.
@@ -220,7 +191,7 @@ module _ {P R T M : Type 0} (parts : Parts P R T M) where
     start_block = start_block;
     -- what is added next starts another block
     end_block = λ b. record b { at_block_end = true };
-    -- an empty block behind a prefix of so many columns
+    -- an empty block behind a prefix of this width
     sub_block = λ b prefix inner. option_map (λ (w : ℕ). inner_block b w) (inner_width b.setting prefix inner);
     append = append;
     -- a table begins on this grid, with borders under this tag if there are any. Its columns need so much, and its cells stand one
@@ -232,7 +203,8 @@ module _ {P R T M : Type 0} (parts : Parts P R T M) where
     begin_row = λ b. record b { table = option_map with_row_open b.table };
     -- an empty block for the row's next cell; none where the cell is skipped
     cell_block = λ b. option_map (λ (w : ℕ). inner_block b w) (next_cell_width b.setting.width b.table);
-    add_cell = add_cell;
+    -- the next cell is this block, flushed; a table that is open in it is over
+    add_cell = λ b cell. flush (end_table cell) >>= λ c. cell_added b b.table c;
     -- the next cell is skipped
     skip_cell = λ b. record b { table = option_map skipped b.table };
     end_row = λ b. row_ended b b.table;

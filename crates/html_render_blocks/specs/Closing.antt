@@ -10,13 +10,9 @@ use Rattle.html_render_blocks.specs.declared.block.BlockSetting.{BlockSetting}
 abbrev pub line_setting : BlockSetting → Setting
 line_setting s = record { width = s.width; overflow = s.overflow }
 
--- a space for a newline
-abbrev pub unbroken : ℕ → ℕ
-unbroken c = if c == 10 then 32 else c
-
 -- a text with a space for each newline
 abbrev pub on_one_line : List ℕ → List ℕ
-on_one_line cs = map unbroken cs
+on_one_line cs = map (λ c. if c == 10 then 32 else c) cs
 
 -- the lines of texts, cut where they are full or left whole
 abbrev pub closing_lines : {T M : Type 0} → Setting → (cut : Bool) → T → List (List ℕ) → Option (List (Line T M))

@@ -3,8 +3,8 @@ pub mod Operations
 pub mod Joined
 pub mod Closing
 pub mod OpenRows
-pub mod Tables
 pub mod Parts
+pub mod Tables
 pub mod Block
 -- its definition on whole lists, and the machine that is fed character by character
 pub mod Definition

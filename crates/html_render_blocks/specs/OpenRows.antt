@@ -1,5 +1,5 @@
 -- What stands in a row of a table: its cells, placeholders and gaps over the table's columns.
-use Rattle.std.specs.Prelude.{ℕ, ◌+◌, ◌-◌, ◌==◌, Bool, true, false, List, [], ◌∷◌, ◌++◌, length, sum, take, drop}
+use Rattle.std.specs.Prelude.{ℕ, suc, ◌+◌, ◌-◌, ◌==◌, Bool, true, false, List, [], ◌∷◌, ◌++◌, length, sum, take, drop}
 use Rattle.std.specs.Prelude.{Option, Some, None, flat_map, if◌then◌else◌}
 use Rattle.std.specs.List.{list_any}
 use Rattle.html_render_parts.specs.declared.table.CellKind.{CellKind}
@@ -27,18 +27,10 @@ places widths [] = []
 places widths (s ∷ ss) =
     record { is_cell = is_cell s.kind; width = cell_width (take s.columns widths) } ∷ places (drop s.columns widths) ss
 
-abbrev pub has_placeholder : List PlacedCell → Bool
-has_placeholder cells = list_any (λ s. is_placeholder s.kind) cells
-
 -- the columns of the next cell of a row, unless it is skipped
 abbrev pub next_width : List RowPlace → Option ℕ
 next_width [] = None
 next_width (p ∷ ps) = if p.is_cell then p.width else next_width ps
-
--- the places behind the next cell
-abbrev pub behind_cell : List RowPlace → List RowPlace
-behind_cell [] = []
-behind_cell (p ∷ ps) = if p.is_cell then ps else behind_cell ps
 
 -- a place in which nothing stands
 abbrev pub empty_cell : {T M : Type 0} → Option ℕ → List (KeptCell T M)
@@ -60,11 +52,12 @@ pub record OpenRow (T M : Type 0) : Type 0 where
   pub placeholder : Bool
 
 abbrev pub open_row : {T M : Type 0} → (widths : List ℕ) → List PlacedCell → OpenRow T M
-open_row widths cells = record { ahead = places widths cells; cells = []; placeholder = has_placeholder cells }
+open_row widths cells = record { ahead = places widths cells; cells = []; placeholder = list_any (λ s. is_placeholder s.kind) cells }
 
--- with its next cell, or without that
+-- with its next cell, or without that: nothing stands in the places before it
 abbrev pub past_cell : {T M : Type 0} → OpenRow T M → List (KeptCell T M) → OpenRow T M
-past_cell r cell = record { ahead = behind_cell r.ahead; cells = r.cells ++ empty_cells (before_cell r.ahead) ++ cell; placeholder = r.placeholder }
+past_cell r cell =
+    record r { ahead = drop (suc (length (before_cell r.ahead))) r.ahead; cells = r.cells ++ empty_cells (before_cell r.ahead) ++ cell }
 
 -- the whole row: places that no cell came to are empty
 abbrev pub whole_row : {T M : Type 0} → OpenRow T M → TableRow T M

@@ -5,14 +5,14 @@ use Rattle.html_render_parts.specs.TableCells.{CellGrid}
 use Rattle.html_render_lines.specs.declared.character.TextStyle.{TextStyle}
 
 -- B are the blocks, T the tags and M the marks; none is "too narrow"
-pub record OperationsOn (B T M : Type 0) : Type 0 where
+pub record Operations (B T M : Type 0) : Type 0 where
   pub add_inline_text : B → TextStyle T → List ℕ → Option B
   pub add_mark : B → M → B
   pub new_line : B → Option B
   pub new_line_hard : B → Option B
   pub start_block : B → Option B
   pub end_block : B → B
-  pub sub_block : B → ℕ → ℕ → Option B  -- behind a prefix of so many columns, with so many columns of its own or more
+  pub sub_block : B → ℕ → ℕ → Option B  -- by the width of its prefix, and its own least width
   pub append : B → B → T → List ℕ → List ℕ → Option B  -- a tag, and what the first line and the later ones stand behind
   pub begin_table : B → T → (borders stacked : Bool) → CellGrid → List ColumnNeed → Option B  -- with the tag of its borders
   pub begin_row : B → B
@@ -21,10 +21,6 @@ pub record OperationsOn (B T M : Type 0) : Type 0 where
   pub skip_cell : B → B
   pub end_row : B → Option B
   pub end_table : B → B
-
--- in a layout marks are numbers
-abbrev pub Operations : Type 0 → Type 0 → Type 0
-Operations B T = OperationsOn B T ℕ
 
 -- none is "too narrow"
 pub record DocumentEnd (B T : Type 0) : Type 0 where

@@ -3,7 +3,7 @@
 //! `block.add_inline_text("a", style)?`, `block.new_line_hard()?` and `block.add_inline_text("b", style)?` make the
 //! lines `a` and `b`, once the block is flushed.
 
-ghost use Rattle.std.specs.Prelude.{◌≡◌, ◌==◌, ◌||◌, cond, not, length, nat_le, [], ◌++◌, ◌∷◌, Some, None, map, option_map};
+ghost use Rattle.std.specs.Prelude.{◌≡◌, ◌==◌, ◌||◌, cond, not, length, nat_le, [], ◌++◌, ◌∷◌, Some, None, map, min, option_map, unwrap_or};
 ghost use Rattle.std.specs.Prelude.{OnOk, IfOk, IfErr, IsTrue};
 ghost use Rattle.std.specs.List.{list_all};
 ghost use Rattle.std.specs.Str.{chars};
@@ -12,9 +12,9 @@ ghost use Rattle.html_render_lines.specs.Character.{is_collapsible};
 ghost use Rattle.html_render_lines.specs.Line.{columns, marks_line};
 ghost use Rattle.html_render_paragraphs.specs.Stream.{after, styled};
 ghost use Rattle.html_render_lines.specs.TaggedText.{counted, text_columns, under};
-ghost use Rattle.html_render_pictures.specs.Picture.{is_empty};
-ghost use Rattle.html_render_blocks.specs.Joined.{moved};
-ghost use Rattle.html_render_blocks.specs.Block.{is_blank, mark_items, wrap_width, inner_width};
+ghost use Rattle.html_render_blocks.specs.Joined.{prefixed, fitting, moved};
+ghost use Rattle.html_render_blocks.specs.Block.{is_blank, mark_items, inner_width};
+ghost use Rattle.html_render_lines.specs.Line.{is_empty};
 ghost use Rattle.html_render_blocks.specs.Block as block;
 ghost use Rattle.html_render_blocks.specs.Machine as machine;
 ghost use Rattle.html_render_blocks.specs.Machine.{machine};
@@ -119,7 +119,7 @@ fn is_collapsible_alone(text: &str) -> bool
 
 /// The columns of a paragraph's lines: those of its block, or fewer.
 fn wrap_width(width: usize, most: Option<usize>) -> usize
-    ensures { result ≡ wrap_width width most }
+    ensures { result ≡ unwrap_or (option_map (min width) most) width }
 {
     match most {
         Some(most) => width.min(most),
@@ -127,7 +127,7 @@ fn wrap_width(width: usize, most: Option<usize>) -> usize
     }
 }
 
-/// The columns behind a prefix of so many columns, at least `inner`; none where they aren't there, with overflow off.
+/// The columns behind a prefix of `prefix` columns, at least `inner`; none where they aren't there, with overflow off.
 fn inner_width(setting: BlockSetting, prefix: usize, inner: usize) -> Option<usize>
     ensures { result ≡ inner_width setting prefix inner }
 {
@@ -182,7 +182,7 @@ impl<T: Tag, M: Copy> Block<T, M> {
         }
     }
 
-    /// An empty block inside this one, behind a prefix of so many columns, with at least `inner` columns of its own.
+    /// An empty block inside this one, behind a prefix of `prefix` columns, with at least `inner` columns of its own.
     ///
     /// # Errors
     ///
@@ -468,7 +468,7 @@ impl<T: Tag, M: Copy> Block<T, M> {
     }
 
     /// Adds the lines of a block that is flushed, as this one is, and the marks that wait behind them.
-    #[tactic(auto, using(html_render_values::specs::laws::Outcome::refusals))]
+    #[tactic(auto, using(html_render_values::specs::laws::Outcome::refusals, crate::proofs::Appending::none_put))]
     fn append_lines(
         &mut self,
         lines: Vec<Line<T, M>>,
@@ -477,10 +477,11 @@ impl<T: Tag, M: Copy> Block<T, M> {
         first: &str,
         later: &str,
     ) -> Result<(), Error>
-        ensures ok { OnOk result (block.append_lines machine self.old (under tag (chars first.now)) (under tag (chars later.now))
-            lines.items end.now ≡ Some self.new) }
-        ensures err { IfErr result (λ e. Refuses e (block.append_lines machine self.old (under tag (chars first.now)) (under tag (chars later.now))
-            lines.items end.now)) }
+        ensures ok { OnOk result (option_map (λ all. block.put_lines machine self.old all end.now) (fitting self.old.setting.width self.old.setting.overflow
+            (prefixed (under tag (chars first.now)) (under tag (chars later.now)) lines.items)) ≡ Some self.new) }
+        ensures err { IfErr result (λ e. Refuses e (option_map (λ all. block.put_lines machine self.old all end.now)
+            (fitting self.old.setting.width self.old.setting.overflow
+            (prefixed (under tag (chars first.now)) (under tag (chars later.now)) lines.items)))) }
     {
         if lines.is_empty() {
             return self.add_marks(end);

@@ -6,7 +6,7 @@ use Rattle.html_render_insertions.specs.declared.drafts.Draft.{Draft}
 use Rattle.html_render_building.specs.declared.building.Open.{Open}
 use Rattle.html_render_building.specs.Building.{Arrival, Holding, arrive, arrive_any, kept_arrival, table_alone, table_stands, with_table}
 use Rattle.html_render_building.specs.Elements.{keeps, received, told_of_table}
-use Rattle.html_render_building.specs.declared.elements.Role.TheVariants as role
+use Rattle.html_render_conversion.specs.Results as role
 use Rattle.html_render_nodes.specs.declared.tree.NodeKind.{NodeKind}
 use Rattle.html_render_insertions.specs.Drafts.{first_kind, plain_draft}
 use Rattle.html_render_nodes.specs.Tables.{TableParts}

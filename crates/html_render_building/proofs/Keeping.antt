@@ -1,5 +1,5 @@
 -- What was kept since there were some drafts is changed, and nothing else.
-use Rattle.std.proofs.Common.{◌≡◌, ◌≢◌, ℕ, sym, ap, ◌∙◌, refl, arith, Option, Some, None, IfSome, IfNone}
+use Rattle.std.proofs.Common.{◌≡◌, ◌≢◌, ℕ, sym, ap, ◌∙◌, refl, arith, Option, Some, None, IfNone}
 use Rattle.html_render_values.specs.Forest.{Forest, none, node, count, followed_by}
 use Rattle.html_render_nodes.specs.Splits.{SplitAt}
 use Rattle.html_render_nodes.specs.laws.Splits.{count-followed_by}
@@ -62,10 +62,6 @@ pub none_of_all : (start : ℕ) (t : Forest Draft) (s : SplitAt t start) → t �
 none_of_all start t s e = all_none s.children s.beside (sym s.is ∙ e)
 
 -- ---- what may be answered
-
-pub some-weaker : {X : Type 0} (o : Option X) (P Q : X → Type 0) → ((x : X) → P x → Q x) → IfSome o P → IfSome o Q
-some-weaker None P Q f h = tt
-some-weaker (Some x) P Q f h = f x h
 
 pub none-weaker : {X : Type 0} (o : Option X) (P Q : Type 0) → (P → Q) → IfNone o P → IfNone o Q
 none-weaker None P Q f h = f h

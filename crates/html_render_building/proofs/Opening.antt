@@ -147,7 +147,7 @@ module _ (rules : List StyleRule) (dom : Dom) (f : IsForest dom) (h : ℕ) (at :
         within true = omega arith
         within false = omega arith
 
-    -- a table and what stands round it
+    -- a table and its wrapper
     opened_table : (around : Element) → es_now ≡ es ++ table_elements dom h (count ds) around → ds_now ≡ ds →
         (let start : Holding = record { element = around; drafts = none } in
         ((inside Feet table_start >>= (λ feet. inside Others feet >>= (λ table. closed_into table start

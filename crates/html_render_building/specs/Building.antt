@@ -25,12 +25,11 @@ use Rattle.html_render_conversion.specs.Outlines.{outline_of}
 use Rattle.html_render_building.specs.declared.elements.Element.{Element}
 use Rattle.html_render_building.specs.declared.elements.OpenKind.{OpenKind}
 use Rattle.html_render_building.specs.declared.elements.OpenKind.TheVariants.{Node, Captioned, Table, Rows, Row, Cell, Caption}
-use Rattle.html_render_building.specs.declared.elements.Role.{Role}
-use Rattle.html_render_building.specs.declared.elements.Role.TheVariants as role
+use Rattle.html_render_conversion.specs.Results.{Role, holds_insertions}
+use Rattle.html_render_conversion.specs.Results as role
 use Rattle.html_render_building.specs.declared.order.Pick.{Pick}
 use Rattle.html_render_building.specs.declared.order.Pick.TheVariants.{All, Captions, Feet, Others}
 use Rattle.html_render_building.specs.Elements.{keeps, opened_kind, received, told_of_table}
-use Rattle.html_render_building.specs.Kinds.{holds_insertions}
 use Rattle.html_render_building.specs.Order.{picks}
 use Rattle.html_render_building.specs.Spans.{spans_of_parts}
 
@@ -162,7 +161,7 @@ closed in_table h =
 
 -- ---- tables
 
--- what stands round a table, once this is closed over these rows
+-- the wrapper of a table, once this is closed over these rows
 abbrev pub with_table : TableParts → (is_stray : Bool) → (rows : Forest Draft) → Holding → Holding
 with_table grid is_stray rows p = record {
   element = told_of_table is_stray p.element;
@@ -234,7 +233,7 @@ come (Alone n) inside p = Some (arrive (leaf_arrival (draft_of n)) p)
 come (Over k style if_empty has_children mark before after) inside p =
     come_of (opened_kind k) style if_empty has_children (inserted_of mark before after) inside p
 
--- an element once all have come of some trees that are picked among these, the last first
+-- an element once all have come of some trees that are picked from these, the last first
 abbrev pub arrivals : List StyleRule → Forest Content → Pick → Holding → Option Holding
 arrivals rules none pick p = Some p
 arrivals rules (node content children others) pick p = do

@@ -1,18 +1,17 @@
 -- An element whose children are converted from the last to the first: what has come of them so far.
-use Rattle.std.specs.Prelude.{Bool, true, false, not, ◌&&◌, ◌||◌, [], ◌∷◌, if◌then◌else◌}
+use Rattle.std.specs.Prelude.{Bool, true, false, is_some, not, ◌&&◌, ◌||◌, [], ◌∷◌, if◌then◌else◌}
 use Rattle.html_render_nodes.specs.declared.tree.NodeKind.{NodeKind}
-use Rattle.html_render_nodes.specs.declared.tree.NodeKind.TheVariants.{Link}
 use Rattle.html_render_conversion.specs.declared.tables.Part.{Part as TablePart}
 use Rattle.html_render_conversion.specs.declared.tables.Part.TheVariants as part
 use Rattle.html_render_conversion.specs.declared.mapping.ElementKind.{ElementKind}
 use Rattle.html_render_conversion.specs.declared.mapping.ElementKind.TheVariants as element
-use Rattle.html_render_conversion.specs.Results.{shows_nothing}
 use Rattle.html_render_building.specs.declared.elements.Element.{Element}
 use Rattle.html_render_building.specs.declared.elements.OpenKind.{OpenKind}
 use Rattle.html_render_building.specs.declared.elements.OpenKind.TheVariants.{Node, Captioned, Table, Rows, Row, Cell, Caption}
-use Rattle.html_render_building.specs.declared.elements.Role.{Role}
-use Rattle.html_render_building.specs.declared.elements.Role.TheVariants as role
-use Rattle.html_render_conversion.specs.Results.{keeps as keeps_kind}
+use Rattle.html_render_building.specs.declared.elements.Role.{Role as CodeRole}
+use Rattle.html_render_building.specs.declared.elements.Role.TheVariants as code
+use Rattle.html_render_conversion.specs.Results as role
+use Rattle.html_render_conversion.specs.Results.{Role, cell_of, is_caption, row_of, stands_alone, keeps as keeps_kind, counts as counts_for}
 
 -- what an element of this kind is while it is open
 abbrev pub opened_part : TablePart → OpenKind
@@ -29,27 +28,17 @@ opened_kind (element.Part p) = opened_part p
 
 -- ---- roles
 
-abbrev pub is_caption : Role → Bool
-is_caption role.Caption = true
-is_caption _ = false
+-- what the code says that something is to a table, as the definition says it
+abbrev pub meant : CodeRole → Role
+meant code.Contents = role.Contents
+meant code.Caption = role.Caption
+meant (code.Rows behind rows) = role.Rows behind rows
+meant (code.Row cells) = role.Row cells
+meant (code.Cell span) = role.Cell span
 
 abbrev pub are_rows : Role → Bool
 are_rows (role.Rows behind rows) = true
 are_rows _ = false
-
-abbrev pub is_row : Role → Bool
-is_row (role.Row cells) = true
-is_row _ = false
-
-abbrev pub is_cell : Role → Bool
-is_cell (role.Cell span) = true
-is_cell _ = false
-
--- whether something may stand in no table: a caption is a container there
-abbrev pub stands_alone : Role → Bool
-stands_alone role.Contents = true
-stands_alone role.Caption = true
-stands_alone _ = false
 
 -- ---- what comes to an element
 
@@ -58,22 +47,14 @@ abbrev pub keeps : OpenKind → Role → NodeKind → Bool
 keeps (Node parent) r kind = keeps_kind parent kind
 keeps Captioned r kind = is_caption r
 keeps (Table parts) r kind = are_rows r
-keeps (Rows behind rows) r kind = is_row r
-keeps (Row cells) r kind = is_cell r
+keeps (Rows behind rows) r kind = is_some (row_of r)
+keeps (Row cells) r kind = is_some (cell_of r)
 keeps (Cell span) r kind = true
 keeps Caption r kind = true
 
--- whether a link counts it
-abbrev pub link_counts : Role → NodeKind → (has_children : Bool) → Bool
-link_counts r kind has_children = not (stands_alone r && shows_nothing kind has_children)
-
-abbrev pub node_counts : (parent : NodeKind) → Role → NodeKind → (has_children : Bool) → Bool
-node_counts (Link target) r kind has_children = link_counts r kind has_children
-node_counts _ r kind has_children = true
-
 -- whether it counts as a result
 abbrev pub counts : OpenKind → Role → NodeKind → (has_children : Bool) → Bool
-counts (Node parent) r kind has_children = node_counts parent r kind has_children
+counts (Node parent) r kind has_children = counts_for (element.Node parent) r kind has_children
 counts Captioned r kind has_children = is_caption r
 counts (Table parts) r kind has_children = has_children && are_rows r
 counts _ r kind has_children = true

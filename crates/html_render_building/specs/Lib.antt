@@ -1,6 +1,5 @@
 -- the nodes of a document, made in one pass
 pub mod Spans
-pub mod Kinds
 pub mod Elements
 pub mod ChildLists
 pub mod Order

@@ -1,6 +1,6 @@
 -- The elements that are open while a document is converted, the innermost last.
 use Rattle.std.specs.Prelude.{◌≡◌, ℕ, ◌+◌, List, [], ◌∷◌, ◌++◌, length, slice_index_or, Bool, Option, Some, None, if◌then◌else◌}
-use Rattle.html_render_values.specs.Forest.{Forest}
+use Rattle.html_render_values.specs.Forest.{Forest, count}
 use Rattle.html_render_dom.specs.Dom.{Dom, children_at}
 use Rattle.html_render_nodes.specs.Splits.{SplitAt}
 use Rattle.html_render_insertions.specs.declared.drafts.Draft.{Draft}
@@ -9,7 +9,6 @@ use Rattle.html_render_conversion.specs.declared.mapping.Outline.{Outline}
 use Rattle.html_render_conversion.specs.declared.mapping.Outline.TheVariants.{Nothing, Alone, Over}
 use Rattle.html_render_building.specs.declared.elements.Element.{Element}
 use Rattle.html_render_building.specs.Elements.{opened_kind}
-use Rattle.html_render_values.specs.Forest.{count}
 use Rattle.html_render_building.specs.declared.building.Open.{Open}
 use Rattle.html_render_building.specs.Building.{Holding, arrive, fresh, is_captioned, leaf_arrival, table_start}
 use Rattle.html_render_building.specs.Order.{caption_order, children_in, listed_in, part_order}
@@ -19,7 +18,7 @@ abbrev pub own_count : Option (List ℕ) → ℕ
 own_count None = 0
 own_count (Some own) = length own
 
--- a table within what stands round it: its children come apart, the captions after what is below it
+-- a table within its wrapper: its children come apart, the captions after what is below it
 abbrev pub table_elements : Dom → (handle start : ℕ) → (around : Element) → List Open
 table_elements dom handle start around =
     let captions = caption_order dom (children_at dom handle) in

@@ -2,15 +2,12 @@
 use Rattle.std.specs.Prelude.{ℕ, Bool, true, false, not, ◌&&◌, List, ◌++◌, codes, filter, Option, Some, None, if◌then◌else◌}
 use Rattle.std.specs.List.{list_any}
 use Rattle.std.specs.Str.{bytes_eq}
-use Rattle.html_render_dom.specs.Content.{Space, html, Content, element}
+use Rattle.html_render_dom.specs.Content.{Content, element}
 use Rattle.html_render_dom.specs.Dom.{Dom, content_at, children_at}
 use Rattle.html_render_building.specs.ChildLists.{InOrder}
 use Rattle.html_render_building.specs.declared.order.Pick.{Pick}
 use Rattle.html_render_building.specs.declared.order.Pick.TheVariants.{All, Captions, Feet, Others}
-
-abbrev pub is_html : Space → Bool
-is_html html = true
-is_html _ = false
+use Rattle.html_render_conversion.specs.Marks.{is_html}
 
 -- whether a node is an element of HTML of this name
 abbrev pub is_named : (name : List ℕ) → Content → Bool

@@ -1,3 +1,4 @@
+pub mod Roles
 pub mod Mappings
 pub mod Arrivals
 pub mod Shown

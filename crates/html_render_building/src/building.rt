@@ -16,10 +16,10 @@ ghost use Rattle.html_render_values.specs.Forest.{Forest, followed_by, node, non
 ghost use Rattle.html_render_insertions.specs.Drafts.{draft, draft_of, expanded, first_kind, insert_first, with_first_style};
 ghost use Rattle.html_render_building.specs.Building.{Holding, arrive, leaf_arrival, over_draft, are_any, beside_insertions, goes_beside, with_insertions, node_made, row_made, rows_made, captioned_made, caption_kind};
 ghost use Rattle.html_render_building.specs.Building.{document_of, document_start, kept_arrival, table_alone, table_made, arrive_any, closed, closed_into, is_captioned, made_of, mark_left, table_closed, table_stands};
-ghost use Rattle.html_render_building.specs.Elements.{keeps, received, told_of_table};
+ghost use Rattle.html_render_building.specs.Elements.{keeps, meant, received, told_of_table};
 ghost use Rattle.html_render_building.specs.Opened.{opened_elements, other_elements, table_elements, Closed, Comes, IsAfter, IsLast, IsOpened, NextChild};
 ghost use Rattle.html_render_building.specs.declared.building.Open.{Open};
-ghost use Rattle.html_render_building.specs.declared.elements.Role.TheVariants as role;
+ghost use Rattle.html_render_conversion.specs.Results as role;
 
 use crate::elements::{Element, OpenKind, Role};
 use crate::kinds::holds_insertions;
@@ -58,9 +58,9 @@ fn receive(
     is_stray: bool,
 ) -> Result<bool, Error>
     ensures ok { OnOk result ((below : List Open) (p : Open) → IsLast elements.old.items below p →
-        elements.new.items ≡ below ++ record p { element = received role kind.now has_children is_stray p.element } ∷ []) }
+        elements.new.items ≡ below ++ record p { element = received (meant role) kind.now has_children is_stray p.element } ∷ []) }
     ensures kept { IfOk result (λ kept. (below : List Open) (p : Open) → IsLast elements.old.items below p →
-        kept ≡ keeps p.element.kind role kind.now) }
+        kept ≡ keeps p.element.kind (meant role) kind.now) }
     ensures err { IfErr result (λ e. e ≡ Error.OutOfMemory) }
 {
     match elements.last_mut() {
@@ -96,7 +96,7 @@ fn put_over(
 ) -> Result<(), Error>
     requires { SplitAt drafts.old start }
     ensures ok { OnOk result (Comes start elements.old.items drafts.old elements.new.items drafts.new
-        (λ kept. λ p. arrive (over_draft role draft has_children is_stray kept) p)) }
+        (λ kept. λ p. arrive (over_draft (meant role) draft has_children is_stray kept) p)) }
     ensures err { IfErr result (λ e. e ≡ Error.OutOfMemory) }
 {
     if receive(elements, role, &draft.kind, has_children, is_stray)? {
@@ -173,7 +173,7 @@ fn put_inside(
 ) -> Result<(), Error>
     requires { SplitAt drafts.old start }
     ensures ok { OnOk result (Comes start elements.old.items drafts.old elements.new.items drafts.new
-        (λ kept. λ p. arrive (with_insertions role node has_children is_stray kept) p)) }
+        (λ kept. λ p. arrive (with_insertions (meant role) node has_children is_stray kept) p)) }
     ensures err { IfErr result (λ e. e ≡ Error.OutOfMemory) }
 {
     let has_children = either(has_insertions(&node), has_children);
@@ -257,7 +257,7 @@ fn put_kept(
 ) -> Result<(), Error>
     requires { SplitAt drafts.old start }
     ensures ok { OnOk result (Comes start elements.old.items drafts.old elements.new.items drafts.new
-        (λ kept. λ p. arrive (kept_arrival role kind.now has_children is_stray kept) p)) }
+        (λ kept. λ p. arrive (kept_arrival (meant role) kind.now has_children is_stray kept) p)) }
     ensures err { IfErr result (λ e. e ≡ Error.OutOfMemory) }
 {
     if !receive(elements, role, kind, has_children, is_stray)? {
@@ -453,7 +453,7 @@ fn close_caption(
     )
 }
 
-/// What stands round a table comes to know of it.
+/// The wrapper of a table comes to know of it.
 fn tell_of_table(is_stray: bool, elements: &mut Vec<Open>)
     ensures { (below : List Open) (p : Open) → IsLast elements.old.items below p →
         elements.new.items ≡ below ++ record p { element = told_of_table is_stray p.element } ∷ [] }
@@ -463,7 +463,7 @@ fn tell_of_table(is_stray: bool, elements: &mut Vec<Open>)
     }
 }
 
-/// A table with its grid comes to what stands round it, over its rows, if there are any.
+/// A table with its grid comes to its wrapper, over its rows, if there are any.
 fn close_table(
     grid: Grid,
     has_rows: bool,
@@ -643,7 +643,7 @@ fn close_element(
     }
 }
 
-/// Opens a table and what stands round it: its children come apart, the captions after what is below it.
+/// Opens a table and its wrapper: its children come apart, the captions after what is below it.
 fn open_table(
     alloc: Global,
     dom: &RcDom,

@@ -1,7 +1,8 @@
 //! What an element becomes, as far as is known of it while its children are converted, from the last to the first.
 
 ghost use Rattle.std.specs.Prelude.{◌≡◌, false, [], OnOk, IfErr, IfOk, IfNone};
-ghost use Rattle.html_render_building.specs.Elements.{counts, gathered, has_place, keeps, opened_kind, received, stands_alone, told_of_table};
+ghost use Rattle.html_render_building.specs.Elements.{counts, gathered, has_place, keeps, meant, opened_kind, received, told_of_table};
+ghost use Rattle.html_render_conversion.specs.Results.{stands_alone};
 ghost use Rattle.html_render_conversion.specs.Conversion.{vanishes};
 ghost use Rattle.html_render_building.specs.Building.{fresh, is_captioned, rows_of, table_start};
 
@@ -68,7 +69,7 @@ impl OpenKind {
 
     /// Whether what comes in this role, of this kind, is kept.
     fn keeps(&self, role: &Role, kind: &NodeKind) -> bool
-        ensures { result ≡ keeps self.now role.now kind.now }
+        ensures { result ≡ keeps self.now (meant role.now) kind.now }
     {
         match self {
             OpenKind::Node(parent) => keeps_kind(parent, kind),
@@ -82,7 +83,7 @@ impl OpenKind {
 
     /// Whether it counts as a result of a child.
     fn counts(&self, role: &Role, kind: &NodeKind, has_children: bool) -> bool
-        ensures { result ≡ counts self.now role.now kind.now has_children }
+        ensures { result ≡ counts self.now (meant role.now) kind.now has_children }
     {
         match self {
             OpenKind::Node(NodeKind::Link(_)) => {
@@ -96,7 +97,7 @@ impl OpenKind {
 
     /// Whether what comes in this role has its place here, if it is kept.
     fn has_place(&self, role: &Role) -> bool
-        ensures { result ≡ has_place self.now role.now }
+        ensures { result ≡ has_place self.now (meant role.now) }
     {
         match self {
             OpenKind::Node(_) | OpenKind::Cell(_) | OpenKind::Caption => role.stands_alone(),
@@ -124,7 +125,7 @@ impl OpenKind {
 
     /// Gathers what comes in this role, if it belongs here.
     fn gather(&mut self, role: Role) -> Result<(), Error>
-        ensures ok { OnOk result (self.new ≡ gathered role self.old) }
+        ensures ok { OnOk result (self.new ≡ gathered (meant role) self.old) }
         ensures err { IfErr result (λ e. e ≡ Error.OutOfMemory) }
     {
         match role {
@@ -148,7 +149,7 @@ impl OpenKind {
 impl Role {
     /// Whether it may stand in no table: a caption is a container there.
     fn stands_alone(&self) -> bool
-        ensures { result ≡ stands_alone self.now }
+        ensures { result ≡ stands_alone (meant self.now) }
     {
         matches!(self, Role::Contents | Role::Caption)
     }
@@ -197,7 +198,7 @@ impl Element {
         }
     }
 
-    /// A table within what stands round it, before anything has come of its children.
+    /// A table within its wrapper, before anything has come of its children.
     pub fn table(alloc: Global) -> Element
         ensures { result ≡ table_start.element }
     {
@@ -222,8 +223,8 @@ impl Element {
         has_children: bool,
         is_stray: bool,
     ) -> Result<bool, Error>
-        ensures ok { OnOk result (self.new ≡ received role kind.now has_children is_stray self.old) }
-        ensures kept { IfOk result (λ kept. kept ≡ keeps self.old.kind role kind.now) }
+        ensures ok { OnOk result (self.new ≡ received (meant role) kind.now has_children is_stray self.old) }
+        ensures kept { IfOk result (λ kept. kept ≡ keeps self.old.kind (meant role) kind.now) }
         ensures err { IfErr result (λ e. e ≡ Error.OutOfMemory) }
     {
         if !self.has_results {

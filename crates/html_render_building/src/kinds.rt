@@ -3,7 +3,7 @@
 ghost use Rattle.std.specs.Prelude.{◌≡◌};
 ghost use Rattle.html_render_conversion.specs.Conversion.{is_blank};
 ghost use Rattle.html_render_conversion.specs.Results.{keeps as keeps_kind, shows_nothing};
-ghost use Rattle.html_render_building.specs.Kinds.{holds_insertions};
+ghost use Rattle.html_render_conversion.specs.Results.{holds_insertions};
 
 use html_render_nodes::tree::NodeKind;
 

@@ -140,7 +140,7 @@ fn greatest_width(rows: &[RowCells]) -> u128
     widest
 }
 
-/// What a cell spans in a row that is narrower by so many columns than the widest of its part of the table.
+/// What a cell spans in a row that is narrower by `missing` columns than the widest of its part of the table.
 fn spanned(missing: u128, cell: &CellSpan) -> Span
     requires { missing + 1 < 2 ^ 128 }
     ensures { result ≡ spanned missing cell.now }

@@ -1,7 +1,7 @@
 -- The number that a text is, and what `parse` reads.
 use Rattle.std.proofs.Common.{◌≡◌, ℕ, ◌^◌, ◌<◌, reverse, inl, inr, Bool, true, false, ◌&&◌, if◌then◌else◌, List, [], ◌∷◌, length, map, find, option_map, Some}
 use Rattle.std.proofs.Common.{None, Result, Ok, Err, unwrap_or, refl, sym, ap, ◌∙◌, ◌++◌, nat_lt}
-use Rattle.std.proofs.lemmas.Bool.{cases_Bool, ltb-true, lt-ltb}
+use Rattle.std.proofs.lemmas.Bool.{and_parts, cases_Bool, ltb-true, lt-ltb}
 use Rattle.std.proofs.lemmas.List.{reverse-append, map-append}
 use Rattle.std.proofs.lemmas.Str.Parse.{numerals_by_value, tells_all_ascii_digits}
 use Rattle.std.specs.Int.{w64}
@@ -24,10 +24,6 @@ fits-test : (z : ℤ) → FitsSigned w64 z → fits_i64 z ≡ true
 fits-test (pos n) h = lt-ltb n (2 ^ 63) h.sfits
 fits-test (negsuc n) h = lt-ltb n (2 ^ 63) h.sfits
 
-each : (a b : Bool) → (a && b) ≡ true → (a ≡ true) × (b ≡ true)
-each true b h = (refl, h)
-each false b h = cc
-
 module _ (written : List ℕ) where
   abbrev digits : List ℕ
   digits = without_leading_sign written
@@ -43,8 +39,8 @@ module _ (written : List ℕ) where
 
   tested : test ≡ true → IsNumber
   tested h =
-      let parts = each (nat_lt 0 (length digits) && all_ascii_digits digits) (fits_i64 number) h in
-      let first = each (nat_lt 0 (length digits)) (all_ascii_digits digits) parts.0 in
+      let parts = and_parts (nat_lt 0 (length digits) && all_ascii_digits digits) (fits_i64 number) h in
+      let first = and_parts (nat_lt 0 (length digits)) (all_ascii_digits digits) parts.0 in
       let own = numerals_by_value (λ ds. all_ascii_digits ds ≡ true) tells_all_ascii_digits in
       ((ltb-true 0 (length digits) first.0, own.to digits first.1), fits number parts.1)
 
@@ -82,8 +78,8 @@ module _ (written : List ℕ) where
 
   size_tested : size_test ≡ true → IsSize
   size_tested h =
-      let parts = each (nat_lt 0 (length size_digits) && all_ascii_digits size_digits) (nat_lt size (2 ^ 64)) h in
-      let first = each (nat_lt 0 (length size_digits)) (all_ascii_digits size_digits) parts.0 in
+      let parts = and_parts (nat_lt 0 (length size_digits) && all_ascii_digits size_digits) (nat_lt size (2 ^ 64)) h in
+      let first = and_parts (nat_lt 0 (length size_digits)) (all_ascii_digits size_digits) parts.0 in
       let own = numerals_by_value (λ ds. all_ascii_digits ds ≡ true) tells_all_ascii_digits in
       ((ltb-true 0 (length size_digits) first.0, own.to size_digits first.1), ltb-true size (2 ^ 64) parts.1)
 

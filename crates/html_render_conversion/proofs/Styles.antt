@@ -1,6 +1,5 @@
 -- What the style of an element says where no rule selects it, where it is preformatted, and where it isn't displayed.
-use Rattle.std.proofs.Common.{◌≡◌, ℕ, Bool, true, false, if◌then◌else◌, List, [], ◌∷◌, ◌++◌, map, Option, is_some, option_to_list}
-use Rattle.std.proofs.Common.{sym, ap, ◌∙◌}
+use Rattle.std.proofs.Common.{◌≡◌, ℕ, Bool, true, false, if◌then◌else◌, List, [], ◌∷◌, ◌++◌, map, Option, is_some, option_to_list, sym, ap, ◌∙◌}
 use Rattle.html_render_dom.specs.Content.{Name, Property}
 use Rattle.html_render_dom.specs.Cascade.{value_of, winner}
 use Rattle.html_render_dom.specs.ElementStyle.{ElementStyle, element_style, is_selected, style_by, subject_of}
@@ -20,21 +19,25 @@ use Rattle.html_render_conversion.specs.declared.mapping.Mapping.{Mapping}
 use Rattle.html_render_conversion.specs.declared.mapping.Mapping.TheVariants.{Nothing, Leaf, Parent}
 use Rattle.html_render_conversion.specs.declared.mapping.Outline.TheVariants.{Over}
 use Rattle.html_render_conversion.specs.declared.mapping.Outline.TheVariants as outline
-use Rattle.html_render_conversion.specs.Conversion.{is_preformatted, last_white_space, preformatted_style, own_style, node_style}
+use Rattle.html_render_conversion.specs.Conversion.{last_white_space, preformatted_style, own_style, node_style}
+use Rattle.html_render_conversion.specs.Marks.{is_html}
+use Rattle.std.specs.Prelude.{◌&&◌, codes}
+use Rattle.std.specs.Str.{bytes_eq}
 use Rattle.html_render_conversion.specs.Outlines.{mark_alone, displayed_outline, styled_outline}
 
 pub unselected : (rules : List StyleRule) (name : Name) (properties : List Property) →
     is_selected (map rule_of rules) (subject_of name.local properties) ≡ false →
-    is_preformatted name.space name.local ≡ false → own_style (map rule_of rules) name properties ≡ style_by []
+    (is_html name.space && bytes_eq name.local (codes "pre")) ≡ false → own_style (map rule_of rules) name properties ≡ style_by []
 unselected rules name properties e other =
-    ap (λ b. preformatted_style b (element_style (map rule_of rules) name.local properties)) other
+    let style = element_style (map rule_of rules) name.local properties in
+    ap (λ b. if b then preformatted_style style else style) other
     ∙ unselected-style (map rule_of rules) name.local properties e
 
 -- `pre` gives its style an update of the least specificity behind those of all rules
 pub preformatted : (style : ElementStyle) (least : Specificity) (new : Option (Update WhiteSpace)) → least ≡ no_specificity →
     ((updates : List (Update WhiteSpace)) → style.white_space ≡ winner updates →
     new ≡ winner (updates ++ record last_white_space { specificity = least } ∷ [])) →
-    record style { white_space = new; internal_pre = true } ≡ preformatted_style true style
+    record style { white_space = new; internal_pre = true } ≡ preformatted_style style
 preformatted style least new e takes =
     let before = option_to_list style.white_space in
     ap (λ w. record style { white_space = w; internal_pre = true })

@@ -9,18 +9,15 @@ use Rattle.html_render_values.specs.declared.white_space.WhiteSpace.TheVariants.
 use Rattle.html_render_dom.specs.declared.style.origins.StyleOrigin.TheVariants.{Agent}
 use Rattle.html_render_dom.specs.declared.style.updates.Update.{Update}
 use Rattle.html_render_dom.specs.Cascade.{value_of, winner}
-use Rattle.html_render_dom.specs.Content.{Name, Property, Space, html, svg}
-use Rattle.html_render_dom.specs.Content.{Content}
+use Rattle.html_render_dom.specs.Content.{Name, Property, Space, html, svg, Content}
 use Rattle.html_render_dom.specs.ElementStyle.{ElementStyle, element_style}
 use Rattle.html_render_values.specs.Forest.{Forest}
 use Rattle.html_render_dom.specs.Rules.{Rule as StyleRule}
 use Rattle.html_render_dom.specs.Selectors.{first_value, is_filled}
 use Rattle.html_render_dom.specs.Specificities.{no_specificity}
 use Rattle.html_render_nodes.specs.declared.tree.Emphasis.TheVariants.{Em, Strong, Code}
-use Rattle.html_render_nodes.specs.declared.tree.ImageParts.{ImageParts}
-use Rattle.html_render_nodes.specs.declared.tree.NodeKind.TheVariants.{Text, Container, Break, Block, Div, Emphasis, Header}
-use Rattle.html_render_nodes.specs.declared.tree.NodeKind.TheVariants.{BlockQuote, Ul, Ol, ListItem, Dl, Dt, Dd}
-use Rattle.html_render_nodes.specs.declared.tree.NodeKind.TheVariants.{Strikeout, Superscript, Link, Image, Svg}
+use Rattle.html_render_nodes.specs.declared.tree.NodeKind.TheVariants.{Text, Container, Break, Block, Div, Emphasis, Header, BlockQuote, Ul, Ol}
+use Rattle.html_render_nodes.specs.declared.tree.NodeKind.TheVariants.{ListItem, Dl, Dt, Dd, Strikeout, Superscript, Link, Image, Svg}
 use Rattle.html_render_nodes.specs.declared.tree.NodeStyle.{NodeStyle}
 use Rattle.html_render_conversion.specs.declared.mapping.ElementKind.TheVariants.{Node, Part}
 use Rattle.html_render_conversion.specs.declared.mapping.IfEmpty.{IfEmpty}
@@ -29,6 +26,7 @@ use Rattle.html_render_conversion.specs.declared.mapping.Mapping.{Mapping}
 use Rattle.html_render_conversion.specs.declared.mapping.Mapping.TheVariants.{Nothing, Leaf, Parent}
 use Rattle.html_render_conversion.specs.declared.tables.Part.TheVariants as part
 use Rattle.html_render_conversion.specs.Images.{image_parts, drawing_title}
+use Rattle.html_render_conversion.specs.Marks.{is_html}
 use Rattle.html_render_conversion.specs.Tables.{span_of}
 
 abbrev pub is_one_of : List ℕ → List (List ℕ) → Bool
@@ -90,19 +88,15 @@ abbrev pub link_mapping : (target : Option (List ℕ)) → Mapping
 link_mapping None = Parent (Node Container) Stands
 link_mapping (Some target) = Parent (Node (Link target)) Vanishes
 
--- an `img` without a source is nothing
-abbrev pub image_mapping : ImageParts → Mapping
-image_mapping image = if is_filled image.source then Leaf (Image image) else Nothing
-
 -- U+200B, which takes no columns and between whose neighbours a line may end, in UTF-8
 abbrev pub zero_width_space : List ℕ
 zero_width_space = 226 ∷ 128 ∷ 139 ∷ []
 
--- what becomes of an element of HTML: its link goes to its first attribute `href`
+-- what becomes of an element of HTML: its link goes to its first attribute `href`, and an `img` without a source is nothing
 abbrev pub html_element_mapping : (name : List ℕ) → List Property → Mapping
 html_element_mapping name properties =
     if bytes_eq name (codes "a") then link_mapping (first_value (codes "href") properties)
-    else if bytes_eq name (codes "img") then image_mapping (image_parts properties)
+    else if bytes_eq name (codes "img") then (let image = image_parts properties in if is_filled image.source then Leaf (Image image) else Nothing)
     else if bytes_eq name (codes "wbr") then Leaf (Text zero_width_space)
     else html_mapping name properties
 
@@ -113,25 +107,19 @@ element_mapping svg name properties below =
     if bytes_eq name (codes "svg") then Leaf (Svg (drawing_title below)) else Parent (Node Container) Vanishes
 element_mapping _ name properties below = Parent (Node Container) Vanishes
 
--- whether an element is a `pre` of HTML
-abbrev pub is_preformatted : Space → (name : List ℕ) → Bool
-is_preformatted html name = bytes_eq name (codes "pre")
-is_preformatted _ name = false
-
 -- the update of white space that stands behind those of all rules where an element is preformatted
 abbrev pub last_white_space : Update WhiteSpace
 last_white_space = record { important = false; origin = Agent; specificity = no_specificity; value = Pre }
 
--- a style as it is, and with the last update where its element is preformatted
-abbrev pub preformatted_style : (preformatted : Bool) → ElementStyle → ElementStyle
-preformatted_style false style = style
-preformatted_style true style =
-    record style { white_space = winner (option_to_list style.white_space ++ last_white_space ∷ []); internal_pre = true }
+-- a style with that update
+abbrev pub preformatted_style : ElementStyle → ElementStyle
+preformatted_style style = record style { white_space = winner (option_to_list style.white_space ++ last_white_space ∷ []); internal_pre = true }
 
--- the style of an element: what the rules give it, and what `pre` gives itself
+-- the style of an element: what the rules give it, and what `pre` of HTML gives itself
 abbrev pub own_style : List StyleRule → Name → List Property → ElementStyle
 own_style rules name properties =
-    preformatted_style (is_preformatted name.space name.local) (element_style rules name.local properties)
+    let style = element_style rules name.local properties in
+    if is_html name.space && bytes_eq name.local (codes "pre") then preformatted_style style else style
 
 -- what an element's style gives the node that it becomes; white space is Normal where nothing else is declared
 abbrev pub node_style : ElementStyle → NodeStyle

@@ -1,5 +1,4 @@
 -- what becomes of each element
-pub mod Insertion
 pub mod Images
 pub mod Marks
 pub mod Tables

@@ -1,17 +1,17 @@
 -- Which of an element's attributes names its mark.
-use Rattle.std.specs.Prelude.{ℕ, Bool, false, ◌&&◌, ◌||◌, List, codes, find, Option, option_map}
+use Rattle.std.specs.Prelude.{ℕ, Bool, true, false, ◌&&◌, ◌||◌, List, codes, find, Option, option_map}
 use Rattle.std.specs.Str.{bytes_eq}
 use Rattle.html_render_dom.specs.Content.{Property, Space, html, Name}
 
--- whether an element is an `a` of HTML
-abbrev pub is_anchor : Space → (local : List ℕ) → Bool
-is_anchor html local = bytes_eq local (codes "a")
-is_anchor _ local = false
+abbrev pub is_html : Space → Bool
+is_html html = true
+is_html _ = false
 
--- whether an attribute of an element names its mark: `id` does, and the `name` of an `a`
+-- whether an attribute of an element names its mark: `id` does, and the `name` of an `a` of HTML
 abbrev pub names_mark : (element : Name) → Property → Bool
 names_mark element p =
-    bytes_eq p.name.local (codes "id") || (bytes_eq p.name.local (codes "name") && is_anchor element.space element.local)
+    bytes_eq p.name.local (codes "id")
+    || (bytes_eq p.name.local (codes "name") && (is_html element.space && bytes_eq element.local (codes "a")))
 
 -- THE MARK of an element: the first attribute that names one
 abbrev pub mark_of : (element : Name) → List Property → Option (List ℕ)

@@ -6,8 +6,8 @@ use Rattle.html_render_dom.specs.Content.{Content, document, doctype, text, comm
 use Rattle.html_render_dom.specs.Dom.{Dom, content_at, children_at, trees_of}
 use Rattle.html_render_dom.specs.ElementStyle.{ElementStyle}
 use Rattle.html_render_dom.specs.Rules.{Rule as StyleRule}
-use Rattle.html_render_nodes.specs.declared.tree.NodeKind.TheVariants.{Container}
-use Rattle.html_render_nodes.specs.RenderNodes.{no_style}
+use Rattle.html_render_nodes.specs.declared.tree.NodeKind.TheVariants.{Text, Container, FragmentStart}
+use Rattle.html_render_nodes.specs.RenderNodes.{no_style, without_style}
 use Rattle.html_render_conversion.specs.declared.mapping.ElementKind.{ElementKind}
 use Rattle.html_render_conversion.specs.declared.mapping.ElementKind.TheVariants.{Node}
 use Rattle.html_render_conversion.specs.declared.mapping.IfEmpty.{IfEmpty}
@@ -17,13 +17,12 @@ use Rattle.html_render_conversion.specs.declared.mapping.Outline.TheVariants.{Al
 use Rattle.html_render_conversion.specs.declared.mapping.Outline.TheVariants as outline
 use Rattle.html_render_conversion.specs.declared.mapping.Mapping.{Mapping}
 use Rattle.html_render_conversion.specs.declared.mapping.Mapping.TheVariants.{Nothing, Leaf, Parent}
-use Rattle.html_render_conversion.specs.Insertion.{text_node, fragment_start}
 use Rattle.html_render_conversion.specs.Marks.{mark_of}
 use Rattle.html_render_conversion.specs.Conversion.{element_mapping, own_style, node_style}
 
 abbrev pub mark_alone : (mark : Option (List ℕ)) → Outline
 mark_alone None = outline.Nothing
-mark_alone (Some name) = Alone (fragment_start name)
+mark_alone (Some name) = Alone (without_style (FragmentStart name))
 
 abbrev pub displayed_outline : ElementKind → IfEmpty → (has_children : Bool) → (mark : Option (List ℕ)) → ElementStyle → Outline
 displayed_outline kind if_empty has_children mark style =
@@ -37,7 +36,7 @@ styled_outline (Parent kind if_empty) mark style = displayed_outline kind if_emp
 
 abbrev pub outline_of : List StyleRule → Content → (below : Forest Content) → Outline
 outline_of rules document below = Over (Node Container) no_style Stands true None None None
-outline_of rules (text contents) below = Alone (text_node contents)
+outline_of rules (text contents) below = Alone (without_style (Text contents))
 outline_of rules (element name properties template_contents integration_point) below =
     styled_outline (element_mapping name.space name.local properties below) (mark_of name properties)
     (own_style rules name properties)

@@ -37,7 +37,7 @@ abbrev pub greatest_width : List (List CellSpan) → ℕ
 greatest_width [] = 0
 greatest_width (r ∷ rs) = max (width_of r) (greatest_width rs)
 
--- what a cell spans in a row that is narrower by so many columns than the widest of its part of the table
+-- what a cell spans in a row that is narrower by `missing` columns than the widest of its part of the table
 abbrev pub spanned : (missing : ℕ) → CellSpan → Span
 spanned missing c = record { colspan = if c.colspan == 0 then missing + 1 else c.colspan; rowspan = max 1 c.rowspan }
 

@@ -1,12 +1,12 @@
 //! What is read of an element's attributes: the first of a name, the number of a list's first item, what a cell of a table
 //! spans, and the name of a mark.
 
-ghost use Rattle.std.specs.Prelude.{◌≡◌, IfOk, IfErr, find, map, option_copied, option_map, pos, reverse, string_bytes, unwrap_or};
+ghost use Rattle.std.specs.Prelude.{◌≡◌, ◌&&◌, IfOk, IfErr, codes, find, map, option_copied, option_map, pos, reverse, string_bytes, unwrap_or};
 ghost use Rattle.std.specs.Str.{bytes_eq};
 ghost use Rattle.html_render_dom.specs.Content.{name_of, property_of, space_of};
 ghost use Rattle.html_render_dom.specs.Selectors.{first_value};
 ghost use Rattle.html_render_conversion.specs.Conversion.{number_of, start_of};
-ghost use Rattle.html_render_conversion.specs.Marks.{is_anchor, names_mark, mark_of};
+ghost use Rattle.html_render_conversion.specs.Marks.{is_html, names_mark, mark_of};
 ghost use Rattle.html_render_conversion.specs.Tables.{size_of, size_or_one, span_of};
 
 use crate::tables::CellSpan;
@@ -92,7 +92,7 @@ pub fn span_of(attributes: &[Attribute]) -> CellSpan
 
 /// Whether an element is an `a` of HTML.
 fn is_anchor(element: &QualName) -> bool
-    ensures { result ≡ is_anchor (space_of element.now.ns) (string_bytes element.now.local) }
+    ensures { result ≡ (is_html (space_of element.now.ns) && bytes_eq (string_bytes element.now.local) (codes "a")) }
 {
     match element.ns {
         Namespace::Html => element.local.as_str() == "a",

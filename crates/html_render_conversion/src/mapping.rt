@@ -1,18 +1,19 @@
 //! Which render node a node of a document becomes.
 
-ghost use Rattle.std.specs.Prelude.{◌≡◌, true, [], IfOk, IfErr, codes, map, option_map, string_bytes};
+ghost use Rattle.std.specs.Prelude.{◌≡◌, ◌&&◌, [], IfOk, IfErr, codes, if◌then◌else◌, map, option_map, string_bytes};
+ghost use Rattle.std.specs.Str.{bytes_eq};
 ghost use Rattle.html_render_dom.specs.Cascade.{value_of};
 ghost use Rattle.html_render_dom.specs.Content.{name_of, property_of, space_of};
 ghost use Rattle.html_render_dom.specs.Dom.{IsForest, IsNode, children_at, trees_of};
 ghost use Rattle.html_render_dom.specs.ElementStyle.{style_by, style_of};
 ghost use Rattle.html_render_dom.specs.NameKeys.{Tells};
 ghost use Rattle.html_render_dom.specs.Rules.{rule_of};
-ghost use Rattle.html_render_dom.specs.Selectors.{first_value};
+ghost use Rattle.html_render_dom.specs.Selectors.{first_value, is_filled};
+ghost use Rattle.html_render_nodes.specs.RenderNodes.{without_style};
 ghost use Rattle.html_render_conversion.specs.Images.{image_parts};
-ghost use Rattle.html_render_conversion.specs.Insertion.{text_node};
-ghost use Rattle.html_render_conversion.specs.Marks.{mark_of};
-ghost use Rattle.html_render_conversion.specs.Conversion.{html_mapping, html_element_mapping, element_mapping, link_mapping, image_mapping};
-ghost use Rattle.html_render_conversion.specs.Conversion.{is_preformatted, preformatted_style, own_style, node_style};
+ghost use Rattle.html_render_conversion.specs.Marks.{is_html, mark_of};
+ghost use Rattle.html_render_conversion.specs.Conversion.{html_mapping, html_element_mapping, element_mapping, link_mapping};
+ghost use Rattle.html_render_conversion.specs.Conversion.{preformatted_style, own_style, node_style};
 ghost use Rattle.html_render_conversion.specs.Outlines.{mark_alone, styled_outline, outline_at};
 
 use crate::attributes::{first_value, mark_of, span_of, start_of};
@@ -160,7 +161,8 @@ fn link_mapping(alloc: Global, attributes: &[Attribute]) -> Result<Mapping, Erro
 
 /// What becomes of an `img`, by its source and its title: nothing without a source.
 fn image_mapping(alloc: Global, source: &str, title: &str) -> Result<Mapping, Error>
-    ensures ok { IfOk result (λ mapping. mapping ≡ image_mapping (record { source = source.now; title = title.now })) }
+    ensures ok { IfOk result (λ mapping. mapping ≡ (if is_filled source.now
+        then Mapping.Leaf (NodeKind.Image (record { source = source.now; title = title.now })) else Mapping.Nothing)) }
     ensures err { IfErr result (λ e. e ≡ Error.OutOfMemory) }
 {
     if source.is_empty() {
@@ -222,7 +224,7 @@ fn element_mapping(
 
 /// Whether an element is a `pre` of HTML.
 fn is_preformatted(name: &QualName) -> bool
-    ensures { result ≡ is_preformatted (space_of name.now.ns) (string_bytes name.now.local) }
+    ensures { result ≡ (is_html (space_of name.now.ns) && bytes_eq (string_bytes name.now.local) (codes "pre")) }
 {
     match name.ns {
         Namespace::Html => name.local.as_str() == "pre",
@@ -232,7 +234,7 @@ fn is_preformatted(name: &QualName) -> bool
 
 /// Gives the style of a `pre` its last update: it keeps white space, unless a rule that wins over this says otherwise.
 fn preformat(style: &mut ComputedStyle)
-    ensures { style_of style.new ≡ preformatted_style true (style_of style.old) }
+    ensures { style_of style.new ≡ preformatted_style (style_of style.old) }
 {
     let no_specificity = Specificity::default();
     style
@@ -344,7 +346,7 @@ fn element_outline(
 
 /// What becomes of a text.
 fn text_node(alloc: Global, contents: &str) -> Result<RenderNode, Error>
-    ensures ok { IfOk result (λ node. node ≡ text_node contents.now) }
+    ensures ok { IfOk result (λ node. node ≡ without_style (NodeKind.Text contents.now)) }
     ensures err { IfErr result (λ e. e ≡ Error.OutOfMemory) }
 {
     let text = NodeText::from_str(alloc, contents)?;

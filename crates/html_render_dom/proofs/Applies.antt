@@ -6,9 +6,6 @@ use Rattle.std.proofs.lemmas.List.Elements.{filter_map-append}
 use Rattle.std.proofs.lemmas.Bool.{cases_Bool}
 use Rattle.std.proofs.lemmas.Grind.{flat_map-append}
 use Rattle.std.specs.List.{flat_map}
-use Rattle.html_render_values.specs.declared.colours.Colour.{Colour}
-use Rattle.html_render_values.specs.declared.white_space.WhiteSpace.{WhiteSpace}
-use Rattle.html_render_dom.specs.declared.style.rules.Display.{Display}
 use Rattle.html_render_dom.specs.declared.style.updates.Update.{Update}
 use Rattle.html_render_dom.specs.Cascade.{key_of, winner}
 use Rattle.html_render_dom.specs.Keeping.{yields_to}
@@ -22,10 +19,9 @@ use Rattle.html_render_dom.specs.declared.style.rules.Style.TheVariants.{WhiteSp
 use Rattle.html_render_dom.specs.declared.style.rules.Declaration.{Declaration}
 use Rattle.html_render_dom.specs.declared.style.rules.StyleRule.{StyleRule}
 use Rattle.html_render_dom.specs.Selectors.{Subject, selects, specificity_of}
-use Rattle.html_render_dom.specs.Rules.{StyleValue, declared_of, rule_of}
-use Rattle.html_render_dom.specs.Rules as set
+use Rattle.html_render_dom.specs.Rules.{StyleValue, declared_of, rule_of, style_value_of}
 use Rattle.html_render_dom.specs.ElementStyle.{Applied, applied, ElementStyle, updates, with_more, with_declarations, colour_in, bg_colour_in}
-use Rattle.html_render_dom.specs.ElementStyle.{display_in, white_space_in, content_in, content_before_in, content_after_in}
+use Rattle.html_render_dom.specs.ElementStyle.{display_in, white_space_in, content_in}
 use Rattle.html_render_dom.specs.TextUpdates.{text_update}
 use Rattle.html_render_dom.specs.laws.Winners.{later, yields, winner-one, winner-push, winner-front}
 use Rattle.html_render_dom.proofs.Keeps.{winner-left}
@@ -83,80 +79,43 @@ with_declarations-append s front behind = λ i. record {
   bg_colour = with_more-append bg_colour_in s.bg_colour front behind i;
   display = with_more-append display_in s.display front behind i;
   white_space = with_more-append white_space_in s.white_space front behind i;
-  content = with_more-append content_in s.content front behind i;
-  content_before = with_more-append content_before_in s.content_before front behind i;
-  content_after = with_more-append content_after_in s.content_after front behind i;
+  content = with_more-append (content_in None) s.content front behind i;
+  content_before = with_more-append (content_in (Some Before)) s.content_before front behind i;
+  content_after = with_more-append (content_in (Some After)) s.content_after front behind i;
   internal_pre = s.internal_pre;
 }
 
-pub with_declarations-none : (s : ElementStyle) → with_declarations s [] ≡ s
-with_declarations-none s = λ i. record {
-  colour = sym (untouched s.colour) i;
-  bg_colour = sym (untouched s.bg_colour) i;
-  display = sym (untouched s.display) i;
-  white_space = sym (untouched s.white_space) i;
-  content = sym (untouched s.content) i;
-  content_before = sym (untouched s.content_before) i;
-  content_after = sym (untouched s.content_after) i;
+-- where no declaration comes, the style is as it was
+pub still : (s : ElementStyle) → s ≡ with_declarations s []
+still s = λ i. record {
+  colour = untouched s.colour i;
+  bg_colour = untouched s.bg_colour i;
+  display = untouched s.display i;
+  white_space = untouched s.white_space i;
+  content = untouched s.content i;
+  content_before = untouched s.content_before i;
+  content_after = untouched s.content_after i;
   internal_pre = s.internal_pre;
 }
 
--- a declaration of one property
-module _ (s : ElementStyle) (important : Bool) (origin : StyleOrigin) (specificity : Specificity) where
-  abbrev one : Option PseudoElement → StyleValue → List Applied
-  one pseudo value =
-      record { origin = origin; specificity = specificity; pseudo = pseudo; declared = record { important = important; style = value } }
-      ∷ []
-
-  abbrev update_to : {T : Type 0} → T → Update T
-  update_to x = record { important = important; origin = origin; specificity = specificity; value = x }
-
-  -- where each other property is as it was
-  still : s ≡ with_declarations s []
-  still = sym (with_declarations-none s)
-
-  pub colour_taken : (x : Colour) (new : Option (Update Colour)) → Takes s.colour (update_to x) new →
-      record s { colour = new } ≡ with_declarations s (one None (set.colour x))
-  colour_taken x new h = λ i. record (still i) { colour = taken s.colour (update_to x) new h i }
-
-  pub bg_colour_taken : (x : Colour) (new : Option (Update Colour)) → Takes s.bg_colour (update_to x) new →
-      record s { bg_colour = new } ≡ with_declarations s (one None (set.bg_colour x))
-  bg_colour_taken x new h = λ i. record (still i) { bg_colour = taken s.bg_colour (update_to x) new h i }
-
-  pub display_taken : (x : Display) (new : Option (Update Display)) → Takes s.display (update_to x) new →
-      record s { display = new } ≡ with_declarations s (one None (set.display x))
-  display_taken x new h = λ i. record (still i) { display = taken s.display (update_to x) new h i }
-
-  pub white_space_taken : (x : WhiteSpace) (new : Option (Update WhiteSpace)) → Takes s.white_space (update_to x) new →
-      record s { white_space = new } ≡ with_declarations s (one None (set.white_space x))
-  white_space_taken x new h = λ i. record (still i) { white_space = taken s.white_space (update_to x) new h i }
-
-  pub content_taken : (x : List ℕ) (new : Option (Update (List ℕ))) → new ≡ winner (option_to_list s.content ++ update_to x ∷ []) →
-      record s { content = new } ≡ with_declarations s (one None (set.content x))
-  content_taken x new h = λ i. record (still i) { content = h i }
-
-  pub content_before_taken : (x : List ℕ) (new : Option (Update (List ℕ))) →
-      new ≡ winner (option_to_list s.content_before ++ update_to x ∷ []) →
-      record s { content_before = new } ≡ with_declarations s (one (Some Before) (set.content x))
-  content_before_taken x new h = λ i. record (still i) { content_before = h i }
-
-  pub content_after_taken : (x : List ℕ) (new : Option (Update (List ℕ))) →
-      new ≡ winner (option_to_list s.content_after ++ update_to x ∷ []) →
-      record s { content_after = new } ≡ with_declarations s (one (Some After) (set.content x))
-  content_after_taken x new h = λ i. record (still i) { content_after = h i }
-
-  -- beside an element's children only content counts
-  pub other_beside : (place : PseudoElement) (style : Style) → ((text : String Global) → style ≡ Content text → ⊥) →
-      s ≡ with_declarations s (one (Some place) (set.style_value_of style))
-  other_beside Before (ColourSet x) h = still
-  other_beside After (ColourSet x) h = still
-  other_beside Before (BgColour x) h = still
-  other_beside After (BgColour x) h = still
-  other_beside Before (DisplaySet x) h = still
-  other_beside After (DisplaySet x) h = still
-  other_beside Before (WhiteSpaceSet x) h = still
-  other_beside After (WhiteSpaceSet x) h = still
-  other_beside place (Content text) h = absurd (h text refl)
+-- beside an element's children only content counts
+pub other_beside : (s : ElementStyle) (important : Bool) (origin : StyleOrigin) (specificity : Specificity) (place : PseudoElement) (style : Style) →
+    ((text : String Global) → style ≡ Content text → ⊥) →
+    s ≡ with_declarations s (record {
+      origin = origin;
+      specificity = specificity;
+      pseudo = Some place;
+      declared = record { important = important; style = style_value_of style };
+    } ∷ [])
+other_beside s important origin specificity Before (ColourSet x) h = still s
+other_beside s important origin specificity After (ColourSet x) h = still s
+other_beside s important origin specificity Before (BgColour x) h = still s
+other_beside s important origin specificity After (BgColour x) h = still s
+other_beside s important origin specificity Before (DisplaySet x) h = still s
+other_beside s important origin specificity After (DisplaySet x) h = still s
+other_beside s important origin specificity Before (WhiteSpaceSet x) h = still s
+other_beside s important origin specificity After (WhiteSpaceSet x) h = still s
+other_beside s important origin specificity place (Content text) h = absurd (h text refl)
 
 -- the declarations of one thing more
 pub with_declarations-more : {X : Type 0} (f : X → List Applied) (s : ElementStyle) (xs : List X) (i : ℕ) (x : X) → i < length xs →
@@ -184,12 +143,7 @@ said_by-all rule = each rule.declarations.items
         ≡ map (λ d. record { origin = rule.origin; specificity = specificity_of (rule_of rule); pseudo = rule.pseudo; declared = d })
         (map declared_of ds)
     each [] = refl
-    each (d ∷ ds) = ap (λ more. record {
-      origin = rule.origin;
-      specificity = specificity_of (rule_of rule);
-      pseudo = rule.pseudo;
-      declared = declared_of d;
-    } ∷ more) (each ds)
+    each (d ∷ ds) = rw (each ds) refl
 
 -- the declarations of a rule, if it selects the element
 abbrev pub said_to : Subject → StyleRule → List Applied
@@ -210,6 +164,6 @@ said_to-selected subject rule e = rw e refl
 
 pub said_to-other : (subject : Subject) (rule : StyleRule) (s : ElementStyle) → selects (rule_of rule) subject ≡ false →
     s ≡ with_declarations s (said_to subject rule)
-said_to-other subject rule s e = rw e (sym (with_declarations-none s))
+said_to-other subject rule s e = rw e (still s)
 
 pub ruleset contents = (content-taken, content-left)

@@ -6,7 +6,7 @@ use Rattle.std.proofs.lemmas.Cmp.{nat_eq_equiv}
 use Rattle.std.proofs.lemmas.List.{length-set, get_or-append_right}
 use Rattle.std.proofs.lemmas.List.Elements.{Contains-push, Contains-push_cases, Contains-append_left}
 use Rattle.std.proofs.lemmas.Map.Keys.{IsDistinct-push}
-use Rattle.html_render_dom.specs.Content.{Content, Name, Property, document, doctype, text, comment, element, instruction}
+use Rattle.html_render_dom.specs.Content.{Content, Name, Property, document, text, element}
 use Rattle.html_render_dom.specs.Elements.{completed, contents_in}
 use Rattle.html_render_dom.specs.declared.dom.settings.ElementFlags.{ElementFlags}
 use Rattle.html_render_dom.specs.Dom.{Node, Dom, lone, node_in, node_count, IsNode, content_at, children_at, parent_at, IsInclusiveAncestor, IsForest}

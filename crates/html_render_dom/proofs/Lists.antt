@@ -3,8 +3,8 @@ use Rattle.std.proofs.Common.{◌≡◌, ◌≢◌, ◌==◌, ℕ, zero, suc, �
 use Rattle.std.proofs.Common.{length, slice_get, slice_index_or, Option, Some, None, Contains, Result, Ok, Err, IsOk, OnOk, ◌⊎◌, inl, inr, refl, sym, ap}
 use Rattle.std.proofs.Common.{◌∙◌, subst, arith}
 use Rattle.std.specs.List.{insert, remove, position_or_len, IsDistinct, AllByRecursion}
-use Rattle.std.proofs.lemmas.Bool.{false≢true, cases_Bool, ltb-true, ltb-false}
-use Rattle.std.proofs.lemmas.Bool.Decides.{eqb_tells}
+use Rattle.std.proofs.lemmas.Bool.{false≢true}
+use Rattle.std.proofs.lemmas.Bool.Decides.{eqb_tells, nat_tests}
 use Rattle.std.proofs.lemmas.List.Edits.{insert-append_right, remove-append_right}
 use Rattle.std.proofs.lemmas.List.Elements.{Contains-get_or, All-filter, All-from_recursion, recursion_from_All, Contains-append_cases}
 use Rattle.std.proofs.lemmas.Map.Keys.{IsDistinct-head, IsDistinct-tail, IsDistinct-cons}
@@ -23,18 +23,10 @@ place_of s xs = position_or_len (λ x. x == s) xs
 
 -- what `position` answered
 pub place_found : (r : Option ℕ) (n len i : ℕ) → r ≡ cond (ltb n len) (Some n) None → r ≡ Some i → (i ≡ n) × (n < len)
-place_found r n len i e f =
-    elim (cases_Bool (ltb n len)) [
-      | inl t ↦ (let g : r ≡ Some n = rw t at e in (cc, ltb-true n len t))
-      | inr t ↦ (let g : r ≡ None = rw t at e in cc)
-    ]
+place_found r n len i e f = grind (arith, nat_tests)
 
 pub place_absent : (r : Option ℕ) (n len : ℕ) → r ≡ cond (ltb n len) (Some n) None → r ≡ None → len ≤ n
-place_absent r n len e f =
-    elim (cases_Bool (ltb n len)) [
-      | inl t ↦ (let g : r ≡ Some n = rw t at e in cc)
-      | inr t ↦ ltb-false n len t
-    ]
+place_absent r n len e f = grind (arith, nat_tests)
 
 pub insert-before : (s c : ℕ) (xs : List ℕ) → place_of s xs < length xs → insert xs (place_of s xs) c ≡ before s c xs
 insert-before s c [] lt = absurd (omega arith)
@@ -50,12 +42,7 @@ insert-before s c (x ∷ xs) lt =
 
 pub before-absent : (s c : ℕ) (xs : List ℕ) → length xs ≤ place_of s xs → before s c xs ≡ xs
 before-absent s c [] le = refl
-before-absent s c (x ∷ xs) le =
-    elim (eqb_tells x s) [
-      | inl e ↦ absurd (let le' : length (x ∷ xs) ≤ 0 = rw e.0 at le in omega arith)
-      | inr d ↦ (let le' : length (x ∷ xs) ≤ 1 + place_of s xs = rw d.0 at le in
-          rw d.0 (ap (λ ys. x ∷ ys) (before-absent s c xs (omega arith))))
-    ]
+before-absent s c (x ∷ xs) le = let more = before-absent s c xs in grind (arith, nat_tests)
 
 kept : (s x : ℕ) (xs : List ℕ) → (x == s) ≡ false → without s (x ∷ xs) ≡ x ∷ without s xs
 kept s x xs d = rw d refl
@@ -78,45 +65,22 @@ without-removed s (x ∷ xs) lt =
 
 pub without-absent : (s : ℕ) (xs : List ℕ) → length xs ≤ place_of s xs → without s xs ≡ xs
 without-absent s [] le = refl
-without-absent s (x ∷ xs) le =
-    elim (eqb_tells x s) [
-      | inl e ↦ absurd (let le' : length (x ∷ xs) ≤ 0 = rw e.0 at le in omega arith)
-      | inr d ↦ (let le' : length (x ∷ xs) ≤ 1 + place_of s xs = rw d.0 at le in
-          rw d.0 (ap (λ ys. x ∷ ys) (without-absent s xs (omega arith))))
-    ]
+without-absent s (x ∷ xs) le = let more = without-absent s xs in grind (arith, nat_tests)
 
 pub previous-absent : (s : ℕ) (last : Option ℕ) (xs : List ℕ) → length xs ≤ place_of s xs → previous s last xs ≡ None
 previous-absent s last [] le = refl
-previous-absent s last (x ∷ xs) le =
-    elim (eqb_tells x s) [
-      | inl e ↦ absurd (let le' : length (x ∷ xs) ≤ 0 = rw e.0 at le in omega arith)
-      | inr d ↦ (let le' : length (x ∷ xs) ≤ 1 + place_of s xs = rw d.0 at le in rw d.0 (previous-absent s (Some x) xs (omega arith)))
-    ]
+previous-absent s last (x ∷ xs) le = let more = previous-absent s (Some x) xs in grind (arith, nat_tests)
 
 -- the one before the first
 pub previous-first : (s : ℕ) (last : Option ℕ) (xs : List ℕ) → place_of s xs < length xs → place_of s xs ≡ 0 → previous s last xs ≡ last
 previous-first s last [] lt e = absurd (omega arith)
-previous-first s last (x ∷ xs) lt e =
-    elim (eqb_tells x s) [
-      | inl t ↦ rw t.0 refl
-      | inr d ↦ absurd (let e' : 1 + place_of s xs ≡ 0 = rw d.0 at e in omega arith)
-    ]
+previous-first s last (x ∷ xs) lt e = grind (arith, nat_tests)
 
 pub previous-later : (s : ℕ) (last : Option ℕ) (xs : List ℕ) (k : ℕ) → place_of s xs < length xs → place_of s xs ≡ suc k →
     previous s last xs ≡ slice_get xs k
 previous-later s last [] k lt e = absurd (omega arith)
-previous-later s last (x ∷ xs) zero lt e =
-    elim (eqb_tells x s) [
-      | inl t ↦ absurd (let e' : 0 ≡ 1 = rw t.0 at e in omega arith)
-      | inr d ↦ (let e' : 1 + place_of s xs ≡ 1 = rw d.0 at e in let lt' : 1 + place_of s xs < length (x ∷ xs) = rw d.0 at lt in
-          rw d.0 (previous-first s (Some x) xs (omega arith) (omega arith)))
-    ]
-previous-later s last (x ∷ xs) (suc k) lt e =
-    elim (eqb_tells x s) [
-      | inl t ↦ absurd (let e' : 0 ≡ suc (suc k) = rw t.0 at e in omega arith)
-      | inr d ↦ (let e' : 1 + place_of s xs ≡ suc (suc k) = rw d.0 at e in let lt' : 1 + place_of s xs < length (x ∷ xs) = rw d.0 at lt in
-          rw d.0 (previous-later s (Some x) xs k (omega arith) (omega arith)))
-    ]
+previous-later s last (x ∷ xs) zero lt e = let first = previous-first s (Some x) xs in grind (arith, nat_tests)
+previous-later s last (x ∷ xs) (suc k) lt e = let more = previous-later s (Some x) xs k in grind (arith, nat_tests)
 
 pub slice_get-at : (xs : List ℕ) (k d : ℕ) → k < length xs → slice_get xs k ≡ Some (slice_index_or xs k d)
 slice_get-at [] k d lt = absurd (omega arith)

@@ -35,13 +35,9 @@ key_cmp =
     then_cmp (on (λ k. k.important) bool_cmp)
     (then_cmp (on (λ k. k.origin_rank) nat_cmp) (on (λ k. k.specificity) specificity_cmp))
 
--- no update of the list has a greater key
-abbrev pub is_greatest : {T : Type 0} → List (Update T) → Update T → Bool
-is_greatest us u = list_all (λ v. is_le (key_cmp (key_of v) (key_of u))) us
-
--- the last update whose key is greatest; the empty list has none
+-- the last update whose key is greatest, so that none of the list has a greater one; the empty list has none
 abbrev pub winner : {T : Type 0} → List (Update T) → Option (Update T)
-winner us = last_or None (filter (is_greatest us) us)
+winner us = last_or None (filter (λ u. list_all (λ v. is_le (key_cmp (key_of v) (key_of u))) us) us)
 
 -- the value of an update, if there is one
 abbrev pub value_of : {T : Type 0} → Option (Update T) → Option T

@@ -45,27 +45,18 @@ abbrev pub white_space_in : Option PseudoElement → StyleValue → Option White
 white_space_in None (white_space w) = Some w
 white_space_in _ _ = None
 
-abbrev pub content_in : Option PseudoElement → StyleValue → Option (List ℕ)
-content_in None (content text) = Some text
-content_in _ _ = None
+-- content of the element itself, or at a place beside its children
+abbrev pub content_in : (place : Option PseudoElement) → Option PseudoElement → StyleValue → Option (List ℕ)
+content_in None None (content text) = Some text
+content_in (Some Before) (Some Before) (content text) = Some text
+content_in (Some After) (Some After) (content text) = Some text
+content_in _ _ _ = None
 
-abbrev pub content_before_in : Option PseudoElement → StyleValue → Option (List ℕ)
-content_before_in (Some Before) (content text) = Some text
-content_before_in _ _ = None
-
-abbrev pub content_after_in : Option PseudoElement → StyleValue → Option (List ℕ)
-content_after_in (Some After) (content text) = Some text
-content_after_in _ _ = None
-
--- the update of a property that a declaration makes, if it is one of that property
-abbrev pub update_by : {T : Type 0} → (Option PseudoElement → StyleValue → Option T) → Applied → Option (Update T)
-update_by property a =
-    option_map (λ x. record { important = a.declared.important; origin = a.origin; specificity = a.specificity; value = x })
-    (property a.pseudo a.declared.style)
-
--- the updates of a property, in order
+-- the updates of a property that the declarations of it make, in order
 abbrev pub updates : {T : Type 0} → (Option PseudoElement → StyleValue → Option T) → List Applied → List (Update T)
-updates property declarations = filter_map (update_by property) declarations
+updates property declarations = filter_map (λ a.
+    option_map (λ x. record { important = a.declared.important; origin = a.origin; specificity = a.specificity; value = x })
+    (property a.pseudo a.declared.style)) declarations
 
 -- for each property the update that wins, if there is one
 pub record ElementStyle : Type 0 where
@@ -87,10 +78,6 @@ subject_of name properties =
 abbrev pub is_selected : List Rule → Subject → Bool
 is_selected rules subject = list_any (λ rule. selects rule subject) rules
 
--- the declarations of the rules that select an element, in the order in which the rules were added
-abbrev pub declarations_for : List Rule → (name : List ℕ) → List Property → List Applied
-declarations_for rules name properties = flat_map applied (filter (λ rule. selects rule (subject_of name properties)) rules)
-
 -- the style that declarations give
 abbrev pub style_by : List Applied → ElementStyle
 style_by declarations = record {
@@ -98,15 +85,16 @@ style_by declarations = record {
   bg_colour = winner (updates bg_colour_in declarations);
   display = winner (updates display_in declarations);
   white_space = winner (updates white_space_in declarations);
-  content = winner (updates content_in declarations);
-  content_before = winner (updates content_before_in declarations);
-  content_after = winner (updates content_after_in declarations);
+  content = winner (updates (content_in None) declarations);
+  content_before = winner (updates (content_in (Some Before)) declarations);
+  content_after = winner (updates (content_in (Some After)) declarations);
   internal_pre = false;
 }
 
--- the style of an element of this local name and these attributes
+-- the style of an element of this local name and these attributes: that which the rules that select it give, in the order in
+-- which they were added
 abbrev pub element_style : List Rule → (name : List ℕ) → List Property → ElementStyle
-element_style rules name properties = style_by (declarations_for rules name properties)
+element_style rules name properties = style_by (flat_map applied (filter (λ rule. selects rule (subject_of name properties)) rules))
 
 -- the style that a `ComputedStyle` holds
 abbrev pub style_of : ComputedStyle → ElementStyle
@@ -131,8 +119,8 @@ with_declarations s declarations = record {
   bg_colour = with_more bg_colour_in s.bg_colour declarations;
   display = with_more display_in s.display declarations;
   white_space = with_more white_space_in s.white_space declarations;
-  content = with_more content_in s.content declarations;
-  content_before = with_more content_before_in s.content_before declarations;
-  content_after = with_more content_after_in s.content_after declarations;
+  content = with_more (content_in None) s.content declarations;
+  content_before = with_more (content_in (Some Before)) s.content_before declarations;
+  content_after = with_more (content_in (Some After)) s.content_after declarations;
   internal_pre = s.internal_pre;
 }

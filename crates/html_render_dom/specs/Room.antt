@@ -3,7 +3,7 @@ use Rattle.std.specs.Prelude.{ℕ, List, slice_index_or}
 use Rattle.smallvec.specs.SmallVec.{HasRoomFor}
 use Rattle.html_render_dom.specs.declared.dom.nodes.Node.{Node}
 
--- the list of a node has places for so many more
+-- the list of a node has places for `more` others
 abbrev pub HasRoom : List Node → (node more : ℕ) → Type 0
 HasRoom items node more = (other : Node) → HasRoomFor (slice_index_or items node other).children more
 

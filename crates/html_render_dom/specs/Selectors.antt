@@ -2,7 +2,7 @@
 use Rattle.std.specs.Prelude.{ℕ, ◌+◌, min, Bool, true, false, ◌&&◌, List, [], ◌∷◌, length, Option, Some, None, option_map, filter, find}
 use Rattle.std.specs.List.{list_any, list_all, slice_split}
 use Rattle.std.specs.Char.{is_ascii_whitespace}
-use Rattle.std.specs.Option.{option_len}
+use Rattle.std.specs.Option.{option_len, unwrap_or}
 use Rattle.std.specs.Str.{bytes_eq}
 use Rattle.html_render_dom.specs.declared.style.specificities.Specificity.{Specificity}
 use Rattle.html_render_dom.specs.Content.{Property}
@@ -29,8 +29,7 @@ matches_part (Some part) (Some value) = bytes_eq part value
 
 -- whether a class is a word of the element's classes; an empty one never is
 abbrev pub has_class : (classes : Option (List ℕ)) → (class : List ℕ) → Bool
-has_class None class = false
-has_class (Some classes) class = list_any (bytes_eq class) (words classes)
+has_class classes class = list_any (bytes_eq class) (words (unwrap_or classes []))
 
 -- what rules select an element by: its local name, its id and the text of its classes
 pub record Subject : Type 0 where

@@ -1,8 +1,9 @@
 -- Nodes that are measured, with sizes and without.
-use Rattle.std.proofs.Common.{◌≡◌, Bool, true, false, ◌||◌, ℕ, ◌+◌, List, [], ◌∷◌, ◌++◌, take, drop}
-use Rattle.std.proofs.Common.{max, refl, sym, ap, ◌∙◌, inl, inr, if◌then◌else◌}
-use Rattle.std.proofs.lemmas.Bool.{cases_Bool, or_parts, true≢false}
+use Rattle.std.proofs.Common.{◌≡◌, Bool, true, false, ◌||◌, ℕ, ◌+◌, List, ◌∷◌, take, drop, max, refl, sym, ap, ◌∙◌, inl, inr, if◌then◌else◌}
+use Rattle.std.proofs.lemmas.Bool.{cases_Bool, or_parts, or_right, true≢false}
 use Rattle.std.proofs.lemmas.List.{take-append-drop}
+use Rattle.std.proofs.lemmas.List.Folds.{list_any-append}
+use Rattle.std.specs.List.{list_any}
 use Rattle.html_render_values.specs.Forest.{Forest, none, node}
 use Rattle.html_render_parts.specs.Decoration.{Decoration}
 use Rattle.html_render_parts.specs.declared.widths.shares.ColumnNeed.{ColumnNeed}
@@ -13,34 +14,20 @@ use Rattle.html_render_nodes.specs.declared.tree.NodeKind.TheVariants.{Text, Bre
 use Rattle.html_render_nodes.specs.declared.tree.RenderNode.{RenderNode}
 use Rattle.html_render_nodes.specs.Preorder.{flatten, forest_of}
 use Rattle.html_render_nodes.specs.laws.Preorder.{forest_of-flatten, IsForest, IsForest-flatten}
-use Rattle.html_render_estimates.specs.Estimates.{trees, greatest_least, needs_of, with_needs, estimate_of, measured_node, measured}
-use Rattle.html_render_estimates.specs.Passes.{is_table, has_table, without_size, without_sizes, with_needed_sizes}
+use Rattle.html_render_estimates.specs.Estimates.{trees, greatest_least, measured_kind, estimate_of, measured}
+use Rattle.html_render_estimates.specs.Passes.{is_table, has_table, with_needs, without_size, without_sizes, with_needed_sizes}
 use Rattle.html_render_estimates.specs.laws.Least.{tables-measured}
 use Rattle.html_render_estimates.proofs.Measuring.{after, Found}
 
 -- ---- tables among nodes
 
 abbrev pub any_table : List (Entry RenderNode) → Bool
-any_table [] = false
-any_table (e ∷ es) = is_table e.node.kind || any_table es
-
-or_assoc : (a b c : Bool) → (a || b) || c ≡ a || (b || c)
-or_assoc true b c = refl
-or_assoc false b c = refl
-
-or_true : (a : Bool) → a || true ≡ true
-or_true true = refl
-or_true false = refl
-
-any_table-append : (xs ys : List (Entry RenderNode)) → any_table (xs ++ ys) ≡ any_table xs || any_table ys
-any_table-append [] ys = refl
-any_table-append (e ∷ es) ys =
-    ap (λ b. is_table e.node.kind || b) (any_table-append es ys) ∙ sym (or_assoc (is_table e.node.kind) (any_table es) (any_table ys))
+any_table es = list_any (λ e. is_table e.node.kind) es
 
 pub any_table-flatten : (t : Forest RenderNode) → any_table (flatten t) ≡ has_table t
 any_table-flatten none = refl
 any_table-flatten (node n children beside) =
-    ap (λ b. is_table n.kind || b) (any_table-append (flatten children) (flatten beside)
+    ap (λ b. is_table n.kind || b) (list_any-append (λ e. is_table e.node.kind) (flatten children) (flatten beside)
     ∙ ap (λ b. b || any_table (flatten beside)) (any_table-flatten children)
     ∙ ap (λ b. has_table children || b) (any_table-flatten beside))
 
@@ -48,8 +35,9 @@ found_table : (t : Forest RenderNode) (i : ℕ) (e : Entry RenderNode) (es : Lis
     is_table e.node.kind ≡ true → has_table t ≡ true
 found_table t i e es behind table =
     let before = any_table (take i (flatten t)) in
-    sym (any_table-flatten t) ∙ ap any_table (sym (take-append-drop i (flatten t))) ∙ any_table-append (take i (flatten t)) (drop i (flatten t))
-    ∙ ap (λ l. before || any_table l) behind ∙ ap (λ b. before || (b || any_table es)) table ∙ or_true before
+    sym (any_table-flatten t) ∙ ap any_table (sym (take-append-drop i (flatten t)))
+    ∙ list_any-append (λ e. is_table e.node.kind) (take i (flatten t)) (drop i (flatten t))
+    ∙ ap (λ l. before || any_table l) behind ∙ ap (λ b. before || (b || any_table es)) table ∙ or_right before true refl
 
 module _ {D A : Type 0} (decoration : Decoration D A) (decorator : D) (min_wrap_width : ℕ) where
   abbrev with_sizes : Forest RenderNode → Forest RenderNode
@@ -57,7 +45,7 @@ module _ {D A : Type 0} (decoration : Decoration D A) (decorator : D) (min_wrap_
 
   -- what each pass makes of a node
   abbrev pub sized : RenderNode → (children : Forest RenderNode) → RenderNode
-  sized n children = measured_node decoration decorator min_wrap_width n children
+  sized n children = record n { kind = measured_kind n.kind children; estimate = estimate_of decoration decorator min_wrap_width n.kind children }
 
   abbrev unsized_estimate : NodeKind → (children : Forest RenderNode) → Estimate
   unsized_estimate kind children = without_size (estimate_of decoration decorator min_wrap_width kind children)
@@ -66,12 +54,11 @@ module _ {D A : Type 0} (decoration : Decoration D A) (decorator : D) (min_wrap_
   unsized n children = record n { estimate = unsized_estimate n.kind children }
 
   -- a node that keeps what was found out of it
-  pub noted : (n : RenderNode) (needs : List ColumnNeed) (e : Estimate) (f : Forest RenderNode) → needs ≡ needs_of n.kind f →
+  pub noted : (n : RenderNode) (needs : List ColumnNeed) (e : Estimate) (f : Forest RenderNode) → with_needs needs n.kind ≡ measured_kind n.kind f →
       e ≡ estimate_of decoration decorator min_wrap_width n.kind f →
       record n { kind = with_needs needs n.kind; estimate = e } ≡ sized n f
   noted n needs e f is_needs is_estimate =
-      ap (λ x. record n { kind = with_needs x n.kind; estimate = e }) is_needs
-      ∙ ap (λ x. record n { kind = with_needs (needs_of n.kind f) n.kind; estimate = x }) is_estimate
+      ap (λ x. record n { kind = x; estimate = e }) is_needs ∙ ap (λ x. record n { kind = measured_kind n.kind f; estimate = x }) is_estimate
 
   pub after_sized : (t : Forest RenderNode) → after sized t ≡ with_sizes t
   after_sized none = refl
@@ -109,9 +96,9 @@ module _ {D A : Type 0} (decoration : Decoration D A) (decorator : D) (min_wrap_
   unsized-same (FragmentStart name) t plain = refl
   unsized-same kind t plain = cc (leasts-same t, trees-same t)
 
-  kept-same : (needs : List ColumnNeed) (kind : NodeKind) → is_table kind ≡ false → with_needs needs kind ≡ kind
-  kept-same needs (Table grid) plain = absurd (true≢false plain)
-  kept-same needs kind plain = refl
+  kept-same : (kind : NodeKind) (t : Forest RenderNode) → is_table kind ≡ false → measured_kind kind t ≡ kind
+  kept-same (Table grid) t plain = absurd (true≢false plain)
+  kept-same kind t plain = refl
 
   pub after_unsized : (t : Forest RenderNode) → has_table t ≡ false → without t ≡ without_sizes (with_sizes t)
   after_unsized none plain = refl
@@ -124,7 +111,7 @@ module _ {D A : Type 0} (decoration : Decoration D A) (decorator : D) (min_wrap_
       ∙ ap (λ e. node (record n { estimate = e }) below (without_sizes (with_sizes beside)))
       (unsized-same n.kind (with_sizes children) front.0)
       ∙ ap (λ k. node (record { kind = k; style = n.style; estimate = unsized_estimate n.kind (with_sizes children) }) below
-      (without_sizes (with_sizes beside))) (sym (kept-same (needs_of n.kind (with_sizes children)) n.kind front.0))
+      (without_sizes (with_sizes beside))) (sym (kept-same n.kind (with_sizes children) front.0))
 
   -- ---- the whole tree
 

@@ -2,5 +2,4 @@ pub mod NeedsOfCells
 pub mod Sizes
 pub mod Measuring
 pub mod Parting
-pub mod Totals
 pub mod Again

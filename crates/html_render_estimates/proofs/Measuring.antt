@@ -1,74 +1,14 @@
 -- What measuring from the last node to the first keeps true.
-use Rattle.std.proofs.Common.{◌≡◌, ◌⊎◌, ltb, ℕ, ◌+◌, ◌-◌, ◌<◌, ◌≤◌, max, List, [], ◌∷◌, ◌++◌, length, take, drop, set, get_or}
-use Rattle.std.proofs.Common.{zero, suc, refl, sym, ap, ◌∙◌, subst, arith}
-use Rattle.std.proofs.Common.{append_assoc, length-append, length-drop, length-set, inl, inr}
-use Rattle.std.proofs.lemmas.List.{drop-append-le, drop-drop, drop-set, take-set-le, take-take, drop_more}
-use Rattle.std.proofs.lemmas.List.{get_or-take, get_or-drop, get_or_default}
+use Rattle.std.proofs.Common.{◌≡◌, ℕ, ◌+◌, ◌-◌, ◌<◌, ◌≤◌, List, [], ◌∷◌, ◌++◌, length, take, drop, set, get_or, zero, suc, refl, sym, ap, ◌∙◌, subst}
+use Rattle.std.proofs.Common.{arith, append_assoc, length-append, length-drop, length-set, inl, inr}
+use Rattle.std.proofs.lemmas.List.{drop-append-le, drop-drop, drop-set, take-set-le, take-take, drop_more, get_or-take, get_or-drop, get_or_default}
 use Rattle.std.proofs.Math.Seq.{take-append_seam, drop-append_seam, drop-length}
-use Rattle.std.proofs.lemmas.Bool.{cases_Bool, ltb-true, ltb-false}
+use Rattle.std.proofs.lemmas.Bool.{cases_lt}
 use Rattle.html_render_values.specs.Forest.{Forest, none, node, followed_by}
 use Rattle.html_render_nodes.specs.declared.tree.Entry.{Entry}
 use Rattle.html_render_nodes.specs.declared.tree.RenderNode.{RenderNode}
 use Rattle.html_render_nodes.specs.Preorder.{flatten, forest_of}
 use Rattle.html_render_nodes.specs.laws.Preorder.{forest_of-flatten, flatten-followed_by, IsForest, IsForest-flatten}
-use Rattle.html_render_estimates.specs.Estimates.{trees, greatest_least}
-
--- ---- the trees beside each other, one after the other
-
--- the trees from a place on, of which these many were counted before with this greatest least width
-pub record Counting (nodes : List (Entry RenderNode)) (all : Forest RenderNode) (at counted least : ℕ) : Type 0 where
-  pub rest : Forest RenderNode
-  pub ahead : drop at nodes ≡ flatten rest
-  pub count : counted + trees rest ≡ trees all
-  pub greatest : max least (greatest_least rest) ≡ greatest_least all
-  pub few : counted ≤ at
-
--- the tree at a place is counted
-pub record Counted (nodes : List (Entry RenderNode)) (all : Forest RenderNode) (at counted least : ℕ) (e : Entry RenderNode) : Type 0 where
-  pub some : 1 ≤ e.size
-  pub within : at + e.size ≤ length nodes
-  pub next : Counting nodes all (at + e.size) (counted + 1) (max least e.node.estimate.least)
-
-pub Counting-start : (nodes : List (Entry RenderNode)) (all : Forest RenderNode) → nodes ≡ flatten all → Counting nodes all 0 0 0
-Counting-start nodes all e = record { rest = all; ahead = e; count = omega arith; greatest = omega arith; few = omega arith }
-
-pub Counting-done : (nodes : List (Entry RenderNode)) (all : Forest RenderNode) (at counted least : ℕ) → Counting nodes all at counted least →
-    length nodes ≤ at → (counted ≡ trees all) × (least ≡ greatest_least all)
-Counting-done nodes all at counted least w past = by w.rest w.ahead w.count w.greatest
-  where
-    by : (rest : Forest RenderNode) → drop at nodes ≡ flatten rest → counted + trees rest ≡ trees all →
-        max least (greatest_least rest) ≡ greatest_least all → (counted ≡ trees all) × (least ≡ greatest_least all)
-    by none ahead count greatest = (omega (arith, count), omega (arith, greatest))
-    by (node n children beside) ahead count greatest = absurd (omega (arith, ap length ahead, length-drop at nodes))
-
-pub Counting-next : (nodes : List (Entry RenderNode)) (all : Forest RenderNode) (at counted least : ℕ) (e : Entry RenderNode) →
-    Counting nodes all at counted least → at < length nodes → e ≡ get_or nodes at e → Counted nodes all at counted least e
-Counting-next nodes all at counted least e w in_nodes is = by w.rest w.ahead w.count w.greatest
-  where
-    by : (rest : Forest RenderNode) → drop at nodes ≡ flatten rest → counted + trees rest ≡ trees all →
-        max least (greatest_least rest) ≡ greatest_least all → Counted nodes all at counted least e
-    by none ahead count greatest = absurd (omega (arith, ap length ahead, length-drop at nodes))
-    by (node n children beside) ahead count greatest =
-        let first : Entry RenderNode = record { node = n; size = length (flatten children) + 1 } in
-        let heads : get_or nodes at e ∷ drop (at + 1) nodes ≡ first ∷ (flatten children ++ flatten beside) =
-        sym (drop_more nodes at e in_nodes) ∙ ahead in
-        let behind : drop (at + 1) nodes ≡ flatten children ++ flatten beside = cc heads in
-        let same : e ≡ first = is ∙ cc heads in
-        let size : e.size ≡ length (flatten children) + 1 = ap (λ (x : Entry RenderNode). x.size) same in
-        let its : e.node.estimate.least ≡ n.estimate.least = ap (λ (x : Entry RenderNode). x.node.estimate.least) same in
-        let on : at + 1 + length (flatten children) ≡ at + e.size = omega (arith, size) in
-        record {
-          some = omega (arith, size);
-          within = omega (arith, size, ap length behind, length-drop (at + 1) nodes, length-append (flatten children) (flatten beside));
-          next = record {
-            rest = beside;
-            ahead = ap (λ m. drop m nodes) (sym on) ∙ sym (drop-drop (length (flatten children)) (at + 1) nodes)
-                ∙ ap (drop (length (flatten children))) behind ∙ drop-append_seam (flatten children) (flatten beside);
-            count = omega (arith, count);
-            greatest = omega (arith, greatest, its);
-            few = omega (arith, w.few, size);
-          };
-        }
 
 -- ---- the tree at a place
 
@@ -79,14 +19,11 @@ pub record IsNodeOver {K : Type 0} (es : List (Entry K)) : Type 0 where
   pub beside : Forest K
   pub is : es ≡ record { node = top; size = length (flatten children) + 1 } ∷ (flatten children ++ flatten beside)
 
-below_or_not : (a b : ℕ) → (a < b) ⊎ (b ≤ a)
-below_or_not a b = elim (cases_Bool (ltb a b)) [ inl e ↦ inl (ltb-true a b e) | inr e ↦ inr (ltb-false a b e) ]
-
 pub node_at : {K : Type 0} (t : Forest K) (i : ℕ) → i < length (flatten t) → IsNodeOver (drop i (flatten t))
 node_at none i h = absurd (omega arith)
 node_at (node k children beside) zero h = record { top = k; children = children; beside = beside; is = refl }
 node_at (node k children beside) (suc i) h =
-    elim (below_or_not i (length (flatten children))) [
+    elim (cases_lt i (length (flatten children))) [
       | inl lt ↦ (let s = node_at children i lt in
           let more = flatten beside in
           record {

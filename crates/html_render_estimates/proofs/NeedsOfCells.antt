@@ -15,7 +15,7 @@ pub rows_without : (rows : List (List GridCell)) → cell_needs rows none ≡ []
 rows_without [] = refl
 rows_without (r ∷ rs) = refl
 
--- a cell of a grid stands over one or more of so many columns
+-- a cell of a grid stands over one or more of `columns` columns
 abbrev pub OnColumns : (columns : ℕ) → GridCell → Type 0
 OnColumns columns c = (c.first + c.columns ≤ columns) × (0 < c.columns)
 

@@ -8,7 +8,7 @@ use Rattle.std.proofs.lemmas.Grind.{common_steps}
 use Rattle.std.specs.Str.{chars}
 use Rattle.html_render_lines.specs.Character.{is_collapsible, width_of}
 use Rattle.html_render_lines.specs.laws.Characters.{plain_width}
-use Rattle.html_render_estimates.specs.TextSize.{columns_of, inner_columns, with_space, size_of}
+use Rattle.html_render_estimates.specs.TextSize.{columns_of, inner_columns, size_of}
 
 -- ---- characters
 
@@ -20,11 +20,11 @@ unfolding chars
 chars-ascii b [] h = grind (arith, common_steps)
 chars-ascii b (c ∷ bs) h = grind (arith, common_steps)
 
--- ---- the size, where so many columns were counted and spaced says that white space stands behind them
+-- ---- the size, where `k` columns were counted and `spaced` says that white space stands behind them
 
 abbrev pub size_on : ℕ → Bool → List ℕ → ℕ
 size_on zero false cs = size_of cs
-size_on zero true cs = with_space (inner_columns cs)
+size_on zero true cs = inner_columns cs + min (inner_columns cs) 1
 size_on (suc k) spaced cs = suc k + columns_of spaced cs
 
 pub size_on-none : (k : ℕ) (spaced : Bool) → size_on k spaced [] ≡ k
@@ -53,7 +53,7 @@ inner_columns-space c cs e = rw e refl
 pub inner_columns-other : (c : ℕ) (cs : List ℕ) → is_collapsible c ≡ false → inner_columns (c ∷ cs) ≡ columns_of false (c ∷ cs)
 inner_columns-other c cs e = rw e refl
 
-pub size_of-space : (c : ℕ) (cs : List ℕ) → is_collapsible c ≡ true → size_of (c ∷ cs) ≡ with_space (inner_columns cs)
+pub size_of-space : (c : ℕ) (cs : List ℕ) → is_collapsible c ≡ true → size_of (c ∷ cs) ≡ inner_columns cs + min (inner_columns cs) 1
 size_of-space c cs e = rw e refl
 
 pub size_of-other : (c : ℕ) (cs : List ℕ) → is_collapsible c ≡ false → size_of (c ∷ cs) ≡ columns_of false (c ∷ cs)
@@ -61,7 +61,7 @@ size_of-other c cs e = rw e refl
 
 pub size_on-space : (k c : ℕ) (cs : List ℕ) (spaced : Bool) → is_collapsible c ≡ true → size_on k spaced (c ∷ cs) ≡ size_on k true cs
 size_on-space zero c cs false e = size_of-space c cs e
-size_on-space zero c cs true e = ap with_space (inner_columns-space c cs e)
+size_on-space zero c cs true e = ap (λ n. n + min n 1) (inner_columns-space c cs e)
 size_on-space (suc k) c cs spaced e = ap (λ n. suc k + n) (columns_of-space c cs spaced e)
 
 pub size_on-letter : (k c : ℕ) (cs : List ℕ) (spaced : Bool) → is_collapsible c ≡ false → width_of c ≡ 1 →

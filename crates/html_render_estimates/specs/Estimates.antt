@@ -1,11 +1,10 @@
 -- What each node of a forest measures, from its kind and what its children measure.
-use Rattle.std.specs.Prelude.{ℕ, pos, ◌+◌, ◌-◌, ◌*◌, ◌/◌, ◌+ℤ◌, ◌-ℤ◌, max, min, ℤ, List, [], sum_by}
+use Rattle.std.specs.Prelude.{ℕ, pos, ◌+◌, ◌-◌, ◌*◌, ◌/◌, ◌+ℤ◌, ◌-ℤ◌, max, min, List, sum_by}
 use Rattle.std.specs.Int.{saturate_signed, w64}
 use Rattle.std.specs.Str.{chars}
 use Rattle.html_render_values.specs.Forest.{Forest, none, node}
 use Rattle.html_render_parts.specs.Decoration.{Decoration}
 use Rattle.html_render_parts.specs.declared.widths.needs.CellNeed.{CellNeed}
-use Rattle.html_render_parts.specs.declared.widths.shares.ColumnNeed.{ColumnNeed}
 use Rattle.html_render_parts.specs.Needs.{column_needs}
 use Rattle.html_render_parts.specs.TableCells.{columns_of}
 use Rattle.html_render_lines.specs.TaggedText.{text_columns}
@@ -32,53 +31,37 @@ abbrev pub total_size : Forest RenderNode → ℕ
 total_size none = 0
 total_size (node n children beside) = saturated (n.estimate.size + total_size beside)
 
--- THE SIZE OF A TABLE: each column of a cell has an equal part of its size, rounded down, and a column's size is that of all its
--- parts; one column of text stands between any two columns
-abbrev pub table_size : (columns : ℕ) → List CellNeed → ℕ
-table_size columns cells = saturated (sum_by (λ c. c.size / c.count * c.count) cells + (columns - 1))
-
--- ITS LEAST WIDTH: each column has what it needs at least
-abbrev pub table_least : (columns : ℕ) → List CellNeed → ℕ
-table_least columns cells = saturated (sum_by (λ n. n.least) (column_needs columns cells) + (columns - 1))
-
+-- THE ESTIMATE OF A TABLE: at least each column has what it needs; of the size of a cell each of its columns has an equal part, rounded
+-- down, and a column's size is that of all its parts; one column of text stands between any two columns
 abbrev pub table_estimate : (columns : ℕ) → List CellNeed → (children : ℕ) → Estimate
 table_estimate columns cells children =
-    record { least = table_least columns cells; size = table_size columns cells; prefix = 0; children = children }
+    let least = saturated (sum_by (λ n. n.least) (column_needs columns cells) + (columns - 1)) in
+    let size = saturated (sum_by (λ c. c.size / c.count * c.count) cells + (columns - 1)) in
+    record { least = least; size = size; prefix = 0; children = children }
 
--- WHAT THE COLUMNS of a table NEED for its measured cells; no other node has columns
-abbrev pub needs_of : NodeKind → (children : Forest RenderNode) → List ColumnNeed
-needs_of (Table grid) children = column_needs (columns_of grid.cells) (cell_needs grid.cells.rows children)
-needs_of kind children = []
-
--- it is kept in the table's node, for the layout
-abbrev pub with_needs : List ColumnNeed → NodeKind → NodeKind
-with_needs needs (Table grid) = Table (record grid { needs = needs })
-with_needs needs kind = kind
+-- WHAT THE COLUMNS of a table NEED for its measured cells is kept in its node, for the layout
+abbrev pub measured_kind : NodeKind → (children : Forest RenderNode) → NodeKind
+measured_kind (Table grid) children =
+    Table (record grid { needs = column_needs (columns_of grid.cells) (cell_needs grid.cells.rows children) })
+measured_kind kind children = kind
 
 -- the size of a text, and the columns of a prefix, in UTF-8
 abbrev pub text_size : List ℕ → ℕ
 text_size text = saturated (size_of (chars text))
 
--- and of an image: as that of its title, with two columns for what stands round it
-abbrev pub image_size : (title : List ℕ) → ℕ
-image_size title = saturated (text_size title + 2)
-
 abbrev pub prefix_columns : List ℕ → ℕ
 prefix_columns text = saturated (text_columns (chars text))
 
--- the number of the last of so many items, numbered from the first one's on; numbers stop at the ends of their type
-abbrev pub last_number : ℤ → (items : ℕ) → ℤ
-last_number first items = saturate_signed w64 (first +ℤ pos items -ℤ pos 1)
-
 module _ {D A : Type 0} (decoration : Decoration D A) (decorator : D) where
-  -- the columns of what stands before the lines of a node with so many children
+  -- the columns of what stands before the lines of a node with so many children. A numbered list has those of its first item or of
+  -- its last, if these are more; numbers stop at the ends of their type
   abbrev pub prefix_of : NodeKind → (children : ℕ) → ℕ
   prefix_of (Header level) children = prefix_columns (decoration.header_prefix decorator level)
   prefix_of BlockQuote children = prefix_columns (decoration.quote_prefix decorator)
   prefix_of Ul children = prefix_columns (decoration.unordered_item_prefix decorator)
   prefix_of (Ol first) children =
-      max (prefix_columns (decoration.ordered_item_prefix decorator first))
-      (prefix_columns (decoration.ordered_item_prefix decorator (last_number first children)))
+      let last = saturate_signed w64 (first +ℤ pos children -ℤ pos 1) in
+      max (prefix_columns (decoration.ordered_item_prefix decorator first)) (prefix_columns (decoration.ordered_item_prefix decorator last))
   prefix_of Dd children = 2
   prefix_of kind children = 0
 
@@ -87,11 +70,11 @@ module _ {D A : Type 0} (decoration : Decoration D A) (decorator : D) where
     abbrev pub piece : (size : ℕ) → Estimate
     piece size = record { least = min size min_wrap_width; size = size; prefix = 0; children = 0 }
 
-    -- THE ESTIMATE of a node over its measured children: a link has five columns for what stands round it
+    -- THE ESTIMATE of a node over its measured children: for what stands round it an image has two columns, and a link five
     abbrev pub estimate_of : NodeKind → (children : Forest RenderNode) → Estimate
     estimate_of (Text text) children = piece (text_size text)
     estimate_of Break children = record { least = 1; size = 1; prefix = 0; children = 0 }
-    estimate_of (Image image) children = piece (image_size image.title)
+    estimate_of (Image image) children = piece (saturated (text_size image.title + 2))
     estimate_of (Svg title) children = piece (text_size title)
     estimate_of (FragmentStart name) children = record { least = 0; size = 0; prefix = 0; children = 0 }
     estimate_of (Link target) children =
@@ -103,11 +86,9 @@ module _ {D A : Type 0} (decoration : Decoration D A) (decorator : D) where
         let size = saturated (total_size children + prefix) in
         record { least = least; size = size; prefix = prefix; children = trees children }
 
-    -- a node over its measured children
-    abbrev pub measured_node : RenderNode → (children : Forest RenderNode) → RenderNode
-    measured_node n children = record n { kind = with_needs (needs_of n.kind children) n.kind; estimate = estimate_of n.kind children }
-
     -- THE MEASURED TREES: each node with its estimate
     abbrev pub measured : Forest RenderNode → Forest RenderNode
     measured none = none
-    measured (node n children beside) = let below = measured children in node (measured_node n below) below (measured beside)
+    measured (node n children beside) =
+        let below = measured children in
+        node (record n { kind = measured_kind n.kind below; estimate = estimate_of n.kind below }) below (measured beside)

@@ -1,6 +1,7 @@
 -- What the passes of the code compute: sizes are left out of trees without a table, where nothing asks for them.
-use Rattle.std.specs.Prelude.{Bool, true, false, ◌||◌, if◌then◌else◌}
+use Rattle.std.specs.Prelude.{Bool, true, false, ◌||◌, List, if◌then◌else◌}
 use Rattle.html_render_values.specs.Forest.{Forest, none, node}
+use Rattle.html_render_parts.specs.declared.widths.shares.ColumnNeed.{ColumnNeed}
 use Rattle.html_render_nodes.specs.declared.tree.Estimate.{Estimate}
 use Rattle.html_render_nodes.specs.declared.tree.NodeKind.{NodeKind}
 use Rattle.html_render_nodes.specs.declared.tree.NodeKind.TheVariants.{Table}
@@ -14,6 +15,11 @@ is_table kind = false
 abbrev pub has_table : Forest RenderNode → Bool
 has_table none = false
 has_table (node n children beside) = is_table n.kind || (has_table children || has_table beside)
+
+-- a table's node with what its columns need
+abbrev pub with_needs : List ColumnNeed → NodeKind → NodeKind
+with_needs needs (Table grid) = Table (record grid { needs = needs })
+with_needs needs kind = kind
 
 -- an estimate without its size, and trees without the sizes of their nodes
 abbrev pub without_size : Estimate → Estimate

@@ -19,11 +19,7 @@ abbrev pub inner_columns : List ℕ → ℕ
 inner_columns [] = 0
 inner_columns (c ∷ cs) = if is_collapsible c then inner_columns cs else columns_of false (c ∷ cs)
 
--- one column more for white space in front of others, unless these have none
-abbrev pub with_space : ℕ → ℕ
-with_space columns = columns + min columns 1
-
--- THE SIZE OF A TEXT
+-- THE SIZE OF A TEXT: white space in front of other columns is one more
 abbrev pub size_of : List ℕ → ℕ
 size_of [] = 0
-size_of (c ∷ cs) = if is_collapsible c then with_space (inner_columns cs) else columns_of false (c ∷ cs)
+size_of (c ∷ cs) = if is_collapsible c then inner_columns cs + min (inner_columns cs) 1 else columns_of false (c ∷ cs)

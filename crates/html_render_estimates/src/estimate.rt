@@ -3,14 +3,17 @@
 //! `measure(alloc, &decorator, 3, tree)?` is the tree with each node's estimate: the least width in which the node
 //! can be laid out well, the columns of the decorator's prefix and the number of children; and in a tree with a table its size.
 
-ghost use Rattle.std.specs.Prelude.{◌≡◌, max, min, true, false, IfOk, IfErr, OnOk, MatchBool};
+ghost use Rattle.std.specs.Prelude.{◌≡◌, ◌+◌, ◌+ℤ◌, ◌-ℤ◌, pos, max, min, true, false, IfOk, IfErr, OnOk, MatchBool};
+ghost use Rattle.std.specs.Int.{saturate_signed, w64};
 ghost use Rattle.html_render_nodes.specs.Preorder.{flatten, forest_of};
-ghost use Rattle.html_render_estimates.specs.Estimates.{trees, greatest_least, image_size, prefix_of, last_number};
-ghost use Rattle.html_render_estimates.specs.Estimates.{needs_of, with_needs, estimate_of, measured};
-ghost use Rattle.html_render_estimates.specs.Passes.{is_table, has_table, without_size, without_sizes, with_needed_sizes};
+ghost use Rattle.html_render_estimates.specs.Estimates.{trees, greatest_least, text_size, prefix_of};
+ghost use Rattle.html_render_estimates.specs.TextSize.{saturated};
+ghost use Rattle.html_render_estimates.specs.Estimates.{measured_kind, estimate_of, measured};
+ghost use Rattle.html_render_estimates.specs.Passes.{is_table, has_table, with_needs, without_size, without_sizes, with_needed_sizes};
 
 use crate::sized::{Measure, measure_table, total_size};
 use crate::text::{columns, size_within};
+use crate::trees::first_tree;
 use html_render_nodes::tree::{Entry, Estimate, Flat, NodeKind, RenderNode};
 use html_render_parts::decorate::TextDecorator;
 use html_render_values::Error;
@@ -34,19 +37,18 @@ pub(crate) fn children_of(nodes: &[Entry<RenderNode>]) -> Children
 {
     let mut count = 0;
     let mut least: usize = 0;
-    let mut at = 0;
-    while at < nodes.len() {
-        let entry = &nodes[at];
+    let mut rest = nodes;
+    while let Some(first) = first_tree(rest) {
         count += 1;
-        least = least.max(entry.node.estimate.least);
-        at += entry.size;
+        least = least.max(first.node.estimate.least);
+        rest = first.beside;
     }
     Children { count, least }
 }
 
-/// The number of the last of so many items.
+/// The number of the last of `items` items.
 fn last_number(first: i64, items: usize) -> i64
-    ensures { result ≡ last_number first items }
+    ensures { result ≡ saturate_signed w64 (first +ℤ pos items -ℤ pos 1) }
 {
     if items == 0 {
         first.saturating_sub(1)
@@ -75,7 +77,7 @@ pub fn number_columns<D: TextDecorator>(
     Ok(columns(first_prefix.as_str()).max(columns(last_prefix.as_str())))
 }
 
-/// The columns of what stands before the lines of a node with so many children.
+/// The columns of the prefix of a node with `children` children.
 #[inline]
 fn prefix_of<D: TextDecorator>(
     alloc: Global,
@@ -128,7 +130,7 @@ fn piece(least: usize) -> Estimate
 
 /// The lesser of an image's size and `limit`.
 pub(crate) fn image_size_within(title: &str, limit: usize) -> usize
-    ensures { result ≡ min (image_size title.now) limit }
+    ensures { result ≡ min (saturated (text_size title.now + 2)) limit }
 {
     size_within(title, limit).saturating_add(2).min(limit)
 }
@@ -221,7 +223,7 @@ fn measure_of<D: TextDecorator>(
 ) -> Result<Measure, Error>
     requires { flatten (forest_of below.now) ≡ below.now }
     ensures estimate { IfOk result (λ m. m.estimate ≡ estimate_of D.decoration decorator.now min_wrap_width kind.now (forest_of below.now)) }
-    ensures needs { IfOk result (λ m. m.needs.items ≡ needs_of kind.now (forest_of below.now)) }
+    ensures needs { IfOk result (λ m. with_needs m.needs.items kind.now ≡ measured_kind kind.now (forest_of below.now)) }
     ensures err { IfErr result (λ e. e ≡ Error.OutOfMemory) }
 {
     if let NodeKind::Table(grid) = kind {

@@ -215,7 +215,7 @@ fn shown_width(c: char) -> Option<usize>
     }
 }
 
-/// The columns of a character that has so many, and of white space if it stands in front.
+/// The columns of a character that has `width`, and of white space if it stands in front.
 fn spaced_width(spaced: bool, width: usize) -> usize
     ensures { result ≡ saturated ((if spaced then 1 else 0) + width) }
 {

@@ -2,7 +2,8 @@
 use Rattle.std.proofs.Common.{◌≡◌, ◌+◌, List, [], ◌∷◌, ◌++◌, length, map, reverse, refl, sym, ap, subst, ◌∙◌}
 use Rattle.std.specs.List.{All}
 use Rattle.std.proofs.lemmas.List.{length-map, map-append, reverse-append}
-use Rattle.std.proofs.lemmas.List.Elements.{All-nil, All-cons, All-head, All-tail, All-push}
+use Rattle.std.proofs.lemmas.List.Elements.{All-head, All-tail, All-push, All-take, All-drop}
+use Rattle.std.proofs.Math.Seq.{take-append_seam, drop-append_seam}
 use Rattle.html_render_values.specs.Forest.{Forest, none, node}
 use Rattle.html_render_nodes.specs.declared.tree.Entry.{Entry}
 use Rattle.html_render_nodes.specs.declared.tree.RenderNode.{RenderNode}
@@ -10,23 +11,20 @@ use Rattle.html_render_nodes.specs.Preorder.{flatten}
 use Rattle.html_render_nodes.specs.laws.Preorder.{IsForest, IsForest-flatten}
 use Rattle.html_render_nodes.specs.laws.Splits.{followed_by-none}
 use Rattle.html_render_insertions.specs.declared.drafts.Draft.{Draft}
-use Rattle.html_render_insertions.specs.Drafts.{node_of, expanded, wrapped}
+use Rattle.html_render_insertions.specs.Drafts.{expanded, wrapped}
 use Rattle.html_render_insertions.specs.Expansion.{bare, IsBare}
 
 module _ {X : Type 0} (P : X → Type 0) where
   all_front : (xs ys : List X) → All P (xs ++ ys) → All P xs
-  all_front [] ys h = All-nil P
-  all_front (x ∷ xs) ys h = All-cons P x xs (All-head P x (xs ++ ys) h) (all_front xs ys (All-tail P x (xs ++ ys) h))
+  all_front xs ys h = subst (All P) (take-append_seam xs ys) (All-take P (length xs) (xs ++ ys) h)
 
   all_behind : (xs ys : List X) → All P (xs ++ ys) → All P ys
-  all_behind [] ys h = h
-  all_behind (x ∷ xs) ys h = all_behind xs ys (All-tail P x (xs ++ ys) h)
+  all_behind xs ys h = subst (All P) (drop-append_seam xs ys) (All-drop P (length xs) (xs ++ ys) h)
 
   all_reversed : (xs : List X) → All P xs → All P (reverse xs)
   all_reversed [] h = h
   all_reversed (x ∷ xs) h =
-      subst (All P) (sym (reverse-append (x ∷ []) xs))
-      (All-push P (reverse xs) x (all_reversed xs (All-tail P x xs h)) (All-head P x xs h))
+      rw (reverse-append (x ∷ []) xs) (All-push P (reverse xs) x (all_reversed xs (All-tail P x xs h)) (All-head P x xs h))
 
 flatten-bare : (t : Forest Draft) → All IsBare (flatten t) → flatten (expanded t) ≡ map bare (flatten t)
 flatten-bare none h = refl
@@ -38,11 +36,7 @@ flatten-bare (node d children others) h =
     ap (λ i. flatten (wrapped i (expanded children))) nothing ∙ ap flatten (followed_by-none (expanded children))
     ∙ flatten-bare children (all_front IsBare (flatten children) (flatten others) rest) in
     let beside = flatten-bare others (all_behind IsBare (flatten children) (flatten others) rest) in
-    ap (λ (l : List (Entry RenderNode)). record { node = node_of d; size = length l + 1 } ∷ (l ++ flatten (expanded others))) inner
-    ∙ ap (λ n. record { node = node_of d; size = n + 1 } ∷ (map bare (flatten children) ++ flatten (expanded others)))
-    (length-map (flatten children) bare)
-    ∙ ap (λ l. bare e ∷ (map bare (flatten children) ++ l)) beside
-    ∙ ap (λ l. bare e ∷ l) (sym (map-append bare (flatten children) (flatten others)))
+    rw (inner, beside, length-map (flatten children) bare, map-append bare (flatten children) (flatten others)) refl
 
 -- the nodes of such drafts, from the last to the first
 pub bare_forest : (drafts : List (Entry Draft)) (t : Forest Draft) (nodes : List (Entry RenderNode)) → flatten t ≡ reverse drafts →

@@ -1,7 +1,7 @@
 -- Drafts in reverse pre-order.
 use Rattle.std.proofs.Common.{◌≡◌, ℕ, ◌+◌, ◌-◌, List, [], ◌∷◌, ◌++◌, length, take, reverse, sym, ap, ◌∙◌, arith}
 use Rattle.std.proofs.lemmas.List.{reverse-append, reverse-reverse, length-reverse}
-use Rattle.std.proofs.Math.Seq.{take-append_seam}
+use Rattle.std.proofs.Math.Seq.{take_at}
 use Rattle.html_render_values.specs.Forest.{Forest, node, count}
 use Rattle.html_render_nodes.specs.declared.tree.Entry.{Entry}
 use Rattle.html_render_nodes.specs.Preorder.{flatten}
@@ -41,9 +41,7 @@ module _ {K : Type 0} where
       let parts : es ≡ reverse (flatten s.beside) ++ reverse (flatten s.children) =
       sym (reverse-reverse es) ∙ ap reverse (sym e ∙ ap flatten s.is ∙ flatten-followed_by s.children s.beside)
       ∙ reverse-append (flatten s.children) (flatten s.beside) in
-      let long : mark ≡ length (reverse (flatten s.beside)) = s.mark_is ∙ sym (length-flatten s.beside)
-      ∙ sym (length-reverse (flatten s.beside)) in
       let front : take mark es ≡ reverse (flatten s.beside) =
-      ap (λ n. take n es) long ∙ ap (take (length (reverse (flatten s.beside)))) parts
-      ∙ take-append_seam (reverse (flatten s.beside)) (reverse (flatten s.children)) in
+      ap (take mark) parts ∙ take_at (reverse (flatten s.beside)) (reverse (flatten s.children)) mark
+      (omega (arith, s.mark_is, length-flatten s.beside, length-reverse (flatten s.beside))) in
       IsForest-flatten _ _ (ap reverse front ∙ reverse-reverse (flatten s.beside))

@@ -2,7 +2,7 @@
 use Rattle.std.proofs.Common.{◌≡◌, Option, Some, None, option_to_list, ◌≢◌, ℕ, ◌+◌, ◌-◌, ◌≤◌, ◌<◌, List, [], ◌∷◌, ◌++◌, length, drop, get_or, set, reverse, subst, sym, ap, ◌∙◌, arith}
 use Rattle.std.proofs.Common.{append_assoc, append-nil, length-append, refl}
 use Rattle.std.proofs.lemmas.List.{reverse-append, length-reverse, same_from_push}
-use Rattle.std.proofs.Math.Seq.{get_or-append_seam, set-append_seam}
+use Rattle.std.proofs.Math.Seq.{get_or_at, set_at}
 use Rattle.html_render_values.specs.Forest.{Forest, none, node, followed_by}
 use Rattle.html_render_nodes.specs.declared.tree.Entry.{Entry}
 use Rattle.html_render_nodes.specs.declared.tree.RenderNode.{RenderNode}
@@ -21,22 +21,15 @@ pub closing : (old out over : List (Entry RenderNode)) (texts : List (List ℕ))
     Closes old place over (set out place (record { node = e.node; size = many - place }))
 closing old out over (text ∷ texts) place many e whole none_left all at = λ before top below is here. absurd (omega arith)
 closing old out over [] place many e whole none_left all at = λ before top below is here.
-    let parts : out ≡ before ++ top ∷ (below ++ over) =
+    let behind = below ++ over in
+    let parts : out ≡ before ++ top ∷ behind =
     sym (append-nil out) ∙ whole ∙ ap (λ l. l ++ over) is ∙ append_assoc before (top ∷ below) over in
-    let own : e ≡ top =
-    at ∙ ap (λ l. get_or l place e) parts ∙ ap (λ n. get_or (before ++ top ∷ (below ++ over)) n e) here
-    ∙ get_or-append_seam before top (below ++ over) e in
-    let size : many - place ≡ length (below ++ over) + 1 =
-    omega (arith, ap length parts, length-append before (top ∷ (below ++ over))) in
+    let own : e ≡ top = at ∙ ap (λ l. get_or l place e) parts ∙ get_or_at before top behind e place (sym here) in
+    let size : many - place ≡ length behind + 1 = omega (arith, ap length parts, length-append before (top ∷ behind)) in
     let made : Entry RenderNode = record { node = e.node; size = many - place } in
-    let made_is : made ≡ record { node = top.node; size = length (below ++ over) + 1 } =
-    ap (λ n. record { node = e.node; size = n }) size
-    ∙ ap (λ (x : Entry RenderNode). record { node = x.node; size = length (below ++ over) + 1 }) own in
-    let there : set out place made ≡ set (before ++ top ∷ (below ++ over)) (length before) made =
-    ap (λ l. set l place made) parts ∙ ap (λ n. set (before ++ top ∷ (below ++ over)) n made) here in
-    let put : set (before ++ top ∷ (below ++ over)) (length before) made ≡ before ++ made ∷ (below ++ over) =
-    set-append_seam before top (below ++ over) made in
-    there ∙ put ∙ ap (λ x. before ++ x ∷ (below ++ over)) made_is
+    ap (λ l. set l place made) parts ∙ set_at before top behind made place (sym here)
+    ∙ ap (λ n. before ++ record { node = e.node; size = n } ∷ behind) size
+    ∙ ap (λ (x : Entry RenderNode). before ++ record { node = x.node; size = length behind + 1 } ∷ behind) own
 
 -- ---- the front, and what waits
 
@@ -106,29 +99,37 @@ Placed [] = Unit {0}
 Placed (l ∷ levels) =
     (l.opened.place ≡ length (outside levels ++ l.done)) × (l.opened.left ≡ length (flatten l.beside ++ rests levels)) × Placed levels
 
--- where the writing stands: with these nodes written, these open, and these drafts left, from the last to the first
+-- where the writing stands: with these nodes written, these open, and these drafts left, which are trees in the innermost open node
+-- and what is behind it
+pub record Stands (wanted nodes : List (Entry RenderNode)) (frames : List Opened) (left : List (Entry Draft)) (trees : Forest Draft)
+    (inside : List (Entry RenderNode)) (levels : List Level) : Type 0 where
+  pub nodes_are : nodes ≡ outside levels ++ inside
+  pub frames_are : frames ≡ frames_of levels
+  pub left_are : left ≡ flatten trees ++ rests levels
+  pub wanted_is : wanted ≡ whole levels (inside ++ flatten (expanded trees))
+  pub placed : Placed levels
+
+-- the drafts come from the last to the first
 pub record Writing (wanted nodes : List (Entry RenderNode)) (frames : List Opened) (drafts : List (Entry Draft)) : Type 0 where
   pub trees : Forest Draft
   pub inside : List (Entry RenderNode)
   pub levels : List Level
-  pub nodes_are : nodes ≡ outside levels ++ inside
-  pub frames_are : frames ≡ frames_of levels
-  pub drafts_are : reverse drafts ≡ flatten trees ++ rests levels
-  pub wanted_is : wanted ≡ whole levels (inside ++ flatten (expanded trees))
-  pub placed : Placed levels
+  pub stands : Stands wanted nodes frames (reverse drafts) trees inside levels
 
 -- it begins
-pub writing_starts : (t : Forest Draft) (nodes : List (Entry RenderNode)) (frames : List Opened) (drafts : List (Entry Draft)) →
+pub writing_starts : (t : Forest Draft) {nodes : List (Entry RenderNode)} {frames : List Opened} {drafts : List (Entry Draft)} →
     flatten t ≡ reverse drafts → nodes ≡ [] → frames ≡ [] → Writing (flatten (expanded t)) nodes frames drafts
-writing_starts t nodes frames drafts e no_node no_frame = record {
+writing_starts t e no_node no_frame = record {
   trees = t;
   inside = [];
   levels = [];
-  nodes_are = no_node;
-  frames_are = no_frame;
-  drafts_are = sym e ∙ sym (append-nil (flatten t));
-  wanted_is = refl;
-  placed = tt;
+  stands = record {
+    nodes_are = no_node;
+    frames_are = no_frame;
+    left_are = sym e ∙ sym (append-nil (flatten t));
+    wanted_is = refl;
+    placed = tt;
+  };
 }
 
 -- the innermost open node is over: it is made whole
@@ -140,73 +141,73 @@ pub record Over (wanted nodes : List (Entry RenderNode)) (frames : List Opened) 
   pub place_is : o.place ≡ length before
   pub then : (new : List (Entry RenderNode)) → Closes nodes o.place (flatten (leaves (reverse o.behind.items))) new → Writing wanted new frames drafts
 
-none_of : (t : Forest Draft) (rest drafts : List (Entry Draft)) → reverse drafts ≡ flatten t ++ rest → length drafts ≡ length rest → t ≡ none
-none_of none rest drafts e same = refl
-none_of (node d children others) rest drafts e same =
-    absurd (omega (arith, ap length e, length-reverse drafts, length-append (flatten (node d children others)) rest))
+over_at : (wanted nodes : List (Entry RenderNode)) (all frames : List Opened) (o : Opened) (drafts : List (Entry Draft)) (levels : List Level)
+    (trees : Forest Draft) (inside : List (Entry RenderNode)) → Stands wanted nodes all (reverse drafts) trees inside levels →
+    all ≡ frames ++ o ∷ [] → o.left ≡ length (reverse drafts) → Over wanted nodes frames o drafts
+over_at wanted nodes all frames o drafts [] trees inside s taken over =
+    absurd (omega (arith, ap length s.frames_are, ap length taken, length-append frames (o ∷ [])))
+over_at wanted nodes all frames o drafts (l ∷ levels) (node d children beside) inside s taken over =
+    let same = same_from_push (frames_of levels) frames l.opened o (sym s.frames_are ∙ taken) in
+    let left_is : o.left ≡ length (flatten l.beside ++ rests levels) = ap (λ (f : Opened). f.left) (sym same.1) ∙ s.placed.1 in
+    absurd (omega (arith, ap length s.left_are, length-append (flatten (node d children beside)) (flatten l.beside ++ rests levels)))
+over_at wanted nodes all frames o drafts (l ∷ levels) none inside s taken over =
+    let same = same_from_push (frames_of levels) frames l.opened o (sym s.frames_are ∙ taken) in
+    let before = outside levels ++ l.done in
+    let parts : nodes ≡ before ++ l.entry ∷ inside = simp append_assoc (simp append_assoc at s.nodes_are) in
+    subst (λ f. Over wanted nodes frames f drafts) same.1 (subst (λ fs. Over wanted nodes fs l.opened drafts) same.0 (record {
+      before = before;
+      top = l.entry;
+      below = inside;
+      is = parts;
+      place_is = s.placed.0;
+      then = λ new closes.
+          let all = inside ++ over_of l in
+          let made : Entry RenderNode = record { node = l.entry.node; size = length all + 1 } in
+          record {
+            trees = l.beside;
+            inside = l.done ++ made ∷ all;
+            levels = levels;
+            stands = record {
+              nodes_are = closes before l.entry inside parts s.placed.0 ∙ append_assoc (outside levels) l.done (made ∷ all);
+              frames_are = refl;
+              left_are = s.left_are;
+              wanted_is = s.wanted_is ∙ ap (λ x. whole (l ∷ levels) x) (append-nil inside);
+              placed = s.placed.2;
+            };
+          };
+    }))
 
-pub writing_over : (wanted nodes : List (Entry RenderNode)) (all frames : List Opened) (o : Opened) (drafts : List (Entry Draft)) →
-    Writing wanted nodes all drafts → all ≡ frames ++ o ∷ [] → o.left ≡ length drafts → Over wanted nodes frames o drafts
-writing_over wanted nodes all frames o drafts w taken over =
-    at w.levels w.nodes_are (sym w.frames_are ∙ taken) w.drafts_are w.wanted_is w.placed
-  where
-    at : (levels : List Level) → nodes ≡ outside levels ++ w.inside → frames_of levels ≡ frames ++ o ∷ [] →
-        reverse drafts ≡ flatten w.trees ++ rests levels → wanted ≡ whole levels (w.inside ++ flatten (expanded w.trees)) →
-        Placed levels → Over wanted nodes frames o drafts
-    at [] nodes_are stack drafts_are wanted_is placed = absurd (omega (arith, ap length stack, length-append frames (o ∷ [])))
-    at (l ∷ levels) nodes_are stack drafts_are wanted_is placed =
-        let same = same_from_push (frames_of levels) frames l.opened o stack in
-        let left_is : o.left ≡ length (flatten l.beside ++ rests levels) = ap (λ (f : Opened). f.left) (sym same.1) ∙ placed.1 in
-        let finished : w.trees ≡ none =
-        none_of w.trees (flatten l.beside ++ rests levels) drafts drafts_are (sym over ∙ left_is) in
-        let over_is : over_of l ≡ flatten (leaves (reverse o.behind.items)) =
-        ap (λ (f : Opened). flatten (leaves (reverse f.behind.items))) same.1 in
-        let before = outside levels ++ l.done in
-        let parts : nodes ≡ before ++ l.entry ∷ w.inside =
-        nodes_are ∙ append_assoc (outside levels) (l.done ++ l.entry ∷ []) w.inside
-        ∙ ap (λ x. outside levels ++ x) (append_assoc l.done (l.entry ∷ []) w.inside)
-        ∙ sym (append_assoc (outside levels) l.done (l.entry ∷ w.inside)) in
-        let here : o.place ≡ length before = ap (λ (f : Opened). f.place) (sym same.1) ∙ placed.0 in
-        let made = λ (all : List (Entry RenderNode)). let e : Entry RenderNode = record { node = l.entry.node; size = length all + 1 } in e in
-        record {
-          before = before;
-          top = l.entry;
-          below = w.inside;
-          is = parts;
-          place_is = here;
-          then = λ new closes.
-              let all = w.inside ++ flatten (leaves (reverse o.behind.items)) in
-              record {
-                trees = l.beside;
-                inside = l.done ++ made all ∷ all;
-                levels = levels;
-                nodes_are = closes before l.entry w.inside parts here ∙ append_assoc (outside levels) l.done (made all ∷ all);
-                frames_are = sym same.0;
-                drafts_are = drafts_are ∙ ap (λ t. flatten t ++ (flatten l.beside ++ rests levels)) finished;
-                wanted_is = wanted_is
-                    ∙ ap (λ t. whole (l ∷ levels) (w.inside ++ flatten (expanded t))) finished
-                    ∙ ap (λ x. whole (l ∷ levels) x) (append-nil w.inside)
-                    ∙ ap (λ x. whole levels ((l.done ++ made (w.inside ++ x) ∷ (w.inside ++ x)) ++ flatten (expanded l.beside))) over_is;
-                placed = placed.2;
-              };
-        }
+pub writing_over : {wanted nodes : List (Entry RenderNode)} {all : List Opened} {drafts : List (Entry Draft)} (frames : List Opened)
+    (o : Opened) → Writing wanted nodes all drafts → all ≡ frames ++ o ∷ [] → o.left ≡ length drafts → Over wanted nodes frames o drafts
+writing_over {wanted} {nodes} {all} {drafts} frames o w taken over =
+    over_at wanted nodes all frames o drafts w.levels w.trees w.inside w.stands taken (over ∙ sym (length-reverse drafts))
 
--- no open node is over, and no draft is left
-pub writing_done : (wanted nodes : List (Entry RenderNode)) (frames : List Opened) (drafts : List (Entry Draft)) →
-    Writing wanted nodes frames drafts → ((outer : List Opened) (o : Opened) → frames ≡ outer ++ o ∷ [] → o.left ≢ length drafts) →
-    length drafts ≡ 0 → nodes ≡ wanted
-writing_done wanted nodes frames drafts w not_over empty =
-    at w.trees w.levels w.nodes_are w.frames_are w.drafts_are w.wanted_is w.placed
-  where
-    at : (t : Forest Draft) (levels : List Level) → nodes ≡ outside levels ++ w.inside → frames ≡ frames_of levels →
-        reverse drafts ≡ flatten t ++ rests levels → wanted ≡ whole levels (w.inside ++ flatten (expanded t)) →
-        Placed levels → nodes ≡ wanted
-    at none [] nodes_are stack drafts_are wanted_is placed = nodes_are ∙ sym (wanted_is ∙ append-nil w.inside)
-    at (node d children others) [] nodes_are stack drafts_are wanted_is placed =
-        absurd (omega (arith, ap length drafts_are, length-reverse drafts))
-    at t (l ∷ levels) nodes_are stack drafts_are wanted_is placed =
-        absurd (not_over (frames_of levels) l.opened stack
-        (omega (arith, placed.1, ap length drafts_are, length-reverse drafts, length-append (flatten t) (flatten l.beside ++ rests levels))))
+pub over_within : {wanted nodes : List (Entry RenderNode)} {frames : List Opened} {o : Opened} {drafts : List (Entry Draft)} →
+    Over wanted nodes frames o drafts → o.place < length nodes
+over_within v = omega (arith, v.place_is, ap length v.is, length-append v.before (v.top ∷ v.below))
+
+-- no open node is over
+abbrev pub NoneOver : List Opened → (many : ℕ) → Type 0
+NoneOver frames many = (outer : List Opened) (o : Opened) → frames ≡ outer ++ o ∷ [] → o.left ≢ many
+
+-- and no draft is left
+done_at : (wanted nodes : List (Entry RenderNode)) (frames : List Opened) (left : List (Entry Draft)) (levels : List Level)
+    (trees : Forest Draft) (inside : List (Entry RenderNode)) → Stands wanted nodes frames left trees inside levels →
+    NoneOver frames (length left) → length left ≡ 0 → nodes ≡ wanted
+done_at wanted nodes frames left [] none inside s not_over empty = s.nodes_are ∙ sym (s.wanted_is ∙ append-nil inside)
+done_at wanted nodes frames left [] (node d children others) inside s not_over empty = absurd (omega (arith, ap length s.left_are))
+done_at wanted nodes frames left (l ∷ levels) trees inside s not_over empty =
+    absurd (not_over (frames_of levels) l.opened s.frames_are
+    (omega (arith, s.placed.1, ap length s.left_are, length-append (flatten trees) (flatten l.beside ++ rests levels))))
+
+pub all_written : (t : Forest Draft) {nodes : List (Entry RenderNode)} {frames : List Opened} {drafts : List (Entry Draft)} {many : ℕ} →
+    Writing (flatten (expanded t)) nodes frames drafts → NoneOver frames many → many ≡ length drafts → length drafts ≡ 0 →
+    IsForest nodes (expanded t)
+all_written t {nodes} {frames} {drafts} w not_over all empty =
+    let turned = length-reverse drafts in
+    IsForest-flatten nodes (expanded t)
+    (done_at (flatten (expanded t)) nodes frames (reverse drafts) w.levels w.trees w.inside w.stands
+    (λ outer o is over. not_over outer o is (over ∙ turned ∙ sym all)) (turned ∙ empty))
 
 -- a draft is taken: its node is written
 pub record Opening (wanted nodes : List (Entry RenderNode)) (frames : List Opened) (e : Entry Draft) (left : List (Entry Draft)) : Type 0 where
@@ -224,112 +225,81 @@ pub record Opening (wanted nodes : List (Entry RenderNode)) (frames : List Opene
 -- what stands below a node, flat
 flat_wrapped : (inserted : List Insertions) (children : Forest RenderNode) →
     flatten (wrapped inserted children) ≡ (flatten (front inserted) ++ flatten children) ++ flatten (back inserted)
-flat_wrapped inserted children =
-    flatten-followed_by (front inserted) (followed_by children (back inserted))
-    ∙ ap (λ l. flatten (front inserted) ++ l) (flatten-followed_by children (back inserted))
-    ∙ sym (append_assoc (flatten (front inserted)) (flatten children) (flatten (back inserted)))
+flat_wrapped inserted children = simp (flatten-followed_by, append_assoc)
 
 abbrev over_nodes : (k : RenderNode) → (below : List (Entry RenderNode)) → Entry RenderNode
 over_nodes k below = record { node = k; size = length below + 1 }
 
-pub writing_opens : (wanted nodes : List (Entry RenderNode)) (frames : List Opened) (drafts left : List (Entry Draft)) (e : Entry Draft) →
-    Writing wanted nodes frames drafts → ((outer : List Opened) (o : Opened) → frames ≡ outer ++ o ∷ [] → o.left ≢ length drafts) →
-    drafts ≡ left ++ e ∷ [] → Opening wanted nodes frames e left
-writing_opens wanted nodes frames drafts left e w not_over taken =
-    at w.trees w.levels w.nodes_are w.frames_are (sym turned ∙ w.drafts_are) w.wanted_is w.placed
-  where
-    turned : reverse drafts ≡ e ∷ reverse left
-    turned = ap reverse taken ∙ reverse-append left (e ∷ [])
+bare_at : (wanted nodes : List (Entry RenderNode)) (frames : List Opened) (left : List (Entry Draft)) (levels : List Level) (e : Entry Draft)
+    (d : Draft) (children beside : Forest Draft) (inside new : List (Entry RenderNode)) →
+    Stands wanted nodes frames (e ∷ reverse left) (node d children beside) inside levels → length (flatten children) + 1 ≡ 1 →
+    d.inserted ≡ [] → new ≡ nodes ++ record { node = node_of d; size = 1 } ∷ [] → Writing wanted new frames left
+bare_at wanted nodes frames left levels e d (node f below others) beside inside new s single nothing written = absurd (omega arith)
+bare_at wanted nodes frames left levels e d none beside inside new s single nothing written =
+    let leaf : Entry RenderNode = record { node = node_of d; size = 1 } in
+    let below_is : flatten (wrapped d.inserted none) ≡ [] = ap (λ i. flatten (wrapped i none)) nothing in
+    record {
+      trees = beside;
+      inside = inside ++ leaf ∷ [];
+      levels = levels;
+      stands = record {
+        nodes_are = written ∙ ap (λ l. l ++ leaf ∷ []) s.nodes_are ∙ append_assoc (outside levels) inside (leaf ∷ []);
+        frames_are = s.frames_are;
+        left_are = ap (drop 1) s.left_are;
+        wanted_is = s.wanted_is
+            ∙ ap (λ l. whole levels (inside ++ (over_nodes (node_of d) l ∷ (l ++ flatten (expanded beside))))) below_is
+            ∙ ap (λ l. whole levels l) (sym (append_assoc inside (leaf ∷ []) (flatten (expanded beside))));
+        placed = s.placed;
+      };
+    }
 
-    at : (t : Forest Draft) (levels : List Level) → nodes ≡ outside levels ++ w.inside → frames ≡ frames_of levels →
-        e ∷ reverse left ≡ flatten t ++ rests levels → wanted ≡ whole levels (w.inside ++ flatten (expanded t)) →
-        Placed levels → Opening wanted nodes frames e left
-    at none [] nodes_are stack drafts_are wanted_is placed = absurd (omega (arith, ap length drafts_are))
-    at none (l ∷ levels) nodes_are stack drafts_are wanted_is placed =
-        absurd (not_over (frames_of levels) l.opened stack
-        (omega (arith, placed.1, ap length drafts_are, length-reverse left, ap length taken, length-append left (e ∷ []))))
-    at (node d children beside) levels nodes_are stack drafts_are wanted_is placed =
-        let one : Entry Draft = record { node = d; size = length (flatten children) + 1 } in
-        let own : e ≡ one = ap (λ l. get_or l 0 e) drafts_are in
-        let ahead : reverse left ≡ flatten children ++ (flatten beside ++ rests levels) =
-        ap (drop 1) drafts_are ∙ append_assoc (flatten children) (flatten beside) (rests levels) in
-        let size : e.size ≡ length (flatten children) + 1 = ap (λ (x : Entry Draft). x.size) own in
-        let many : length left ≡ length (flatten children) + length (flatten beside ++ rests levels) =
-        omega (arith, ap length ahead, length-reverse left, length-append (flatten children) (flatten beside ++ rests levels)) in
-        let inserted_is : e.node.inserted ≡ d.inserted = ap (λ (x : Entry Draft). x.node.inserted) own in
-        let node_is : node_of e.node ≡ node_of d = ap (λ (x : Entry Draft). node_of x.node) own in
-        record {
-          some = omega arith;
-          within = omega arith;
-          bare = λ new single nothing written.
-              is_bare children ahead wanted_is size new single (sym inserted_is ∙ nothing)
-              (written ∙ ap (λ k. nodes ++ record { node = k; size = 1 } ∷ []) node_is);
-          opens = λ o new more written place over waits pushed.
-              let entry : Entry RenderNode = record { node = node_of d; size = e.size } in
-              let ahead_of = flatten (front d.inserted) in
-              let inner = flatten (expanded children) in
-              let behind = flatten (leaves (reverse o.behind.items)) in
-              let below_is : flatten (wrapped d.inserted (expanded children)) ≡ (ahead_of ++ inner) ++ behind =
-              flat_wrapped d.inserted (expanded children)
-              ∙ ap (λ t. (ahead_of ++ inner) ++ flatten t) (sym (waits ∙ ap back inserted_is)) in
-              let written_is : new ≡ nodes ++ (entry ∷ ahead_of) =
-              written ∙ ap (λ k. nodes ++ (record { node = k; size = e.size } ∷ flatten (front e.node.inserted))) node_is
-              ∙ ap (λ i. nodes ++ (entry ∷ flatten (front i))) inserted_is in
-              record {
-                trees = children;
-                inside = ahead_of;
-                levels = record { done = w.inside; entry = entry; opened = o; beside = beside } ∷ levels;
-                nodes_are = written_is ∙ ap (λ l. l ++ (entry ∷ ahead_of)) nodes_are
-                    ∙ append_assoc (outside levels) w.inside (entry ∷ ahead_of)
-                    ∙ ap (λ l. outside levels ++ l) (sym (append_assoc w.inside (entry ∷ []) ahead_of))
-                    ∙ sym (append_assoc (outside levels) (w.inside ++ entry ∷ []) ahead_of);
-                frames_are = pushed ∙ ap (λ l. l ++ o ∷ []) stack;
-                drafts_are = ahead;
-                wanted_is = wanted_is
-                    ∙ ap (λ l. whole levels (w.inside ++ (over_nodes (node_of d) l ∷ (l ++ flatten (expanded beside))))) below_is
-                    ∙ ap (λ l. whole levels l) (sym (append_assoc w.inside
-                    (over_nodes (node_of d) ((ahead_of ++ inner) ++ behind) ∷ ((ahead_of ++ inner) ++ behind)) (flatten (expanded beside))));
-                placed = (place ∙ ap length nodes_are, omega (arith, over, size, many), placed);
-              };
-        }
-      where
-        is_bare : (children : Forest Draft) → reverse left ≡ flatten children ++ (flatten beside ++ rests levels) →
-            wanted ≡ whole levels (w.inside ++ flatten (expanded (node d children beside))) →
-            e.size ≡ length (flatten children) + 1 → (new : List (Entry RenderNode)) → e.size ≡ 1 → d.inserted ≡ [] →
-            new ≡ nodes ++ record { node = node_of d; size = 1 } ∷ [] → Writing wanted new frames left
-        is_bare (node f below others) ahead wanted_is size new single nothing written = absurd (omega arith)
-        is_bare none ahead wanted_is size new single nothing written =
-            let leaf : Entry RenderNode = record { node = node_of d; size = 1 } in
-            let below_is : flatten (wrapped d.inserted none) ≡ [] = ap (λ i. flatten (wrapped i none)) nothing in
-            record {
-              trees = beside;
-              inside = w.inside ++ leaf ∷ [];
-              levels = levels;
-              nodes_are = written ∙ ap (λ l. l ++ leaf ∷ []) nodes_are ∙ append_assoc (outside levels) w.inside (leaf ∷ []);
-              frames_are = stack;
-              drafts_are = ahead;
-              wanted_is = wanted_is
-                  ∙ ap (λ l. whole levels (w.inside ++ (over_nodes (node_of d) l ∷ (l ++ flatten (expanded beside))))) below_is
-                  ∙ ap (λ l. whole levels l) (sym (append_assoc w.inside (leaf ∷ []) (flatten (expanded beside))));
-              placed = placed;
-            }
+opens_at : (wanted nodes : List (Entry RenderNode)) (frames : List Opened) (left : List (Entry Draft)) (e : Entry Draft) (levels : List Level)
+    (trees : Forest Draft) (inside : List (Entry RenderNode)) → Stands wanted nodes frames (e ∷ reverse left) trees inside levels →
+    NoneOver frames (length (e ∷ reverse left)) → Opening wanted nodes frames e left
+opens_at wanted nodes frames left e [] none inside s not_over = absurd (omega (arith, ap length s.left_are))
+opens_at wanted nodes frames left e (l ∷ levels) none inside s not_over =
+    absurd (not_over (frames_of levels) l.opened s.frames_are (s.placed.1 ∙ sym (ap length s.left_are)))
+opens_at wanted nodes frames left e levels (node d children beside) inside s not_over =
+    let one : Entry Draft = record { node = d; size = length (flatten children) + 1 } in
+    let own : e ≡ one = ap (λ l. get_or l 0 e) s.left_are in
+    let ahead : reverse left ≡ flatten children ++ (flatten beside ++ rests levels) =
+    ap (drop 1) s.left_are ∙ append_assoc (flatten children) (flatten beside) (rests levels) in
+    let many : length left ≡ length (flatten children) + length (flatten beside ++ rests levels) =
+    omega (arith, ap length ahead, length-reverse left, length-append (flatten children) (flatten beside ++ rests levels)) in
+    subst (λ x. Opening wanted nodes frames x left) (sym own) (record {
+      some = omega arith;
+      within = omega arith;
+      bare = λ new single nothing written. bare_at wanted nodes frames left levels e d children beside inside new s single nothing written;
+      opens = λ o new more written place over waits pushed.
+          let entry : Entry RenderNode = record { node = node_of d; size = length (flatten children) + 1 } in
+          let ahead_of = flatten (front d.inserted) in
+          let all = (ahead_of ++ flatten (expanded children)) ++ flatten (leaves (reverse o.behind.items)) in
+          let below_is : flatten (wrapped d.inserted (expanded children)) ≡ all =
+          flat_wrapped d.inserted (expanded children)
+          ∙ ap (λ t. (ahead_of ++ flatten (expanded children)) ++ flatten t) (sym waits) in
+          record {
+            trees = children;
+            inside = ahead_of;
+            levels = record { done = inside; entry = entry; opened = o; beside = beside } ∷ levels;
+            stands = record {
+              nodes_are = written ∙ ap (λ l. l ++ (entry ∷ ahead_of)) s.nodes_are ∙ simp append_assoc;
+              frames_are = pushed ∙ ap (λ l. l ++ o ∷ []) s.frames_are;
+              left_are = ahead;
+              wanted_is = s.wanted_is
+                  ∙ ap (λ l. whole levels (inside ++ (over_nodes (node_of d) l ∷ (l ++ flatten (expanded beside))))) below_is
+                  ∙ ap (λ l. whole levels l) (sym (append_assoc inside (over_nodes (node_of d) all ∷ all) (flatten (expanded beside))));
+              placed = (place ∙ ap length s.nodes_are, omega (arith, over, many), s.placed);
+            };
+          };
+    })
 
--- the same where it was looked whether one is over
-pub next_opening : (wanted nodes : List (Entry RenderNode)) (frames now : List Opened) (drafts left : List (Entry Draft)) (e : Entry Draft)
-    (many : ℕ) → Writing wanted nodes frames drafts → now ≡ frames → many ≡ length drafts →
-    ((outer : List Opened) (o : Opened) → frames ≡ outer ++ o ∷ [] → o.left ≢ many) → drafts ≡ left ++ e ∷ [] →
-    Opening wanted nodes now e left
-next_opening wanted nodes frames now drafts left e many w same all not_over taken =
+-- where it was looked whether one is over
+pub next_opening : {wanted nodes : List (Entry RenderNode)} {frames now : List Opened} {drafts : List (Entry Draft)} {many : ℕ}
+    (left : List (Entry Draft)) (e : Entry Draft) → Writing wanted nodes frames drafts → now ≡ frames → NoneOver frames many →
+    many ≡ length drafts → drafts ≡ left ++ e ∷ [] → Opening wanted nodes now e left
+next_opening {wanted} {nodes} {frames} {now} {drafts} {many} left e w same not_over all taken =
+    let turned : reverse drafts ≡ e ∷ reverse left = ap reverse taken ∙ reverse-append left (e ∷ []) in
     subst (λ fs. Opening wanted nodes fs e left) (sym same)
-    (writing_opens wanted nodes frames drafts left e w (λ outer o is over. not_over outer o is (over ∙ sym all)) taken)
-
-pub all_written : (t : Forest Draft) (nodes : List (Entry RenderNode)) (frames : List Opened) (drafts : List (Entry Draft)) (many : ℕ) →
-    Writing (flatten (expanded t)) nodes frames drafts → many ≡ length drafts →
-    ((outer : List Opened) (o : Opened) → frames ≡ outer ++ o ∷ [] → o.left ≢ many) → length drafts ≡ 0 → IsForest nodes (expanded t)
-all_written t nodes frames drafts many w all not_over empty =
-    IsForest-flatten nodes (expanded t)
-    (writing_done (flatten (expanded t)) nodes frames drafts w (λ outer o is over. not_over outer o is (over ∙ sym all)) empty)
-
-pub over_within : (wanted nodes : List (Entry RenderNode)) (frames : List Opened) (o : Opened) (drafts : List (Entry Draft)) →
-    Over wanted nodes frames o drafts → o.place < length nodes
-over_within wanted nodes frames o drafts v = omega (arith, v.place_is, ap length v.is, length-append v.before (v.top ∷ v.below))
+    (opens_at wanted nodes frames left e w.levels w.trees w.inside
+    (subst (λ l. Stands wanted nodes frames l w.trees w.inside w.levels) turned w.stands)
+    (λ outer o is over. not_over outer o is (over ∙ ap length (sym turned) ∙ length-reverse drafts ∙ sym all)))

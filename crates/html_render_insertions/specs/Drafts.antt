@@ -83,7 +83,7 @@ with_inserted inserted d = record d { inserted = d.inserted ++ inserted }
 abbrev pub with_style : NodeStyle → Draft → Draft
 with_style style d = record d { style = style }
 
--- the draft that is reached from the first tree's top by going down to the first child so many times is changed, if there is
+-- the draft that is reached from the first tree's top by going down to the first child `depth` times is changed, if there is
 -- one
 abbrev pub at_first : (depth : ℕ) → (Draft → Draft) → Forest Draft → Forest Draft
 at_first depth change none = none

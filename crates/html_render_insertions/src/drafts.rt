@@ -228,7 +228,7 @@ impl Model for Drafts {
 }
 
 impl Drafts {
-    /// No tree, with room for so many drafts.
+    /// No tree, with room for `drafts` drafts.
     ///
     /// # Errors
     ///

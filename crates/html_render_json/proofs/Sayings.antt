@@ -1,7 +1,8 @@
 -- What stands in a document once what is said was put there, piece by piece.
-use Rattle.std.proofs.Common.{◌≡◌, ◌≢◌, ◌==◌, ℕ, ◌≤◌, List, [], ◌∷◌, ◌++◌, length, length-append, ◌+◌, if◌then◌else◌, Option, Some, None, refl, sym, ap, ◌∙◌, subst, arith}
+use Rattle.std.proofs.Common.{◌≡◌, ◌≢◌, ◌==◌, ℕ, ◌≤◌, List, [], ◌∷◌, ◌++◌, ◌+◌, if◌then◌else◌, Option, Some, None, refl, sym, ap, ◌∙◌, subst, arith}
 use Rattle.std.proofs.Common.{false, inl, inr, append_assoc, map, rules, String, Vec, Global, string_bytes}
-use Rattle.std.proofs.lemmas.Bool.Decides.{eqb_tells}
+use Rattle.std.proofs.lemmas.Bool.{cond_both}
+use Rattle.std.proofs.lemmas.Bool.Decides.{eqb_tells, nat_tests}
 use Rattle.std.proofs.lemmas.List.{append-nil}
 use Rattle.std.specs.List.{AllByRecursion}
 use Rattle.std.specs.Option.{unwrap_or}
@@ -9,8 +10,8 @@ use Rattle.html_render_values.specs.Forest.{Forest, none, node, followed_by}
 use Rattle.html_render_dom.specs.declared.dom.names.Namespace.{Namespace}
 use Rattle.html_render_dom.specs.declared.dom.names.Attribute.{Attribute}
 use Rattle.html_render_dom.specs.Content.{Content, document, doctype, text, comment, element, instruction, space_of, property_of}
-use Rattle.html_render_dom.specs.Dom.{Dom, lone, empty_dom, node_count, IsNode, content_at, children_at, HaveTrees}
-use Rattle.html_render_dom.specs.Edits.{attached_new, created}
+use Rattle.html_render_dom.specs.Dom.{Dom, empty_dom, node_count, IsNode, content_at, children_at, HaveTrees}
+use Rattle.html_render_dom.specs.Edits.{attached_new}
 use Rattle.html_render_dom.specs.laws.Changes.{HaveTrees-append}
 use Rattle.html_render_dom.specs.laws.Forests.{children_at-past, below_or_not}
 use Rattle.html_render_json.specs.Built.{HasOwn, HasSaid}
@@ -28,15 +29,11 @@ pub followed_by-assoc : (t u v : Forest Content) → followed_by (followed_by t 
 followed_by-assoc none u v = refl
 followed_by-assoc (node c k s) u v = ap (node c k) (followed_by-assoc s u v)
 
-said-same : {t u d e : Forest Content} → t ≡ u → d ≡ e →
-    (let r : Said = record { trees = t; doctypes = d } in r) ≡ (let r : Said = record { trees = u; doctypes = e } in r)
-said-same p q = cc
-
 pub beside-assoc : (a b c : Said) → beside (beside a b) c ≡ beside a (beside b c)
-beside-assoc a b c = said-same (followed_by-assoc a.trees b.trees c.trees) (followed_by-assoc a.doctypes b.doctypes c.doctypes)
+beside-assoc a b c = rw (followed_by-assoc a.trees b.trees c.trees, followed_by-assoc a.doctypes b.doctypes c.doctypes) refl
 
 pub beside-nothing : (a : Said) → beside a (record { trees = none; doctypes = none }) ≡ a
-beside-nothing a = said-same (followed_by-none a.trees) (followed_by-none a.doctypes)
+beside-nothing a = rw (followed_by-none a.trees, followed_by-none a.doctypes) refl
 
 -- ---- numbers that are b at least
 
@@ -63,8 +60,6 @@ HaveTrees-kept : (old new : Dom) (b : ℕ) → node_count old ≤ node_count new
     ((h : ℕ) → IsNode old h → b ≤ h → children_at new h ≡ children_at old h) → ((h : ℕ) → b ≤ h → From b (children_at old h)) →
     (t : Forest Content) (hs : List ℕ) → From b hs → HaveTrees old hs t → HaveTrees new hs t
 HaveTrees-kept old new b grows contents lists from none [] a h = tt
-HaveTrees-kept old new b grows contents lists from none (x ∷ hs) a h = absurd h
-HaveTrees-kept old new b grows contents lists from (node c k s) [] a h = absurd h
 HaveTrees-kept old new b grows contents lists from (node c k s) (x ∷ hs) a h = (
   omega (arith, h.0, grows),
   contents x h.0 ∙ h.1,
@@ -72,6 +67,7 @@ HaveTrees-kept old new b grows contents lists from (node c k s) (x ∷ hs) a h =
       (HaveTrees-kept old new b grows contents lists from k (children_at old x) (from x a.0) h.2),
   HaveTrees-kept old new b grows contents lists from s hs a.1 h.3,
 )
+HaveTrees-kept old new b grows contents lists from t hs a h = absurd h
 
 -- ---- lists that get more in two places
 
@@ -79,25 +75,13 @@ abbrev more : (h p : ℕ) → List ℕ → List ℕ
 more h p hs = if h == p then hs else []
 
 more_there : (h p : ℕ) (hs : List ℕ) → h ≡ p → more h p hs ≡ hs
-more_there h p hs e =
-    elim (eqb_tells h p) [
-      | inl i ↦ rw i.0 refl
-      | inr d ↦ absurd (d.1 e)
-    ]
+more_there h p hs e = grind (arith, nat_tests)
 
 more_elsewhere : (h p : ℕ) (hs : List ℕ) → h ≢ p → more h p hs ≡ []
-more_elsewhere h p hs d =
-    elim (eqb_tells h p) [
-      | inl i ↦ absurd (d i.1)
-      | inr n ↦ rw n.0 refl
-    ]
+more_elsewhere h p hs d = grind (arith, nat_tests)
 
 more_nothing : (h p : ℕ) → more h p [] ≡ []
-more_nothing h p =
-    elim (eqb_tells h p) [
-      | inl i ↦ rw i.0 refl
-      | inr n ↦ rw n.0 refl
-    ]
+more_nothing h p = cond_both (h == p) [] [] (λ (xs : List ℕ). xs ≡ []) (λ e. refl) (λ e. refl)
 
 neither : (xs hs ks : List ℕ) (h p : ℕ) → h ≢ p → h ≢ 0 → xs ++ more h p hs ++ more h 0 ks ≡ xs
 neither xs hs ks h p d e =

@@ -1,6 +1,9 @@
 -- Texts that close a document: footnote by footnote, and as characters.
 use Rattle.std.proofs.Common.{◌≡◌, ℕ, ◌+◌, Bool, List, [], ◌∷◌, ◌++◌, map, Option, Some, None, refl, sym, ap, ◌∙◌, append_assoc}
 use Rattle.std.proofs.Common.{option_and_then, OnOk, IfErr, Result, Ok, Err}
+use Rattle.std.proofs.lemmas.Simd.{map-map}
+use Rattle.std.specs.Fmt.{decimal}
+use Rattle.std.specs.Prelude.{codes}
 use Rattle.std.specs.Str.{chars}
 use Rattle.html_render_values.specs.declared.errors.Error.{Error}
 use Rattle.html_render_values.specs.declared.errors.Error.TheVariants.{TooNarrow, Fail, OutOfMemory}
@@ -8,21 +11,16 @@ use Rattle.html_render_values.specs.Outcome.{Refuses}
 use Rattle.html_render_parts.specs.Decoration.{Decoration}
 use Rattle.html_render_blocks.specs.Operations.{DocumentEnd}
 use Rattle.html_render_layout.specs.declared.layout.state.LayoutState.{LayoutState}
-use Rattle.html_render_layout.specs.Ending.{footnote, footnotes, closing_texts, ended}
+use Rattle.html_render_layout.specs.Ending.{footnotes, closing_texts, ended}
 
 pub ruleset joined = (append_assoc)
 
 -- one footnote more
 pub footnotes-more : (number : ℕ) (all old new : List (List ℕ)) (t : List ℕ) (ts : List (List ℕ)) →
-    all ≡ old ++ footnotes number (t ∷ ts) → new ≡ old ++ footnote number t ∷ [] → all ≡ new ++ footnotes (number + 1) ts
+    all ≡ old ++ footnotes number (t ∷ ts) → new ≡ old ++ (codes "[" ++ decimal number ++ codes "]: " ++ t) ∷ [] → all ≡ new ++ footnotes (number + 1) ts
 footnotes-more number all old new t ts before more =
-    before ∙ sym (append_assoc old (footnote number t ∷ []) (footnotes (number + 1) ts))
+    before ∙ sym (append_assoc old ((codes "[" ++ decimal number ++ codes "]: " ++ t) ∷ []) (footnotes (number + 1) ts))
     ∙ ap (λ xs. xs ++ footnotes (number + 1) ts) (sym more)
-
--- one map after another
-pub map-map : {X Y Z : Type 0} (f : X → Y) (g : Y → Z) (xs : List X) → map g (map f xs) ≡ map (λ x. g (f x)) xs
-map-map f g [] = refl
-map-map f g (x ∷ xs) = ap (λ ys. g (f x) ∷ ys) (map-map f g xs)
 
 -- the state with this block
 abbrev pub with_new : {S K T B : Type 0} → LayoutState S K T B → Option B → Option (LayoutState S K T B)
@@ -36,7 +34,7 @@ pub ended-by : {S A K T B X : Type 0} (d : Decoration S A) (end : DocumentEnd B 
 ended-by d end link_footnotes wrap_links tag s b f texts finished same =
     ap (option_and_then (λ b. with_new s (end.add_closing_lines b wrap_links tag
     (map chars (closing_texts d link_footnotes s.decorator s.targets))))) finished
-    ∙ ap (λ ts. with_new s (end.add_closing_lines b wrap_links tag ts)) (ap (map chars) (sym same) ∙ map-map f chars texts)
+    ∙ ap (λ ts. with_new s (end.add_closing_lines b wrap_links tag ts)) (ap (map chars) (sym same) ∙ map-map chars f texts)
 
 pub new-ok : {S K T B X : Type 0} (r : Result X Error) (o : Option B) (new : B) (s : LayoutState S K T B) → OnOk r (o ≡ Some new) →
     OnOk r (with_new s o ≡ Some (record s { block = new }))

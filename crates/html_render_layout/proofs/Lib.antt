@@ -1,6 +1,4 @@
 pub mod Ending
-pub mod Failing
 pub mod Fences
 pub mod FileNames
-pub mod Spaces
 pub mod Struck

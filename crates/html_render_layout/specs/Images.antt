@@ -14,14 +14,10 @@ abbrev pub if_any : List ℕ → Option (List ℕ)
 if_any [] = None
 if_any (c ∷ cs) = Some (c ∷ cs)
 
--- the title of an image whose own is empty
-abbrev pub title_in_place : ImageRenderMode → (source : List ℕ) → Option (List ℕ)
-title_in_place IgnoreEmpty source = None
-title_in_place ShowAlways source = Some []
-title_in_place (Replace text) source = Some text
-title_in_place Filename source = if_any (file_name source)
-
--- THE TITLE that an image is shown with; none where it isn't shown
+-- THE TITLE that an image is shown with: its own, and in the place of an empty one what is chosen; none where it isn't shown
 abbrev pub shown_title : ImageRenderMode → (source title : List ℕ) → Option (List ℕ)
-shown_title mode source [] = title_in_place mode source
 shown_title mode source (c ∷ cs) = Some (c ∷ cs)
+shown_title IgnoreEmpty source [] = None
+shown_title ShowAlways source [] = Some []
+shown_title (Replace text) source [] = Some text
+shown_title Filename source [] = if_any (file_name source)

@@ -1,5 +1,5 @@
 -- What the lines of a layout keep of the texts of its tree.
-use Rattle.std.specs.Prelude.{ℕ, ◌≤◌, Bool, List, [], flat_map}
+use Rattle.std.specs.Prelude.{ℕ, ◌≤◌, Bool, false, List, [], flat_map}
 use Rattle.std.specs.Str.{chars}
 use Rattle.html_render_values.specs.Forest.{Forest}
 use Rattle.html_render_parts.specs.Decoration.{Decoration}
@@ -8,8 +8,8 @@ use Rattle.html_render_lines.specs.Visible.{visible_in_lines}
 use Rattle.html_render_nodes.specs.declared.tree.NodeKind.{NodeKind}
 use Rattle.html_render_nodes.specs.declared.tree.NodeKind.TheVariants.{Text}
 use Rattle.html_render_nodes.specs.declared.tree.RenderNode.{RenderNode}
-use Rattle.html_render_nodes.specs.Pass.{unskipped}
-use Rattle.html_render_blocks.specs.Visible.{text_count}
+use Rattle.html_render_nodes.specs.Pass.{bare, nodes_at}
+use Rattle.html_render_blocks.specs.Visible.{visible_in_text}
 use Rattle.html_render_pictures.specs.Visible.{count}
 use Rattle.html_render_layout.specs.declared.settings.LayoutSettings.{LayoutSettings}
 use Rattle.html_render_layout.specs.Layout.{defined, estimated, empty_state}
@@ -17,17 +17,14 @@ use Rattle.html_render_layout.specs.Layout.{defined, estimated, empty_state}
 -- the nodes that a layout visits, in order, without the cells that it skips
 abbrev pub visited_nodes : {S A : Type 0} → Decoration S A → LayoutSettings → Forest RenderNode → S → (width : ℕ) → (overflow : Bool) → List RenderNode
 visited_nodes d settings t decorator width overflow =
-    unskipped (defined d) (estimated d settings decorator t) (empty_state d settings decorator width overflow)
+    nodes_at false (defined d) bare 0 (estimated d settings decorator t) (empty_state d settings decorator width overflow)
 
 -- the characters of a node, if it is a text
 abbrev pub node_characters : NodeKind → List ℕ
 node_characters (Text t) = chars t
 node_characters _ = []
 
--- the characters of the texts among these nodes, in order
-abbrev pub text_characters : List RenderNode → List ℕ
-text_characters nodes = flat_map (λ n. node_characters n.kind) nodes
-
 -- each visible character stands in the lines as often as in the texts among these nodes, or more often
 abbrev pub KeepsTexts : {T M : Type 0} → List RenderNode → List (Line T M) → Type 0
-KeepsTexts nodes lines = (c : ℕ) → text_count c (text_characters nodes) ≤ count c (visible_in_lines lines)
+KeepsTexts nodes lines =
+    (c : ℕ) → count c (visible_in_text (flat_map (λ n. node_characters n.kind) nodes)) ≤ count c (visible_in_lines lines)

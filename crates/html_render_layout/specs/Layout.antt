@@ -1,10 +1,11 @@
 -- THE DEFINITION of the layout, node kind by node kind.
-use Rattle.std.specs.Prelude.{ℕ, ℤ, pos, ◌+◌, ◌+ℤ◌, ◌-◌, ◌==◌, ◌||◌, ◌&&◌, not, Bool, true, false, List, [], ◌∷◌, ◌++◌, length, map, codes, slice_index_or}
-use Rattle.std.specs.Prelude.{Option, Some, None, option_and_then, replicate, if◌then◌else◌}
+use Rattle.std.specs.Prelude.{ℕ, pos, ◌+◌, ◌+ℤ◌, ◌-◌, ◌==◌, ◌||◌, ◌&&◌, not, Bool, true, false, List, [], ◌∷◌, ◌++◌, length, map, codes, slice_index_or}
+use Rattle.std.specs.Prelude.{Option, Some, None, option_and_then, option_map, replicate, if◌then◌else◌}
 use Rattle.std.specs.Char.{is_ascii_digit}
 use Rattle.std.specs.Fmt.{decimal}
 use Rattle.std.specs.Int.{saturate_signed, w64}
 use Rattle.std.specs.List.{list_all}
+use Rattle.std.specs.Option.{option_map_or}
 use Rattle.std.specs.Str.{chars}
 use Rattle.html_render_values.specs.Forest.{Forest, none, node}
 use Rattle.html_render_values.specs.Outcome.{◌>>=◌}
@@ -20,14 +21,13 @@ use Rattle.html_render_lines.specs.Tags.{lines_with}
 use Rattle.html_render_nodes.specs.declared.tree.Emphasis.{Emphasis as TheEmphasis}
 use Rattle.html_render_nodes.specs.declared.tree.Emphasis.TheVariants.{Em, Strong, Code}
 use Rattle.html_render_nodes.specs.declared.tree.NodeKind.{NodeKind}
-use Rattle.html_render_nodes.specs.declared.tree.NodeKind.TheVariants.{Text, Container, Break, Block, Div, Emphasis}
-use Rattle.html_render_nodes.specs.declared.tree.NodeKind.TheVariants.{Header, BlockQuote, Ul, Ol, ListItem, Dl, Dt, Dd}
-use Rattle.html_render_nodes.specs.declared.tree.NodeKind.TheVariants.{Strikeout, Superscript, Link, Image, Svg, FragmentStart, Table, TableRow}
-use Rattle.html_render_nodes.specs.declared.tree.NodeKind.TheVariants.{TableCell}
+use Rattle.html_render_nodes.specs.declared.tree.NodeKind.TheVariants.{Text, Container, Break, Block, Div, Emphasis, Header, BlockQuote, Ul, Ol}
+use Rattle.html_render_nodes.specs.declared.tree.NodeKind.TheVariants.{ListItem, Dl, Dt, Dd, Strikeout, Superscript, Link, Image, Svg, FragmentStart}
+use Rattle.html_render_nodes.specs.declared.tree.NodeKind.TheVariants.{Table, TableRow, TableCell}
 use Rattle.html_render_nodes.specs.declared.tree.NodeStyle.{NodeStyle}
 use Rattle.html_render_nodes.specs.declared.tree.Estimate.{Estimate}
 use Rattle.html_render_nodes.specs.declared.tree.RenderNode.{RenderNode}
-use Rattle.html_render_nodes.specs.Pass.{Place, Skipped, Within, bare, Visit, Leaf, Inner, Visits, followed, from_state, run}
+use Rattle.html_render_nodes.specs.Pass.{Place, Skipped, Within, bare, Visit, Leaf, Inner, Visits, followed, run}
 use Rattle.html_render_blocks.specs.declared.block.BlockSetting.{BlockSetting}
 use Rattle.html_render_blocks.specs.Operations.{Operations, DocumentEnd}
 use Rattle.html_render_blocks.specs.Block.{empty_block}
@@ -45,7 +45,7 @@ use Rattle.html_render_layout.specs.Ending.{ended}
 pub record Means (S A K T B : Type 0) : Type 0 where
   pub decoration : Decoration S A
   pub push : K → T → A → K × T
-  pub operations : Operations B T
+  pub operations : Operations B T ℕ
 
 -- ---- WHAT EACH KIND OF NODE DOES
 
@@ -73,50 +73,33 @@ pub data Shape (S A : Type 0) : Type 0 where
   Steps : List (Step S A) → Shape S A  -- whatever stands below it
   Around : (before after : List (Step S A)) → Shape S A  -- round the nodes below it
   Prefixed : (S → List ℕ) → (least : ℕ) → Shape S A  -- these in a block, each of whose lines stands behind a prefix
-  Indented : (columns least : ℕ) → Shape S A  -- or behind so many spaces
+  Indented : (columns least : ℕ) → Shape S A  -- or behind an indent of spaces
   Items : (S → ℕ → List ℕ) → (S → ℕ) → (least : ℕ) → Shape S A  -- each in a block of its own: the first line behind its prefix, by its number
   Cells : Shape S A  -- each as a cell of the table's next row
-
--- the columns that a node needs behind its prefix
-abbrev pub inner_least : Estimate → ℕ
-inner_least e = e.least - e.prefix
-
--- numbers stop at the ends of their type
-abbrev pub number_from : (first : ℤ) → ℕ → ℤ
-number_from first n = saturate_signed w64 (first +ℤ pos n)
 
 abbrev pub spaces : ℕ → List ℕ
 spaces count = replicate count 32
 
--- a prefix, in UTF-8, with spaces behind it up to so many columns
+-- a prefix, in UTF-8, padded with spaces to `columns` columns
 abbrev pub padded : (columns : ℕ) → List ℕ → List ℕ
 padded columns prefix = prefix ++ spaces (columns - prefix_columns prefix)
 
--- the superscripts of the digits from 0 to 9
-abbrev pub superscripts : List ℕ
-superscripts = 8304 ∷ (185 ∷ (178 ∷ (179 ∷ (8308 ∷ (8309 ∷ (8310 ∷ (8311 ∷ (8312 ∷ (8313 ∷ [])))))))))
-
--- a digit as a superscript
+-- a digit from 0 to 9 as a superscript
 abbrev pub raised : ℕ → ℕ
-raised digit = slice_index_or superscripts (digit - 48) 0
+raised digit = slice_index_or (8304 ∷ (185 ∷ (178 ∷ (179 ∷ (8308 ∷ (8309 ∷ (8310 ∷ (8311 ∷ (8312 ∷ (8313 ∷ [])))))))))) (digit - 48) 0
 
--- the digits of a superscript that holds one text, of ASCII digits alone
+-- the digits of a text of ASCII digits alone
 abbrev pub digits_of_kind : NodeKind → Option (List ℕ)
 digits_of_kind (Text t) = if list_all is_ascii_digit t then Some t else None
 digits_of_kind _ = None
 
--- the node of trees, where they are one without children
-abbrev pub only_node : Forest RenderNode → Option RenderNode
-only_node (node n none none) = Some n
-only_node _ = None
-
+-- and of a superscript that holds such a text alone
 abbrev pub digits_of : Forest RenderNode → Option (List ℕ)
-digits_of t = do
-  n ← only_node t
-  digits_of_kind n.kind
+digits_of (node n none none) = digits_of_kind n.kind
+digits_of _ = None
 
 module _ {S A : Type 0} (d : Decoration S A) where
-  -- what stands round an emphasis
+  -- the decoration of an emphasis
   abbrev pub emphasis_decoration : TheEmphasis → Round S A
   emphasis_decoration Em = d.em
   emphasis_decoration Strong = d.strong
@@ -129,7 +112,7 @@ module _ {S A : Type 0} (d : Decoration S A) where
   abbrev pub end : Round S A → Step S A
   end round = Write (λ x. chars (round.end x))
 
-  -- a superscript: of digits by their own characters, anything else between what stands round it
+  -- a superscript: of digits by their own characters, anything else within its decoration
   abbrev pub superscript : (digits : Option (List ℕ)) → Shape S A
   superscript None = Around (start d.superscript) (end d.superscript ∷ [])
   superscript (Some digits) = Steps (Write (λ x. map raised digits) ∷ [])
@@ -139,7 +122,8 @@ module _ {S A : Type 0} (d : Decoration S A) where
   image source None = []
   image source (Some title) = start (record { start = λ x. d.image x source title; end = λ x. [] })
 
-  -- THE TABLE, over these trees
+  -- THE TABLE, over these trees: a node whose lines stand behind a prefix needs the columns behind that; the numbers of items stop at the
+  -- ends of their type
   abbrev pub shape_of : LayoutSettings → NodeKind → Estimate → (trees : Forest RenderNode) → Shape S A
   shape_of settings (Text t) e trees = Steps (Write (λ x. chars t) ∷ [])
   shape_of settings Container e trees = Around [] []
@@ -147,15 +131,15 @@ module _ {S A : Type 0} (d : Decoration S A) where
   shape_of settings Block e trees = Around (StartBlock ∷ []) (EndBlock ∷ [])
   shape_of settings Div e trees = Around (NewLine ∷ []) (NewLine ∷ [])
   shape_of settings (Emphasis m) e trees = Around (start (emphasis_decoration m)) (end (emphasis_decoration m) ∷ [])
-  shape_of settings (Header level) e trees = Prefixed (λ x. d.header_prefix x level) (inner_least e)
-  shape_of settings BlockQuote e trees = Prefixed (λ x. d.quote_prefix x) (inner_least e)
-  shape_of settings Ul e trees = Items (λ x n. d.unordered_item_prefix x) (λ x. prefix_columns (d.unordered_item_prefix x)) (inner_least e)
+  shape_of settings (Header level) e trees = Prefixed (λ x. d.header_prefix x level) (e.least - e.prefix)
+  shape_of settings BlockQuote e trees = Prefixed (λ x. d.quote_prefix x) (e.least - e.prefix)
+  shape_of settings Ul e trees = Items (λ x n. d.unordered_item_prefix x) (λ x. prefix_columns (d.unordered_item_prefix x)) (e.least - e.prefix)
   shape_of settings (Ol first) e trees =
-      Items (λ x n. d.ordered_item_prefix x (number_from first n)) (λ x. prefix_of d x (Ol first) e.children) (inner_least e)
+      Items (λ x n. d.ordered_item_prefix x (saturate_signed w64 (first +ℤ pos n))) (λ x. prefix_of d x (Ol first) e.children) (e.least - e.prefix)
   shape_of settings ListItem e trees = Around (StartBlock ∷ []) (EndBlock ∷ [])
   shape_of settings Dl e trees = Around (StartBlock ∷ []) []
   shape_of settings Dt e trees = Around (NewLine ∷ start d.em) (end d.em ∷ [])
-  shape_of settings Dd e trees = Indented 2 (inner_least e)
+  shape_of settings Dd e trees = Indented 2 (e.least - e.prefix)
   shape_of settings Strikeout e trees = Around (start d.strikeout ++ Strike ∷ []) (Unstrike ∷ (end d.strikeout ∷ []))
   shape_of settings Superscript e trees = superscript (digits_of trees)
   shape_of settings (Link target) e trees = Around (AddTarget target ∷ start (link d target)) (end (link d target) ∷ (Restore ∷ (WriteNumber ∷ [])))
@@ -179,25 +163,14 @@ abbrev pub struck : List ℕ → List ℕ
 struck [] = []
 struck (c ∷ cs) = if is_collapsible c then c ∷ struck cs else c ∷ (822 ∷ struck cs)
 
--- characters as they are written
-abbrev pub written : (struck_out : Bool) → List ℕ → List ℕ
-written true cs = struck cs
-written false cs = cs
-
 -- white space among texts, by a style: Normal changes nothing
 abbrev pub white_space_in : WhiteSpace → (style : WhiteSpace) → WhiteSpace
 white_space_in before Normal = before
 white_space_in before style = style
 
--- the style of a text under this tag alone
-abbrev pub plain_style : {T : Type 0} → T → TextStyle T
-plain_style tag = record { mode = Normal; tag = tag; continuation_tag = tag }
-
 -- the state with its block after an operation
 abbrev pub on_block : {S K T B : Type 0} → (B → Option B) → LayoutState S K T B → Option (LayoutState S K T B)
-on_block f s = do
-  b ← f s.block
-  Some (record s { block = b })
+on_block f s = option_map (λ b. record s { block = b }) (f s.block)
 
 module _ {S A K T B : Type 0} (m : Means S A K T B) where
   abbrev pub State : Type 0
@@ -212,39 +185,28 @@ module _ {S A K T B : Type 0} (m : Means S A K T B) where
       let continuing = m.push first.0 text.tag (m.decoration.preformat_continuing decorator) in
       (continuing.0, record { mode = text.mode; tag = first.1; continuation_tag = continuing.1 })
 
-  -- the state with characters more in a style, and as its texts are
+  -- the state with characters more in a style, struck out or not, and as its texts are
   abbrev pub add_styled : K × TextStyle T → List ℕ → State → Option State
-  add_styled style cs s = on_block (λ b. m.operations.add_inline_text b style.1 cs) (record s { stacks = style.0 })
+  add_styled style cs s =
+      on_block (λ b. m.operations.add_inline_text b style.1 (if s.text.struck_out then struck cs else cs)) (record s { stacks = style.0 })
 
   abbrev pub write : List ℕ → State → Option State
-  write cs s = add_styled (text_style s.decorator s.stacks s.text s.text.preformatted) (written s.text.struck_out cs) s
+  write cs s = add_styled (text_style s.decorator s.stacks s.text s.text.preformatted) cs s
 
-  -- a tag, and what is kept, with one annotation more, if there is one
-  abbrev pub pushed : K → T → Option A → K × T
-  pushed stacks tag None = (stacks, tag)
-  pushed stacks tag (Some a) = m.push stacks tag a
-
+  -- with one annotation more on its texts, if there is one
   abbrev pub annotated : Option A → State → State
-  annotated a s = let p = pushed s.stacks s.text.tag a in record s { stacks = p.0; text = record s.text { tag = p.1 } }
+  annotated None s = s
+  annotated (Some a) s = let p = m.push s.stacks s.text.tag a in record s { stacks = p.0; text = record s.text { tag = p.1 } }
 
   abbrev pub fence : State → Option State
   fence s = do
-    q ← on_block (λ b. m.operations.add_inline_text b (plain_style s.blank) (codes "```")) s
+    q ← on_block (λ b. m.operations.add_inline_text b (record { mode = Normal; tag = s.blank; continuation_tag = s.blank }) (codes "```")) s
     on_block m.operations.new_line q
-
-  abbrev pub fenced : State → Option State
-  fenced s = if s.settings.fence_tables && not s.in_table then fence s else Some s
 
   abbrev pub write_number : ℕ → State → Option State
   write_number number s = if s.settings.link_footnotes then write (chars (codes "[" ++ decimal number ++ codes "]")) s else Some s
 
-  -- the cells of a table stand one below another in raw mode
-  abbrev pub begin_table : CellGrid → List ColumnNeed → State → Option State
-  begin_table grid needs s = do
-    q ← on_block (λ b. m.operations.begin_table b s.blank s.settings.table_borders s.settings.raw_mode grid needs) s
-    Some (record q { in_table = true })
-
-  -- the state after a step, at a node that was come to in this one
+  -- the state after a step, at a node that was come to in this one. The cells of a table stand one below another in raw mode
   abbrev pub perform : (before : State) → Step S A → State → Option State
   perform before (Write text) s = write (text s.decorator) s
   perform before WriteNumber s = write_number (length before.targets + 1) s
@@ -258,8 +220,10 @@ module _ {S A K T B : Type 0} (m : Means S A K T B) where
   perform before NewLineHard s = on_block m.operations.new_line_hard s
   perform before StartBlock s = on_block m.operations.start_block s
   perform before EndBlock s = Some (record s { block = m.operations.end_block s.block })
-  perform before Fence s = fenced s
-  perform before (BeginTable grid needs) s = begin_table grid needs s
+  perform before Fence s = if s.settings.fence_tables && not s.in_table then fence s else Some s
+  perform before (BeginTable grid needs) s =
+      option_map (λ (q : State). record q { in_table = true })
+      (on_block (λ b. m.operations.begin_table b s.blank s.settings.table_borders s.settings.raw_mode grid needs) s)
   perform before EndTable s = Some (record s { block = m.operations.end_table s.block; in_table = before.in_table })
   perform before (AddTarget target) s = Some (record s { targets = s.targets ++ target ∷ [] })
   perform before (AddMark name) s =
@@ -278,19 +242,15 @@ module _ {S A K T B : Type 0} (m : Means S A K T B) where
   abbrev pub within : B → State → State
   within b s = record s { decorator = m.decoration.subblock s.decorator; block = b }
 
-  -- in an empty one, behind a prefix of so many columns, with at least so many of its own; none where it is too narrow
+  -- in an empty one, behind a prefix of `prefix` columns, with at least `least` of its own; none where it is too narrow
   abbrev pub nested : (prefix least : ℕ) → State → Option State
-  nested prefix least s = do
-    b ← m.operations.sub_block s.block prefix least
-    Some (within b s)
+  nested prefix least s = option_map (λ b. within b s) (m.operations.sub_block s.block prefix least)
 
   -- the state s with what its block becomes by that of r, inside it
   abbrev pub joined : (B → B → Option B) → State → State → Option State
-  joined f s r = do
-    b ← f s.block r.block
-    Some (record r { decorator = s.decorator; block = b })
+  joined f s r = option_map (λ b. record r { decorator = s.decorator; block = b }) (f s.block r.block)
 
-  -- the lines of the block inside s, the first behind a prefix, and the later ones behind so many spaces
+  -- the lines of the block inside s, the first behind a prefix, and the later ones behind `columns` spaces
   abbrev pub appended : State → (prefix : List ℕ) → (columns : ℕ) → State → Option State
   appended s prefix columns = joined (λ b c. m.operations.append b c s.text.tag (chars prefix) (spaces columns)) s
 
@@ -298,8 +258,7 @@ module _ {S A K T B : Type 0} (m : Means S A K T B) where
   abbrev pub appended_block : T → (prefix : List ℕ) → B → B → Option B
   appended_block tag prefix b c = do
     e ← m.operations.start_block b
-    f ← m.operations.append e c tag (chars prefix) (chars prefix)
-    Some (m.operations.end_block f)
+    option_map m.operations.end_block (m.operations.append e c tag (chars prefix) (chars prefix))
 
   -- the place of an item of a list
   abbrev pub item_place : (prefix : List ℕ) → (columns least : ℕ) → State → Place State
@@ -327,43 +286,34 @@ module _ {S A K T B : Type 0} (m : Means S A K T B) where
   -- EACH NODE: by its kind, in its style. Texts are treated behind it as they were before it
   abbrev pub layout_of : Visits RenderNode State
   layout_of n trees s =
-      from_state (perform_all s (style_steps m.decoration n.style) s) (λ q.
-      followed (shape_layout (shape_of m.decoration q.settings n.kind n.estimate trees) q) (λ r. Some (record r { text = s.text })))
+      option_map_or (λ q. followed (shape_layout (shape_of m.decoration q.settings n.kind n.estimate trees) q) (λ r. Some (record r { text = s.text })))
+      (perform_all s (style_steps m.decoration n.style) s) (Leaf None)
 
   -- what the state shows once all trees are laid out and the document is closed, under the tag that its texts began with
   abbrev pub shown_after : {L : Type 0} → DocumentEnd B T → (State → L) → Forest RenderNode → State → Option L
   shown_after ending shown t s = do
     r ← run layout_of t s
-    q ← ended m.decoration ending s.settings.link_footnotes s.settings.wrap_links s.text.tag r
-    Some (shown q)
-
--- an annotation on a stack; the stacks themselves are the tags
-abbrev pub onto : {A : Type 0} → Unit {0} → List A → A → Unit {0} × List A
-onto k stack a = (k, stack ++ a ∷ [])
+    option_map shown (ended m.decoration ending s.settings.link_footnotes s.settings.wrap_links s.text.tag r)
 
 -- the state of a layout by stacks, on lists of all that was fed; marks are numbers
 abbrev pub Defined : Type 0 → Type 0 → Type 0
 Defined S A = LayoutState S (Unit {0}) (List A) (DefinedBlock (List A) ℕ)
 
--- its means
+-- its means: the stacks themselves are the tags, and an annotation comes on top
 abbrev pub by_stacks : {S A : Type 0} → Decoration S A → Means S A (Unit {0}) (List A) (DefinedBlock (List A) ℕ)
-by_stacks d = record { decoration = d; push = onto; operations = definition.operations }
+by_stacks d = record { decoration = d; push = λ k stack a. (k, stack ++ a ∷ []); operations = definition.operations }
 
 abbrev pub defined : {S A : Type 0} → Decoration S A → Visits RenderNode (Defined S A)
 defined d = layout_of (by_stacks d)
 
--- texts under a tag, that are wrapped
-abbrev pub plain_text : {T : Type 0} → T → TextContext T
-plain_text tag = record { tag = tag; mode = Normal; preformatted = false; struck_out = false }
-
--- the state in which a layout begins
+-- the state in which a layout begins: its texts are wrapped
 abbrev pub begin_with : {S K T B : Type 0} → LayoutSettings → S → K → T → B → LayoutState S K T B
 begin_with settings decorator stacks tag block =
     record {
       settings = settings;
       decorator = decorator;
       stacks = stacks;
-      text = plain_text tag;
+      text = record { tag = tag; mode = Normal; preformatted = false; struck_out = false };
       block = block;
       blank = tag;
       in_table = false;
@@ -371,41 +321,32 @@ begin_with settings decorator stacks tag block =
       names = [];
     }
 
--- how wide the outermost block is, and its paragraphs' lines
-abbrev pub block_setting : LayoutSettings → (width : ℕ) → (overflow : Bool) → BlockSetting
-block_setting settings width overflow = record { width = width; max_wrap_width = settings.max_wrap_width; overflow = overflow }
+module _ {S A : Type 0} (d : Decoration S A) (settings : LayoutSettings) where
+  -- an empty block in the decorator's sub-block, without annotations; its lines are padded, if that is chosen
+  abbrev pub empty_state : S → (width : ℕ) → (overflow : Bool) → Defined S A
+  empty_state decorator width overflow =
+      let setting : BlockSetting = record { width = width; max_wrap_width = settings.max_wrap_width; overflow = overflow } in
+      let padding : Option (List A) = if settings.pad_block_width then Some [] else None in
+      begin_with settings (d.subblock decorator) tt [] (empty_block defined_parts setting padding)
 
--- what lines are padded under, where they are
-abbrev pub padding : {T : Type 0} → LayoutSettings → T → Option T
-padding settings tag = if settings.pad_block_width then Some tag else None
+  -- a tree with the estimate of each node, whose prefixes are those of the decorator of a block inside the root's: a text needs
+  -- its own columns, or as many as it is wrapped to at least
+  abbrev pub estimated : S → Forest RenderNode → Forest RenderNode
+  estimated decorator t = measured d (d.subblock (d.subblock decorator)) settings.min_wrap_width t
 
--- an empty block in the decorator's sub-block, without annotations
-abbrev pub empty_state : {S A : Type 0} → Decoration S A → LayoutSettings → S → (width : ℕ) → (overflow : Bool) → Defined S A
-empty_state d settings decorator width overflow =
-    begin_with settings (d.subblock decorator) tt [] (empty_block defined_parts (block_setting settings width overflow) (padding settings []))
+  -- THE LAYOUT of a render tree: what is shown of the state behind it; none where it is too narrow
+  abbrev pub layout : {L : Type 0} → (Defined S A → L) → Forest RenderNode → S → (width : ℕ) → (overflow : Bool) → Option L
+  layout shown t decorator width overflow =
+      if width == 0 then None
+      else shown_after (by_stacks d) definition.ending shown (estimated decorator t) (empty_state decorator width overflow)
 
--- a tree with the estimate of each node, whose prefixes are those of the decorator of a block inside the root's: a text needs
--- its own columns, or as many as it is wrapped to at least
-abbrev pub estimated : {S A : Type 0} → Decoration S A → LayoutSettings → S → Forest RenderNode → Forest RenderNode
-estimated d settings decorator t = measured d (d.subblock (d.subblock decorator)) settings.min_wrap_width t
+  -- its lines, each character with its stack of annotations
+  abbrev pub layout_lines : Forest RenderNode → S → (width : ℕ) → (overflow : Bool) → Option (List (Line (List A) ℕ))
+  layout_lines = layout (λ s. s.block.lines)
 
--- THE LAYOUT of a render tree: what is shown of the state behind it; none where it is too narrow
-abbrev pub layout : {S A L : Type 0} → Decoration S A → LayoutSettings → (Defined S A → L) → Forest RenderNode → S → (width : ℕ) →
-    (overflow : Bool) → Option L
-layout d settings shown t decorator width overflow =
-    if width == 0 then None
-    else shown_after (by_stacks d) definition.ending shown (estimated d settings decorator t)
-    (empty_state d settings decorator width overflow)
-
--- its lines, each character with its stack of annotations
-abbrev pub layout_lines : {S A : Type 0} → Decoration S A → LayoutSettings → Forest RenderNode → S → (width : ℕ) → (overflow : Bool) →
-    Option (List (Line (List A) ℕ))
-layout_lines {S} {A} d settings = layout d settings (λ (s : Defined S A). s.block.lines)
-
--- and the names of its marks: a mark in the lines is the place of one
-abbrev pub mark_names : {S A : Type 0} → Decoration S A → LayoutSettings → Forest RenderNode → S → (width : ℕ) → (overflow : Bool) →
-    Option (List (List ℕ))
-mark_names {S} {A} d settings = layout d settings (λ (s : Defined S A). s.names)
+  -- and the names of its marks: a mark in the lines is the place of one
+  abbrev pub mark_names : Forest RenderNode → S → (width : ℕ) → (overflow : Bool) → Option (List (List ℕ))
+  mark_names = layout (λ s. s.names)
 
 -- the same lines without annotations
 abbrev pub unannotated : {A : Type 0} → List (Line (List A) ℕ) → List (Line (Unit {0}) ℕ)

@@ -1,5 +1,6 @@
 -- What the walk does as it opens a node and closes it.
-use Rattle.std.specs.Prelude.{ℕ, ◌+◌, List, length, Option, Some, None}
+use Rattle.std.specs.Prelude.{ℕ, ℤ, pos, ◌+◌, ◌+ℤ◌, ◌-◌, List, length, Option, Some, None, option_map}
+use Rattle.std.specs.Int.{saturate_signed, w64}
 use Rattle.std.specs.Str.{chars}
 use Rattle.html_render_values.specs.Forest.{Forest}
 use Rattle.html_render_values.specs.Outcome.{◌>>=◌}
@@ -22,10 +23,14 @@ use Rattle.html_render_layout.specs.declared.layout.state.KindClosing.TheVariant
 use Rattle.html_render_layout.specs.declared.layout.state.Outer.{Outer}
 use Rattle.html_render_layout.specs.declared.layout.state.OuterTable.{OuterTable}
 use Rattle.html_render_layout.specs.declared.layout.state.TextContext.{TextContext}
-use Rattle.html_render_layout.specs.Layout.{Means, State, write_number, number_from, spaces, padded, emphasis_decoration, inner_least, shape_of, style_steps}
-use Rattle.html_render_layout.specs.Layout.{on_block, write, within, nested, appended_block, item_place, cell_place, fenced, shape_layout, perform_all}
+use Rattle.html_render_layout.specs.Layout.{Means, State, write_number, spaces, padded, emphasis_decoration, shape_of, style_steps}
+use Rattle.html_render_layout.specs.Layout.{on_block, write, within, nested, appended_block, item_place, cell_place, Fence, perform, shape_layout, perform_all}
 
--- an item of a list that stands behind this prefix, of so many columns
+-- the number of an item; numbers stop at the ends of their type
+abbrev pub number_from : (first : ℤ) → ℕ → ℤ
+number_from first n = saturate_signed w64 (first +ℤ pos n)
+
+-- an item of a list that stands behind this prefix, padded to this width
 abbrev pub item : (prefix : List ℕ) → (columns least : ℕ) → Item
 item prefix columns least = record { prefix = padded columns prefix; columns = columns; least = least }
 
@@ -34,27 +39,18 @@ module _ {S A K T B : Type 0} (m : Means S A K T B) where
   abbrev pub interrupted : State m → (prefix : List ℕ) → (columns : ℕ) → Outer S T B
   interrupted s prefix columns = record { decorator = s.decorator; block = s.block; prefix = prefix; columns = columns; tag = s.text.tag }
 
-  -- an interrupted block goes on, as this
-  abbrev pub outside : S → B → State m → State m
-  outside decorator b r = record r { decorator = decorator; block = b }
-
   -- what was indented is over
   abbrev pub indent_closed : Outer S T B → State m → Option (State m)
-  indent_closed u r = do
-    b ← m.operations.append u.block r.block u.tag (chars u.prefix) (spaces u.columns)
-    Some (outside u.decorator b r)
+  indent_closed u r =
+      option_map (λ b. record r { decorator = u.decorator; block = b }) (m.operations.append u.block r.block u.tag (chars u.prefix) (spaces u.columns))
 
   -- a heading or a quote is over
   abbrev pub quote_closed : Outer S T B → State m → Option (State m)
-  quote_closed u r = do
-    b ← appended_block m u.tag u.prefix u.block r.block
-    Some (outside u.decorator b r)
+  quote_closed u r = option_map (λ b. record r { decorator = u.decorator; block = b }) (appended_block m u.tag u.prefix u.block r.block)
 
   -- a cell is over
   abbrev pub cell_closed : OuterTable S B → State m → Option (State m)
-  cell_closed u r = do
-    b ← m.operations.add_cell u.block r.block
-    Some (outside u.decorator b r)
+  cell_closed u r = option_map (λ b. record r { decorator = u.decorator; block = b }) (m.operations.add_cell u.block r.block)
 
   -- what a node interrupts goes on
   abbrev pub item_closed : Interruption S T B → State m → Option (State m)
@@ -78,8 +74,8 @@ module _ {S A K T B : Type 0} (m : Means S A K T B) where
   kind_kept (Header level) e s =
       let prefix = m.decoration.header_prefix s.decorator level in EndQuote (interrupted s prefix (prefix_columns prefix))
   kind_kept BlockQuote e s = let prefix = m.decoration.quote_prefix s.decorator in EndQuote (interrupted s prefix (prefix_columns prefix))
-  kind_kept Ul e s = Bullets (prefix_columns (m.decoration.unordered_item_prefix s.decorator)) (inner_least e)
-  kind_kept (Ol first) e s = Numbers first (prefix_of m.decoration s.decorator (Ol first) e.children) (inner_least e)
+  kind_kept Ul e s = Bullets (prefix_columns (m.decoration.unordered_item_prefix s.decorator)) (e.least - e.prefix)
+  kind_kept (Ol first) e s = Numbers first (prefix_of m.decoration s.decorator (Ol first) e.children) (e.least - e.prefix)
   kind_kept Dt e s = EndEmphasis Em
   kind_kept Dd e s = EndIndent (interrupted s (spaces 2) 2)
   kind_kept Strikeout e s = EndStrikeout s.text.struck_out
@@ -109,7 +105,7 @@ module _ {S A K T B : Type 0} (m : Means S A K T B) where
   kind_closed (EndLink text number) r = do
     q ← write m (chars (m.decoration.link_end r.decorator)) r
     write_number m number (record q { text = text })
-  kind_closed (EndTable in_table) r = fenced m (record r { block = m.operations.end_table r.block; in_table = in_table })
+  kind_closed (EndTable in_table) r = perform m r Fence (record r { block = m.operations.end_table r.block; in_table = in_table })
   kind_closed EndRow r = on_block m.operations.end_row r
 
   -- the places of the children of each
@@ -139,10 +135,6 @@ module _ {S A K T B : Type 0} (m : Means S A K T B) where
   item_kept None s = NoBlock
   item_kept (Some i) s = Indented (interrupted s i.prefix i.columns)
 
-  -- what a cell interrupts
-  abbrev pub cell_kept : State m → Interruption S T B
-  cell_kept s = Cell (record { decorator = s.decorator; block = s.block })
-
   abbrev pub node_opened : RenderNode → Forest RenderNode → State m → Option (Way (State m) (KindClosing S T B))
   node_opened n trees s = do
     q ← perform_all m s (style_steps m.decoration n.style) s
@@ -157,7 +149,7 @@ module _ {S A K T B : Type 0} (m : Means S A K T B) where
   -- as a cell in this block, or skipped
   abbrev pub cell_opened : RenderNode → Forest RenderNode → Option B → State m → Option (Way (State m) (Closing S T B))
   cell_opened n trees None s = Some (Past (record s { block = m.operations.skip_cell s.block }))
-  cell_opened n trees (Some cell) s = opened_in (cell_kept s) n trees (within m cell s)
+  cell_opened n trees (Some cell) s = opened_in (Cell (record { decorator = s.decorator; block = s.block })) n trees (within m cell s)
 
   -- as an item, if it is one
   abbrev pub item_opened : RenderNode → Forest RenderNode → Option Item → State m → Option (Way (State m) (Closing S T B))

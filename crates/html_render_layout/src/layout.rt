@@ -11,13 +11,14 @@ ghost use Rattle.html_render_nodes.specs.Counts.{CountsNodes};
 ghost use Rattle.html_render_estimates.specs.Estimates.{measured};
 ghost use Rattle.html_render_estimates.specs.Passes.{with_needed_sizes};
 ghost use Rattle.html_render_layout.specs.Layout.{layout_of, begin_with, shown_after, defined, empty_state};
-ghost use Rattle.html_render_layout.specs.Layout.{block_setting, padding, estimated, layout_lines, mark_names, unannotated};
+ghost use Rattle.html_render_layout.specs.Layout.{estimated, layout_lines, mark_names, unannotated};
 ghost use Rattle.html_render_layout.specs.Promises.{AreLines, Lines, HasLines, LeavesTexts};
 ghost use Rattle.html_render_layout.specs.Opening.{below, opened, closed};
 ghost use Rattle.html_render_layout.specs.laws.Opening.{layout-opened};
-ghost use Rattle.html_render_layout.specs.Working.{by_tags, tabled, work_lines, work_names, laid_out, untagged_work};
+ghost use Rattle.html_render_layout.specs.Working.{block_setting, padding, by_tags, tabled, work_lines, work_names, laid_out, untagged_work};
 
-use self::state::{Closing, LayoutState, TextContext, TextList};
+use self::state::{LayoutState, TextContext, TextList};
+use self::working::{Kept, State};
 use crate::settings::LayoutSettings;
 use crate::stacks::Stacks;
 use crate::tagging::{Tagging, Untagged};
@@ -47,6 +48,7 @@ mod styles;
 mod superscripts;
 mod tables;
 mod texts;
+mod working;
 
 /// Lines, the stacks of annotations that the tags of their characters stand for, and the names of their marks.
 #[derive(Drop)]
@@ -68,9 +70,9 @@ struct Layout<D, G> {
 impl<D: TextDecorator, G: Tagging<D::Annotation>> Pass for Layout<D, G> {
     type Node = RenderNode;
 
-    type State = LayoutState<D, G, G::Tag, Block<G::Tag, usize>>;
+    type State = State<D, G>;
 
-    type Kept = Closing<D, G::Tag, Block<G::Tag, usize>>;
+    type Kept = Kept<D, G>;
 
     ghost visits = { layout_of (by_tags D.decoration G.annotated) };
 
@@ -87,19 +89,15 @@ impl<D: TextDecorator, G: Tagging<D::Annotation>> Pass for Layout<D, G> {
         alloc: Global,
         node: &RenderNode,
         children: &[Entry<RenderNode>],
-        parent: Option<&Closing<D, G::Tag, Block<G::Tag, usize>>>,
+        parent: Option<&Kept<D, G>>,
         number: usize,
-        state: &mut LayoutState<D, G, G::Tag, Block<G::Tag, usize>>,
-    ) -> Result<Option<Closing<D, G::Tag, Block<G::Tag, usize>>>, Error> {
+        state: &mut State<D, G>,
+    ) -> Result<Option<Kept<D, G>>, Error> {
         steps::open(alloc, node, children, parent, number, state)
     }
 
     /// Closes it.
-    fn close(
-        alloc: Global,
-        kept: Closing<D, G::Tag, Block<G::Tag, usize>>,
-        state: &mut LayoutState<D, G, G::Tag, Block<G::Tag, usize>>,
-    ) -> Result<(), Error> {
+    fn close(alloc: Global, kept: Kept<D, G>, state: &mut State<D, G>) -> Result<(), Error> {
         steps::close(alloc, kept, state)
     }
 }
@@ -112,7 +110,7 @@ fn begin_with<D: TextDecorator, G: Tagging<D::Annotation>>(
     stacks: G,
     tag: G::Tag,
     block: Block<G::Tag, usize>,
-) -> LayoutState<D, G, G::Tag, Block<G::Tag, usize>>
+) -> State<D, G>
     ensures { result ≡ begin_with settings decorator stacks tag block }
 {
     LayoutState {
@@ -138,7 +136,7 @@ fn begin_with<D: TextDecorator, G: Tagging<D::Annotation>>(
 fn lay_out_into<D: TextDecorator, G: Tagging<D::Annotation>>(
     alloc: Global,
     tree: &Flat<RenderNode>,
-    state: &mut LayoutState<D, G, G::Tag, Block<G::Tag, usize>>,
+    state: &mut State<D, G>,
     meter: &mut Meter,
 ) -> Result<(), Error>
     ensures ok { OnOk result (shown_after (by_tags D.decoration G.annotated) machine.ending (λ r. r) tree.now state.old ≡ Some state.new) }
@@ -158,9 +156,9 @@ fn lay_out_into<D: TextDecorator, G: Tagging<D::Annotation>>(
 fn laid_out_from<D: TextDecorator, G: Tagging<D::Annotation>>(
     alloc: Global,
     tree: &Flat<RenderNode>,
-    state: LayoutState<D, G, G::Tag, Block<G::Tag, usize>>,
+    state: State<D, G>,
     meter: &mut Meter,
-) -> Result<LayoutState<D, G, G::Tag, Block<G::Tag, usize>>, Error>
+) -> Result<State<D, G>, Error>
     ensures ok { IfOk result (λ after.
         shown_after (by_tags D.decoration G.annotated) machine.ending (λ r. r) tree.now state ≡ Some after) }
     ensures err { IfErr result (λ e. Refuses e
@@ -195,7 +193,7 @@ fn lines_from<D: TextDecorator>(
 }
 
 /// A tree with the estimate of each node, whose prefixes are those of a sub-block of this sub-block's decorator. A text needs
-/// so many columns at least, unless its own are fewer. Sizes are left out of a tree without a table.
+/// `min_wrap_width` columns at least, unless its own are fewer. Sizes are left out of a tree without a table.
 fn estimated<D: TextDecorator>(
     alloc: Global,
     inner: &D,

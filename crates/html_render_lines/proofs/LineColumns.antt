@@ -25,11 +25,7 @@ columns-placed {T} {M} continues (element.Character c style ∷ es) =
     let placed = columns-append {T = T} {M = M} (map (element_of continues) (items_of one)) (map (element_of continues) (items_of es)) in
     let word = columns-append one es in
     omega (arith, placed, word, columns-placed continues es)
-columns-placed {T} {M} continues (element.Mark m ∷ es) =
-    let one : Line (TextStyle T) M = element.Mark m ∷ [] in
-    let placed = columns-append {T = T} {M = M} (map (element_of continues) (items_of one)) (map (element_of continues) (items_of es)) in
-    let word = columns-append one es in
-    omega (arith, placed, word, columns-placed continues es)
+columns-placed continues (element.Mark m ∷ es) = columns-placed continues es
 
 -- a line and its columns, with a word behind it
 pub columns-with_word : {T M : Type 0} (continues : Bool) (front old new : Line T M) (word : Line (TextStyle T) M) (width : ℕ) →
@@ -47,7 +43,7 @@ pub ruleset prefixes = (columns-cons)
 
 elements_columns : {T M : Type 0} (rs : List (Run T M)) (bs : List ℕ) → Cuts rs bs → columns (elements_of rs bs) ≡ text_columns (chars bs)
 elements_columns [] bs cuts = sym (ap text_columns (ap chars cuts ∙ chars-nil))
-elements_columns (run.Mark m ∷ rs) bs cuts = omega (arith, columns-cons (element.Mark m) (elements_of rs bs), elements_columns rs bs cuts)
+elements_columns (run.Mark m ∷ rs) bs cuts = elements_columns rs bs cuts
 elements_columns {T} {M} (run.Text n tag ∷ rs) bs cuts =
     let whole : chars bs ≡ chars (take n bs) ++ chars (drop n bs) =
     ap chars (sym (take-append-drop n bs)) ∙ chars-append (take n bs) (drop n bs) cuts.1 in

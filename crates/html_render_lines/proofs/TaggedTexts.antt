@@ -3,7 +3,7 @@ use Rattle.std.proofs.Common.{◌≡◌, ℕ, suc, ◌+◌, ◌-◌, ◌<◌, �
 use Rattle.std.proofs.Common.{map, take, drop, length, refl, sym, ap, ◌∙◌, subst, arith, append_assoc, append-nil, length-append, length-drop}
 use Rattle.std.proofs.lemmas.List.{take-append-le, drop-append-le, take-append-drop, map-append, drop_all, take_all, length-take}
 use Rattle.std.proofs.lemmas.List.Concat.{flat_map-append}
-use Rattle.std.proofs.lemmas.Bool.{eqb-true}
+use Rattle.std.proofs.lemmas.Bool.{eqb-true, ne_eqb}
 use Rattle.std.proofs.lemmas.Str.{chars-append, chars-nil, IsUtf8-append, IsUtf8-nil, encodes-chars}
 use Rattle.std.specs.Str.{chars, IsUtf8, encode_utf8_all}
 use Rattle.std.specs.Prelude.{encode_utf8}
@@ -13,6 +13,7 @@ use Rattle.html_render_lines.specs.declared.line.Element.TheVariants as element
 use Rattle.html_render_lines.specs.declared.line.tagged_text.Run.{Run}
 use Rattle.html_render_lines.specs.declared.line.tagged_text.Run.TheVariants as run
 use Rattle.html_render_lines.specs.Line.{Line, bytes_of, text_bytes, element_of}
+use Rattle.html_render_lines.specs.laws.Cases.{is_empty-cons}
 use Rattle.html_render_lines.specs.TaggedText.{under, elements_of, Cuts, open_elements, all_elements, HasTag, IsCut, closed_run}
 use Rattle.html_render_lines.specs.TaggedText.{items_of, style_tag, styled_elements}
 
@@ -227,16 +228,9 @@ pub ruleset bytes = (bytes-append, bytes-char)
 
 -- ---- a text without bytes
 
-not-zero : (n : ℕ) → 0 < n → (n == 0) ≡ false
-not-zero n h = by (n == 0) refl
-  where
-    by : (b : Bool) → (n == 0) ≡ b → b ≡ false
-    by true e = absurd (omega (arith, eqb-true n 0 e))
-    by false e = refl
-
 empty-from : {T M : Type 0} (l : Line T M) (bs : List ℕ) → text_bytes l ≡ bs → (length bs == 0) ≡ false → (length l == 0) ≡ false
 empty-from [] bs e h = cc
-empty-from (x ∷ l) bs e h = not-zero (length (x ∷ l)) (omega arith)
+empty-from (x ∷ l) bs e h = is_empty-cons x l
 
 pub some-bytes : {T M : Type 0} (rs : List (Run T M)) (tag : Option T) (start : ℕ) (bs : List ℕ) → IsCut rs tag start bs →
     (length bs == 0) ≡ false → (length (all_elements rs tag start bs) == 0) ≡ false
@@ -252,8 +246,8 @@ no-bytes rs tag start (b ∷ bs) cut h = absurd (omega (arith, eqb-true (length 
 no-bytes {T} {M} [] tag start [] cut h =
     let rest : drop start [] ≡ [] = drop_all {X = ℕ} start [] (omega arith) in
     rw (rest, nothing-open M tag) refl
-no-bytes (run.Mark m ∷ rs) tag start [] cut h = not-zero (length (run.Mark m ∷ rs)) (omega arith)
-    ∙ sym (not-zero (length (all_elements (run.Mark m ∷ rs) tag start [])) (omega arith))
+no-bytes (run.Mark m ∷ rs) tag start [] cut h =
+    is_empty-cons (run.Mark m) rs ∙ sym (ne_eqb (length (all_elements (run.Mark m ∷ rs) tag start [])) 0 (λ e. omega (arith, e)))
 no-bytes (run.Text n own ∷ rs) tag start [] cut h =
     absurd (omega (arith, cut.closed.0, cut.closed.3, cut.within, length-take {A = ℕ} start []))
 
@@ -268,9 +262,8 @@ placed-append {T} {M} continues (e ∷ es) fs =
 pub placed-under : {T : Type 0} (M : Type 0) (continues : Bool) (style : TextStyle T) (cs : List ℕ) →
     map (element_of continues) (items_of (under {M = M} style cs)) ≡ under (style_tag continues style) cs
 placed-under M continues style [] = refl
-placed-under {T} M true style (c ∷ cs) =
-    ap (λ (xs : Line T M). element.Character c style.continuation_tag ∷ xs) (placed-under M true style cs)
-placed-under {T} M false style (c ∷ cs) = ap (λ (xs : Line T M). element.Character c style.tag ∷ xs) (placed-under M false style cs)
+placed-under {T} M continues style (c ∷ cs) =
+    ap (λ (xs : Line T M). element.Character c (style_tag continues style) ∷ xs) (placed-under M continues style cs)
 
 pub styled-elements : {T M : Type 0} (continues : Bool) (rs : List (Run (TextStyle T) M)) (bs : List ℕ) →
     styled_elements continues rs bs ≡ map (element_of continues) (items_of (elements_of rs bs))

@@ -1,5 +1,5 @@
 -- What a character is to the wrapping of a paragraph, in each of the three white space modes.
-use Rattle.std.specs.Prelude.{ℕ, Bool, true, false, not, ◌&&◌, ◌==◌, is_none, nat_le, unwrap_or, if◌then◌else◌}
+use Rattle.std.specs.Prelude.{ℕ, Bool, false, not, ◌&&◌, ◌==◌, is_none, nat_le, unwrap_or, if◌then◌else◌}
 use Rattle.std.specs.Char.{is_whitespace}
 use Rattle.unicode_width.specs.Width.{char_width}
 use Rattle.html_render_values.specs.declared.white_space.WhiteSpace.{WhiteSpace}
@@ -45,8 +45,7 @@ is_plain c = nat_le 0x21 c && nat_le c 0x7E
 
 -- the tag of a character: that for a continuation line, or the ordinary one
 abbrev pub tag_on : {T : Type 0} → Bool → Character T → T
-tag_on true c = c.continuation_tag
-tag_on false c = c.tag
+tag_on continues c = if continues then c.continuation_tag else c.tag
 
 -- a character of a text with the style's mode and tags
 abbrev pub character_of : {T : Type 0} → TextStyle T → ℕ → Character T

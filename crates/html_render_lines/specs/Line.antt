@@ -1,11 +1,14 @@
 -- A line, how wide it is, and its text.
-use Rattle.std.specs.Prelude.{ℕ, Bool, ◌≤◌, List, [], All, map, sum_by, encode_utf8}
+use Rattle.std.specs.Prelude.{ℕ, Bool, ◌==◌, ◌≤◌, length, List, [], All, map, sum_by, encode_utf8}
 use Rattle.std.specs.List.{flat_map}
 use Rattle.html_render_lines.specs.declared.character.Item.{Item}
 use Rattle.html_render_lines.specs.declared.character.Item.TheVariants as item
 use Rattle.html_render_lines.specs.declared.line.Element.{Element}
 use Rattle.html_render_lines.specs.declared.line.Element.TheVariants as element
 use Rattle.html_render_lines.specs.Character.{width_of, tag_on}
+
+abbrev pub is_empty : {X : Type 0} → List X → Bool
+is_empty xs = length xs == 0
 
 -- a line is a list of tagged characters and marks
 abbrev pub Line : Type 0 → Type 0 → Type 0

@@ -56,7 +56,7 @@ pub record Content (T M : Type 0) : Type 0 where
   pub elements : Line T M
   pub tag : Option T
 
--- the open run of so many bytes as a closed one; none where it has no bytes
+-- the open run of `n` bytes as a closed one; none where it has no bytes
 abbrev pub closed_run : {T M : Type 0} → Option T → ℕ → List (Run T M)
 closed_run None n = []
 closed_run (Some tag) zero = []
@@ -84,8 +84,7 @@ items_of {T} {M} word = map (λ (e : Element (TextStyle T) M). item_of e) word
 
 -- the tag of a style's characters on a line that continues another, or on an ordinary line
 abbrev pub style_tag : {T : Type 0} → Bool → TextStyle T → T
-style_tag true style = style.continuation_tag
-style_tag false style = style.tag
+style_tag continues style = if continues then style.continuation_tag else style.tag
 
 -- the elements that runs make of a word's text, with one of each style's tags
 abbrev pub styled_elements : {T M : Type 0} → Bool → List (Run (TextStyle T) M) → List ℕ → Line T M

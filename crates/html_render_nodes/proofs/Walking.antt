@@ -1,5 +1,5 @@
 -- What the walk keeps true.
-use Rattle.std.proofs.Common.{◌≡◌, ◌≢◌, ℕ, ◌+◌, ◌-◌, ◌<◌, ◌≤◌, true, List, [], ◌∷◌, ◌++◌, length, take, drop, max, Option, Some, None, Result, Ok, Err}
+use Rattle.std.proofs.Common.{◌≡◌, ◌≢◌, ℕ, ◌+◌, ◌-◌, ◌<◌, ◌≤◌, true, List, [], ◌∷◌, ◌++◌, length, take, drop, max, Option, Some, None, Result}
 use Rattle.std.proofs.Common.{refl, sym, ap, ◌∙◌, subst, arith, append_assoc, append-nil, length-append, length-drop, get_or, drop-cons, suc, add-one}
 use Rattle.std.proofs.lemmas.List.{same_from_push, drop-drop}
 use Rattle.std.proofs.Math.Seq.{take-append_seam, drop-append_seam}
@@ -17,8 +17,9 @@ use Rattle.html_render_nodes.specs.Pass.{Visit, Visits, Places, placed, through_
 use Rattle.html_render_nodes.specs.Pass.{nodes_at, visited, open_at, most_open}
 use Rattle.html_render_nodes.specs.Walk.{innermost}
 use Rattle.html_render_nodes.specs.Preorder.{flatten}
+use Rattle.html_render_nodes.specs.laws.Counts.{failed-counted}
 use Rattle.html_render_nodes.specs.laws.Preorder.{IsForest, IsForest-flatten}
-use Rattle.html_render_nodes.specs.laws.Visits.{from, count_from, visited-at_most, most_open-at_most}
+use Rattle.html_render_nodes.specs.laws.Visits.{from, count_from, length-from}
 
 -- ---- answers, and counts of what follows one
 
@@ -35,14 +36,6 @@ and_then_some (Some x) = refl
 count_from-then : {A B : Type 0} (o : Option A) (g : A → Option B) (f : B → ℕ) → count_from f (option_and_then g o) ≡ count_from (λ x. count_from f (g x)) o
 count_from-then None g f = refl
 count_from-then (Some x) g f = refl
-
-count_from-sum : {A : Type 0} (o : Option A) (f g : A → ℕ) → count_from f o + count_from g o ≡ count_from (λ x. f x + g x) o
-count_from-sum None f g = omega arith
-count_from-sum (Some x) f g = refl
-
-length-from : {K S : Type 0} (f : S → List K) (o : Option S) → length (from f o) ≡ count_from (λ t. length (f t)) o
-length-from f None = refl
-length-from f (Some t) = refl
 
 -- ---- the open nodes
 
@@ -167,7 +160,7 @@ module _ {K S T : Type 0} (d : How K S T) where
       max (count_from (λ x. length path + 1 + open_at d.visits x.0 0 children x.1) (option_and_then (λ v. into d.below v) w))
       (count_from (onward_open path number beside) (behind children w))
 
--- where the walk stands: at a place among the nodes, with these open, so many entered and so many open at most, in this
+-- where the walk stands: at a place among the nodes, with these open, `entered` visited and `most` open at most, in this
 -- state; the next node has this number; wanted is what comes out, all how many are visited, and peak how many are open at once, at most
 pub record Walking {K S T : Type 0} (d : How K S T) (nodes : List (Entry K)) (wanted : Option S) (all peak : ℕ) (frames : List (Frame T))
     (entered most next number : ℕ) (s : S) : Type 0 where
@@ -271,19 +264,19 @@ module _ {K S T : Type 0} (d : How K S T) where
       let o = through_visit v (λ below q. run_at d.visits below 0 children q) in
       let nodes_below = λ (x : Places S × S). nodes_at true d.visits x.0 0 children x.1 in
       let nodes_beside = λ (t : S). nodes_at true d.visits (places d path) (number + 1) beside t in
-      let both : count_from (visited_in d path (number + 1) beside) o
-      + count_from (later d path) (option_and_then (behind_trees d path (number + 1) beside) o)
-      ≡ count_from (onward d path (number + 1) beside) o =
-      ap (λ n. count_from (visited_in d path (number + 1) beside) o + n) (count_from-then o (behind_trees d path (number + 1) beside) (later d path))
-      ∙ count_from-sum o (visited_in d path (number + 1) beside) (λ t. count_from (later d path) (behind_trees d path (number + 1) beside t)) in
       omega (
         arith,
         length-append (from nodes_below (inside v)) (from nodes_beside o),
         length-from nodes_beside o,
-        both,
+        both o,
         ap (count_from (onward d path (number + 1) beside)) (behind-told path number k children s),
         ap (λ i. length (from nodes_below i)) (d.told (parent path) number k children s).asked,
       )
+    where
+      both : (o : Option S) → count_from (visited_in d path (number + 1) beside) o
+          + count_from (later d path) (option_and_then (behind_trees d path (number + 1) beside) o) ≡ count_from (onward d path (number + 1) beside) o
+      both None = omega arith
+      both (Some t) = refl
 
   -- and how many are open at once on it, with those that have been
   reopen : (path : Path K T) (number most : ℕ) → length path ≤ most → (k : K) (children beside : Forest K) (s : S) →
@@ -527,17 +520,6 @@ pub counted-refused : {K S T X : Type 0} (d : How K S T) (r : Result X Error) (Q
     (nodes : List (Entry K)) (wanted : Option S) (frames : List (Frame T)) (next number : ℕ) (old new : Meter) →
     Walking d nodes wanted (length (nodes_visited d f s)) (nodes_open d f s) frames new.entered new.frames next number now →
     new.left ≤ new.entered → new.probes ≡ old.probes → CountsNodes r d.visits f s old new
-counted-refused d (Ok x) Q h f s now nodes wanted frames next number old new w left probes = absurd h
-counted-refused d (Err e) Q h f s now nodes wanted frames next number old new w left probes =
+counted-refused d r Q h f s now nodes wanted frames next number old new w left probes =
     let within = Walking-within d nodes wanted (length (nodes_visited d f s)) (nodes_open d f s) frames new.entered new.frames next number now w in
-    record {
-      entered = tt;
-      left = tt;
-      entered_at_most = within.1;
-      left_at_most = left;
-      visited_at_most = visited-at_most d.visits f s;
-      frames = tt;
-      frames_at_most = within.0;
-      open_at_most = most_open-at_most d.visits f s;
-      probes = probes;
-    }
+    failed-counted r Q h d.visits f s old new within.1 left within.0 probes

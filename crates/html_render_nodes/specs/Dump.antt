@@ -36,7 +36,7 @@ kind_name (Table grid) = codes "Table"
 kind_name TableRow = codes "TableRow"
 kind_name TableCell = codes "TableCell"
 
--- a name behind so many spaces, and a line feed
+-- a name behind its indent in spaces, and a line feed
 abbrev pub line : (depth : ℕ) → (name : List ℕ) → List ℕ
 line depth name = replicate depth 32 ++ (name ++ 10 ∷ [])
 

@@ -1,5 +1,5 @@
 -- What a pass over a forest computes, node by node, and which nodes it visits.
-use Rattle.std.specs.Prelude.{◌≡◌, ℕ, ◌+◌, max, Bool, true, false, not, ◌||◌, List, [], ◌∷◌, ◌++◌, Option, Some, None, option_and_then}
+use Rattle.std.specs.Prelude.{◌≡◌, ℕ, ◌+◌, max, Bool, true, false, not, ◌||◌, List, [], ◌∷◌, ◌++◌, Option, Some, None, option_and_then, option_map}
 use Rattle.std.specs.Prelude.{if◌then◌else◌}
 use Rattle.std.specs.Option.{option_map_or}
 use Rattle.html_render_values.specs.Forest.{Forest, none, node}
@@ -41,25 +41,18 @@ through_visit (Inner before places after) children = do
 -- the state from which they are visited, with their places; none where it can't be, or where they aren't
 abbrev pub inside : {S : Type 0} → Visit S → Option (Places S × S)
 inside (Leaf behind) = None
-inside (Inner before places after) = do
-  q ← before
-  Some (places, q)
+inside (Inner before places after) = option_map (λ q. (places, q)) before
 
 -- with something done behind the node
 abbrev pub followed : {S : Type 0} → Visit S → (S → Option S) → Visit S
 followed (Leaf behind) next = Leaf (option_and_then next behind)
 followed (Inner before places after) next = Inner before places (λ r. option_and_then next (after r))
 
--- from a state that there may be
-abbrev pub from_state : {S : Type 0} → Option S → (S → Visit S) → Visit S
-from_state None visit = Leaf None
-from_state (Some s) visit = visit s
-
 -- in its place
 abbrev pub placed : {S : Type 0} → Place S → (S → Visit S) → S → Visit S
 placed Bare visit s = visit s
 placed (Skipped t) visit s = Leaf (Some t)
-placed (Within before after) visit s = from_state before (λ q. followed (visit q) after)
+placed (Within before after) visit s = option_map_or (λ q. followed (visit q) after) before (Leaf None)
 
 -- THE STATE after a forest, or none where the pass can't be done: after nodes in these places, the first of this number
 abbrev pub run_at : {K S : Type 0} → Visits K S → Places S → (number : ℕ) → Forest K → S → Option S
@@ -92,9 +85,6 @@ nodes_at with_skipped visits places number (node k children beside) s =
 abbrev pub visited : {K S : Type 0} → Visits K S → Forest K → S → List K
 visited visits trees s = nodes_at true visits bare 0 trees s
 
-abbrev pub unskipped : {K S : Type 0} → Visits K S → Forest K → S → List K
-unskipped visits trees s = nodes_at false visits bare 0 trees s
-
 -- HOW MANY of the visited nodes stand open at once, at most: a node is open while those below it are visited
 abbrev pub open_at : {K S : Type 0} → Visits K S → Places S → (number : ℕ) → Forest K → S → ℕ
 open_at visits places number none s = 0
@@ -121,16 +111,12 @@ way s None = Past s
 
 -- the way past a node to this state, if there is one
 abbrev pub past : {S T : Type 0} → Option S → Option (Way S T)
-past o = do
-  t ← o
-  Some (Past t)
+past o = option_map (λ t. Past t) o
 
 -- a node that is visited so, opened with this kept
 abbrev pub opened_with : {S T : Type 0} → Visit S → (kept : T) → Option (Way S T)
 opened_with (Leaf behind) kept = past behind
-opened_with (Inner before places after) kept = do
-  q ← before
-  Some (Into q kept)
+opened_with (Inner before places after) kept = option_map (λ q. Into q kept) before
 
 -- the places of the nodes below the innermost open node, by what is kept of it, if one is open
 abbrev pub places_in : {S T : Type 0} → (below : T → Places S) → Option T → Places S

@@ -9,7 +9,7 @@ abbrev pub flatten : {K : Type 0} → Forest K → List (Entry K)
 flatten none = []
 flatten (node k children beside) = record { node = k; size = length (flatten children) + 1 } ∷ (flatten children ++ flatten beside)
 
--- the forest of some nodes in pre-order, of which there are at most so many
+-- the forest of some nodes in pre-order, with a bound on their number
 abbrev pub forest_within : {K : Type 0} → ℕ → List (Entry K) → Forest K
 forest_within zero es = none
 forest_within (suc n) [] = none

@@ -1,13 +1,12 @@
 -- Fronts of a text that are put on a line as a whole.
-use Rattle.std.proofs.Common.{◌≡◌, ℕ, ◌+◌, ◌-◌, ◌<◌, true, List, [], ◌∷◌, ◌++◌, map, take, drop, length, ap, ◌∙◌, sym, subst, arith, refl, ◌≤◌}
+use Rattle.std.proofs.Common.{◌≡◌, ℕ, ◌+◌, ◌-◌, ◌<◌, true, List, [], ◌++◌, map, take, drop, length, ap, ◌∙◌, sym, subst, arith, refl, ◌≤◌}
 use Rattle.std.proofs.Common.{option_and_then, length-append}
-use Rattle.std.proofs.lemmas.List.{take-append-drop, take-append-le, take_all, map-append, length-drop}
+use Rattle.std.proofs.lemmas.List.{take-append-drop, map-append, length-drop}
 use Rattle.std.proofs.lemmas.List.Sums.{sum_by-append}
-use Rattle.std.proofs.lemmas.Str.{chars-append, chars-nil, IsUtf8-take, IsUtf8-drop}
-use Rattle.std.proofs.lemmas.Str.{IsCharBoundary-at_seam, IsCharBoundary-start, IsCharBoundary-from_rest}
+use Rattle.std.proofs.lemmas.Str.{chars-append, chars-nil, IsUtf8-take, IsUtf8-drop, IsCharBoundary-start, IsCharBoundary-from_rest}
 use Rattle.std.proofs.Math.Seq.{take-add}
 use Rattle.std.specs.Prelude.{encode_utf8}
-use Rattle.std.specs.Str.{chars, IsUtf8, IsCharBoundary}
+use Rattle.std.specs.Str.{chars, IsUtf8}
 use Rattle.html_render_lines.specs.declared.character.Item.TheVariants as item
 use Rattle.html_render_lines.specs.declared.character.TextStyle.{TextStyle}
 use Rattle.html_render_lines.specs.declared.line.Element.TheVariants as element
@@ -18,9 +17,8 @@ use Rattle.html_render_paragraphs.specs.Feeding.{IsFront}
 use Rattle.html_render_paragraphs.specs.Paragraph.{Page, Setting, fits, put_items}
 use Rattle.html_render_paragraphs.specs.Stream.{styled}
 use Rattle.html_render_lines.specs.TaggedText.{text_columns, under, style_tag}
-use Rattle.html_render_lines.specs.laws.Characters.{chars-one}
-use Rattle.html_render_paragraphs.proofs.WordColumns.{put_items-append}
-use Rattle.html_render_paragraphs.proofs.Letters.{plain-letters}
+use Rattle.html_render_paragraphs.specs.laws.Whole.{put_items-append}
+use Rattle.html_render_paragraphs.proofs.Letters.{plain-letters, first-character}
 use Rattle.html_render_paragraphs.proofs.Words.{put_items-text}
 
 pub no-front : (bs : List ℕ) → IsUtf8 bs → IsFront bs 0 0
@@ -30,7 +28,7 @@ no-front bs u = record {
   columns = sym (ap text_columns chars-nil);
 }
 
--- a front, and so many bytes of the rest
+-- a front, and a front of the rest
 pub more-front : (bs : List ℕ) (n k w v : ℕ) → IsUtf8 bs → IsFront bs n w → IsFront (drop n bs) k v → IsFront bs (n + k) (w + v)
 more-front bs n k w v u front rest =
     let whole : chars (take (n + k) bs) ≡ chars (take n bs) ++ chars (take k (drop n bs)) =
@@ -56,39 +54,16 @@ plain-front bs n u e within =
 -- a front with the character behind it
 pub next-front : (bs rest : List ℕ) (n w c v : ℕ) → IsUtf8 bs → IsFront bs n w → drop n bs ≡ encode_utf8 c ++ rest → IsUtf8 rest →
     v ≡ width_of c → IsFront bs (length bs - length rest) (w + v)
-next-front bs rest n w c v u front e behind f = subst (λ m. IsFront bs m (w + v)) (sym count) (record {
-  within = omega (arith, front.within, longer);
-  boundary = IsCharBoundary-from_rest bs n (length (encode_utf8 c)) front.within boundary;
-  columns = omega (
-    arith,
-    front.columns,
-    f,
-    ap text_columns whole,
-    sum_by-append width_of (chars (take n bs)) (chars (take (length (encode_utf8 c)) (drop n bs))),
-    ap text_columns same,
-  );
-})
-  where
-    longer : length bs ≡ n + (length (encode_utf8 c) + length rest)
-    longer = omega (arith, front.within, length-drop n bs, ap length e, length-append (encode_utf8 c) rest)
-
-    count : length bs - length rest ≡ n + length (encode_utf8 c)
-    count = omega (arith, longer)
-
-    boundary : IsCharBoundary (drop n bs) (length (encode_utf8 c))
-    boundary = IsCharBoundary-at_seam (drop n bs) (encode_utf8 c) rest e behind
-
-    first : take (length (encode_utf8 c)) (drop n bs) ≡ encode_utf8 c
-    first = ap (take (length (encode_utf8 c))) e ∙ take-append-le (length (encode_utf8 c)) (encode_utf8 c) rest (omega arith)
-        ∙ take_all (length (encode_utf8 c)) (encode_utf8 c) (omega arith)
-
-    same : chars (take (length (encode_utf8 c)) (drop n bs)) ≡ c ∷ []
-    same = ap chars first
-        ∙ chars-one c (subst IsUtf8 first (IsUtf8-take (drop n bs) (length (encode_utf8 c)) (IsUtf8-drop bs n u front.boundary) boundary))
-
-    whole : chars (take (n + length (encode_utf8 c)) bs) ≡ chars (take n bs) ++ chars (take (length (encode_utf8 c)) (drop n bs))
-    whole = ap chars (take-add n (length (encode_utf8 c)) bs)
-        ∙ chars-append (take n bs) (take (length (encode_utf8 c)) (drop n bs)) (IsUtf8-take bs n u front.boundary)
+next-front bs rest n w c v u front e behind f =
+    let one = first-character (drop n bs) rest c (IsUtf8-drop bs n u front.boundary) behind e in
+    let longer : length bs ≡ n + (length (encode_utf8 c) + length rest) =
+    omega (arith, front.within, length-drop n bs, ap length e, length-append (encode_utf8 c) rest) in
+    let count : length bs - length rest ≡ n + length (encode_utf8 c) = omega (arith, longer) in
+    subst (λ m. IsFront bs m (w + v)) (sym count) (more-front bs n (length (encode_utf8 c)) w v u front (record {
+      within = omega (arith, ap length e, length-append (encode_utf8 c) rest);
+      boundary = one.0;
+      columns = omega (arith, f, ap text_columns one.1);
+    }))
 
 -- a front that fits is put as a whole, and then the rest
 pub put_items-front : {T M : Type 0} (s : Setting) (page : Page T M) (style : TextStyle T) (bs : List ℕ) (n w : ℕ) → IsUtf8 bs →

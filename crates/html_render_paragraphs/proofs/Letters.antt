@@ -1,6 +1,7 @@
 -- Letters that come together, and words with the space behind them, as slices of a text.
-use Rattle.std.proofs.Common.{◌≡◌, ℕ, ◌+◌, ◌<◌, ◌≤◌, Bool, true, false, cond, leb, List, [], ◌∷◌, ◌++◌, take, drop, length, Option, None, Some, refl}
-use Rattle.std.proofs.Common.{sym, ap, ◌∙◌, arith, subst, zero, length-append, option_map, option_and_then, append_assoc, All, ◌-◌, get_or, suc, drop-cons}
+use Rattle.std.proofs.Common.{◌≡◌, ℕ, ◌+◌, ◌<◌, ◌≤◌, Bool, true, false, cond, leb, List, [], ◌∷◌, ◌++◌, take, drop, length, Option, None, Some, is_some, refl}
+use Rattle.std.proofs.Common.{sym, ap, ◌∙◌, arith, subst, zero, length-append, option_map, option_and_then, append_assoc, append-nil, All, ◌-◌, get_or, suc, drop-cons}
+use Rattle.std.specs.Bool.{beq}
 use Rattle.std.proofs.lemmas.List.Sums.{sum_by-append}
 use Rattle.std.proofs.lemmas.List.Folds.{list_all-append}
 use Rattle.std.proofs.lemmas.List.{take-append-drop, map-append, length-take, length-drop, get_or-take, take-append-le, take_all}
@@ -26,11 +27,11 @@ use Rattle.html_render_lines.specs.declared.character.Item.TheVariants as item
 use Rattle.html_render_lines.specs.declared.character.TextStyle.{TextStyle}
 use Rattle.html_render_lines.specs.Character.{kind, width_of, is_plain, character_of}
 use Rattle.html_render_paragraphs.specs.Feeding.{is_letter, is_letter_kind, AreLetters, placed_text_and_space}
-use Rattle.html_render_paragraphs.specs.Paragraph.{is_same, Page, put_word}
+use Rattle.html_render_paragraphs.specs.Paragraph.{Page, put_word}
 use Rattle.html_render_lines.specs.TaggedText.{text_columns}
 use Rattle.html_render_lines.specs.laws.Cases.{if_true, if_false}
 use Rattle.html_render_paragraphs.specs.laws.Whole.{after-append}
-use Rattle.html_render_paragraphs.specs.Stream.{State, end_word, end_word_by, begin_word, joins, after, step, character_step, letter_step, letters_step}
+use Rattle.html_render_paragraphs.specs.Stream.{State, end_word, placed_word, begin_word, joins, after, step, character_step, letter_step, letters_step}
 use Rattle.html_render_paragraphs.specs.Stream.{styled, with_pending}
 
 -- ---- printable ASCII characters
@@ -114,28 +115,27 @@ plain-letters mode bs n w u e high =
     }
 
 -- the first character of a text
+pub first-character : (bs rest : List ℕ) (c : ℕ) → IsUtf8 bs → IsUtf8 rest → bs ≡ encode_utf8 c ++ rest →
+    IsCharBoundary bs (length (encode_utf8 c)) × (chars (take (length (encode_utf8 c)) bs) ≡ c ∷ [])
+first-character bs rest c u v e =
+    let boundary = IsCharBoundary-at_seam bs (encode_utf8 c) rest e v in
+    let front : take (length (encode_utf8 c)) bs ≡ encode_utf8 c = ap (take (length (encode_utf8 c))) e
+    ∙ take-append-le (length (encode_utf8 c)) (encode_utf8 c) rest (omega arith)
+    ∙ take_all (length (encode_utf8 c)) (encode_utf8 c) (omega arith) in
+    (boundary, ap chars front ∙ chars-one c (subst IsUtf8 front (IsUtf8-take bs (length (encode_utf8 c)) u boundary)))
+
 pub first-letter : (mode : WhiteSpace) (bs rest : List ℕ) (c w : ℕ) → IsUtf8 bs → IsUtf8 rest → bs ≡ encode_utf8 c ++ rest →
     kind mode c ≡ Letter →
     w ≡ width_of c → AreLetters mode bs (length bs - length rest) w
-first-letter mode bs rest c w u v e k f = subst (λ n. AreLetters mode bs n w) (sym count) (record {
-  within = omega (arith, count);
-  boundary = boundary;
-  letters = ap (list_all (is_letter mode)) same ∙ rw (ap is_letter_kind k) refl;
-  columns = omega (arith, f, ap text_columns same);
-})
-  where
-    count : length bs - length rest ≡ length (encode_utf8 c)
-    count = omega (arith, ap length e, length-append (encode_utf8 c) rest)
-
-    boundary : IsCharBoundary bs (length (encode_utf8 c))
-    boundary = IsCharBoundary-at_seam bs (encode_utf8 c) rest e v
-
-    front : take (length (encode_utf8 c)) bs ≡ encode_utf8 c
-    front = ap (take (length (encode_utf8 c))) e ∙ take-append-le (length (encode_utf8 c)) (encode_utf8 c) rest (omega arith)
-        ∙ take_all (length (encode_utf8 c)) (encode_utf8 c) (omega arith)
-
-    same : chars (take (length (encode_utf8 c)) bs) ≡ c ∷ []
-    same = ap chars front ∙ chars-one c (subst IsUtf8 front (IsUtf8-take bs (length (encode_utf8 c)) u boundary))
+first-letter mode bs rest c w u v e k f =
+    let one = first-character bs rest c u v e in
+    let count : length bs - length rest ≡ length (encode_utf8 c) = omega (arith, ap length e, length-append (encode_utf8 c) rest) in
+    subst (λ n. AreLetters mode bs n w) (sym count) (record {
+      within = omega (arith, count);
+      boundary = one.0;
+      letters = ap (list_all (is_letter mode)) one.1 ∙ rw (ap is_letter_kind k) refl;
+      columns = omega (arith, f, ap text_columns one.1);
+    })
 
 split_take : (mode : WhiteSpace) (bs : List ℕ) (n k : ℕ) {w v : ℕ} → IsUtf8 bs → AreLetters mode bs n w → AreLetters mode (drop n bs) k v →
     chars (take (n + k) bs) ≡ chars (take n bs) ++ chars (take k (drop n bs))
@@ -163,11 +163,7 @@ more-letters mode bs n k w v u front rest =
 
 -- ---- steps
 
-append_nil : {A : Type 0} (a : List A) → a ≡ a ++ []
-append_nil [] = refl
-append_nil (x ∷ xs) = ap (λ r. x ∷ r) (append_nil xs)
-
-same-refl : (k : Bool) → is_same k k ≡ true
+same-refl : (k : Bool) → beq k k ≡ true
 same-refl true = refl
 same-refl false = refl
 
@@ -184,7 +180,7 @@ one_letter st style c e = ap (λ k. character_step k st (character_of style c)) 
 
 letters_join : {T M : Type 0} (st : State T M) (style : TextStyle T) (cs : List ℕ) → list_all (is_letter style.mode) cs ≡ true →
     joins st.open_word (preserves style.mode) ≡ true → after st (styled style cs) ≡ Some (record st { word = st.word ++ styled style cs })
-letters_join st style [] e j = ap (λ x. Some (record st { word = x })) (append_nil st.word)
+letters_join st style [] e j = ap (λ x. Some (record st { word = x })) (sym (append-nil st.word))
 letters_join {T} {M} st style (c ∷ cs) e j =
     let parts = and_parts (is_letter style.mode c) (list_all (is_letter style.mode) cs) e in
     let next : State T M = record st { word = st.word ++ item.Character (character_of style c) ∷ [] } in
@@ -268,7 +264,8 @@ fresh_word {T} {M} st style cs none = by st.open_word none
   where
     by : (o : Option Bool) → o ≡ None →
         cond (joins o (preserves style.mode)) (Some (record st { word = st.word ++ styled style cs }))
-        (option_map (λ (t : State T M). record t { word = styled style cs; open_word = Some (preserves style.mode) }) (end_word_by o st))
+        (option_map (λ (t : State T M). record t { word = styled style cs; open_word = Some (preserves style.mode) })
+        (cond (is_some o) (placed_word st) (Some st)))
         ≡ Some (open_state st style cs)
     by None e = refl
     by (Some k) e = cc

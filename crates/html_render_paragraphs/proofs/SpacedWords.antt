@@ -1,9 +1,9 @@
 -- Words that follow each other on a line, each behind one space.
-use Rattle.std.proofs.Common.{◌≡◌, ℕ, ◌+◌, ◌<◌, ◌≤◌, Bool, true, false, List, [], ◌∷◌, ◌++◌, take, drop, length, Option, None, Some, refl}
-use Rattle.std.proofs.Common.{sym, ap, ◌∙◌, arith, length-append, option_map, option_and_then, append_assoc, map, get_or, suc, drop-cons}
+use Rattle.std.proofs.Common.{◌≡◌, ℕ, ◌+◌, ◌<◌, ◌≤◌, Bool, true, List, [], ◌∷◌, ◌++◌, take, drop, length, Option, None, Some, refl}
+use Rattle.std.proofs.Common.{sym, ap, ◌∙◌, arith, length-append, option_map, option_and_then, append_assoc, append-nil, if◌then◌else◌, map, get_or, suc, drop-cons}
 use Rattle.std.proofs.lemmas.List.Sums.{sum_by-append}
 use Rattle.std.proofs.lemmas.List.{map-append, length-drop, length-take, drop-drop, get_or-drop}
-use Rattle.std.proofs.lemmas.Bool.{le-leb}
+use Rattle.std.proofs.lemmas.Bool.{le-leb, ne_eqb}
 use Rattle.std.proofs.lemmas.Str.{chars-append, chars-nil, IsUtf8-take, IsUtf8-drop, IsCharBoundary-after_ascii, IsCharBoundary-from_rest}
 use Rattle.std.proofs.Math.Seq.{take-add}
 use Rattle.std.specs.Str.{chars, IsUtf8}
@@ -12,15 +12,14 @@ use Rattle.html_render_values.specs.declared.white_space.WhiteSpace.TheVariants.
 use Rattle.html_render_lines.specs.declared.character.Character.{Character}
 use Rattle.html_render_lines.specs.declared.character.Kind.TheVariants.{Space}
 use Rattle.html_render_lines.specs.declared.character.TextStyle.{TextStyle}
-use Rattle.html_render_lines.specs.declared.line.Element.{Element}
 use Rattle.html_render_lines.specs.declared.line.Element.TheVariants as element
 use Rattle.html_render_lines.specs.Character.{kind, width_of, tag_on, character_of}
 use Rattle.html_render_paragraphs.specs.Feeding.{AreLetters, IsFront, placed_text_and_space, with_words}
-use Rattle.html_render_lines.specs.Line.{Line, columns, word_columns}
-use Rattle.html_render_paragraphs.specs.Paragraph.{Page, Setting, fits, put_word, put_items, with_space, continued}
+use Rattle.html_render_lines.specs.Line.{Line, columns, word_columns, is_empty}
+use Rattle.html_render_paragraphs.specs.Paragraph.{Page, Setting, fits, put_word, put_items, continued}
 use Rattle.html_render_paragraphs.specs.Stream.{State, after, styled, with_pending}
 use Rattle.html_render_lines.specs.TaggedText.{text_columns, under, style_tag}
-use Rattle.html_render_lines.specs.laws.Cases.{if_true}
+use Rattle.html_render_lines.specs.laws.Cases.{if_true, if_false}
 use Rattle.html_render_lines.specs.laws.Columns.{width-space, columns-append, columns-under}
 use Rattle.html_render_paragraphs.proofs.Letters.{after-word, some-chars, chars-ascii}
 use Rattle.html_render_paragraphs.proofs.PageColumns.{columns-push_space}
@@ -29,35 +28,31 @@ use Rattle.html_render_paragraphs.proofs.Words.{put_items-text}
 
 -- ---- one word behind a space
 
-same_tag : {T : Type 0} (k : Bool) (style : TextStyle T) (a : ℕ) → tag_on k (character_of style a) ≡ style_tag k style
-same_tag true style a = refl
-same_tag false style a = refl
-
 -- a word behind a space, where both fit on a line that isn't empty
-put_word-here : {T M : Type 0} (s : Setting) (lines : List (Line T M)) (e : Element T M) (es : Line T M) (k : Bool) (style : TextStyle T)
+put_word-here : {T M : Type 0} (s : Setting) (lines : List (Line T M)) (line : Line T M) (k : Bool) (style : TextStyle T)
     (a : ℕ) (cs : List ℕ) →
-    columns (e ∷ es) + (1 + text_columns cs) ≤ s.width → 0 < length cs →
-    put_word s (record { lines = lines; line = e ∷ es; continues = k; waiting = [] }) (Some (character_of style a)) (styled style cs)
+    0 < length line → columns line + (1 + text_columns cs) ≤ s.width → 0 < length cs →
+    put_word s (record { lines = lines; line = line; continues = k; waiting = [] }) (Some (character_of style a)) (styled style cs)
     ≡ Some (record {
       lines = lines;
-      line = (e ∷ es) ++ element.Character 32 (style_tag k style) ∷ under (style_tag k style) cs;
+      line = line ++ element.Character 32 (style_tag k style) ∷ under (style_tag k style) cs;
       continues = k;
       waiting = [];
     })
-put_word-here {T} {M} s lines e es k style a cs room some =
-    let page : Page T M = record { lines = lines; line = e ∷ es; continues = k; waiting = [] } in
-    let next : Page T M = with_space page (character_of style a) in
+put_word-here {T} {M} s lines line k style a cs long room some =
+    let page : Page T M = record { lines = lines; line = line; continues = k; waiting = [] } in
     let space : Line T M = element.Character 32 (tag_on k (character_of style a)) ∷ [] in
+    let next : Page T M = record page { line = line ++ space } in
     let text : Line T M = under (style_tag k style) cs in
     let width : word_columns {M = M} (styled style cs) ≡ text_columns cs = word_columns-styled M style cs in
-    let here : fits s page (1 + word_columns {M = M} (styled style cs)) ≡ true = le-leb _ _ (omega (arith, room, width)) in
-    let grown : columns next.line ≡ columns page.line + 1 = columns-push_space page.line (tag_on k (character_of style a)) in
+    let grown : columns next.line ≡ columns line + 1 = columns-push_space line (tag_on k (character_of style a)) in
+    let here : fits s next (word_columns {M = M} (styled style cs)) ≡ true = le-leb _ _ (omega (arith, room, width, grown)) in
     let there : fits s next (text_columns cs) ≡ true = le-leb _ _ (omega (arith, room, grown)) in
-    ap (λ (p : Page T M). put_items s p (styled style cs))
-    (if_true (fits s page (1 + word_columns {M = M} (styled style cs))) next (continued page) here)
+    ap (λ (p : Page T M). put_items s (if fits s p (word_columns {M = M} (styled style cs)) then p else continued page) (styled style cs))
+    (if_false (is_empty line) page next (ne_eqb (length line) 0 (λ e. omega (arith, e))))
+    ∙ ap (λ (p : Page T M). put_items s p (styled style cs)) (if_true _ next (continued page) here)
     ∙ put_items-text s next style cs there some
-    ∙ ap (λ (l : Line T M). Some (record page { line = l })) (append_assoc (page.line ++ space) [] text ∙ append_assoc page.line space text)
-    ∙ ap (λ (t : T). Some (record page { line = page.line ++ element.Character 32 t ∷ text })) (same_tag k style a)
+    ∙ ap (λ (l : Line T M). Some (record page { line = l })) (append_assoc next.line [] text ∙ append_assoc line space text)
 
 -- such a word and the space behind it
 fitting_word : {T M : Type 0} (st : State T M) (style : TextStyle T) (a b : ℕ) (cs : List ℕ) → 0 < length st.page.line →
@@ -88,11 +83,10 @@ fitting_word {T} {M} st style a b cs some none due room low = by st.page.line st
           };
           pending = Some (character_of style b);
         })
-    by [] ms pending some none due room = absurd (omega arith)
-    by (e ∷ es) ms pending some none due room =
+    by line ms pending some none due room =
         rw (none, due) (ap (λ (o : Option (Page T M)). option_map (λ (t : State T M). with_pending t (character_of style b))
         (option_map (λ (p : Page T M). record st { page = p; pending = None }) o))
-        (put_word-here st.setting st.page.lines e es st.page.continues style a cs room low))
+        (put_word-here st.setting st.page.lines line st.page.continues style a cs some room low))
 
 -- ---- words of a text
 
@@ -190,16 +184,12 @@ next-fed {T} {M} st style bs n w k v u mode front high space are low more byte b
 
 -- ---- no word, and words that were put
 
-append_nil : {A : Type 0} (a : List A) → a ++ [] ≡ a
-append_nil [] = refl
-append_nil (x ∷ xs) = ap (λ r. x ∷ r) (append_nil xs)
-
 pub no-words : {T M : Type 0} (st : State T M) (style : TextStyle T) (bs : List ℕ) → st.pending ≡ Some (character_of style (get_or bs 0 0)) →
     with_words st style bs 0 ≡ st
 no-words {T} {M} st style bs due =
     let tag : T = style_tag st.page.continues style in
     let line : st.page.line ++ under {M = M} tag (chars []) ≡ st.page.line =
-    ap (λ cs. st.page.line ++ under {M = M} tag cs) chars-nil ∙ append_nil st.page.line in
+    ap (λ cs. st.page.line ++ under {M = M} tag cs) chars-nil ∙ append-nil st.page.line in
     ap (λ (l : Line T M). record st { page = record st.page { line = l }; pending = Some (character_of style (get_or bs 0 0)) }) line
     ∙ ap (λ (p : Option (Character T)). record st { pending = p }) (sym due)
 
@@ -240,7 +230,7 @@ put-words {T} {M} st style bs n none = by st.page.waiting none
             waiting = [];
           };
           pending = Some (character_of style (get_or bs n 0));
-        }) (append_nil st.page.line))
+        }) (append-nil st.page.line))
 
 -- what a word and the space behind it leave
 pub after-placed : {T M : Type 0} (st t : State T M) (style : TextStyle T) (cs : List ℕ) (b : ℕ) →

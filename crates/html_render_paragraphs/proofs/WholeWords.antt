@@ -92,9 +92,7 @@ ends-parts word rs tag closed (b ∷ bs) text false same none u e f =
 placed_text : {T : Type 0} (M : Type 0) (b : Bool) (style : TextStyle T) (cs : List ℕ) →
     map (element_of {M = M} b) (styled style cs) ≡ under (style_tag b style) cs
 placed_text M b style [] = refl
-placed_text {T} M true style (c ∷ cs) =
-    ap (λ (es : Line T M). element.Character c style.continuation_tag ∷ es) (placed_text M true style cs)
-placed_text {T} M false style (c ∷ cs) = ap (λ (es : Line T M). element.Character c style.tag ∷ es) (placed_text M false style cs)
+placed_text {T} M b style (c ∷ cs) = ap (λ (es : Line T M). element.Character c (style_tag b style) ∷ es) (placed_text M b style cs)
 
 pub with_text : {T M : Type 0} (page : Page T M) (style : TextStyle T) (cs : List ℕ) → 0 < length cs →
     with_word page (styled style cs)

@@ -1,8 +1,7 @@
 -- A word that grows, and its columns.
-use Rattle.std.proofs.Common.{◌≡◌, ℕ, ◌+◌, ◌<◌, List, [], ◌∷◌, ◌++◌, Option, Some, None, map, take, drop, length, refl, sym, ap, ◌∙◌, arith}
-use Rattle.std.proofs.Common.{append_assoc, option_and_then}
+use Rattle.std.proofs.Common.{◌≡◌, ℕ, ◌+◌, List, [], ◌∷◌, ◌++◌, Option, take, drop, refl, ap, ◌∙◌, arith, append_assoc, option_and_then}
 use Rattle.std.proofs.lemmas.List.{map-append}
-use Rattle.std.proofs.lemmas.List.Sums.{sum_by-append}
+use Rattle.std.proofs.lemmas.List.Sums.{sum_by-cons}
 use Rattle.std.specs.Str.{chars}
 use Rattle.html_render_lines.specs.declared.character.Item.{Item}
 use Rattle.html_render_lines.specs.declared.character.Item.TheVariants as item
@@ -13,7 +12,9 @@ use Rattle.html_render_lines.specs.declared.line.tagged_text.Run.{Run}
 use Rattle.html_render_lines.specs.declared.line.tagged_text.Run.TheVariants as run
 use Rattle.html_render_lines.specs.Character.{width_of, character_of}
 use Rattle.html_render_lines.specs.Line.{Line, columns, element_width, word_columns, item_width}
-use Rattle.html_render_paragraphs.specs.Paragraph.{Page, Setting, put_items, put_character, with_waiting_mark}
+use Rattle.html_render_paragraphs.specs.Paragraph.{Page, Setting, put_items, with_waiting_mark}
+use Rattle.html_render_paragraphs.specs.laws.Whole.{put_items-append, then_same}
+use Rattle.html_render_lines.specs.laws.Columns.{columns-cons, word_columns-append, word_columns-cons}
 use Rattle.html_render_paragraphs.specs.Stream.{styled}
 use Rattle.html_render_paragraphs.specs.Feeding.{put_runs}
 use Rattle.html_render_lines.specs.TaggedText.{under, text_columns, item_of, items_of, elements_of, open_elements}
@@ -25,12 +26,6 @@ pub items-under : {T : Type 0} (M : Type 0) (style : TextStyle T) (cs : List ℕ
 items-under M style [] = refl
 items-under {T} M style (c ∷ cs) = ap (λ (xs : List (Item T M)). item.Character (character_of style c) ∷ xs) (items-under M style cs)
 
-pub word_columns-append : {T M : Type 0} (a b : List (Item T M)) → word_columns (a ++ b) ≡ word_columns a + word_columns b
-word_columns-append {T} {M} a b = sum_by-append (λ (x : Item T M). item_width x) a b
-
-word_columns-cons : {T M : Type 0} (x : Item T M) (b : List (Item T M)) → word_columns (x ∷ b) ≡ item_width x + word_columns b
-word_columns-cons x b = omega (arith, word_columns-append (x ∷ []) b)
-
 pub word_columns-single : {T M : Type 0} (x : Item T M) → word_columns (x ∷ []) ≡ item_width x
 word_columns-single x = omega arith
 
@@ -41,7 +36,7 @@ word_columns-styled M style (c ∷ cs) =
     omega (
       arith,
       word_columns-cons {M = M} (item.Character (character_of style c)) (styled style cs),
-      sum_by-append width_of (c ∷ []) cs,
+      sum_by-cons width_of c cs,
       word_columns-styled M style cs,
     )
 
@@ -56,7 +51,7 @@ columns-items {T} {M} (e ∷ es) =
     omega (
       arith,
       columns-item e,
-      sum_by-append (λ (e : Element (TextStyle T) M). element_width e) (e ∷ []) es,
+      columns-cons e es,
       word_columns-cons (item_of e) (items_of es),
       columns-items es,
     )
@@ -75,19 +70,6 @@ pub ruleset texts = (word_columns-styled)
 
 -- ---- the items of a word that is placed part by part
 
-pub put_items-append : {T M : Type 0} (s : Setting) (page : Page T M) (xs ys : List (Item T M)) →
-    put_items s page (xs ++ ys) ≡ option_and_then (λ (p : Page T M). put_items s p ys) (put_items s page xs)
-put_items-append s page [] ys = refl
-put_items-append {T} {M} s page (item.Character c ∷ xs) ys = by (put_character s page c) (λ p. put_items-append s p xs ys)
-  where
-    by : (o : Option (Page T M)) →
-        ((p : Page T M) → put_items s p (xs ++ ys) ≡ option_and_then (λ (q : Page T M). put_items s q ys) (put_items s p xs)) →
-        option_and_then (λ (p : Page T M). put_items s p (xs ++ ys)) o
-        ≡ option_and_then (λ (p : Page T M). put_items s p ys) (option_and_then (λ (p : Page T M). put_items s p xs) o)
-    by None more = refl
-    by (Some p) more = more p
-put_items-append s page (item.Mark m ∷ xs) ys = put_items-append s (with_waiting_mark page m) xs ys
-
 put_runs-items : {T M : Type 0} (s : Setting) (page : Page T M) (rs : List (Run (TextStyle T) M)) (bs : List ℕ) →
     put_items s page (items_of (elements_of rs bs)) ≡ put_runs s page rs bs
 put_runs-items s page [] bs = refl
@@ -98,13 +80,8 @@ put_runs-items {T} {M} s page (run.Text n style ∷ rs) bs =
     items-append (under style cs) (elements_of rs (drop n bs))
     ∙ ap (λ (xs : List (Item T M)). xs ++ items_of (elements_of rs (drop n bs))) (items-under M style cs) in
     ap (put_items s page) whole ∙ put_items-append s page (styled style cs) (items_of (elements_of rs (drop n bs)))
-    ∙ by (put_items s page (styled style cs)) (λ p. put_runs-items s p rs (drop n bs))
-  where
-    by : (o : Option (Page T M)) → ((p : Page T M) → put_items s p (items_of (elements_of rs (drop n bs))) ≡ put_runs s p rs (drop n bs)) →
-        option_and_then (λ (p : Page T M). put_items s p (items_of (elements_of rs (drop n bs)))) o
-        ≡ option_and_then (λ (p : Page T M). put_runs s p rs (drop n bs)) o
-    by None more = refl
-    by (Some p) more = more p
+    ∙ then_same (λ (p : Page T M). put_items s p (items_of (elements_of rs (drop n bs)))) (λ (p : Page T M). put_runs s p rs (drop n bs))
+    (put_items s page (styled style cs)) (λ p. put_runs-items s p rs (drop n bs))
 
 -- a word by its parts
 pub put_items-parts : {T M : Type 0} (s : Setting) (page : Page T M) (rs : List (Run (TextStyle T) M)) (tag : Option (TextStyle T))

@@ -12,19 +12,11 @@ use Rattle.html_render_lines.specs.TaggedText.{under}
 abbrev pub kept_style : {T : Type 0} → T → TextStyle T
 kept_style tag = record { mode = Pre; tag = tag; continuation_tag = tag }
 
--- all lines of a page, and the open one too, empty or not
-abbrev pub ended_lines : {T M : Type 0} → Page T M → List (Line T M)
-ended_lines page = page.lines ++ page.line ∷ []
-
--- the lines of a text, one or more: character by character, so that longest fronts stand on them; none where a character is
--- wider than a line, with overflow off
-abbrev pub cut_lines : {T M : Type 0} → Setting → T → List ℕ → Option (List (Line T M))
-cut_lines {T} {M} setting tag cs =
-    option_map (λ (p : Page T M). ended_lines p) (put_items setting (blank_page []) (styled (kept_style tag) cs))
-
--- the lines of a text that is cut, or is left whole
+-- the lines of a text, one or more, which is left whole or is cut: character by character, so that longest fronts stand on
+-- them; none where a character is wider than a line, with overflow off
 abbrev pub text_lines : {T M : Type 0} → Setting → (cut : Bool) → T → List ℕ → Option (List (Line T M))
-text_lines setting true tag cs = cut_lines setting tag cs
+text_lines {T} {M} setting true tag cs =
+    option_map (λ (p : Page T M). p.lines ++ p.line ∷ []) (put_items setting (blank_page []) (styled (kept_style tag) cs))
 text_lines setting false tag cs = Some (under tag cs ∷ [])
 
 -- ---- what lines of such a text are

@@ -23,26 +23,26 @@ is_letter_kind k = false
 abbrev pub is_letter : WhiteSpace → ℕ → Bool
 is_letter mode c = is_letter_kind (kind mode c)
 
--- so many bytes of a text are letters of so many columns
+-- the first `bytes` bytes of a text are letters of `width` columns
 pub record AreLetters (mode : WhiteSpace) (text : List ℕ) (bytes width : ℕ) : Type 0 where
   pub within : bytes ≤ length text
   pub boundary : IsCharBoundary text bytes
   pub letters : list_all (is_letter mode) (chars (take bytes text)) ≡ true
   pub columns : width ≡ text_columns (chars (take bytes text))
 
--- so many bytes of a text are a front of it that has so many columns
+-- the first `bytes` bytes of a text are a front of it of `width` columns
 pub record IsFront (text : List ℕ) (bytes width : ℕ) : Type 0 where
   pub within : bytes ≤ length text
   pub boundary : IsCharBoundary text bytes
   pub columns : width ≡ text_columns (chars (take bytes text))
 
--- so many columns are free behind the line, which isn't empty and before whose next character no mark waits
+-- `room` columns are free behind the line, which isn't empty and before whose next character no mark waits
 pub record HasRoom {T M : Type 0} (st : State T M) (room : ℕ) : Type 0 where
   pub some : 0 < length st.page.line
   pub no_mark : st.page.waiting ≡ []
   pub fits : columns st.page.line + room ≤ st.setting.width
 
--- the state with so many bytes of a text on the line, and with the space behind them due
+-- the state with the first `n` bytes of a text on the line, and with the space behind them due
 abbrev pub with_words : {T M : Type 0} → State T M → TextStyle T → List ℕ → ℕ → State T M
 with_words st style bs n = record st {
   page = record st.page { line = st.page.line ++ under (style_tag st.page.continues style) (chars (take n bs)) };

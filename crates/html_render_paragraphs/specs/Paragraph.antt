@@ -1,8 +1,9 @@
 -- THE DEFINITION of a paragraph. All that was fed, a list of characters and marks, is cut into pieces: words, gaps
 -- between them, characters that are placed by themselves, and marks. Then the pieces are placed on a page, one after
 -- the other, which gives the lines.
-use Rattle.std.specs.Prelude.{ℕ, ◌+◌, ◌-◌, ◌%◌, Bool, true, false, not, ◌||◌, nat_le, List, [], ◌∷◌, ◌++◌, Option, Some, None, map, fold, replicate}
+use Rattle.std.specs.Prelude.{ℕ, ◌+◌, ◌-◌, ◌%◌, Bool, true, false, ◌||◌, nat_le, List, [], ◌∷◌, ◌++◌, Option, Some, None, map, fold, replicate}
 use Rattle.std.specs.Prelude.{if◌then◌else◌, option_and_then}
+use Rattle.std.specs.Bool.{beq}
 use Rattle.std.specs.Option.{option_or}
 use Rattle.html_render_values.specs.WhiteSpace.{preserves}
 use Rattle.html_render_lines.specs.declared.character.Kind.{Kind}
@@ -12,7 +13,7 @@ use Rattle.html_render_lines.specs.declared.character.Item.{Item}
 use Rattle.html_render_lines.specs.declared.character.Item.TheVariants as item
 use Rattle.html_render_lines.specs.declared.line.Element.TheVariants as element
 use Rattle.html_render_lines.specs.Character.{kind, width_of, tag_on}
-use Rattle.html_render_lines.specs.Line.{Line, columns, word_columns}
+use Rattle.html_render_lines.specs.Line.{Line, columns, word_columns, is_empty}
 
 -- ---- 1. The pieces
 
@@ -28,21 +29,13 @@ pub data Piece (T M : Type 0) : Type 0 where
   -- a mark outside of words
   Loose : M → Piece T M
 
--- whether both hold, or neither
-abbrev pub is_same : Bool → Bool → Bool
-is_same true b = b
-is_same false b = not b
-
--- a letter before pieces: it joins the word behind it, unless white space is preserved for one and not for the other
-abbrev pub with_letter : {T M : Type 0} → Character T → List (Piece T M) → List (Piece T M)
-with_letter c (Word k w ∷ ps) =
-    if is_same (preserves c.mode) k then Word (preserves c.mode) (item.Character c ∷ w) ∷ ps
-    else Word (preserves c.mode) (item.Character c ∷ []) ∷ Word k w ∷ ps
-with_letter c ps = Word (preserves c.mode) (item.Character c ∷ []) ∷ ps
-
--- a character of this kind before pieces
+-- a character of this kind before pieces: a letter joins the word behind it, unless white space is preserved for one and
+-- not for the other
 abbrev pub with_kind : {T M : Type 0} → Kind → Character T → List (Piece T M) → List (Piece T M)
-with_kind Letter c ps = with_letter c ps
+with_kind Letter c (Word k w ∷ ps) =
+    if beq (preserves c.mode) k then Word (preserves c.mode) (item.Character c ∷ w) ∷ ps
+    else Word (preserves c.mode) (item.Character c ∷ []) ∷ Word k w ∷ ps
+with_kind Letter c ps = Word (preserves c.mode) (item.Character c ∷ []) ∷ ps
 with_kind Space c ps = Gap c ∷ ps
 with_kind Divider c ps = Cut ∷ ps
 with_kind Dropped c ps = ps
@@ -95,32 +88,20 @@ with_character {T} {M} page c =
       waiting = [];
     }
 
--- a separating space at the end of the open line, which marks do not stand before
-abbrev pub with_space : {T M : Type 0} → Page T M → Character T → Page T M
-with_space page c = record page { line = page.line ++ element.Character 32 (tag_on page.continues c) ∷ [] }
-
 -- the line ends, empty or not, and the next one continues nothing
 abbrev pub with_line_break : {T M : Type 0} → Page T M → Page T M
 with_line_break page = record page { lines = page.lines ++ page.line ∷ []; line = []; continues = false }
 
-abbrev pub continued_by : {T M : Type 0} → Page T M → Line T M → Page T M
-continued_by page [] = page
-continued_by page (e ∷ es) = record page { lines = page.lines ++ (e ∷ es) ∷ []; line = []; continues = true }
-
 -- the line ends if it isn't empty, and the next one continues it
 abbrev pub continued : {T M : Type 0} → Page T M → Page T M
-continued page = continued_by page page.line
-
--- lines, and one more if it isn't empty
-abbrev pub with_line : {T M : Type 0} → List (Line T M) → Line T M → List (Line T M)
-with_line lines [] = lines
-with_line lines (e ∷ es) = lines ++ (e ∷ es) ∷ []
+continued page =
+    if is_empty page.line then page else record page { lines = page.lines ++ page.line ∷ []; line = []; continues = true }
 
 -- the lines of a page: the open one counts if it has a character
 abbrev pub all_lines : {T M : Type 0} → Page T M → List (Line T M)
-all_lines page = with_line page.lines page.line
+all_lines page = if is_empty page.line then page.lines else page.lines ++ page.line ∷ []
 
--- so many more columns fit on the open line
+-- `more` columns fit on the open line
 abbrev pub fits : {T M : Type 0} → Setting → Page T M → ℕ → Bool
 fits setting page more = nat_le (columns page.line + more) setting.width
 
@@ -133,11 +114,6 @@ put_character setting page c =
     else if nat_le (width_of c.code) setting.width || setting.overflow then Some (with_character (continued page) c)
     else None
 
--- characters one by one
-abbrev pub put_characters : {T M : Type 0} → Setting → Page T M → List (Character T) → Option (Page T M)
-put_characters setting page [] = Some page
-put_characters setting page (c ∷ cs) = option_and_then (λ p. put_characters setting p cs) (put_character setting page c)
-
 -- characters and marks one by one, so that longest fronts of them stand on the lines
 abbrev pub put_items : {T M : Type 0} → Setting → Page T M → List (Item T M) → Option (Page T M)
 put_items setting page [] = Some page
@@ -148,39 +124,20 @@ put_items setting page (item.Mark m ∷ xs) = put_items setting (with_waiting_ma
 abbrev pub put_fitting : {T M : Type 0} → Setting → Page T M → Character T → Page T M
 put_fitting setting page c = if fits setting page (width_of c.code) then with_character page c else page
 
--- those of the characters that fit, one by one
-abbrev pub put_all_fitting : {T M : Type 0} → Setting → Page T M → List (Character T) → Page T M
-put_all_fitting setting page cs = fold (put_fitting setting) page cs
-
 -- ---- 4. The space that is due
 
-abbrev pub gap_width_of : {T M : Type 0} → Line T M → Option (Character T) → ℕ
-gap_width_of (e ∷ es) (Some c) = 1
-gap_width_of line pending = 0
-
--- the columns of the space that is due: none at the start of a line
-abbrev pub gap_width : {T M : Type 0} → Page T M → Option (Character T) → ℕ
-gap_width page pending = gap_width_of page.line pending
-
-abbrev pub with_due_space_by : {T M : Type 0} → Page T M → Line T M → Option (Character T) → Page T M
-with_due_space_by page (e ∷ es) (Some c) = with_space page c
-with_due_space_by page line pending = page
-
--- the page with the space that is due
+-- the page with the space that is due: none at the start of a line, and marks do not stand before it
 abbrev pub with_due_space : {T M : Type 0} → Page T M → Option (Character T) → Page T M
-with_due_space page pending = with_due_space_by page page.line pending
-
--- the page with the space that is due, if it fits
-abbrev pub with_fitting_space : {T M : Type 0} → Setting → Page T M → Option (Character T) → Page T M
-with_fitting_space setting page pending =
-    if fits setting page (gap_width page pending) then with_due_space page pending else page
+with_due_space page None = page
+with_due_space page (Some c) =
+    if is_empty page.line then page else record page { line = page.line ++ element.Character 32 (tag_on page.continues c) ∷ [] }
 
 -- ---- 5. Words
 
 -- the page on which a word begins: behind the space that is due where both fit, else on the next line
 abbrev pub page_for_word : {T M : Type 0} → Setting → Page T M → Option (Character T) → List (Item T M) → Page T M
 page_for_word setting page pending word =
-    if fits setting page (gap_width page pending + word_columns word) then with_due_space page pending else continued page
+    if fits setting (with_due_space page pending) (word_columns word) then with_due_space page pending else continued page
 
 -- a word; one that is wider than a line is cut where lines are full
 abbrev pub put_word : {T M : Type 0} → Setting → Page T M → Option (Character T) → List (Item T M) → Option (Page T M)
@@ -191,7 +148,8 @@ put_word setting page pending word = put_items setting (page_for_word setting pa
 -- the page before such a character: the space that is due is placed if it fits, but is dropped before a newline
 abbrev pub page_for_single : {T M : Type 0} → Setting → Page T M → Option (Character T) → Kind → Page T M
 page_for_single setting page pending Newline = page
-page_for_single setting page pending k = with_fitting_space setting page pending
+page_for_single setting page pending k =
+    if fits setting (with_due_space page pending) 0 then with_due_space page pending else page
 
 -- spaces to the next multiple of 8 columns
 abbrev pub tab_spaces : {T M : Type 0} → Page T M → Character T → List (Character T)
@@ -201,9 +159,9 @@ tab_spaces page c = replicate (8 - columns page.line % 8) (record c { code = 32 
 abbrev pub put_single : {T M : Type 0} → Setting → Page T M → Kind → Character T → Option (Page T M)
 put_single setting page Preserved c = put_character setting page c
 put_single setting page Newline c = Some (with_line_break page)
-put_single setting page Tab c = put_characters setting page (tab_spaces page c)
+put_single setting page Tab c = put_items setting page (map (λ d. item.Character d) (tab_spaces page c))
 put_single setting page SoftSpace c = Some (put_fitting setting page c)
-put_single setting page SoftTab c = Some (put_all_fitting setting page (tab_spaces page c))
+put_single setting page SoftTab c = Some (fold (put_fitting setting) page (tab_spaces page c))
 put_single setting page k c = Some page
 
 -- ---- 7. The paragraph

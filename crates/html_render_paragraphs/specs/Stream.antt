@@ -1,16 +1,17 @@
 -- A paragraph that is fed character by character.
-use Rattle.std.specs.Prelude.{ℕ, Bool, false, List, [], ◌∷◌, ◌++◌, Option, Some, None, map, option_and_then, option_map, if◌then◌else◌}
+use Rattle.std.specs.Prelude.{ℕ, Bool, false, List, [], ◌∷◌, ◌++◌, Option, Some, None, is_some, map, option_and_then, option_map, if◌then◌else◌}
+use Rattle.std.specs.Bool.{beq}
 use Rattle.std.specs.Option.{option_or}
 use Rattle.html_render_values.specs.WhiteSpace.{preserves}
 use Rattle.html_render_lines.specs.declared.character.Kind.{Kind}
-use Rattle.html_render_lines.specs.declared.character.Kind.TheVariants.{Letter, Space, Divider, Dropped, Preserved, Newline, Tab, SoftSpace, SoftTab}
+use Rattle.html_render_lines.specs.declared.character.Kind.TheVariants.{Letter, Space, Divider, Dropped}
 use Rattle.html_render_lines.specs.declared.character.Character.{Character}
 use Rattle.html_render_lines.specs.declared.character.Item.{Item}
 use Rattle.html_render_lines.specs.declared.character.TextStyle.{TextStyle}
 use Rattle.html_render_lines.specs.declared.character.Item.TheVariants as item
 use Rattle.html_render_lines.specs.Character.{kind, character_of}
 use Rattle.html_render_lines.specs.Line.{Line}
-use Rattle.html_render_paragraphs.specs.Paragraph.{Page, Setting, blank_page, with_waiting_mark, put_word, put_single, page_for_single, is_same, all_lines}
+use Rattle.html_render_paragraphs.specs.Paragraph.{Page, Setting, blank_page, with_waiting_mark, put_word, put_single, page_for_single, all_lines}
 
 -- the page, the space that is due, and the word that is open, with whether white space is preserved in it
 pub record State (T M : Type 0) : Type 0 where
@@ -32,18 +33,14 @@ placed_word {T} {M} st =
     option_map (λ (p : Page T M). record { setting = st.setting; page = p; pending = None; word = []; open_word = None })
     (put_word st.setting st.page st.pending st.word)
 
-abbrev pub end_word_by : {T M : Type 0} → Option Bool → State T M → Option (State T M)
-end_word_by None st = Some st
-end_word_by (Some k) st = placed_word st
-
 -- the state with its open word placed, if there is one
 abbrev pub end_word : {T M : Type 0} → State T M → Option (State T M)
-end_word st = end_word_by st.open_word st
+end_word st = if is_some st.open_word then placed_word st else Some st
 
 -- a letter joins the open word
 abbrev pub joins : Option Bool → Bool → Bool
 joins None k = false
-joins (Some j) k = is_same k j
+joins (Some j) k = beq k j
 
 abbrev pub begin_word : {T M : Type 0} → State T M → Character T → State T M
 begin_word st c = record st { word = item.Character c ∷ []; open_word = Some (preserves c.mode) }
@@ -69,20 +66,17 @@ character_step Letter st c = letter_step st c
 character_step {T} {M} Space st c = option_map (λ (t : State T M). with_pending t c) (end_word st)
 character_step Divider st c = end_word st
 character_step Dropped st c = Some st
-character_step Preserved st c = then_single st Preserved c
-character_step Newline st c = then_single st Newline c
-character_step Tab st c = then_single st Tab c
-character_step SoftSpace st c = then_single st SoftSpace c
-character_step SoftTab st c = then_single st SoftTab c
+character_step k st c = then_single st k c
 
-abbrev pub mark_step_by : {T M : Type 0} → Option Bool → State T M → M → State T M
-mark_step_by None st m = record st { page = with_waiting_mark st.page m }
-mark_step_by (Some k) st m = record st { word = st.word ++ item.Mark m ∷ [] }
+-- a mark joins the open word, or else waits
+abbrev pub mark_step : {T M : Type 0} → State T M → M → State T M
+mark_step st m =
+    if is_some st.open_word then record st { word = st.word ++ item.Mark m ∷ [] } else record st { page = with_waiting_mark st.page m }
 
 -- the state after one character or mark; none where it is too narrow
 abbrev pub step : {T M : Type 0} → State T M → Item T M → Option (State T M)
 step st (item.Character c) = character_step (kind c.mode c.code) st c
-step st (item.Mark m) = Some (mark_step_by st.open_word st m)
+step st (item.Mark m) = Some (mark_step st m)
 
 abbrev pub after : {T M : Type 0} → State T M → List (Item T M) → Option (State T M)
 after st [] = Some st

@@ -4,6 +4,8 @@ pub mod Cases
 pub mod Kept
 -- what is fed piece by piece is the paragraph of all of it
 pub mod Whole
+-- words that fit
+pub mod Words
 -- two answers
 pub mod Answers
 -- what is said of a page is said of the same page beside it, where overflow may be on

@@ -1,7 +1,7 @@
 //! Laws of the definition of a paragraph, each the contract of a function that does nothing.
 
-ghost use Rattle.std.specs.Prelude.{◌≡◌, ℕ, List, Some, IfSome, IsSome, option_and_then};
-ghost use Rattle.html_render_paragraphs.specs.CutText.{cut_lines, together, AreLongest};
+ghost use Rattle.std.specs.Prelude.{◌≡◌, ℕ, List, true, Some, IfSome, IsSome, option_and_then};
+ghost use Rattle.html_render_paragraphs.specs.CutText.{text_lines, together, AreLongest};
 ghost use Rattle.html_render_lines.specs.Line.{AllWithinWidth};
 ghost use Rattle.html_render_paragraphs.specs.Paragraph.{Page, Setting, without_overflow, with_overflow, paragraph, all_lines};
 ghost use Rattle.html_render_paragraphs.specs.Stream.{start, after, finished};
@@ -49,12 +49,12 @@ fn feeding_gives_the_whole_paragraph<T, M>()
 #[tactic(auto, using(crate::specs::laws::CutText::cuts))]
 fn a_cut_text_is_whole<T, M>()
     ensures { (setting : Setting) (tag : T) (text : List ℕ) →
-        IfSome (cut_lines {M = M} setting tag text) (λ lines. together lines ≡ under tag text) }
+        IfSome (text_lines {M = M} setting true tag text) (λ lines. together lines ≡ under tag text) }
 {}
 
 /// It is cut where a line is full, and nowhere else.
 #[tactic(auto, using(crate::specs::laws::CutText::cuts))]
 fn a_text_is_cut_where_lines_are_full<T, M>()
     ensures { (setting : Setting) (tag : T) (text : List ℕ) →
-        IfSome (cut_lines {M = M} setting tag text) (AreLongest setting.width) }
+        IfSome (text_lines {M = M} setting true tag text) (AreLongest setting.width) }
 {}

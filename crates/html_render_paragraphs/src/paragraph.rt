@@ -3,10 +3,10 @@
 //! `paragraph.add_text("Hello wide world", style)?` feeds a text; `paragraph.flush(&mut lines)?` then adds the lines
 //! `Hello wide` and `world` at a width of 11.
 
-ghost use Rattle.std.specs.Prelude.{◌≡◌, [], ◌∷◌, ◌++◌, Some, None, OnOk, IfErr, option_map};
+ghost use Rattle.std.specs.Prelude.{◌≡◌, [], ◌∷◌, ◌++◌, Some, None, OnOk, IfErr, option_map, if◌then◌else◌};
 ghost use Rattle.std.specs.Str.{chars};
 ghost use Rattle.html_render_values.specs.Outcome.{Refuses};
-ghost use Rattle.html_render_paragraphs.specs.Paragraph.{with_line};
+ghost use Rattle.html_render_lines.specs.Line.{is_empty};
 ghost use Rattle.html_render_paragraphs.specs.Stream.{start, step, after, styled, finished, flushed_to};
 
 use crate::word::Word;
@@ -116,7 +116,7 @@ impl<T: Tag, M: Copy> Paragraph<T, M> {
         self.feed(text, style)
     }
 
-    /// Makes room on an empty line for a text of so many bytes and a prefix in front of it; behind a short text for others.
+    /// Makes room on an empty line for a text of `bytes` bytes and a prefix in front of it; behind a short text for others.
     #[inline]
     fn make_room(&mut self, bytes: usize) -> Result<(), AllocError>
         ensures { self.new ≡ self.old }
@@ -147,7 +147,8 @@ impl<T: Tag, M: Copy> Paragraph<T, M> {
 
     /// Moves the open line behind the given ones, unless it is empty.
     fn move_line(&mut self, lines: &mut Vec<Line<T, M>>) -> Result<(), AllocError>
-        ensures lines { OnOk result (lines.new.items ≡ with_line lines.old.items self.old.page.line) }
+        ensures lines { OnOk result (lines.new.items
+            ≡ (if is_empty self.old.page.line then lines.old.items else lines.old.items ++ self.old.page.line ∷ [])) }
         ensures after { OnOk result (self.new ≡ record self.old { page = record self.old.page { line = [] } }) }
     {
         if !self.line.is_empty() {

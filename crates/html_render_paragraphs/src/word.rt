@@ -73,7 +73,7 @@ impl<T: Tag, M: Copy> Word<T, M> {
         self.count = Some(0);
     }
 
-    /// Puts a text of so many columns at the end.
+    /// Puts a text of `width` columns at the end.
     #[inline]
     #[tactic(auto, using(crate::proofs::WordColumns::word_pushes))]
     pub(crate) fn push_str(
@@ -90,7 +90,7 @@ impl<T: Tag, M: Copy> Word<T, M> {
         Ok(())
     }
 
-    /// Puts a character of so many columns at the end.
+    /// Puts a character of `width` columns at the end.
     #[inline]
     #[tactic(auto, using(crate::proofs::WordColumns::word_pushes))]
     pub(crate) fn push_char(
@@ -135,7 +135,7 @@ impl<T: Tag, M: Copy> Word<T, M> {
     }
 }
 
-/// Puts a word of so many columns at the end of a line.
+/// Puts a word of `width` columns at the end of a line.
 #[inline]
 #[tactic(auto, using(crate::proofs::WordColumns::word_pushes))]
 pub(crate) fn push_word<T: Tag, M: Copy>(

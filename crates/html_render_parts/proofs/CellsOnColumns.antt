@@ -1,9 +1,9 @@
 -- The cells of a table on the columns of its grid lead back to what they span.
 use Rattle.std.proofs.Common.{◌≡◌, ℕ, ◌+◌, ◌-◌, ◌^◌, ◌<◌, ◌≤◌, true, List, [], ◌∷◌, ◌++◌, Some, length, get_or, map, All, Contains, refl, sym, ap}
-use Rattle.std.proofs.Common.{subst, arith, inl, inr}
+use Rattle.std.proofs.Common.{subst, arith, inl, inr, nat_lt}
 use Rattle.std.specs.List.Sorted.{IsStrictlyIncreasing}
-use Rattle.std.proofs.lemmas.Bool.{cases_Bool}
-use Rattle.std.proofs.lemmas.List.Elements.{All-nil, All-cons, All-head, All-tail, All-weaker, Contains-append_left, Contains-append_right}
+use Rattle.std.proofs.lemmas.Bool.{cases_Bool, ltb-true}
+use Rattle.std.proofs.lemmas.List.Elements.{All-nil, All-cons, All-head, All-tail, All-weaker, All-map, All-contains_itself, Contains-append_left, Contains-append_right}
 use Rattle.html_render_parts.specs.declared.table.Span.{Span}
 use Rattle.html_render_parts.specs.declared.table.cells.GridCell.{GridCell}
 use Rattle.html_render_parts.specs.declared.table.placement.Place.{Place}
@@ -15,7 +15,8 @@ use Rattle.html_render_parts.specs.TableCells.{CellGrid, IsCellGrid, cell_grid_o
 use Rattle.html_render_parts.proofs.EdgeRanks.{Contains-here, Contains-rising, Contains-there, IsStrictlyIncreasing-rising, rank-below, rank-gets}
 use Rattle.html_render_parts.proofs.EdgeRanks.{rank-less, rank-mono}
 use Rattle.html_render_parts.proofs.GatheringEnds.{Between, EndsIn, own-between}
-use Rattle.html_render_parts.proofs.NumberTests.{ltb-tells}
+use Rattle.html_render_parts.proofs.Vectors.{All-unmap}
+use Rattle.std.proofs.lemmas.List.Sums.{AllPass-from_list_all}
 use Rattle.html_render_parts.proofs.SideBySide.{Wide, Wide-own_from}
 
 -- ---- where the table's own cells stand
@@ -32,10 +33,9 @@ own_rows-between I row hung (cells ∷ more) zero h =
     (own_rows-between I (row + 1) next more zero (All-tail (All (EndsIn I)) (row_from 0 hung cells) (rows_from (row + 1) next more) h))
 
 row-ends_in : (I : ℕ → Type 0) (ps : List Place) → ((n : ℕ) → Contains (map (λ p. p.end) ps) n → I n) → All (EndsIn I) ps
-row-ends_in I [] f = All-nil (EndsIn I)
-row-ends_in I (p ∷ ps) f =
-    All-cons (EndsIn I) p ps (f p.end (Contains-here p.end (map (λ q. q.end) ps)))
-    (row-ends_in I ps (λ n h. f n (Contains-there p.end n (map (λ q. q.end) ps) h)))
+row-ends_in I ps f =
+    let ends_of = map (λ (p : Place). p.end) ps in
+    All-unmap I (λ (p : Place). p.end) ps (All-weaker (Contains ends_of) I f ends_of (All-contains_itself ends_of))
 
 all-ends_in : (I : ℕ → Type 0) (rows : List (List Place)) → ((n : ℕ) → Contains (ends rows) n → I n) → All (All (EndsIn I)) rows
 all-ends_in I [] f = All-nil (All (EndsIn I))
@@ -54,18 +54,12 @@ own-in_edges rows =
 -- ---- positions that fit
 
 row-within : (ps : List Place) → row_fits ps ≡ true → All (EndsIn (λ n. n < 2 ^ 128)) ps
-row-within [] e = All-nil (EndsIn (λ n. n < 2 ^ 128))
-row-within (p ∷ ps) e = elim (ltb-tells p.end (2 ^ 128)) [
-  | inl t ↦ let rest = rw t.0 at e in All-cons (EndsIn (λ n. n < 2 ^ 128)) p ps t.1 (row-within ps rest)
-  | inr t ↦ let no = rw t.0 at e in cc
-]
+row-within ps e = All-weaker (λ (p : Place). nat_lt p.end (2 ^ 128) ≡ true) (EndsIn (λ n. n < 2 ^ 128)) (λ p. ltb-true p.end (2 ^ 128)) ps
+    (AllPass-from_list_all (λ (p : Place). nat_lt p.end (2 ^ 128)) ps e)
 
 rows-within : (rows : List (List Place)) → positions_fit rows ≡ true → All (All (EndsIn (λ n. n < 2 ^ 128))) rows
-rows-within [] e = All-nil (All (EndsIn (λ n. n < 2 ^ 128)))
-rows-within (r ∷ rows) e = elim (cases_Bool (row_fits r)) [
-  | inl t ↦ let rest = rw t at e in All-cons (All (EndsIn (λ n. n < 2 ^ 128))) r rows (row-within r t) (rows-within rows rest)
-  | inr t ↦ let no = rw t at e in cc
-]
+rows-within rows e = All-weaker (λ r. row_fits r ≡ true) (All (EndsIn (λ n. n < 2 ^ 128))) row-within rows
+    (AllPass-from_list_all row_fits rows e)
 
 pub own-within : (rows : List (List Span)) → positions_fit (placed_rows rows) ≡ true →
     All (All (λ c. c.column + c.span.colspan < 2 ^ 128)) (own_rows_from 0 [] rows)
@@ -177,19 +171,13 @@ cell-within es c b wide =
 
 row-within_columns : (es : List ℕ) (cs : List Standing) → All (Between (Contains es)) cs → All Wide cs →
     All (IsWithin (length es - 1)) (map (on_columns es) cs)
-row-within_columns es [] b w = All-nil (IsWithin (length es - 1))
-row-within_columns es (c ∷ cs) b w =
-    All-cons (IsWithin (length es - 1)) (on_columns es c) (map (on_columns es) cs)
-    (cell-within es c (All-head (Between (Contains es)) c cs b) (All-head Wide c cs w))
-    (row-within_columns es cs (All-tail (Between (Contains es)) c cs b) (All-tail Wide c cs w))
+row-within_columns es cs b w = All-map (IsWithin (length es - 1)) (on_columns es) cs
+    (λ k d inside. cell-within es (get_or cs k d) (b k d inside) (w k d inside))
 
 rows-within_columns : (es : List ℕ) (rows : List (List Standing)) → All (All (Between (Contains es))) rows → All (All Wide) rows →
     All (All (IsWithin (length es - 1))) (map (map (on_columns es)) rows)
-rows-within_columns es [] b w = All-nil (All (IsWithin (length es - 1)))
-rows-within_columns es (r ∷ rows) b w =
-    All-cons (All (IsWithin (length es - 1))) (map (on_columns es) r) (map (map (on_columns es)) rows)
-    (row-within_columns es r (All-head (All (Between (Contains es))) r rows b) (All-head (All Wide) r rows w))
-    (rows-within_columns es rows (All-tail (All (Between (Contains es))) r rows b) (All-tail (All Wide) r rows w))
+rows-within_columns es rows b w = All-map (All (IsWithin (length es - 1))) (map (on_columns es)) rows
+    (λ k d inside. row-within_columns es (get_or rows k d) (b k d inside) (w k d inside))
 
 pub cells-within : (g : CellGrid) → IsCellGrid g → All (All (IsWithin (columns_of g))) g.rows
 cells-within g h =

@@ -1,11 +1,10 @@
 -- The columns at the level as the code lists them, and in which order a sort puts them.
 use Rattle.std.proofs.Common.{◌≡◌, ◌≢◌, ℕ, ◌+◌, ◌-◌, ◌<◌, ◌≤◌, List, [], ◌∷◌, ◌++◌, All, map, length, min, take, sym, ap, ◌∙◌, arith, get_or, set}
-use Rattle.std.proofs.Common.{inl, inr, length-append}
+use Rattle.std.proofs.Common.{length-append}
 use Rattle.std.proofs.lemmas.List.{map-append, get_or-map, get_or-take, length-map, length-take}
 use Rattle.std.proofs.lemmas.List.Sums.{sum_by_more}
 use Rattle.std.proofs.lemmas.List.Elements.{All-append}
 use Rattle.std.proofs.lemmas.List.Sorted.{IsPermutation-map, All-permutation}
-use Rattle.std.proofs.lemmas.Bool.{cases_lt, cases_eq}
 use Rattle.std.proofs.lemmas.Bool.Decides.{nat_tests}
 use Rattle.std.specs.List.Sorted.{IsPermutation}
 use Rattle.std.specs.Ordering.{nat_cmp, ordering_then, is_lt}
@@ -53,16 +52,7 @@ column-skipped ms ss level n cs e h so_far below = record {
 -- a column that isn't sorted behind another of another place is lowered before it
 not-behind : (width width' place place' : ℕ) → is_lt (ordering_then (nat_cmp width width') (nat_cmp place' place)) ≡ false →
     place ≢ place' → LoweredBefore width place width' place'
-not-behind width width' place place' h ne = elim (cases_lt width' width) [
-  | inl less ↦ inl less
-  | inr le ↦ elim (cases_eq width' width) [
-    | inl same ↦ elim (cases_lt place place') [
-      | inl below ↦ inr (same, below)
-      | inr above ↦ absurd (let behind : place' < place = omega arith in grind (arith, nat_tests))
-    ]
-    | inr other ↦ absurd (let narrower : width < width' = omega arith in grind (arith, nat_tests))
-  ]
-]
+not-behind width width' place place' h ne = grind (arith, nat_tests)
 
 pub sorted-in-order : (ms ss : List ℕ) (level : ℕ) (cs ds : List AtLevel) → AreAtLevel ms ss level (length ms) (map (λ c. c.place) cs) →
     All (λ c. c.width.0 ≡ get_or ms c.place 0 + level) cs → IsPermutation cs ds
@@ -91,7 +81,7 @@ sorted-in-order ms ss level cs ds at widths moves sorted =
           (λ same. differ (at_place k in_k ∙ same ∙ sym (at_place (k + 1) in_next)))));
     }
 
--- a loop over the first columns in order, of which so many are lowered
+-- a loop over the first `count` columns in order, of which `index` are lowered
 pub record IsLowering (ms ss : List ℕ) (level count : ℕ) (items : List AtLevel) (index : ℕ) (old ws : List ℕ) : Type 0 where
   pub columns : List AtLevel
   pub order : AreInOrder ms ss level (map (λ c. c.place) columns)

@@ -8,7 +8,7 @@ use Rattle.std.proofs.lemmas.List.{get_or_default}
 use Rattle.std.proofs.lemmas.List.Elements.{All-nil, All-cons, All-head, All-tail, All-weaker, All-contains, Contains-append_cases, Contains-append_left}
 use Rattle.std.proofs.lemmas.List.Elements.{Contains-append_right}
 use Rattle.std.proofs.lemmas.List.Kept.{AllPairs-cons, AllPairs-from_increasing}
-use Rattle.std.proofs.lemmas.List.Sums.{sum_by-cons}
+use Rattle.std.proofs.lemmas.List.Sums.{sum_by-cons, count_by-le-length}
 use Rattle.std.proofs.lemmas.Bool.Decides.{nat_tests}
 use Rattle.html_render_parts.specs.Placement.{rising, rising_with}
 use Rattle.html_render_parts.specs.Grid.{rank, IsNumbering, IsLeastNumbering}
@@ -215,15 +215,7 @@ rank-least xs h = λ number is e in_e. let t = least-from xs 0 number (AllPairs-
 
 -- an edge is below fewer edges than there are
 pub rank-below : (xs : List ℕ) (e : ℕ) → Contains xs e → rank xs e < length xs
-rank-below [] e h = absurd (Contains-nil e h)
-rank-below (x ∷ xs) e h = rw (rank-cons x xs e) (elim (Contains-cons x e xs h) [
-  | inl f ↦ let most = rank-most xs e in grind (arith, nat_tests)
-  | inr g ↦ let ih = rank-below xs e g in grind (arith, nat_tests)
-])
-  where
-    rank-most : (ys : List ℕ) (t : ℕ) → rank ys t ≤ length ys
-    rank-most [] t = omega arith
-    rank-most (y ∷ ys) t = rw (rank-cons y ys t) (let ih = rank-most ys t in grind (arith, nat_tests))
+rank-below xs e h = let less = rank-less xs e (suc e) h (omega arith) in omega (arith, less, count_by-le-length (λ x. nat_lt x (suc e)) xs)
 
 -- where those below t stand in front, t's rank is how many they are
 pub rank-split : (xs : List ℕ) (t i : ℕ) → i ≤ length xs → AllWithin (λ y. nat_lt y t ≡ true) xs 0 i →

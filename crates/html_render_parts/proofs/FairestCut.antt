@@ -17,23 +17,12 @@ pub fairest : (ms ss : List ℕ) (w : ℕ) (ws : List ℕ) (level lowered : ℕ)
 fairest ms ss w ws level lowered fits form = record {
   is_cut = record {
     lengths = form.lengths;
-    lower = λ k h. let e = fits.each k h in elim (form.each k h) [ inl f ↦ omega arith | inr f ↦ omega arith ];
-    upper = λ k h. let e = fits.each k h in elim (form.each k h) [ inl f ↦ omega arith | inr f ↦ omega arith ];
+    lower = λ k h. let e = fits.each k h in let f = form.each k h in grind arith;
+    upper = λ k h. let e = fits.each k h in let f = form.each k h in grind arith;
     total = λ some. omega (arith, form.count, form.rest, minimums-fit ms ss w fits);
   };
-  last_unit = λ i j in_i in_j ne below. elim (form.each i in_i) [
-    | inl f ↦ elim (form.each j in_j) [ inl g ↦ inl (omega arith) | inr g ↦ inl (omega arith) ]
-    | inr f ↦ elim (form.each j in_j) [
-      | inr g ↦ inl (omega arith)
-      | inl g ↦ elim (cases_lt (get_or ws j 0 - get_or ms j 0) level) [
-        | inl less ↦ inl (omega arith)
-        | inr most ↦ elim (form.first i j in_i in_j f (omega arith) g) [
-          | inl narrow ↦ inr (omega arith, inl (omega arith))
-          | inr tie ↦ inr (omega arith, inr (omega arith, tie.1))
-        ]
-      ]
-    ]
-  ];
+  last_unit = λ i j in_i in_j ne below.
+      let a = form.each i in_i in let b = form.each j in_j in let c = form.first i j in_i in_j in grind arith;
 }
 
 -- ---- no other has a smaller largest slack
@@ -105,13 +94,7 @@ form-lowered ms ss w old ws level lowered fits is rest len each low =
 -- ---- there is only one level form
 
 pub level-only : (rs : List ℕ) (w l m : ℕ) → IsLevel l rs w → IsLevel m rs w → l ≡ m
-level-only rs w l m p q = elim (cases_lt l m) [
-  | inl less ↦ absurd (let t = q.least l less in let e = p.enough in omega arith)
-  | inr le ↦ elim (cases_lt m l) [
-    | inl less ↦ absurd (let t = p.least m less in let e = q.enough in omega arith)
-    | inr ge ↦ omega arith
-  ]
-]
+level-only rs w l m p q = let a = q.least l in let b = p.least m in let c = p.enough in let d = q.enough in grind arith
 
 pub form-only : (ms ss : List ℕ) (w : ℕ) (ws vs : List ℕ) (l m d e : ℕ) → CutFits ms ss w → IsLevelForm ms ss w ws l d →
     IsLevelForm ms ss w vs m e → (ws ≡ vs) × (l ≡ m) × (d ≡ e)

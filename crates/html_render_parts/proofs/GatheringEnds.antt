@@ -14,6 +14,7 @@ use Rattle.html_render_parts.specs.Grid.{ends, edges_of, positions_fit}
 use Rattle.html_render_parts.proofs.EdgeRanks.{Contains-from_rising, Contains-rising, rising-rising, rising-same}
 use Rattle.html_render_parts.proofs.HangingOrder.{All-hanging, All-not_due}
 use Rattle.html_render_parts.proofs.NumberTests.{ltb-tells}
+use Rattle.html_render_parts.proofs.Vectors.{All-unmap}
 use Rattle.html_render_parts.proofs.RowAfterRow.{IsNext, fits-bottom}
 
 All-parts : {X : Type 0} (P : X → Type 0) (xs ys : List X) → All P (xs ++ ys) → All P xs × All P ys
@@ -213,12 +214,7 @@ told-gathered positions told =
     (λ n a. Contains-rising n (positions ++ told) (Contains-append_right positions told n a)) told (All-contains_itself told)
 
 ends-themselves : (row : List Place) → All (EndsIn (Contains (map (λ p. p.end) row))) row
-ends-themselves row = unmap (Contains (map (λ p. p.end) row)) row (All-contains_itself (map (λ p. p.end) row))
-  where
-    unmap : (I : ℕ → Type 0) (ps : List Place) → All I (map (λ p. p.end) ps) → All (EndsIn I) ps
-    unmap I [] h = All-nil (EndsIn I)
-    unmap I (p ∷ ps) h =
-        All-cons (EndsIn I) p ps (All-head I p.end (map (λ q. q.end) ps) h) (unmap I ps (All-tail I p.end (map (λ q. q.end) ps) h))
+ends-themselves row = All-unmap (Contains (map (λ p. p.end) row)) (λ (p : Place). p.end) row (All-contains_itself (map (λ p. p.end) row))
 
 pub gathered-next : (rows : List (List Place)) (row : ℕ) (cells : List Span) (more : List (List Span)) (done next : Placing)
     (positions : List ℕ) → IsNext row cells done next

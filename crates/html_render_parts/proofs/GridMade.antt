@@ -1,16 +1,21 @@
 -- Placed rows, or their refusal, are the grid's.
-use Rattle.std.proofs.Common.{◌≡◌, ◌≤◌, List, [], ◌∷◌, Some, map, All, refl, sym, ap, inl, inr}
+use Rattle.std.proofs.Common.{◌≡◌, ◌≤◌, List, Some, map, All, refl, sym, ap, inl, inr}
 use Rattle.std.specs.Global.{Vec}
 use Rattle.std.proofs.lemmas.Bool.{cases_Bool}
-use Rattle.std.proofs.lemmas.List.Elements.{All-nil, All-cons, All-head, All-tail}
+use Rattle.std.proofs.lemmas.List.Elements.{All-map}
 use Rattle.html_render_values.specs.declared.errors.Error.{Error}
 use Rattle.html_render_values.specs.declared.errors.Error.TheVariants.{TooNarrow, Fail, OutOfMemory}
 use Rattle.html_render_parts.specs.declared.table.Span.{Span}
 use Rattle.html_render_parts.specs.declared.table.placement.Place.{Place}
 use Rattle.html_render_parts.specs.Placement.{lists, placed_rows}
 use Rattle.html_render_parts.specs.PlacementSteps.{fitting}
-use Rattle.html_render_parts.specs.Grid.{AreValid, Grid, edges_of, grid_of, grid_on, numbered, positions_fit}
+use Rattle.html_render_parts.specs.Grid.{AreValid, Grid, edges_of, grid_of, numbered, positions_fit}
 use Rattle.html_render_parts.specs.Refusal.{Fails}
+use Rattle.html_render_parts.proofs.Vectors.{All-unmap}
+
+-- the grid of rows that are placed
+abbrev grid_on : List (List Place) → Grid
+grid_on placed = record { edges = edges_of placed; rows = map (map (numbered (edges_of placed))) placed }
 
 -- rows that were placed are the definition's, and the table has a grid
 pub made : (rows : List (List Span)) (placed : List (List Place)) → fitting (placed_rows rows) ≡ Some placed →
@@ -42,13 +47,7 @@ abbrev Valid : Span → Type 0
 Valid s = (1 ≤ s.colspan) × (1 ≤ s.rowspan)
 
 pub AreValid-lists : (vs : List (Vec Span)) → All (λ v. All Valid v.items) vs → AreValid (lists vs)
-AreValid-lists [] h = All-nil (All Valid)
-AreValid-lists (v ∷ vs) h =
-    let P : Vec Span → Type 0 = λ w. All Valid w.items in
-    All-cons (All Valid) v.items (lists vs) (All-head P v vs h) (AreValid-lists vs (All-tail P v vs h))
+AreValid-lists vs h = All-map (All Valid) (λ (v : Vec Span). v.items) vs h
 
 pub AreValid-vectors : (vs : List (Vec Span)) → AreValid (lists vs) → All (λ v. All Valid v.items) vs
-AreValid-vectors [] h = All-nil (λ (v : Vec Span). All Valid v.items)
-AreValid-vectors (v ∷ vs) h =
-    All-cons (λ (w : Vec Span). All Valid w.items) v vs (All-head (All Valid) v.items (lists vs) h)
-    (AreValid-vectors vs (All-tail (All Valid) v.items (lists vs) h))
+AreValid-vectors vs h = All-unmap (All Valid) (λ (v : Vec Span). v.items) vs h

@@ -1,13 +1,12 @@
 -- The cells that a row keeps, in the order in which it placed them, are the cells so far in order of own column.
 use Rattle.std.proofs.Common.{All, ◌≡◌, ℕ, ◌+◌, ◌<◌, ◌≤◌, Bool, true, false, cond, List, [], ◌∷◌, ◌++◌, filter, nat_le, refl, sym, ap, ◌∙◌, arith, inl, inr}
 use Rattle.std.proofs.lemmas.Bool.{cases_Bool}
-use Rattle.std.proofs.lemmas.Bool.Decides.{leb_tells}
+use Rattle.std.proofs.lemmas.Bool.Decides.{leb_tells, nat_tests}
 use Rattle.std.proofs.lemmas.List.Elements.{All-cons, All-head, All-tail, All-filter}
 use Rattle.html_render_parts.specs.declared.table.Span.{Span}
 use Rattle.html_render_parts.specs.declared.table.placement.Standing.{Standing}
 use Rattle.html_render_parts.specs.Placement.{by_column_with, by_column, hangs_into, hanging, due_end, not_due, own_from}
 use Rattle.html_render_parts.specs.PlacementSteps.{AllFrom, IsByColumn}
-use Rattle.std.proofs.lemmas.Bool.Decides.{nat_tests}
 
 -- ---- two lists in one, by own column: of equal ones the first list's comes first
 
@@ -32,29 +31,14 @@ with-alone a (o ∷ os) = ap (λ r. cond (nat_le a.column o.column) (a ∷ o ∷
 with-before : (a s : Standing) (ss : List Standing) → (nat_le a.column s.column ≡ true) → a.column ≤ s.column → (os : List Standing) →
     by_column_with a (merged (s ∷ ss) os) ≡ merged (a ∷ s ∷ ss) os
 with-before a s ss e le [] = rw e refl
-with-before a s ss e le (o ∷ os) = elim (leb_tells s.column o.column) [
-  | inl t ↦ elim (leb_tells a.column o.column) [
-    | inl u ↦ rw (t.0, u.0, e) refl
-    | inr u ↦ absurd (omega arith)
-  ]
-  | inr t ↦ elim (leb_tells a.column o.column) [
-    | inl u ↦ rw (t.0, u.0) refl
-    | inr u ↦ rw (t.0, u.0) (ap (λ r. o ∷ r) (with-before a s ss e le os))
-  ]
-]
+with-before a s ss e le (o ∷ os) = let ih = with-before a s ss e le os in grind (arith, nat_tests)
 
 -- where s comes before a
 with-behind : (a s : Standing) (ss : List Standing) → (nat_le a.column s.column ≡ false) → s.column < a.column →
     ((os : List Standing) → by_column_with a (merged ss os) ≡ merged (by_column_with a ss) os)
     → (os : List Standing) → by_column_with a (merged (s ∷ ss) os) ≡ merged (s ∷ by_column_with a ss) os
 with-behind a s ss e less ih [] = rw e (ap (λ r. s ∷ r) (ih []))
-with-behind a s ss e less ih (o ∷ os) = elim (leb_tells s.column o.column) [
-  | inl t ↦ rw (t.0, e) (ap (λ r. s ∷ r) (ih (o ∷ os)))
-  | inr t ↦ elim (leb_tells a.column o.column) [
-    | inl u ↦ absurd (omega arith)
-    | inr u ↦ rw (t.0, u.0) (ap (λ r. o ∷ r) (with-behind a s ss e less ih os))
-  ]
-]
+with-behind a s ss e less ih (o ∷ os) = let more = with-behind a s ss e less ih os in let here = ih (o ∷ os) in grind (arith, nat_tests)
 
 with-merged : (a : Standing) (ss os : List Standing) → by_column_with a (merged ss os) ≡ merged (by_column_with a ss) os
 with-merged a [] os = with-alone a os
@@ -75,10 +59,7 @@ AllFrom-less m n (c ∷ cs) le h = (let k = h.0 in omega arith, AllFrom-less m n
 
 AllFrom-with : (n : ℕ) (a : Standing) (cs : List Standing) → n ≤ a.column → AllFrom n cs → AllFrom n (by_column_with a cs)
 AllFrom-with n a [] le h = (le, tt)
-AllFrom-with n a (c ∷ cs) le h = elim (leb_tells a.column c.column) [
-  | inl t ↦ rw t.0 (le, h)
-  | inr t ↦ rw t.0 (h.0, AllFrom-with n a cs le h.1)
-]
+AllFrom-with n a (c ∷ cs) le h = let more = AllFrom-with n a cs le h.1 in grind (arith, nat_tests)
 
 IsByColumn-with : (a : Standing) (cs : List Standing) → IsByColumn cs → IsByColumn (by_column_with a cs)
 IsByColumn-with a [] h = (tt, tt)
@@ -93,10 +74,7 @@ IsByColumn-by_column (x ∷ xs) = IsByColumn-with x (by_column xs) (IsByColumn-b
 
 by_column_with-front : (a : Standing) (cs : List Standing) → AllFrom a.column cs → by_column_with a cs ≡ a ∷ cs
 by_column_with-front a [] h = refl
-by_column_with-front a (c ∷ cs) h = elim (leb_tells a.column c.column) [
-  | inl t ↦ rw t.0 refl
-  | inr t ↦ absurd (let k = h.0 in omega arith)
-]
+by_column_with-front a (c ∷ cs) h = let k = h.0 in grind (arith, nat_tests)
 
 -- cells in order stay as they are
 by_column-same : (cs : List Standing) → IsByColumn cs → by_column cs ≡ cs
@@ -161,26 +139,15 @@ in_row row cursor hs (s ∷ ss) =
 
 due_end-from : (cursor : ℕ) (hs : List Standing) → cursor ≤ due_end cursor hs
 due_end-from cursor [] = omega arith
-due_end-from cursor (h ∷ hs) = elim (leb_tells h.column cursor) [
-  | inl t ↦ rw t.0 (let k = due_end-from (cursor + h.span.colspan) hs in omega arith)
-  | inr t ↦ rw t.0 (omega arith)
-]
+due_end-from cursor (h ∷ hs) = let more = due_end-from (cursor + h.span.colspan) hs in grind (arith, nat_tests)
 
 merged-due : (cursor : ℕ) (hs : List Standing) (o : Standing) (os : List Standing) → o.column ≡ due_end cursor hs →
     merged hs (o ∷ os) ≡ due_taken cursor hs ++ o ∷ merged (not_due cursor hs) os
 merged-due cursor [] o os e = refl
-merged-due cursor (h ∷ hs) o os e = elim (leb_tells h.column cursor) [
-  | inl t ↦
-      let f = rw t.0 at e in
-      let g = due_end-from (cursor + h.span.colspan) hs in
-      elim (leb_tells h.column o.column) [
-        | inl u ↦ rw (t.0, u.0) (ap (λ r. h ∷ r) (merged-due (cursor + h.span.colspan) hs o os f))
-        | inr u ↦ absurd (omega arith)
-      ]
-  | inr t ↦
-      let f = rw t.0 at e in
-      grind (arith, nat_tests)
-]
+merged-due cursor (h ∷ hs) o os e =
+    let from = due_end-from (cursor + h.span.colspan) hs in
+    let more = merged-due (cursor + h.span.colspan) hs o os in
+    grind (arith, nat_tests)
 
 in_row-merged : (row cursor : ℕ) (hs : List Standing) (ss : List Span) → in_row row cursor hs ss ≡ merged hs (own_from row cursor hs ss)
 in_row-merged row cursor hs [] = sym (merged-nil hs)

@@ -1,12 +1,13 @@
 -- The rows below the last one, one after another: the cells that end first, and then those that end later.
-use Rattle.std.proofs.Common.{◌≡◌, ℕ, ◌<◌, ◌≤◌, cond, List, [], ◌∷◌, Some, length, get_or, filter, map, All, Contains, nat_lt}
+use Rattle.std.proofs.Common.{◌≡◌, ℕ, ◌<◌, ◌≤◌, Bool, true, List, [], ◌∷◌, Some, length, get_or, filter, map, All, Contains, nat_lt}
 use Rattle.std.proofs.Common.{nat_le, refl, sym, ap, ◌∙◌, arith, inl, inr, ◌⊎◌, suc, zero}
-use Rattle.std.proofs.lemmas.Bool.Decides.{leb_tells}
-use Rattle.std.proofs.lemmas.List.Elements.{All-nil, All-cons, All-head, All-tail, All-contains}
+use Rattle.std.proofs.lemmas.Bool.{lt-ltb, le-leb, ltb-true}
+use Rattle.std.proofs.lemmas.List.Sums.{length-filter, count_by-le-length}
+use Rattle.std.proofs.lemmas.List.Elements.{All-nil, All-cons, All-head, All-tail, All-contains, All-weaker, filter_passes}
 use Rattle.html_render_parts.specs.declared.table.placement.Standing.{Standing}
 use Rattle.html_render_values.specs.declared.errors.Error.{Error}
 use Rattle.html_render_values.specs.declared.errors.Error.TheVariants.{TooNarrow, Fail, OutOfMemory}
-use Rattle.html_render_parts.specs.Placement.{bottom_rows, end_of, reaching, rest_from, rising, rising_with}
+use Rattle.html_render_parts.specs.Placement.{bottom_rows, end_of, rest_from, rising, rising_with}
 use Rattle.html_render_parts.specs.PlacementSteps.{IsNextBottom, Placing, RowSoFar, empty_row, fitting, with_rest}
 use Rattle.html_render_parts.specs.Refusal.{Fails}
 use Rattle.html_render_parts.proofs.NumberTests.{ltb-tells}
@@ -17,36 +18,27 @@ use Rattle.std.proofs.lemmas.Bool.Decides.{nat_tests}
 abbrev later : ℕ → List Standing → List Standing
 later n cells = filter (λ c. nat_lt n (end_of c)) cells
 
+-- those that reach an end
+abbrev reaching : ℕ → List Standing → List Standing
+reaching n cells = filter (λ c. nat_le n (end_of c)) cells
+
+filter-all : (p : Standing → Bool) (cs : List Standing) → All (λ c. p c ≡ true) cs → filter p cs ≡ cs
+filter-all p [] h = refl
+filter-all p (c ∷ cs) h =
+    rw (All-head (λ d. p d ≡ true) c cs h) (ap (λ r. c ∷ r) (filter-all p cs (All-tail (λ d. p d ≡ true) c cs h)))
+
 later-all : (n : ℕ) (cs : List Standing) → All (λ c. n < end_of c) cs → later n cs ≡ cs
-later-all n [] h = refl
-later-all n (c ∷ cs) h =
-    let P : Standing → Type 0 = λ d. n < end_of d in
-    let here : n < end_of c = All-head P c cs h in
-    elim (ltb-tells n (end_of c)) [
-      | inl t ↦ rw t.0 (ap (λ r. c ∷ r) (later-all n cs (All-tail P c cs h)))
-      | inr t ↦ absurd (omega arith)
-    ]
+later-all n cs h = filter-all (λ c. nat_lt n (end_of c)) cs
+    (All-weaker (λ c. n < end_of c) (λ c. nat_lt n (end_of c) ≡ true) (λ c. lt-ltb n (end_of c)) cs h)
 
 reaching-all : (n : ℕ) (cs : List Standing) → All (λ c. n ≤ end_of c) cs → reaching n cs ≡ cs
-reaching-all n [] h = refl
-reaching-all n (c ∷ cs) h =
-    let P : Standing → Type 0 = λ d. n ≤ end_of d in
-    let here : n ≤ end_of c = All-head P c cs h in
-    elim (leb_tells n (end_of c)) [
-      | inl t ↦ rw t.0 (ap (λ r. c ∷ r) (reaching-all n cs (All-tail P c cs h)))
-      | inr t ↦ absurd (omega arith)
-    ]
+reaching-all n cs h = filter-all (λ c. nat_le n (end_of c)) cs
+    (All-weaker (λ c. n ≤ end_of c) (λ c. nat_le n (end_of c) ≡ true) (λ c. le-leb n (end_of c)) cs h)
 
 -- those that reach m are among those that end after n, for m above n
 reaching-later : (m n : ℕ) → n < m → (cs : List Standing) → reaching m (later n cs) ≡ reaching m cs
 reaching-later m n less [] = refl
-reaching-later m n less (c ∷ cs) = elim (ltb-tells n (end_of c)) [
-  | inl t ↦ rw t.0 (ap (λ r. cond (nat_le m (end_of c)) (c ∷ r) r) (reaching-later m n less cs))
-  | inr t ↦ elim (leb_tells m (end_of c)) [
-    | inl u ↦ absurd (omega arith)
-    | inr u ↦ rw (t.0, u.0) (reaching-later m n less cs)
-  ]
-]
+reaching-later m n less (c ∷ cs) = let ih = reaching-later m n less cs in grind (arith, nat_tests)
 
 -- ---- numbers that rise
 
@@ -125,34 +117,23 @@ bottoms-next : (hung : List Standing) (first : Standing) → Contains hung first
 bottoms-next hung first has h =
     let n = end_of first in
     let ms = rising (map end_of (later n hung)) in
-    let above : All (λ m. n < m) ms = All-rising-map (λ m. n < m) (later n hung) (later-above n hung) in
+    let above : All (λ m. n < m) ms = All-rising-map (λ m. n < m) (later n hung)
+    (All-weaker (λ c. nat_lt n (end_of c) ≡ true) (λ c. n < end_of c) (λ c. ltb-true n (end_of c)) (later n hung)
+    (filter_passes (λ c. nat_lt n (end_of c)) hung)) in
     rw (least-is first hung has h, reaching-all n hung h) (ap (λ r. rest_from 0 hung ∷ r) (sym (bottoms-later n ms above hung)))
-  where
-    later-above : (n : ℕ) (cs : List Standing) → All (λ c. n < end_of c) (later n cs)
-    later-above n [] = All-nil (λ (c : Standing). n < end_of c)
-    later-above n (c ∷ cs) = elim (ltb-tells n (end_of c)) [
-      | inl t ↦ rw t.0 (All-cons (λ (d : Standing). n < end_of d) c (later n cs) t.1 (later-above n cs))
-      | inr t ↦ rw t.0 (later-above n cs)
-    ]
 
 -- the cell that ends first is none of those that end later
 later-shorter : (hung : List Standing) (first : Standing) → Contains hung first → length (later (end_of first) hung) < length hung
 later-shorter hung first has = shorter hung has.0 has.1 has.2
   where
-    short : (cs : List Standing) → length (later (end_of first) cs) ≤ length cs
-    short [] = omega arith
-    short (c ∷ cs) = elim (ltb-tells (end_of first) (end_of c)) [
-      | inl t ↦ rw t.0 (let k = short cs in omega arith)
-      | inr t ↦ rw t.0
-          (let k = short cs in omega arith)
-    ]
-
     shorter : (cs : List Standing) (k : ℕ) → k < length cs → get_or cs k first ≡ first → length (later (end_of first) cs) < length cs
     shorter [] k inside at = absurd (omega arith)
-    shorter (c ∷ cs) zero inside at = elim (ltb-tells (end_of first) (end_of c)) [
-      | inl t ↦ absurd (let e = ap end_of at in omega arith)
-      | inr t ↦ rw t.0 (let k = short cs in omega arith)
-    ]
+    shorter (c ∷ cs) zero inside at =
+        let p : Standing → Bool = λ d. nat_lt (end_of first) (end_of d) in
+        let most = count_by-le-length p cs in
+        let same = length-filter p cs in
+        let e = ap end_of at in
+        grind (arith, nat_tests)
     shorter (c ∷ cs) (suc k) inside at =
         let more = shorter cs k (omega arith) at in
         grind (arith, nat_tests)

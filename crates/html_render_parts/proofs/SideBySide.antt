@@ -1,5 +1,5 @@
 -- The places of a row stand side by side from 0 on, so that each one's start is an edge.
-use Rattle.std.proofs.Common.{◌≡◌, ℕ, ◌+◌, ◌<◌, ◌≤◌, List, [], ◌∷◌, ◌++◌, length, get_or, max, map, All, Contains, nat_le, refl, sym, ap, subst}
+use Rattle.std.proofs.Common.{◌≡◌, ℕ, ◌+◌, ◌<◌, ◌≤◌, List, [], ◌∷◌, ◌++◌, length, get_or, max, map, filter, All, Contains, nat_le, refl, sym, ap, subst}
 use Rattle.std.proofs.Common.{arith, inl, inr, suc, sum_by, zero}
 use Rattle.std.proofs.lemmas.Bool.Decides.{leb_tells}
 use Rattle.std.proofs.lemmas.List.Sums.{sum_by-cons}
@@ -11,7 +11,7 @@ use Rattle.html_render_parts.specs.declared.table.PlacedCell.{PlacedCell}
 use Rattle.html_render_parts.specs.declared.table.placement.Place.{Place}
 use Rattle.html_render_parts.specs.declared.table.placement.Standing.{Standing}
 use Rattle.html_render_parts.specs.Placement.{end_of, hanging, place, due_places, due_end, not_due, gap_to}
-use Rattle.html_render_parts.specs.Placement.{rest_from, row_from, own_from, reaching, rising, rows_from, placed_rows}
+use Rattle.html_render_parts.specs.Placement.{rest_from, row_from, own_from, rising, rows_from, placed_rows}
 use Rattle.html_render_parts.specs.Grid.{AreSideBySide, AreValid, ends, edges_of, rank, numbered}
 use Rattle.html_render_parts.proofs.EdgeRanks.{Contains-here, Contains-rising, Contains-there, rank-below, rank-less, rank-mono}
 use Rattle.html_render_parts.proofs.HangingOrder.{All-hanging, All-not_due}
@@ -91,11 +91,12 @@ Ends-row cursor hs (s ∷ ss) w v =
 
 -- ---- all rows
 
-Ends-bottoms : (hung : List Standing) → All Wide hung → (ns : List ℕ) → All (Ends 0) (map (λ n. rest_from 0 (reaching n hung)) ns)
+Ends-bottoms : (hung : List Standing) → All Wide hung → (ns : List ℕ) →
+    All (Ends 0) (map (λ n. rest_from 0 (filter (λ c. nat_le n (end_of c)) hung)) ns)
 Ends-bottoms hung w [] = All-nil (Ends 0)
 Ends-bottoms hung w (n ∷ ns) =
-    All-cons (Ends 0) (rest_from 0 (reaching n hung)) (map (λ m. rest_from 0 (reaching m hung)) ns)
-    (Ends-rest 0 (reaching n hung) (All-filter (λ c. nat_le n (end_of c)) Wide hung w)) (Ends-bottoms hung w ns)
+    All-cons (Ends 0) (rest_from 0 (filter (λ c. nat_le n (end_of c)) hung)) (map (λ m. rest_from 0 (filter (λ c. nat_le m (end_of c)) hung)) ns)
+    (Ends-rest 0 (filter (λ c. nat_le n (end_of c)) hung) (All-filter (λ c. nat_le n (end_of c)) Wide hung w)) (Ends-bottoms hung w ns)
 
 Ends-rows : (row : ℕ) (hung : List Standing) (rows : List (List Span)) → All Wide hung → AreValid rows →
     All (Ends 0) (rows_from row hung rows)

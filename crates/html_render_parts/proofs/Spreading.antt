@@ -1,32 +1,21 @@
 -- Values over many columns, spread over fewer and fewer columns, are in the end the greatest over each.
-use Rattle.std.proofs.Common.{◌≡◌, ℕ, zero, suc, ◌+◌, ◌-◌, ◌*◌, ◌≤◌, ◌<◌, ◌==◌, ◌||◌, Bool, true, false}
-use Rattle.std.proofs.Common.{cond, List, [], ◌∷◌, length, min, max, inl, inr, refl, sym, ap, ◌∙◌, subst, arith}
+use Rattle.std.proofs.Common.{◌≡◌, ℕ, zero, suc, ◌+◌, ◌-◌, ◌*◌, ◌≤◌, ◌<◌, List, [], ◌∷◌, length, min, max, inl, inr, sym, ap, ◌∙◌, subst, arith}
 use Rattle.std.specs.Prelude.{slice_index}
-use Rattle.std.proofs.lemmas.Bool.Decides.{leb_tells, eqb_tells}
+use Rattle.std.proofs.lemmas.Bool.Decides.{eqb_tells, nat_tests}
 use Rattle.html_render_parts.proofs.NumberTests.{ltb-tells}
 use Rattle.std.proofs.lemmas.List.Elements.{All-get_or}
 use Rattle.html_render_parts.specs.declared.widths.spans.Span.{Span}
-use Rattle.html_render_parts.specs.Spans.{covers, given, greatest_at, AreOver, AreGreatest}
+use Rattle.html_render_parts.specs.Spans.{given, greatest_at, AreOver, AreGreatest}
 use Rattle.html_render_parts.specs.SpanSteps.{no_span, span_at, Reaches, IsSpread, split_at, raised_at}
-use Rattle.std.proofs.lemmas.Bool.Decides.{nat_tests}
 
 -- ---- what is given a column
 
-covers-true : (s : Span) (j : ℕ) → s.start ≤ j → j < s.start + s.count → covers s j ≡ true
-covers-true s j a b = grind (arith, nat_tests)
-
 given-value : (s : Span) (j : ℕ) → s.start ≤ j → j < s.start + s.count → given s j ≡ s.value
-given-value s j a b = ap (λ t. cond t s.value 0) (covers-true s j a b)
+given-value s j a b = grind (arith, nat_tests)
 
 -- a bound on what a span gives a column
 given-le : (s : Span) (j bound : ℕ) → (s.start ≤ j → j < s.start + s.count → s.value ≤ bound) → given s j ≤ bound
-given-le s j bound h = elim (leb_tells s.start j) [
-  | inl y ↦ elim (ltb-tells j (s.start + s.count)) [
-    | inl z ↦ rw (y.0, z.0) (h y.1 z.1)
-    | inr n ↦ rw (y.0, n.0) (omega arith)
-  ]
-  | inr n ↦ rw (n.0) (omega arith)
-]
+given-le s j bound h = grind (arith, nat_tests)
 
 -- each span gives no more than the greatest
 given-greatest : (spans : List Span) (k j : ℕ) → k < length spans → given (span_at spans k) j ≤ greatest_at spans j
@@ -84,12 +73,9 @@ split-before offset values k h = grind (arith, nat_tests)
 
 split-le : (offset : ℕ) (values : List ℕ) (k bound : ℕ) → slice_index values k ≤ bound →
     (offset ≤ k → slice_index values (k - offset) ≤ bound) → split_at offset values k ≤ bound
-split-le offset values k bound a b = elim (leb_tells offset k) [
-  | inl y ↦ rw (y.0) (let c = b y.1 in omega (arith, a, c))
-  | inr n ↦ rw (n.0) (omega (arith, a))
-]
+split-le offset values k bound a b = grind (arith, nat_tests)
 
--- each place stands for fewer columns, and the one so many places behind it for the others
+-- each place stands for fewer columns, and the one `offset` places behind it for the others
 pub split_spread : (all longer offset : ℕ) (spans : List Span) (values more : List ℕ) → AreOver all spans → offset < longer →
     longer ≤ 2 * (longer - offset) → offset ≤ longer - offset → length more ≡ all →
     ((k : ℕ) → k < length values → slice_index more k ≡ split_at offset values k) →
@@ -124,41 +110,17 @@ split_spread all longer offset spans values more over less half small places eac
 }
 
 raised-more : (columns : ℕ) (s : Span) (values : List ℕ) (k : ℕ) → slice_index values k ≤ raised_at columns s values k
-raised-more columns s values k = by ((k == s.start) || (k == s.start + (s.count - columns)))
-  where
-    by : (b : Bool) → slice_index values k ≤ cond b (max (slice_index values k) s.value) (slice_index values k)
-    by true = omega arith
-    by false = omega arith
+raised-more columns s values k = grind (arith, nat_tests)
 
 raised-first : (columns : ℕ) (s : Span) (values : List ℕ) → s.value ≤ raised_at columns s values s.start
-raised-first columns s values = elim (eqb_tells s.start s.start) [
-  | inl y ↦ rw (y.0) (omega arith)
-  | inr n ↦ absurd (n.1 refl)
-]
+raised-first columns s values = grind (arith, nat_tests)
 
 raised-last : (columns : ℕ) (s : Span) (values : List ℕ) → s.value ≤ raised_at columns s values (s.start + (s.count - columns))
-raised-last columns s values = by (s.start + (s.count - columns) == s.start)
-  where
-    same : (s.start + (s.count - columns) == s.start + (s.count - columns)) ≡ true
-    same = elim (eqb_tells (s.start + (s.count - columns)) (s.start + (s.count - columns))) [
-      | inl y ↦ y.0
-      | inr n ↦ absurd (n.1 refl)
-    ]
-
-    by : (b : Bool) → s.value ≤ cond (b || (s.start + (s.count - columns) == s.start + (s.count - columns)))
-        (max (slice_index values (s.start + (s.count - columns))) s.value) (slice_index values (s.start + (s.count - columns)))
-    by true = omega arith
-    by false = rw (same) (omega arith)
+raised-last columns s values = grind (arith, nat_tests)
 
 raised-le : (columns : ℕ) (s : Span) (values : List ℕ) (k bound : ℕ) → slice_index values k ≤ bound →
     (k ≡ s.start → s.value ≤ bound) → (k ≡ s.start + (s.count - columns) → s.value ≤ bound) → raised_at columns s values k ≤ bound
-raised-le columns s values k bound a b c = elim (eqb_tells k s.start) [
-  | inl y ↦ rw (y.0) (let d = b y.1 in omega (arith, a, d))
-  | inr n ↦ elim (eqb_tells k (s.start + (s.count - columns))) [
-    | inl y ↦ rw (n.0, y.0) (let d = c y.1 in omega (arith, a, d))
-    | inr m ↦ rw (n.0, m.0) (omega (arith, a))
-  ]
-]
+raised-le columns s values k bound a b c = grind (arith, nat_tests)
 
 -- one span more
 pub added : (all columns longer k : ℕ) (spans : List Span) (values more : List ℕ) → AreOver all spans → k < length spans →

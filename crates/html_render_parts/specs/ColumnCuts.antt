@@ -1,6 +1,6 @@
 -- What the answer of a column cut is.
-use Rattle.std.specs.Prelude.{◌≡◌, ℕ, ◌+◌, ◌-◌, ◌≤◌, List, length, sum}
-use Rattle.html_render_parts.specs.Cuts.{largest_slack, units_taken, cut_by_units, HoldTogether, IsCut, IsFairestCut, IsLevelForm}
+use Rattle.std.specs.Prelude.{◌≡◌, ℕ, ◌+◌, ◌-◌, ◌/◌, ◌<◌, ◌≤◌, List, length, sum, slice_index, slice_range}
+use Rattle.html_render_parts.specs.Cuts.{largest_slack, cut_by_units, IsCut, IsFairestCut, IsLevelForm}
 
 -- widths that columns are cut to, with their level and the number of lowered columns
 pub record IsColumnCut (minimums shares : List ℕ) (width : ℕ) (widths : List ℕ) (level lowered : ℕ) : Type 0 where
@@ -20,6 +20,8 @@ pub record IsColumnCut (minimums shares : List ℕ) (width : ℕ) (widths : List
   -- no cut has a smaller largest slack
   pub least_slack : (other : List ℕ) → IsCut minimums shares width other → largest_slack minimums widths ≤ largest_slack minimums other
   -- where the shares' sum passes the minimums' by at most the width, no more units than the width are taken
-  pub units_taken : sum shares ≤ sum minimums + width → units_taken shares widths ≤ width
-  -- columns side by side that each have their part of a size have it together
-  pub neighbours : HoldTogether minimums widths
+  pub units_taken : sum shares ≤ sum minimums + width → sum shares - sum widths ≤ width
+  -- columns side by side that are each at least their part of a size have that size together, with the separators between them
+  pub neighbours : (from count size : ℕ) → 0 < count → from + count ≤ length minimums →
+      ((k : ℕ) → from ≤ k → k < from + count → size / count ≤ slice_index minimums k) →
+      size ≤ sum (slice_range widths from (from + count)) + (count - 1)

@@ -25,7 +25,7 @@ pub record AreInOrder (minimums shares : List ℕ) (level : ℕ) (places : List 
       LoweredBefore (slice_index minimums (slice_index places p) + level) (slice_index places p)
       (slice_index minimums (slice_index places q) + level) (slice_index places q)
 
--- the first so many columns at the level are 1 narrower than before, and the others are as they were
+-- the first `count` columns at the level are 1 narrower than before, and the others are as they were
 pub record AreLowered (minimums shares : List ℕ) (level count : ℕ) (old new : List ℕ) : Type 0 where
   pub lengths : length new ≡ length old
   pub each : (k : ℕ) → k < length old →

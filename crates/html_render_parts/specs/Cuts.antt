@@ -1,7 +1,7 @@
 -- How the columns of a table are cut to its width. Each column has a minimum, the least width that it can have, and a share,
 -- the width that it would like. Between neighbouring columns stands a separator, 1 wide.
-use Rattle.std.specs.Prelude.{◌≡◌, ◌≢◌, ℕ, ◌+◌, ◌-◌, ◌/◌, ◌<◌, ◌≤◌, ◌⊎◌, List, [], ◌∷◌, zero, suc, length, min, max, sum, sum_by, slice_index}
-use Rattle.std.specs.Prelude.{slice_range, slice_set, nat_lt, ◌==◌, ◌||◌, ◌&&◌, if◌then◌else◌}
+use Rattle.std.specs.Prelude.{◌≡◌, ◌≢◌, ℕ, ◌+◌, ◌-◌, ◌<◌, ◌≤◌, ◌⊎◌, List, [], ◌∷◌, zero, suc, length, min, max, sum, sum_by, slice_index}
+use Rattle.std.specs.Prelude.{slice_set, nat_lt, ◌==◌, ◌||◌, ◌&&◌, if◌then◌else◌}
 
 -- the shares can be cut to the width
 pub record CutFits (minimums shares : List ℕ) (width : ℕ) : Type 0 where
@@ -21,16 +21,6 @@ slack minimums widths k = slice_index widths k - slice_index minimums k
 abbrev pub largest_slack : List ℕ → List ℕ → ℕ
 largest_slack (minimum ∷ minimums) (width ∷ widths) = max (width - minimum) (largest_slack minimums widths)
 largest_slack minimums widths = 0
-
--- how many units of the shares the widths leave out
-abbrev pub units_taken : List ℕ → List ℕ → ℕ
-units_taken shares widths = sum shares - sum widths
-
--- columns side by side that are each at least their part of a size have that size together, with the separators between them
-abbrev pub HoldTogether : List ℕ → List ℕ → Type 0
-HoldTogether minimums widths = (from count size : ℕ) → 0 < count → from + count ≤ length minimums
-    → ((k : ℕ) → from ≤ k → k < from + count → size / count ≤ slice_index minimums k)
-    → size ≤ sum (slice_range widths from (from + count)) + (count - 1)
 
 -- ---- the fairest cut
 
@@ -113,7 +103,7 @@ giver minimums widths (suc n) =
     then n
     else best
 
--- so many units taken, one after the other
+-- a number of units taken, one after the other
 unfoldable pub without_units : ℕ → List ℕ → List ℕ → List ℕ
 without_units zero minimums widths = widths
 without_units (suc n) minimums widths =

@@ -7,13 +7,13 @@ pub record Start (A : Type 0) : Type 0 where
   pub text : List ℕ
   pub annotation : A
 
--- what stands round a part of a document
+-- the decoration of a part of a document
 pub record Round (S A : Type 0) : Type 0 where
   pub start : S → Start A
   pub end : S → List ℕ
 
 pub record Decoration (S A : Type 0) : Type 0 where
-  -- what stands round a link; its end knows no target
+  -- the decoration of a link; its end knows no target
   pub link_start : S → (target : List ℕ) → Start A
   pub link_end : S → List ℕ
   pub em : Round S A
@@ -40,6 +40,6 @@ pub record Decoration (S A : Type 0) : Type 0 where
   -- the decorator of a block inside the decorator's own
   pub subblock : S → S
 
--- what stands round a link to a target
+-- the decoration of a link to a target
 abbrev pub link : {S A : Type 0} → Decoration S A → (target : List ℕ) → Round S A
 link d target = record { start = λ s. d.link_start s target; end = d.link_end }

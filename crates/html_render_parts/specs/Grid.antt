@@ -31,17 +31,16 @@ pub record Grid : Type 0 where
   pub edges : List ℕ
   pub rows : List (List PlacedCell)
 
--- the grid of rows that are placed
-abbrev pub grid_on : List (List Place) → Grid
-grid_on placed = let edges = edges_of placed in record { edges = edges; rows = map (map (numbered edges)) placed }
-
 -- each place ends at a position that a number of 128 bits can say
 abbrev pub positions_fit : List (List Place) → Bool
 positions_fit placed = list_all (list_all (λ p. nat_lt p.end (2 ^ 128))) placed
 
--- the grid of a table, or none where a place would end past the last position
+-- THE GRID of a table, or none where a place would end past the last position
 abbrev pub grid_of : List (List Span) → Option Grid
-grid_of rows = if positions_fit (placed_rows rows) then Some (grid_on (placed_rows rows)) else None
+grid_of rows =
+    let placed = placed_rows rows in
+    let edges = edges_of placed in
+    if positions_fit placed then Some (record { edges = edges; rows = map (map (numbered edges)) placed }) else None
 
 -- what a grid shows
 abbrev pub shown : TableGrid → Grid

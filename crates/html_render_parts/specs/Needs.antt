@@ -7,16 +7,16 @@ use Rattle.html_render_parts.specs.declared.widths.spans.Span.{Span}
 use Rattle.html_render_parts.specs.Shares.{widths_across}
 use Rattle.html_render_parts.specs.Spans.{greatest_at}
 
--- the part that each column of a cell has of its size, and of its least width, rounded down
-abbrev pub size_part : CellNeed → Span
-size_part c = record { start = c.start; count = c.count; value = c.size / c.count }
+-- the part that each column of a cell has of a value, rounded down
+abbrev pub part : CellNeed → (value : ℕ) → Span
+part c value = record { start = c.start; count = c.count; value = value / c.count }
 
-abbrev pub least_part : CellNeed → Span
-least_part c = record { start = c.start; count = c.count; value = c.least / c.count }
-
--- a column needs the greatest part of a cell that stands over it
+-- a column needs the greatest part of the size, and of the least width, of a cell that stands over it
 abbrev pub need_at : List CellNeed → (column : ℕ) → ColumnNeed
-need_at cells column = record { size = greatest_at (map size_part cells) column; least = greatest_at (map least_part cells) column }
+need_at cells column = record {
+  size = greatest_at (map (λ c. part c c.size) cells) column;
+  least = greatest_at (map (λ c. part c c.least) cells) column;
+}
 
 -- WHAT THE COLUMNS NEED
 abbrev pub column_needs : (columns : ℕ) → List CellNeed → List ColumnNeed

@@ -38,7 +38,7 @@ hanging row above = filter (hangs_into row) (by_column above)
 
 -- ---- one row, from a cursor on
 
--- so many columns from a position on
+-- `columns` columns from a position on
 abbrev pub place : CellKind → ℕ → ℕ → Place
 place kind start columns = record { kind = kind; start = start; end = start + columns }
 
@@ -86,10 +86,6 @@ own_from row cursor hs (s ∷ ss) =
 
 -- ---- all rows
 
--- of cells that hang below the last row: those that reach an end
-abbrev pub reaching : ℕ → List Standing → List Standing
-reaching n cells = filter (λ c. nat_le n (end_of c)) cells
-
 -- a number in its place of numbers that rise
 abbrev pub rising_with : ℕ → List ℕ → List ℕ
 rising_with n [] = n ∷ []
@@ -103,7 +99,7 @@ rising (n ∷ ns) = rising_with n (rising ns)
 -- below the last row, for each end of a cell that hangs there, in rising order: the placeholders of the cells that
 -- reach that end
 abbrev pub bottom_rows : List Standing → List (List Place)
-bottom_rows hung = map (λ n. rest_from 0 (reaching n hung)) (rising (map end_of hung))
+bottom_rows hung = map (λ n. rest_from 0 (filter (λ c. nat_le n (end_of c)) hung)) (rising (map end_of hung))
 
 -- the rows from one on, into which these cells of the rows above hang, in order of own column, and the rows below the last one
 abbrev pub rows_from : ℕ → (hung : List Standing) → List (List Span) → List (List Place)

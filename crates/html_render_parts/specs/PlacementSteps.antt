@@ -31,7 +31,7 @@ put_to kind end built =
     if nat_lt end (2 ^ 128) then Some
     (record built { places = built.places ++ (record { kind = kind; start = built.cursor; end = end }) ∷ []; cursor = end }) else None
 
--- one place more, of so many columns
+-- one place more, of `columns` columns
 abbrev pub put : CellKind → ℕ → RowSoFar → Option RowSoFar
 put kind columns built = put_to kind (built.cursor + columns) built
 

@@ -8,17 +8,13 @@ use Rattle.html_render_parts.specs.Cuts.{cut_by_units}
 abbrev pub least_widths : List ColumnNeed → List ℕ
 least_widths needs = map (λ n. n.least) needs
 
--- the sizes of columns together
-abbrev pub total_size : List ColumnNeed → ℕ
-total_size needs = sum_by (λ n. n.size) needs
-
--- the share of a column in a width: as much of it as its size is of all sizes, but no more than its size, and no less than its
+-- the share of a column in a width: as much of it as its size is of the total of all sizes, but no more than its size, and no less than its
 -- least width
 abbrev pub share : (width total : ℕ) → ColumnNeed → ℕ
 share width total need = max need.least (min need.size (need.size * width / total))
 
 abbrev pub shares : (width : ℕ) → List ColumnNeed → List ℕ
-shares width needs = map (share width (total_size needs)) needs
+shares width needs = map (share width (sum_by (λ n. n.size) needs)) needs
 
 -- whether the columns can stand side by side: their least widths, and the separators between them, are within the width,
 -- which isn't 0

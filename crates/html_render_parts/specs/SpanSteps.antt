@@ -10,7 +10,7 @@ no_span = record { start = 0; count = 0; value = 0 }
 abbrev pub span_at : List Span → ℕ → Span
 span_at spans k = slice_index_or spans k no_span
 
--- a place whose value is no less stands for each column of a span: it stands for so many columns from itself on
+-- a place whose value is no less stands for each column of a span: it stands for `columns` columns from itself on
 abbrev pub Reaches : (values : List ℕ) → (columns : ℕ) → Span → Type 0
 Reaches values columns s = (j : ℕ) → s.start ≤ j → j < s.start + s.count →
     (i : ℕ) × (i ≤ j) × (j < i + columns) × (s.value ≤ slice_index values i)
@@ -19,15 +19,15 @@ Reaches values columns s = (j : ℕ) → s.start ≤ j → j < s.start + s.count
 abbrev pub AreWithin : (all columns : ℕ) → List Span → (values : List ℕ) → Type 0
 AreWithin all columns spans values = (i j : ℕ) → i ≤ j → j < i + columns → j < all → slice_index values i ≤ greatest_at spans j
 
--- values over so many columns each, of all the spans that are over as many or more, and of the first of those that are over at
--- least so many
+-- values over `columns` columns each, of all the spans that are over `longer` or more, and of those of the first `done` that are
+-- over at least `columns`
 pub record IsSpread (all columns longer done : ℕ) (spans : List Span) (values : List ℕ) : Type 0 where
   pub places : length values ≡ all
   pub within : AreWithin all columns spans values
   pub long : (k : ℕ) → k < length spans → longer ≤ (span_at spans k).count → Reaches values columns (span_at spans k)
   pub short : (k : ℕ) → k < done → columns ≤ (span_at spans k).count → Reaches values columns (span_at spans k)
 
--- a place's value and the one so many places before it
+-- a place's value and the one `offset` places before it
 abbrev pub split_at : (offset : ℕ) → List ℕ → ℕ → ℕ
 split_at offset values k = if nat_le offset k then max (slice_index values k) (slice_index values (k - offset)) else slice_index values k
 

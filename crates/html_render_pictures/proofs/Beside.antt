@@ -9,7 +9,7 @@ use Rattle.html_render_pictures.specs.Drawing.{as_many, line_or_empty}
 use Rattle.html_render_pictures.specs.Marked.{marked_behind}
 use Rattle.html_render_pictures.specs.Padding.{filled, filled_line}
 use Rattle.html_render_pictures.specs.declared.picture.Frame.{Frame}
-use Rattle.html_render_pictures.specs.Picture.{KeptCell, drawn, separator, beside, cell_lines, height}
+use Rattle.html_render_pictures.specs.Picture.{KeptCell, separator, beside, cell_lines, height}
 use Rattle.html_render_pictures.specs.laws.Heights.{IsNoHigher, row_highest, cell-height, marked_behind-length}
 
 -- the next of the lines that stand beside others
@@ -23,7 +23,7 @@ next-as-many l ls None before after items none =
 module _ {T M : Type 0} (frame : Frame T) where
   -- one more line is put beside another
   pub beside-more : (xs : List (Line T M)) (i : ℕ) (old new r : Line T M) (rs : List (Line T M)) → i < length xs → old ≡ get_or xs i old →
-      new ≡ old ++ drawn frame (separator frame) ∷ r →
+      new ≡ old ++ separator frame ∷ r →
       take (i + 1) (set xs i new) ++ beside frame (drop (i + 1) (set xs i new)) rs ≡ take i xs ++ beside frame (drop i xs) (r ∷ rs)
   beside-more xs i old new r rs h e f =
       let left : drop i xs ≡ old ∷ drop (i + 1) xs = drop_more xs i old h ∙ ap (λ l. l ∷ drop (i + 1) xs) (sym e) in
@@ -42,14 +42,14 @@ module _ {T M : Type 0} (frame : Frame T) where
     as-many-none [] n e = ap (λ k. put [] (replicate k [])) e
     as-many-none (l ∷ ls) n e =
         ap (λ k. put (l ∷ ls) (replicate k [])) e
-        ∙ ap (λ ks. (l ++ drawn frame (separator frame) ∷ filled_line frame.tag width []) ∷ ks) (as-many-none ls (length ls) refl)
+        ∙ ap (λ ks. (l ++ separator frame ∷ filled_line frame.tag width []) ∷ ks) (as-many-none ls (length ls) refl)
 
     as-many-is : (ls rs : List (Line T M)) (n : ℕ) → n ≡ length ls - length rs →
         put ls (rs ++ replicate n []) ≡ put ls (as_many ls rs)
     as-many-is [] rs n e = refl
     as-many-is (l ∷ ls) [] n e = as-many-none (l ∷ ls) n (omega (arith, e))
     as-many-is (l ∷ ls) (r ∷ rs) n e =
-        ap (λ ks. (l ++ drawn frame (separator frame) ∷ filled_line frame.tag width r) ∷ ks) (as-many-is ls rs n (omega (arith, e)))
+        ap (λ ks. (l ++ separator frame ∷ filled_line frame.tag width r) ∷ ks) (as-many-is ls rs n (omega (arith, e)))
 
   -- a cell's lines beside others
   pub cell_as_many : (ls : List (Line T M)) (c : KeptCell T M) →

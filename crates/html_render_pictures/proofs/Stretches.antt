@@ -1,7 +1,6 @@
 -- Lines in stretches: what stands at their ends, and what fills them.
-use Rattle.std.proofs.Common.{◌≡◌, ℕ, ◌+◌, ◌-◌, ◌<◌, ◌≤◌, List, [], ◌∷◌, ◌++◌, Some}
-use Rattle.std.proofs.Common.{All, length, map, reverse, zero, suc, refl, sym, ap, ◌∙◌, subst, arith}
-use Rattle.std.proofs.Common.{false, ◌==◌, get_or, set, take, length-set, append-nil, append_assoc, length-append}
+use Rattle.std.proofs.Common.{◌≡◌, ℕ, ◌+◌, ◌-◌, ◌<◌, ◌≤◌, List, [], ◌∷◌, ◌++◌, Some, All, length, map, reverse, zero, suc, refl, sym, ap, ◌∙◌, subst}
+use Rattle.std.proofs.Common.{arith, false, ◌==◌, get_or, set, take, length-set, append-nil, append_assoc, length-append}
 use Rattle.std.proofs.lemmas.List.{reverse-append, reverse-reverse, length-map, length-reverse, map-append, take_all, take_more, take_more_set}
 use Rattle.std.proofs.lemmas.Bool.Decides.{nat_tests}
 use Rattle.std.proofs.lemmas.List.Concat.{flat_map-append}
@@ -112,18 +111,12 @@ module _ {T M : Type 0} where
   marked_behind_front ms (k ∷ []) (l ∷ ls) h = refl
   marked_behind_front ms (k ∷ j ∷ front) (l ∷ ls) h = ap (λ x. k ∷ x) (marked_behind_front ms (j ∷ front) (l ∷ ls) h)
 
-  marked_line_at_least : (n : ℕ) (ms : List M) (l : Line T M) → n ≤ columns l → n ≤ columns (marks_line ms ++ l)
-  marked_line_at_least n ms l h = omega (arith, h, columns-append (marks_line ms) l)
-
-  line_marked_at_least : (n : ℕ) (ms : List M) (l : Line T M) → n ≤ columns l → n ≤ columns (l ++ marks_line ms)
-  line_marked_at_least n ms l h = omega (arith, h, columns-append l (marks_line ms))
-
   pub marked_before_stretch : (n : ℕ) (ms : List M) (ls : List (Line T M)) → IsStretch n ls → IsStretch n (marked_before ms ls)
   marked_before_stretch n ms [] p = p
   marked_before_stretch n ms (l ∷ ls) p = record {
     some = omega arith;
     wide = All-cons (λ (l : Line T M). n ≤ columns l) (marks_line ms ++ l) ls
-        (marked_line_at_least n ms l (All-head (λ (l : Line T M). n ≤ columns l) l ls p.wide))
+        (let h = All-head (λ (l : Line T M). n ≤ columns l) l ls p.wide in omega (arith, h, columns-append (marks_line ms) l))
         (All-tail (λ (l : Line T M). n ≤ columns l) l ls p.wide);
   }
 
@@ -131,7 +124,7 @@ module _ {T M : Type 0} where
   marked_behind_wide n ms [] wide = wide
   marked_behind_wide n ms (l ∷ []) wide =
       All-cons (λ (l : Line T M). n ≤ columns l) (l ++ marks_line ms) []
-      (line_marked_at_least n ms l (All-head (λ (l : Line T M). n ≤ columns l) l [] wide))
+      (let h = All-head (λ (l : Line T M). n ≤ columns l) l [] wide in omega (arith, h, columns-append l (marks_line ms)))
       (All-nil (λ (l : Line T M). n ≤ columns l))
   marked_behind_wide n ms (l ∷ k ∷ ls) wide =
       All-cons (λ (l : Line T M). n ≤ columns l) l (marked_behind ms (k ∷ ls)) (All-head (λ (l : Line T M). n ≤ columns l) l (k ∷ ls) wide)

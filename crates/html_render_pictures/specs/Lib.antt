@@ -1,7 +1,7 @@
 -- marks at the ends of lines, and lines that are filled
 pub mod Marked
 pub mod Padding
--- lines of at least so many columns
+-- lines of at least a given width
 pub mod Stretch
 -- THE DEFINITION of a picture
 pub mod Picture

@@ -6,7 +6,7 @@ use Rattle.html_render_pictures.specs.declared.fillers.Filler.TheVariants.{Space
 use Rattle.html_render_lines.specs.declared.line.Element.TheVariants.{Character}
 use Rattle.html_render_lines.specs.Line.{Line, columns}
 
--- one character so many times, under a tag
+-- one character `count` times, under a tag
 abbrev pub repeated : {T M : Type 0} → T → (character count : ℕ) → Line T M
 repeated tag character count = replicate count (Character character tag)
 
@@ -16,7 +16,7 @@ character_of Space = 0x20
 character_of Slash = BORDERS.slash
 character_of Dash = BORDERS.line
 
--- a line with spaces behind it, under a tag, up to so many columns
+-- a line with spaces behind it, under a tag, up to `width` columns
 abbrev pub filled_line : {T M : Type 0} → T → (width : ℕ) → Line T M → Line T M
 filled_line tag width l = l ++ repeated tag 0x20 (width - columns l)
 

@@ -5,7 +5,7 @@ use Rattle.std.specs.List.{range_with_len, list_any}
 use Rattle.html_render_glyphs.specs.declared.borders.TheConstants.{BORDERS}
 use Rattle.html_render_lines.specs.declared.line.Element.{Element}
 use Rattle.html_render_lines.specs.declared.line.Element.TheVariants.{Character}
-use Rattle.html_render_lines.specs.Line.{Line}
+use Rattle.html_render_lines.specs.Line.{Line, is_empty}
 use Rattle.html_render_pictures.specs.Marked.{marked_before, marked_behind}
 use Rattle.html_render_pictures.specs.Padding.{filled}
 use Rattle.html_render_pictures.specs.declared.picture.Frame.{Frame}
@@ -21,33 +21,15 @@ pub record TableRow (T M : Type 0) : Type 0 where
   pub cells : List (KeptCell T M)
   pub has_placeholder : Bool
 
--- ---- which rows are drawn, and which marks stand before them
-
-abbrev pub is_empty : {X : Type 0} → List X → Bool
-is_empty xs = length xs == 0
-
-abbrev pub has_lines : {T M : Type 0} → List (KeptCell T M) → Bool
-has_lines {T} {M} cells = list_any (λ (c : KeptCell T M). not (is_empty c.lines)) cells
+-- ---- which rows are drawn, and which marks wait
 
 -- a row is drawn if a kept cell has lines, or if a placeholder is among its cells and a cell is kept
 abbrev pub is_drawn : {T M : Type 0} → TableRow T M → Bool
-is_drawn row = has_lines row.cells || (row.has_placeholder && not (is_empty row.cells))
+is_drawn {T} {M} row = list_any (λ (c : KeptCell T M). not (is_empty c.lines)) row.cells || (row.has_placeholder && not (is_empty row.cells))
 
 -- the marks of cells without lines wait for a line, from left to right
 abbrev pub waiting_in : {T M : Type 0} → List (KeptCell T M) → List M
 waiting_in {T} {M} cells = flat_map (λ (c : KeptCell T M). if is_empty c.lines then c.marks else []) cells
-
--- a row that is drawn, with the marks that stand before it
-pub record DrawnRow (T M : Type 0) : Type 0 where
-  pub marks : List M
-  pub cells : List (KeptCell T M)
-
--- the drawn rows; the marks of the other rows wait for the next one
-abbrev pub drawn_rows : {T M : Type 0} → (waiting : List M) → List (TableRow T M) → List (DrawnRow T M)
-drawn_rows waiting [] = []
-drawn_rows waiting (r ∷ rs) =
-    if is_drawn r then record { marks = waiting ++ waiting_in r.cells; cells = r.cells } ∷ drawn_rows [] rs
-    else drawn_rows (waiting ++ waiting_in r.cells) rs
 
 -- the marks that still wait behind the last drawn row
 abbrev pub left_waiting : {T M : Type 0} → (waiting : List M) → List (TableRow T M) → List M
@@ -61,10 +43,10 @@ abbrev pub separators_of : {T M : Type 0} → List (KeptCell T M) → List Bool
 separators_of [] = []
 separators_of {T} {M} (c ∷ cs) = replicate c.width false ++ flat_map (λ (d : KeptCell T M). true ∷ replicate d.width false) cs
 
--- those of the first of these rows; none where there is no row
-abbrev pub next_separators : {T M : Type 0} → List (DrawnRow T M) → List Bool
+-- those of the first of these rows that is drawn; none where none is
+abbrev pub next_separators : {T M : Type 0} → List (TableRow T M) → List Bool
 next_separators [] = []
-next_separators (d ∷ ds) = separators_of d.cells
+next_separators (r ∷ rs) = if is_drawn r then separators_of r.cells else next_separators rs
 
 -- what a border has at a column, by whether the row above and the row below have a separator there
 abbrev pub joint : (above below : Bool) → ℕ
@@ -79,23 +61,19 @@ joint false false = BORDERS.line
 abbrev pub height : {T M : Type 0} → List (KeptCell T M) → ℕ
 height {T} {M} cells = fold (λ h (c : KeptCell T M). max h (length c.lines)) 1 cells
 
--- what stands between cells
-abbrev pub separator : {T : Type 0} → Frame T → ℕ
-separator frame = if frame.borders then BORDERS.separator else 0x20
-
 -- the top border is drawn where the table has a width, also above no row
 abbrev pub has_top : {T : Type 0} → Frame T → Bool
 has_top frame = frame.borders && not (frame.width == 0)
 
 module _ {T M : Type 0} (frame : Frame T) where
-  -- a character of the frame
-  abbrev pub drawn : ℕ → Element T M
-  drawn c = Character c frame.tag
+  -- what stands between cells
+  abbrev pub separator : Element T M
+  separator = Character (if frame.borders then BORDERS.separator else 0x20) frame.tag
 
   -- a border, as wide as the wider of its neighbours
   abbrev pub border : (above below : List Bool) → Line T M
   border above below =
-      map (λ x. drawn (joint (get_or above x false) (get_or below x false))) (range_with_len 0 (max (length above) (length below)))
+      map (λ x. Character (joint (get_or above x false) (get_or below x false)) frame.tag) (range_with_len 0 (max (length above) (length below)))
 
   -- a cell's lines, the last with the marks at its end, and empty lines below them; each is filled up to the cell's width
   abbrev pub cell_lines : (height : ℕ) → KeptCell T M → List (Line T M)
@@ -103,7 +81,7 @@ module _ {T M : Type 0} (frame : Frame T) where
 
   -- lines beside others, with a separator between them
   abbrev pub beside : List (Line T M) → List (Line T M) → List (Line T M)
-  beside (l ∷ ls) (r ∷ rs) = (l ++ drawn (separator frame) ∷ r) ∷ beside ls rs
+  beside (l ∷ ls) (r ∷ rs) = (l ++ separator ∷ r) ∷ beside ls rs
   beside lefts rights = lefts
 
   -- the lines of a row: those of its cells beside each other, from left to right
@@ -111,22 +89,19 @@ module _ {T M : Type 0} (frame : Frame T) where
   row_lines [] = []
   row_lines (c ∷ cs) = fold beside (cell_lines (height (c ∷ cs)) c) (map (cell_lines (height (c ∷ cs))) cs)
 
-  -- the rows, each with the border below it
-  abbrev pub rows_lines : List (DrawnRow T M) → List (Line T M)
-  rows_lines [] = []
-  rows_lines (d ∷ ds) =
-      marked_before d.marks (row_lines d.cells)
-      ++ (if frame.borders then border (separators_of d.cells) (next_separators ds) ∷ [] else [])
-      ++ rows_lines ds
+  -- the rows: one that is drawn stands behind the marks that wait, with the border below it; those of another wait for the next
+  abbrev pub rows_lines : (waiting : List M) → List (TableRow T M) → List (Line T M)
+  rows_lines waiting [] = []
+  rows_lines waiting (r ∷ rs) =
+      let marks = waiting ++ waiting_in r.cells in
+      let below : List (Line T M) = if frame.borders then border (separators_of r.cells) (next_separators rs) ∷ [] else [] in
+      if is_drawn r then marked_before marks (row_lines r.cells) ++ below ++ rows_lines [] rs else rows_lines marks rs
 
-  -- the rows, below the border above the first
-  abbrev pub topped_lines : List (DrawnRow T M) → List (Line T M)
-  topped_lines ds = border (replicate frame.width false) (next_separators ds) ∷ rows_lines ds
-
-  -- the picture's lines
+  -- the picture's lines: the rows, below the border above the first
   abbrev pub picture_lines : (waiting : List M) → List (TableRow T M) → List (Line T M)
   picture_lines waiting rows =
-      if has_top frame then marked_before waiting (topped_lines (drawn_rows [] rows)) else rows_lines (drawn_rows waiting rows)
+      if has_top frame then marked_before waiting (border (replicate frame.width false) (next_separators rows) ∷ rows_lines [] rows)
+      else rows_lines waiting rows
 
   -- THE PICTURE of rows behind marks that wait: its lines, and the marks that wait behind them
   abbrev pub picture : (waiting : List M) → List (TableRow T M) → List (Line T M) × List M

@@ -12,7 +12,7 @@ row_width {T} {M} (c ∷ cs) = c.width + sum_by (λ (d : KeptCell T M). 1 + d.wi
 abbrev pub KeepsToWidth : {T M : Type 0} → KeptCell T M → Type 0
 KeepsToWidth c = AllWithinWidth c.width c.lines
 
--- a row of so many columns at most, whose cells' lines keep to their widths
+-- a row of at most `w` columns, whose cells' lines keep to their widths
 abbrev pub RowWithin : {T M : Type 0} → ℕ → TableRow T M → Type 0
 RowWithin w row = All KeepsToWidth row.cells × (row_width row.cells ≤ w)
 

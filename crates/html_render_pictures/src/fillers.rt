@@ -25,7 +25,7 @@ pub enum Filler {
 /// As many spaces as are written at once.
 const SPACES: &str = "                                                                ";
 
-/// So many of a character, of a text that has it as often as it is written at once.
+/// A character `count` times, of a text that has it as often as it is written at once.
 fn first_of(text: &'static str, character: char, count: usize) -> &'static str
     requires text { text.now ≡ encode_utf8_all (replicate FEW character) }
     requires few { count ≤ FEW }
@@ -34,7 +34,7 @@ fn first_of(text: &'static str, character: char, count: usize) -> &'static str
     &text[..count * character.len_utf8()]
 }
 
-/// So many spaces, without an allocation.
+/// `count` spaces, without an allocation.
 pub fn few_spaces(count: usize) -> &'static str
     requires { count ≤ FEW }
     ensures { chars result.now ≡ replicate count 0x20 }
@@ -42,7 +42,7 @@ pub fn few_spaces(count: usize) -> &'static str
     first_of(SPACES, ' ', count)
 }
 
-/// So many of a character, without an allocation.
+/// A character `count` times, without an allocation.
 fn few(filler: Filler, count: usize) -> &'static str
     requires { count ≤ FEW }
     ensures { chars result.now ≡ replicate count (character_of filler) }
@@ -54,7 +54,7 @@ fn few(filler: Filler, count: usize) -> &'static str
     }
 }
 
-/// Puts so many of a character at the end of a line, under a tag.
+/// Puts a character `count` times at the end of a line, under a tag.
 ///
 /// # Errors
 ///

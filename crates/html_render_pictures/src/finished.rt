@@ -20,7 +20,7 @@ fn missing<T: Tag, M: Copy>(line: &Line<T, M>, width: usize) -> usize
     }
 }
 
-/// Fills a line with spaces up to so many columns, under a tag.
+/// Fills a line with spaces up to `width` columns, under a tag.
 fn fill<T: Tag, M: Copy>(line: &mut Line<T, M>, width: usize, tag: T) -> Result<(), AllocError>
     ensures { OnOk result (line.new ≡ filled_line tag width line.old) }
 {
@@ -28,7 +28,7 @@ fn fill<T: Tag, M: Copy>(line: &mut Line<T, M>, width: usize, tag: T) -> Result<
     push_fillers(line, Filler::Space, missing, tag)
 }
 
-/// Puts another line at the end of a line, and fills that one with spaces up to so many columns, under a tag.
+/// Puts another line at the end of a line, and fills that one with spaces up to `width` columns, under a tag.
 #[tactic(auto, using(crate::proofs::LawSets::besides))]
 pub(crate) fn append_filled<T: Tag, M: Copy>(
     line: &mut Line<T, M>,
@@ -43,7 +43,7 @@ pub(crate) fn append_filled<T: Tag, M: Copy>(
     push_fillers(line, Filler::Space, missing, tag)
 }
 
-/// Fills each line with spaces up to so many columns, under a tag.
+/// Fills each line with spaces up to `width` columns, under a tag.
 ///
 /// # Errors
 ///
@@ -61,7 +61,7 @@ pub fn fill_all<T: Tag, M: Copy>(
     Ok(())
 }
 
-/// Fills each line with spaces up to so many columns, under a tag; there stay as many lines, whatever comes.
+/// Fills each line with spaces up to `width` columns, under a tag; there stay as many lines, whatever comes.
 pub(crate) fn fill_lines<T: Tag, M: Copy>(
     lines: &mut Vec<Line<T, M>>,
     width: usize,
@@ -74,7 +74,7 @@ pub(crate) fn fill_lines<T: Tag, M: Copy>(
     Ok(())
 }
 
-/// Makes room for so many more bytes on each line.
+/// Makes room for `bytes` more bytes on each line.
 pub(crate) fn reserve_all<T: Tag, M: Copy>(
     lines: &mut [Line<T, M>],
     bytes: usize,

@@ -8,7 +8,7 @@ use html_render_lines::line::Line;
 use html_render_lines::tag::Tag;
 use std::alloc::{AllocError, Global};
 
-/// Puts marks at the end of the last line, and adds so many empty lines.
+/// Puts marks at the end of the last line, and adds `empty` empty lines.
 pub fn lengthen<T: Tag, M: Copy>(
     alloc: Global,
     lines: &mut Vec<Line<T, M>>,

@@ -38,7 +38,7 @@ impl<T, M> Model for Lines<T, M> {
     ghost view = { λ l. lines_of l.pieces.items ++ l.last.items };
 }
 
-/// Fills the lines of each stretch with spaces up to so many columns, under a tag.
+/// Fills the lines of each stretch with spaces up to `width` columns, under a tag.
 fn fill_pieces<T: Tag, M: Copy>(
     pieces: &mut [Stretch<T, M>],
     width: usize,
@@ -52,7 +52,7 @@ fn fill_pieces<T: Tag, M: Copy>(
     Ok(())
 }
 
-/// Fills the lines of stretches with spaces up to so many columns, under a tag.
+/// Fills the lines of stretches with spaces up to `width` columns, under a tag.
 fn fill_stretches<T: Tag, M: Copy>(
     pieces: &mut Vec<Stretch<T, M>>,
     width: usize,
@@ -290,7 +290,7 @@ impl<T: Tag, M: Copy> Lines<T, M> {
         Ok(())
     }
 
-    /// Fills each line with spaces up to so many columns, under a tag. Lines that were filled up to as many before are not
+    /// Fills each line with spaces up to `width` columns, under a tag. Lines that were filled up to as many before are not
     /// touched.
     ///
     /// # Errors

@@ -1,6 +1,9 @@
 //! The picture of a table: its rows' lines, with borders above, between and below them.
 
-ghost use Rattle.std.specs.Prelude.{◌≡◌, ◌-◌, ◌+◌, ◌^◌, ◌<◌, ◌≤◌, List, [], ◌++◌, ◌∷◌, false, get_or, length, replicate, Some, OnOk, IfOk, IfErr};
+ghost use Rattle.std.specs.Prelude.{◌≡◌, ◌-◌, ◌+◌, ◌^◌, ◌<◌, ◌≤◌, List, [], ◌++◌, ◌∷◌, cond, false, not, get_or, length, replicate, Some, OnOk, IfOk, IfErr};
+ghost use Rattle.std.specs.List.{list_any};
+ghost use Rattle.html_render_lines.specs.declared.line.Element.TheVariants.{Character};
+ghost use Rattle.html_render_lines.specs.Line.{is_empty};
 ghost use Rattle.html_render_pictures.specs.Picture as definition;
 ghost use Rattle.html_render_pictures.specs.Picture.{TableRow};
 ghost use Rattle.html_render_pictures.specs.Drawing as drawing;
@@ -61,7 +64,7 @@ impl<T: Tag, M: Copy> Cell<T, M> {
         Ok(lines)
     }
 
-    /// Its lines, the last with its marks at the end, and empty ones below them, so many in all.
+    /// Its lines, the last with its marks at the end, and empty ones below them, `height` in all.
     fn high_lines(self, alloc: Global, height: usize) -> Result<Vec<Line<T, M>>, AllocError>
         ensures { IfOk result (λ v. v.items ≡ marked_behind self.marks self.lines ++ replicate (height - length self.lines) []) }
     {
@@ -124,7 +127,7 @@ fn room_of<T, M>(cells: &[Cell<T, M>]) -> usize {
 
 /// Whether a cell has lines.
 fn has_lines<T: Tag, M: Copy>(cells: &[Cell<T, M>]) -> bool
-    ensures { result ≡ definition.has_lines cells.now }
+    ensures { result ≡ list_any (λ c. not (is_empty c.lines)) cells.now }
 {
     for cell in cells {
         if !cell.lines.is_empty() {
@@ -212,7 +215,7 @@ fn separator_at(separators: &[bool], column: usize) -> bool
 impl<T: Tag> Frame<T> {
     /// What stands between cells.
     fn separator(&self) -> char
-        ensures { result ≡ definition.separator self.now }
+        ensures { result ≡ cond self.now.borders BORDERS.separator 0x20 }
     {
         if self.borders { BORDERS.separator } else { ' ' }
     }
@@ -225,7 +228,7 @@ impl<T: Tag> Frame<T> {
         above: bool,
         below: bool,
     ) -> Result<(), AllocError>
-        ensures { OnOk result (line.new ≡ line.old ++ definition.drawn self.now (definition.joint above below) ∷ []) }
+        ensures { OnOk result (line.new ≡ line.old ++ Character (definition.joint above below) self.now.tag ∷ []) }
     {
         line.push_char(joint(above, below), 1, self.tag)
     }
@@ -241,7 +244,7 @@ impl<T: Tag> Frame<T> {
     ) -> Result<(), AllocError>
         requires { dashes.old + 1 < 2 ^ 64 }
         ensures drawn { OnOk result (line.new ++ repeated self.now.tag (character_of filler.Dash) dashes.new
-            ≡ (line.old ++ repeated self.now.tag (character_of filler.Dash) dashes.old) ++ definition.drawn self.now (definition.joint above below) ∷ []) }
+            ≡ (line.old ++ repeated self.now.tag (character_of filler.Dash) dashes.old) ++ Character (definition.joint above below) self.now.tag ∷ []) }
         ensures due { OnOk result (dashes.new ≤ dashes.old + 1) }
     {
         if above || below {
@@ -274,7 +277,7 @@ impl<T: Tag> Frame<T> {
         Ok(line)
     }
 
-    /// The lines of a row's first cell, as many as the row is high, with room for so many bytes more.
+    /// The lines of a row's first cell, as many as the row is high, with room for `room` bytes more.
     fn first_lines<M: Copy>(
         &self,
         alloc: Global,
@@ -299,7 +302,7 @@ impl<T: Tag> Frame<T> {
         right: Option<Line<T, M>>,
         width: usize,
     ) -> Result<(), AllocError>
-        ensures { OnOk result (line.new ≡ line.old ++ definition.drawn self.now (definition.separator self.now)
+        ensures { OnOk result (line.new ≡ line.old ++ definition.separator self.now
             ∷ filled_line self.now.tag width (drawing.line_or_empty right)) }
     {
         line.push_char(self.separator(), 1, self.tag)?;
@@ -378,7 +381,7 @@ impl<T: Tag> Frame<T> {
         Ok(lines)
     }
 
-    /// A line of so many spaces.
+    /// A line of `width` spaces.
     fn blank_lines<M: Copy>(&self, alloc: Global, width: usize) -> Result<Lines<T, M>, AllocError>
         ensures { IfOk result (λ v. v ≡ filled (Some self.now.tag) width ([] ∷ [])) }
     {

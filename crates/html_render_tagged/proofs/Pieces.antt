@@ -1,15 +1,12 @@
 -- A text in front of pieces is its characters in front of them, one by one.
-use Rattle.std.proofs.Common.{◌≡◌, ℕ, ◌<◌, Bool, true, false, cond, List, [], ◌∷◌, ◌++◌, length, refl, sym, ap, ◌∙◌, append_assoc, arith}
+use Rattle.std.proofs.Common.{◌≡◌, ℕ, ◌<◌, Bool, true, List, [], ◌∷◌, ◌++◌, length, refl, sym, ap, ◌∙◌, append_assoc, arith}
+use Rattle.std.proofs.lemmas.Bool.{cond_both}
 use Rattle.std.specs.Cmp.{IsEquivalence}
 use Rattle.std.specs.Str.{chars, IsUtf8, encode_utf8_all}
 use Rattle.std.proofs.lemmas.Str.{encodes-chars}
 use Rattle.html_render_lines.specs.Line.{Line}
 use Rattle.html_render_lines.specs.TaggedText.{under}
 use Rattle.html_render_tagged.specs.Grouping.{Piece, Str, FragmentStart, in_front, grouped}
-
-if_cases : {X : Type 0} (P : X → Type 0) (b : Bool) (x y : X) → (b ≡ true → P x) → (b ≡ false → P y) → P (cond b x y)
-if_cases P true x y f g = f refl
-if_cases P false x y f g = g refl
 
 module _ {T : Type 0} (equal : T → T → Bool) where
   -- a text behind one under an equal tag joins it
@@ -19,7 +16,7 @@ module _ {T : Type 0} (equal : T → T → Bool) where
   in_front-joined laws text next old tag (FragmentStart name ∷ ps) e = rw e refl
   in_front-joined laws text next old tag (Str more other ∷ ps) e =
       let same : equal old other ≡ equal tag other = laws.congr old tag other e in
-      if_cases (λ (x : List (Piece T)). in_front equal (text ++ next) old (Str more other ∷ ps) ≡ in_front equal text old x) (equal tag other) _ _
+      cond_both (equal tag other) _ _ (λ (x : List (Piece T)). in_front equal (text ++ next) old (Str more other ∷ ps) ≡ in_front equal text old x)
       (λ f. rw (e, same, f) (ap (λ x. Str x old ∷ ps) (append_assoc text next more)))
       (λ f. rw (e, same, f) refl)
 

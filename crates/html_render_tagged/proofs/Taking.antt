@@ -1,15 +1,12 @@
 -- What a line that is grouped from its front on takes, bit by bit.
-use Rattle.std.proofs.Common.{◌≡◌, ℕ, ◌<◌, ◌≤◌, Bool, true, false, List, [], ◌∷◌, ◌++◌, map, take, drop, length, reverse, Option, Some, None}
-use Rattle.std.proofs.Common.{refl, sym, ap, ◌∙◌, subst, append_assoc, append-nil, arith}
-use Rattle.std.proofs.Common.{Result, Ok, Err, OnOk, IfOk, String, string_bytes}
-use Rattle.std.proofs.lemmas.Str.{chars-nil}
-use Rattle.std.proofs.lemmas.List.{reverse-append}
+use Rattle.std.proofs.Common.{◌≡◌, ℕ, ◌<◌, Bool, true, List, [], ◌∷◌, ◌++◌, take, drop, length, reverse, Some, None, refl, sym, ap, ◌∙◌, subst}
+use Rattle.std.proofs.Common.{append_assoc, append-nil, arith, String, string_bytes}
+use Rattle.std.proofs.lemmas.Str.{chars-nil, IsUtf8-append, IsUtf8-nil, IsCharBoundary-from_drop}
+use Rattle.std.proofs.lemmas.List.{reverse-append, take-append-drop}
 use Rattle.std.specs.declared.alloc.Global.{Global}
 use Rattle.std.specs.Cmp.{IsEquivalence}
 use Rattle.std.specs.Cmp.Lexicographic.{pointwise, lists_equiv}
 use Rattle.std.specs.Str.{chars, IsUtf8, IsCharBoundary}
-use Rattle.std.proofs.lemmas.List.{take-append-drop}
-use Rattle.std.proofs.lemmas.Str.{IsUtf8-append, IsUtf8-nil, IsCharBoundary-from_drop}
 use Rattle.html_render_lines.specs.declared.line.Element.{Element}
 use Rattle.html_render_lines.specs.declared.line.Element.TheVariants as element
 use Rattle.html_render_lines.specs.declared.line.tagged_text.Run.{Run}
@@ -61,19 +58,19 @@ module _ {A : Type 0} (eq : A → A → Bool) (stacks : List (List A)) (names : 
       ∙ ap (grouped (pointwise eq) names) (sym (line_with-under (stack_at stacks) tag (chars bs) more)))
 
   -- a run, and those behind it
-  pub Takes-run : (p q now : Progress A) (rs others : List (Run ℕ ℕ)) (r : Run ℕ ℕ) (n tag : ℕ) (bs this behind : List ℕ) →
+  pub Takes-run : {rs others : List (Run ℕ ℕ)} {r : Run ℕ ℕ} {n tag : ℕ} {this behind : List ℕ} (p q now : Progress A) (bs : List ℕ) →
       rs ≡ r ∷ others → r ≡ run.Text n tag → this ≡ take n bs → behind ≡ drop n bs →
       Takes eq stacks names p (under tag (chars this)) q → Takes eq stacks names q (elements_of others behind) now →
       Takes eq stacks names p (elements_of rs bs) now
-  Takes-run p q now rs others r n tag bs this behind e f is rest one two =
+  Takes-run {rs} {others} {r} {n} {tag} p q now bs e f is rest one two =
       let first : rs ≡ run.Text n tag ∷ others = e ∙ ap (λ x. x ∷ others) f in
       rw first (Takes-then p q now (under tag (chars (take n bs))) (elements_of others (drop n bs)) (rw is at one) (rw rest at two))
 
-  pub Takes-mark : (p q now : Progress A) (rs others : List (Run ℕ ℕ)) (r : Run ℕ ℕ) (m : ℕ) (bs : List ℕ) →
+  pub Takes-mark : {rs others : List (Run ℕ ℕ)} {r : Run ℕ ℕ} {m : ℕ} (p q now : Progress A) (bs : List ℕ) →
       rs ≡ r ∷ others → r ≡ run.Mark m →
       Takes eq stacks names p (element.Mark m ∷ []) q → Takes eq stacks names q (elements_of others bs) now →
       Takes eq stacks names p (elements_of rs bs) now
-  Takes-mark p q now rs others r m bs e f one two =
+  Takes-mark {rs} {others} {r} {m} p q now bs e f one two =
       let first : rs ≡ run.Mark m ∷ others = e ∙ ap (λ x. x ∷ others) f in
       rw first (Takes-then p q now (element.Mark m ∷ []) (elements_of others bs) one two)
 
@@ -94,15 +91,14 @@ module _ {A : Type 0} (eq : A → A → Bool) (stacks : List (List A)) (names : 
       all [] ∙ rw (done, last) (ap (λ l. grouped (pointwise eq) names (line_with (stack_at stacks) l)) (append-nil (front ++ (closed ++ ending)) ∙ is))
 
 -- the rest of what runs cut up
-pub Cuts-run : {T M : Type 0} (rs others : List (Run T M)) (r : Run T M) (n : ℕ) (tag : T) (bs behind : List ℕ) →
+pub Cuts-run : {T M : Type 0} {rs others : List (Run T M)} {r : Run T M} {n : ℕ} {tag : T} {behind : List ℕ} (bs : List ℕ) →
     rs ≡ r ∷ others → r ≡ run.Text n tag → behind ≡ drop n bs → Cuts rs bs → Cuts others behind
-Cuts-run rs others r n tag bs behind e f rest cuts =
+Cuts-run {T} {M} {rs} {others} {r} {n} {tag} bs e f rest cuts =
     let here : Cuts (run.Text n tag ∷ others) bs = subst (λ x. Cuts x bs) (e ∙ ap (λ x. x ∷ others) f) cuts in
     rw rest here.2
 
-pub Cuts-mark : {T M : Type 0} (rs others : List (Run T M)) (r : Run T M) (m : M) (bs : List ℕ) →
-    rs ≡ r ∷ others → r ≡ run.Mark m → Cuts rs bs → Cuts others bs
-Cuts-mark rs others r m bs e f cuts = subst (λ x. Cuts x bs) (e ∙ ap (λ x. x ∷ others) f) cuts
+pub Cuts-mark : {T M : Type 0} {rs others : List (Run T M)} {r : Run T M} {m : M} (bs : List ℕ) → rs ≡ r ∷ others → r ≡ run.Mark m → Cuts rs bs → Cuts others bs
+Cuts-mark {T} {M} {rs} {others} bs e f cuts = subst (λ x. Cuts x bs) (e ∙ ap (λ x. x ∷ others) f) cuts
 
 -- a text that joins the last string
 pub joined : {A : Type 0} (eq : A → A → Bool) (stacks : List (List A)) → IsEquivalence eq → (p : Progress A) (last : OpenString)
@@ -115,15 +111,6 @@ joined eq stacks laws p last text cs tag is joins same ps =
     rw (is, joins) (ap (λ x. pieces_of p.done.items ++ x) (in_front-joined (pointwise eq) (lists_equiv laws) (chars (string_bytes last.text)) cs
     (stack_at stacks last.tag) (stack_at stacks tag) ps same))
 
--- what follows from a fact on a success
-pub OnOk-map : {V E : Type 0} (r : Result V E) (P Q : Type 0) → (P → Q) → OnOk r P → OnOk r Q
-OnOk-map (Ok v) P Q f h = f h
-OnOk-map (Err e) P Q f h = h
-
-pub IfOk-map : {V E : Type 0} (r : Result V E) (P Q : V → Type 0) → ((v : V) → P v → Q v) → IfOk r P → IfOk r Q
-IfOk-map (Ok v) P Q f h = f v h
-IfOk-map (Err e) P Q f h = h
-
 -- what runs cut up is made of whole characters
 pub IsUtf8-runs : {T M : Type 0} (rs : List (Run T M)) (bs : List ℕ) → Cuts rs bs → IsUtf8 bs
 IsUtf8-runs [] bs cuts = subst IsUtf8 (sym cuts) IsUtf8-nil
@@ -132,8 +119,8 @@ IsUtf8-runs (run.Text n tag ∷ rs) bs cuts =
     subst IsUtf8 (take-append-drop n bs) (IsUtf8-append (take n bs) (drop n bs) cuts.1 (IsUtf8-runs rs (drop n bs) cuts.2))
 
 -- a run ends between two characters
-pub run-boundary : {T M : Type 0} (rs others : List (Run T M)) (n : ℕ) (tag : T) (r : Run T M) (bs : List ℕ) → rs ≡ r ∷ others →
+pub run-boundary : {T M : Type 0} {rs others : List (Run T M)} {n : ℕ} {tag : T} {r : Run T M} (bs : List ℕ) → rs ≡ r ∷ others →
     r ≡ run.Text n tag → Cuts rs bs → IsCharBoundary bs n
-run-boundary rs others n tag r bs e f cuts =
+run-boundary {T} {M} {rs} {others} {n} {tag} bs e f cuts =
     let here : Cuts (run.Text n tag ∷ others) bs = subst (λ x. Cuts x bs) (e ∙ ap (λ x. x ∷ others) f) cuts in
     IsCharBoundary-from_drop bs n here.0 (IsUtf8-runs others (drop n bs) here.2)

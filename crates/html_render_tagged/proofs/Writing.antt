@@ -1,11 +1,11 @@
 -- A line, and lines, under a colour map, from the front on.
-use Rattle.std.proofs.Common.{◌≡◌, ℕ, List, [], ◌∷◌, ◌++◌, length, Result, String, Vec, refl, sym, ap, ◌∙◌, subst, append_assoc, append-nil, arith, Bor}
+use Rattle.std.proofs.Common.{◌≡◌, ℕ, List, [], ◌∷◌, ◌++◌, length, Result, String, Vec, refl, sym, ap, ◌∙◌, subst, arith, Bor}
 use Rattle.std.specs.declared.alloc.Global.{Global}
 use Rattle.html_render_values.specs.declared.errors.Error.{Error}
 use Rattle.html_render_tagged.specs.declared.line.TaggedLineElement.{TaggedLineElement}
 use Rattle.html_render_tagged.specs.declared.line.TaggedLineElement.TheVariants as made
 use Rattle.html_render_tagged.specs.declared.line.TaggedString.{TaggedString}
-use Rattle.html_render_tagged.specs.Grouping.{Piece, pieces_of, lines_of}
+use Rattle.html_render_tagged.specs.Grouping.{pieces_of, lines_of}
 use Rattle.html_render_tagged.specs.Colouring.{MayAnswer, IsColouredLine, IsColoured}
 use Rattle.std.specs.Prelude.{string_bytes}
 use Rattle.std.specs.Str.{chars}

@@ -19,20 +19,20 @@ pub record Options (S : Type 0) : Type 0 where
   pub decorator : S
   pub rules : List Rule
   pub overflow : Bool
-  pub nodes : LayoutSettings
+  pub settings : LayoutSettings
 
 -- the settings that a configuration begins with
 abbrev pub initial_options : {S : Type 0} → S → Options S
-initial_options decorator = record { decorator = decorator; rules = []; overflow = false; nodes = default_settings }
+initial_options decorator = record { decorator = decorator; rules = []; overflow = false; settings = default_settings }
 
 module _ {S A : Type 0} (d : Decoration S A) (options : Options S) (tree : Forest RenderNode) (width : ℕ) where
   -- THE LINES of a render tree in a width, with these settings: each character with its annotations; none where it is too narrow
   abbrev pub rendered_lines : Option (List (Line (List A) ℕ))
-  rendered_lines = layout_lines d options.nodes tree options.decorator width options.overflow
+  rendered_lines = layout_lines d options.settings tree options.decorator width options.overflow
 
   -- the names of the marks in them
   abbrev pub rendered_names : Option (List (List ℕ))
-  rendered_names = mark_names d options.nodes tree options.decorator width options.overflow
+  rendered_names = mark_names d options.settings tree options.decorator width options.overflow
 
   -- the same lines as tagged strings, of characters whose annotations are equal one by one
   abbrev pub rendered_strings : (A → A → Bool) → Option (List (List (Piece (List A))))
@@ -45,7 +45,7 @@ module _ {S A : Type 0} (d : Decoration S A) (options : Options S) (tree : Fores
 
 -- what is promised of the lines that it answers, of which this holds
 abbrev pub Rendered : {S A : Type 0} → Decoration S A → Options S → Forest RenderNode → (width : ℕ) → (List (Line (List A) ℕ) → Type 0) → Type 0
-Rendered d options tree width Shown = Lines d options.nodes tree options.decorator width options.overflow Shown
+Rendered d options tree width Shown = Lines d options.settings tree options.decorator width options.overflow Shown
 
 -- of tagged strings: they are the lines under the names of their marks, which are those of the tree in the width; where overflow off
 -- gives names, they are these
@@ -53,5 +53,5 @@ pub record AreStrings {S A : Type 0} (d : Decoration S A) (options : Options S) 
     (strings : List (List (Piece (List A)))) (lines : List (Line (List A) ℕ)) : Type 0 where
   pub names : List (List ℕ)
   pub are_names : rendered_names d options tree width ≡ Some names
-  pub same_names : IfSome (mark_names d options.nodes tree options.decorator width false) (λ others. names ≡ others)
+  pub same_names : IfSome (mark_names d options.settings tree options.decorator width false) (λ others. names ≡ others)
   pub are : strings ≡ grouped_lines (pointwise eq) names lines

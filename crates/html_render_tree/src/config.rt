@@ -32,7 +32,7 @@ pub struct Config<D: TextDecorator> {
     /// In the order in which they were added.
     rules: Vec<StyleRule>,
     overflow: bool,
-    nodes: LayoutSettings,
+    settings: LayoutSettings,
 }
 
 impl<D: TextDecorator> Model for Config<D> {
@@ -46,7 +46,7 @@ impl<D: TextDecorator> Model for Config<D> {
       decorator = c.decorator;
       rules = map rule_of c.rules.items;
       overflow = c.overflow;
-      nodes = c.nodes;
+      settings = c.settings;
     } };
 }
 
@@ -58,7 +58,7 @@ impl<D: TextDecorator> Model for Config<D> {
 pub fn plain(alloc: Global) -> Result<Config<PlainDecorator>, Error>
     ensures ok { IfOk result (λ config. config ≡ record (initial_options config.decorator) {
       rules = decorations;
-      nodes = record default_settings { link_footnotes = true };
+      settings = record default_settings { link_footnotes = true };
     }) }
     ensures err { IfErr result (λ e. e ≡ Error.OutOfMemory) }
 {
@@ -88,7 +88,7 @@ pub fn with_decorator<D: TextDecorator>(alloc: Global, decorator: D) -> Config<D
         decorator,
         rules: Vec::new(alloc),
         overflow: false,
-        nodes: LayoutSettings::default(),
+        settings: LayoutSettings::default(),
     }
 }
 
@@ -134,86 +134,86 @@ impl<D: TextDecorator> Config<D> {
     /// Whether each link has its number behind it, in brackets, and its target among the lines behind the document; links
     /// are numbered in the order in which they start.
     pub fn link_footnotes(mut self, numbered: bool) -> Config<D>
-        ensures { result ≡ record self { nodes = record self.nodes { link_footnotes = numbered } } }
+        ensures { result ≡ record self { settings = record self.settings { link_footnotes = numbered } } }
     {
-        self.nodes.link_footnotes = numbered;
+        self.settings.link_footnotes = numbered;
         self
     }
 
     /// The lines behind the document, as those of links' targets, aren't wrapped, and so may be wider than the width.
     pub fn no_link_wrapping(mut self) -> Config<D>
-        ensures { result ≡ record self { nodes = record self.nodes { wrap_links = false } } }
+        ensures { result ≡ record self { settings = record self.settings { wrap_links = false } } }
     {
-        self.nodes.wrap_links = false;
+        self.settings.wrap_links = false;
         self
     }
 
     /// Whether U+0336, a stroke, is put behind each character of what is struck out that isn't collapsible white space.
     pub fn unicode_strikeout(mut self, strokes: bool) -> Config<D>
-        ensures { result ≡ record self { nodes = record self.nodes { unicode_strikeout = strokes } } }
+        ensures { result ≡ record self { settings = record self.settings { unicode_strikeout = strokes } } }
     {
-        self.nodes.unicode_strikeout = strokes;
+        self.settings.unicode_strikeout = strokes;
         self
     }
 
     /// What stands in the place of an image whose title is empty.
     pub fn empty_img_mode(mut self, mode: ImageRenderMode) -> Config<D>
-        ensures { result ≡ record self { nodes = record self.nodes { empty_images = mode } } }
+        ensures { result ≡ record self { settings = record self.settings { empty_images = mode } } }
     {
-        self.nodes.empty_images = mode;
+        self.settings.empty_images = mode;
         self
     }
 
     /// Each line of a paragraph is filled with spaces up to the width of its block: that of the document, less what its lines
     /// stand behind.
     pub fn pad_block_width(mut self) -> Config<D>
-        ensures { result ≡ record self { nodes = record self.nodes { pad_block_width = true } } }
+        ensures { result ≡ record self { settings = record self.settings { pad_block_width = true } } }
     {
-        self.nodes.pad_block_width = true;
+        self.settings.pad_block_width = true;
         self
     }
 
     /// A line of a paragraph has no more columns than this, also where its block is wider. Prefixes aren't counted, and the
     /// lines behind the document are as wide as the document.
     pub fn max_wrap_width(mut self, columns: usize) -> Config<D>
-        ensures { result ≡ record self { nodes = record self.nodes { max_wrap_width = Some columns } } }
+        ensures { result ≡ record self { settings = record self.settings { max_wrap_width = Some columns } } }
     {
-        self.nodes.max_wrap_width = Some(columns);
+        self.settings.max_wrap_width = Some(columns);
         self
     }
 
-    /// A text needs so many columns behind what its lines stand behind, unless its own are fewer; where they aren't there, the
+    /// A text needs `columns` columns behind the prefix of its lines, unless its own are fewer; where they aren't there, the
     /// width is too narrow, or the lines are wider than it with overflow. It is 3 where nothing is said.
     pub fn min_wrap_width(mut self, columns: usize) -> Config<D>
-        ensures { result ≡ record self { nodes = record self.nodes { min_wrap_width = columns } } }
+        ensures { result ≡ record self { settings = record self.settings { min_wrap_width = columns } } }
     {
-        self.nodes.min_wrap_width = columns;
+        self.settings.min_wrap_width = columns;
         self
     }
 
     /// Whether the cells of every table stand one below another, and not side by side. Tables have no borders then, whatever is
     /// said here.
     pub fn raw_mode(mut self, raw: bool) -> Config<D>
-        ensures { result ≡ record self { nodes = record self.nodes { raw_mode = raw; table_borders = false } } }
+        ensures { result ≡ record self { settings = record self.settings { raw_mode = raw; table_borders = false } } }
     {
-        self.nodes.raw_mode = raw;
-        self.nodes.table_borders = false;
+        self.settings.raw_mode = raw;
+        self.settings.table_borders = false;
         self
     }
 
     /// Tables have no borders: cells side by side have a space between them, and cells one below another nothing.
     pub fn no_table_borders(mut self) -> Config<D>
-        ensures { result ≡ record self { nodes = record self.nodes { table_borders = false } } }
+        ensures { result ≡ record self { settings = record self.settings { table_borders = false } } }
     {
-        self.nodes.table_borders = false;
+        self.settings.table_borders = false;
         self
     }
 
     /// A line of three backquotes stands before each table that is in no other one, and another behind it.
     pub fn fence_tables(mut self) -> Config<D>
-        ensures { result ≡ record self { nodes = record self.nodes { fence_tables = true } } }
+        ensures { result ≡ record self { settings = record self.settings { fence_tables = true } } }
     {
-        self.nodes.fence_tables = true;
+        self.settings.fence_tables = true;
         self
     }
 

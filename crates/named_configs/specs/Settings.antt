@@ -13,16 +13,16 @@ abbrev pub changed : {S : Type 0} → Options S → Setting → Options S
 changed options AllowWidthOverflow = record options { overflow = true }
 changed options DoDecorate = record options { rules = options.rules ++ decorations }
 changed options (AddStyleRule rule) = record options { rules = options.rules ++ rule_of rule ∷ [] }
-changed options (LinkFootnotes numbered) = record options { nodes = record options.nodes { link_footnotes = numbered } }
-changed options NoLinkWrapping = record options { nodes = record options.nodes { wrap_links = false } }
-changed options (UnicodeStrikeout strokes) = record options { nodes = record options.nodes { unicode_strikeout = strokes } }
-changed options (EmptyImgMode mode) = record options { nodes = record options.nodes { empty_images = mode } }
-changed options PadBlockWidth = record options { nodes = record options.nodes { pad_block_width = true } }
-changed options (MaxWrapWidth columns) = record options { nodes = record options.nodes { max_wrap_width = Some columns } }
-changed options (MinWrapWidth columns) = record options { nodes = record options.nodes { min_wrap_width = columns } }
-changed options (RawMode raw) = record options { nodes = record options.nodes { raw_mode = raw; table_borders = false } }
-changed options NoTableBorders = record options { nodes = record options.nodes { table_borders = false } }
-changed options FenceTables = record options { nodes = record options.nodes { fence_tables = true } }
+changed options (LinkFootnotes numbered) = record options { settings = record options.settings { link_footnotes = numbered } }
+changed options NoLinkWrapping = record options { settings = record options.settings { wrap_links = false } }
+changed options (UnicodeStrikeout strokes) = record options { settings = record options.settings { unicode_strikeout = strokes } }
+changed options (EmptyImgMode mode) = record options { settings = record options.settings { empty_images = mode } }
+changed options PadBlockWidth = record options { settings = record options.settings { pad_block_width = true } }
+changed options (MaxWrapWidth columns) = record options { settings = record options.settings { max_wrap_width = Some columns } }
+changed options (MinWrapWidth columns) = record options { settings = record options.settings { min_wrap_width = columns } }
+changed options (RawMode raw) = record options { settings = record options.settings { raw_mode = raw; table_borders = false } }
+changed options NoTableBorders = record options { settings = record options.settings { table_borders = false } }
+changed options FenceTables = record options { settings = record options.settings { fence_tables = true } }
 
 -- the settings after calls, in order
 abbrev pub changed_by : {S : Type 0} → Options S → List Setting → Options S

@@ -58,7 +58,7 @@ fn width_of(widths: &[usize]) -> usize {
     width
 }
 
-/// Puts a text behind a line, cut or filled to so many characters.
+/// Puts a text behind a line, cut or filled to `width` characters.
 fn push_cell(line: &mut String, text: &str, width: usize) -> Result<(), AllocError> {
     let mut rest = text.chars();
     for _ in 0..width {
@@ -92,7 +92,7 @@ fn line_of(
     Ok(line)
 }
 
-/// The lines of a table in so many columns of text; none where there are fewer than two for a column.
+/// The lines of a table in `width` columns of text; none where there are fewer than two for a column.
 fn print(
     alloc: Global,
     rows: &[Vec<PrintedCell<'_>>],

@@ -18,7 +18,7 @@
 //! | `!comment`, `?target` | a comment or a processing instruction is appended |
 //! | `>` | the parent is current |
 //! | `&name` | the current node has this name |
-//! | `repeat N CALL CALL ..` | these calls so many times |
+//! | `repeat N CALL CALL ..` | these calls `N` times |
 //!
 //! Texts, comments and values know the escapes `\n` and `\\`. The other calls of `RcDom` stand by their names
 //! (`append p "text`, `append_before_sibling s c`, `create_element e em@id=i template`, ..), and so do those of a
@@ -39,8 +39,8 @@
 //! `render_coloured refusing WIDTH TEXT` under a map that refuses this text.
 //!
 //! An answer's lines stand as they are printed, each behind `|`, and what the program says of faults behind `~`; a refusal is
-//! `TooNarrow`, `Fail` or `OutOfMemory`, and another status than 0 `status N`. `N|text` stands for a text so many times, and
-//! `N/text` for so many lines of it.
+//! `TooNarrow`, `Fail` or `OutOfMemory`, and another status than 0 `status N`. `N|text` stands for a text `N` times, and
+//! `N/text` for `N` lines of it.
 #![tactic(auto)]
 
 mod cases;

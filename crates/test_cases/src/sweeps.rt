@@ -15,7 +15,7 @@ use unicode_width::UnicodeWidthChar;
 /// The widths that are tried.
 const WIDTHS: usize = 40;
 
-/// Whether no line of a text is wider than so many columns.
+/// Whether no line of a text is wider than `width` columns.
 fn is_within(text: &str, width: usize) -> bool {
     for line in text.lines() {
         let mut columns = 0usize;

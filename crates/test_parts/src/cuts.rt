@@ -111,7 +111,7 @@ fn are_cut_by_single_units(
     Ok(cuts)
 }
 
-/// All lists of so many columns are tried, and how many cuts they have is answered.
+/// All lists of `columns` columns are tried, and how many cuts they have is answered.
 fn all_lists_are_cut(
     rt: &impl Abort,
     alloc: Global,

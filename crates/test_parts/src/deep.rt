@@ -4,7 +4,7 @@ use html_render_scripts::building::built;
 use std::alloc::{AllocError, Global};
 use std::test::Fail;
 
-/// The script of so many elements, one in the other.
+/// The script of `levels` elements, one in the other.
 fn nested(alloc: Global, levels: usize) -> Result<String, AllocError> {
     "<div\n".repeat(alloc, levels)
 }

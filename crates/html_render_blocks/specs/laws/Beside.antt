@@ -1,7 +1,7 @@
 -- A BLOCK BESIDE ANOTHER that was fed the same, where overflow may be on: what is said of its lines is said under each operation.
 use Rattle.std.proofs.Common.{◌≡◌, ℕ, Bool, cond, ◌||◌, List, [], ◌∷◌, ◌++◌, length, Option, Some, None, refl, sym, ap, ◌∙◌, subst}
 use Rattle.html_render_lines.specs.declared.character.Item.{Item}
-use Rattle.html_render_lines.specs.Line.{Line, marks_line}
+use Rattle.html_render_lines.specs.Line.{Line}
 use Rattle.html_render_lines.specs.TaggedText.{under}
 use Rattle.html_render_lines.specs.Character.{width_of}
 use Rattle.html_render_paragraphs.specs.Paragraph.{Page, Setting, paragraph, all_lines}
@@ -17,7 +17,7 @@ use Rattle.html_render_blocks.specs.declared.block.BlockSetting.{BlockSetting}
 use Rattle.html_render_blocks.specs.Block.{paragraph_setting, inner_width, mark_items, empty_block}
 use Rattle.html_render_blocks.specs.Closing.{line_setting}
 use Rattle.html_render_blocks.specs.Definition.{Fed, definition, DefinedBlock, operations, ending}
-use Rattle.html_render_blocks.specs.Joined.{fitting, joined, prefixed}
+use Rattle.html_render_blocks.specs.Joined.{fitting, prefixed}
 use Rattle.html_render_blocks.specs.OpenRows.{OpenRow, open_row, next_width, past_cell, whole_row}
 use Rattle.html_render_blocks.specs.Tables.{Rows, frame_of}
 use Rattle.html_render_paragraphs.specs.laws.Answers.{Both, Both-weaken}
@@ -88,20 +88,17 @@ module _ {T W : Type 0} (g : Bool → Bool) (N M : Type 0) (Tags : W → T → T
   tags-same w (Some t) None x = absurd x
   tags-same w (Some t) (Some u) x = ap Some (same w t u x)
 
-  joined-beside : (v : ℕ) (w : W) (s r : BlockSetting) (ms ns : List ℕ) (t u : T) (first later : List ℕ) (a b : List (Line T ℕ)) →
-      Settings v s r → u ≡ t → b ≡ a →
-      Both N M (Lines v w) (joined s.width s.overflow ms (under t first) (under t later) a ns)
-      (joined r.width r.overflow ms (under u first) (under u later) b ns)
-  joined-beside v w s r ms ns t u first later a b k e l =
-      let lines : List (Line T ℕ) = prefixed (marks_line ms ++ under t first) (under t later) (marked_behind ns a) in
-      subst (λ z. Both N M (Lines v w) (fitting s.width s.overflow lines) (joined z.width z.overflow ms (under u first) (under u later) b ns))
+  joined-beside : (v : ℕ) (w : W) (s r : BlockSetting) (t u : T) (first later : List ℕ) (a b : List (Line T ℕ)) → Settings v s r → u ≡ t → b ≡ a →
+      Both N M (Lines v w) (fitting s.width s.overflow (prefixed (under t first) (under t later) a))
+      (fitting r.width r.overflow (prefixed (under u first) (under u later) b))
+  joined-beside v w s r t u first later a b k e l =
+      let lines : List (Line T ℕ) = prefixed (under t first) (under t later) a in
+      subst (λ z. Both N M (Lines v w) (fitting s.width s.overflow lines) (fitting z.width z.overflow (prefixed (under u first) (under u later) b)))
       (sym k.1.1)
-      (subst (λ z. Both N M (Lines v w) (fitting s.width s.overflow lines) (joined s.width (g s.overflow) ms (under z first) (under z later) b ns))
-      (sym e)
-      (subst (λ z. Both N M (Lines v w) (fitting s.width s.overflow lines) (joined s.width (g s.overflow) ms (under t first) (under t later) z ns))
-      (sym l)
+      (subst (λ z. Both N M (Lines v w) (fitting s.width s.overflow lines) (fitting s.width (g s.overflow) z))
+      (sym (ap (λ z. prefixed (under z first) (under z later) b) e ∙ ap (prefixed (under t first) (under t later)) l))
       (subst (λ n. Both N M (Lines v w) (fitting n s.overflow lines) (fitting n (g s.overflow) lines)) (sym k.0)
-      (h.fits v s.overflow lines k.1.0))))
+      (h.fits v s.overflow lines k.1.0)))
 
   page-beside : (v : ℕ) (w : W) (s r : BlockSetting) (padding other : Option T) (p q : Fed T ℕ) → Settings v s r →
       OptionTags Tags w padding other → Paragraphs v w p q →
@@ -137,7 +134,7 @@ module _ {T W : Type 0} (g : Bool → Bool) (N M : Type 0) (Tags : W → T → T
     before_marks = λ v w ms a b k. (ap (marked_before ms) k.0, h.before_marks v ms a k.1);
     behind_marks = λ v w ms a b k. (ap (marked_behind ms) k.0, h.behind_marks v ms a k.1);
     rule = λ v w t u character one x. (ap (λ z. repeated z character v ∷ []) (same w t u x), h.line v t character one);
-    joined = λ v x w s r ms ns t u first later a b k y l. joined-beside v w s r ms ns t u first later a b k (same w t u y) l.0;
+    joined = λ v x w s r t u first later a b k y l. joined-beside v w s r t u first later a b k (same w t u y) l.0;
     start = λ v w s r k. (
       (
         ap (λ (z : BlockSetting). definition.start (paragraph_setting z) []) k.1.1,
@@ -159,10 +156,10 @@ module _ {T W : Type 0} (g : Bool → Bool) (N M : Type 0) (Tags : W → T → T
     begun = λ v w needs widths borders t u ms x e.
         (ap (λ z. record { frame = frame_of z borders widths; waiting = ms; rows = [] }) (same w t u x), h.begun v needs widths borders t ms e);
     with_row = λ v w widths p q r k x y. (
-      ap (λ z. definition.pictures.with_row z (whole_row k)) x.0 ∙ ap (λ z. definition.pictures.with_row p (whole_row z)) y.0,
+      ap (λ z. definition.with_row z (whole_row k)) x.0 ∙ ap (λ z. definition.with_row p (whole_row z)) y.0,
       h.with_row v widths p r x.1 y.1,
     );
-    finished = λ v w widths p q k. (
+    drawn = λ v w widths p q k. (
       (ap (λ (z : Rows T ℕ). (picture z.frame z.waiting z.rows).0) k.0, h.finished v widths p k.1),
       ap (λ (z : Rows T ℕ). (picture z.frame z.waiting z.rows).1) k.0,
     );

@@ -1,26 +1,26 @@
 -- What is said of a block's lines: with overflow off none passes its width; with overflow on no operation refuses, and the lines are the same.
-use Rattle.std.proofs.Common.{◌≡◌, ℕ, ◌-◌, ◌≤◌, ◌+◌, sum, Bool, true, false, cond, leb, ◌||◌, ◌&&◌}
-use Rattle.std.proofs.Common.{List, [], ◌∷◌, length, Option, Some, None}
-use Rattle.std.proofs.Common.{refl, sym, ap, subst, arith, IfSome, All}
-use Rattle.std.proofs.lemmas.Bool.{leb-true}
+use Rattle.std.proofs.Common.{◌≡◌, ℕ, ◌-◌, ◌≤◌, ◌+◌, sum, Bool, true, false, cond, leb, ◌||◌, List, [], ◌∷◌, length, Option, Some, None}
+use Rattle.std.proofs.Common.{refl, sym, ap, subst, arith, IfSome, All, min, option_map}
+use Rattle.std.specs.List.{list_all}
+use Rattle.std.specs.Option.{unwrap_or}
+use Rattle.std.proofs.lemmas.Bool.{leb-true, and_parts}
 use Rattle.std.proofs.lemmas.List.Elements.{All-append, All-nil, All-cons, All-push, All-weaker}
 use Rattle.std.proofs.lemmas.List.Sums.{sum_by-cons}
 use Rattle.html_render_lines.specs.declared.character.Item.{Item}
 use Rattle.html_render_lines.specs.Line.{Line, columns, AllWithinWidth}
-use Rattle.html_render_paragraphs.specs.CutText.{cut_lines, text_lines}
+use Rattle.html_render_paragraphs.specs.CutText.{text_lines}
 use Rattle.html_render_paragraphs.specs.Paragraph.{Page, Setting, without_overflow, with_overflow, paragraph, all_lines}
 use Rattle.html_render_paragraphs.specs.laws.Answers.{Both, Both-weaken}
 use Rattle.html_render_paragraphs.specs.laws.Beside.{paragraph-beside, cut-beside}
 use Rattle.html_render_paragraphs.specs.laws.Overflow.{answers as page_answers, refines as page_refines}
-use Rattle.html_render_paragraphs.specs.laws.Within.{IsWithin, with_line_within, within as page_within}
+use Rattle.html_render_paragraphs.specs.laws.Within.{IsWithin, all_lines_within, within as page_within}
 use Rattle.html_render_parts.specs.laws.Needs.{across_within}
 use Rattle.html_render_pictures.specs.Padding.{filled, repeated}
 use Rattle.html_render_pictures.specs.Picture.{KeptCell}
 use Rattle.html_render_pictures.specs.Widths.{KeepsToWidth, RowWithin}
 use Rattle.html_render_pictures.specs.laws.Padding.{filled-within, repeated-columns}
 use Rattle.html_render_pictures.specs.laws.Widths.{marked_before-within, marked_behind-within, picture_within}
-use Rattle.html_render_blocks.specs.Block.{wrap_width}
-use Rattle.html_render_blocks.specs.Joined.{are_within, fitting}
+use Rattle.html_render_blocks.specs.Joined.{fitting}
 use Rattle.html_render_blocks.specs.OpenRows.{whole_row}
 use Rattle.html_render_blocks.specs.Tables.{Rows}
 use Rattle.html_render_blocks.specs.laws.Beside.{Holds}
@@ -29,20 +29,16 @@ use Rattle.html_render_blocks.specs.laws.TableWithin.{frame_width_within, column
 
 -- ---- lines within a width
 
-wrap_width-le : (w : ℕ) (most : Option ℕ) → wrap_width w most ≤ w
-wrap_width-le w None = omega arith
-wrap_width-le w (Some most) = omega arith
+wrap-within : (w : ℕ) (most : Option ℕ) → unwrap_or (option_map (min w) most) w ≤ w
+wrap-within w None = omega arith
+wrap-within w (Some most) = omega arith
 
 -- no line is wider, as a test
-within-test : {T M : Type 0} (w : ℕ) (ls : List (Line T M)) → are_within w ls ≡ true → AllWithinWidth w ls
+within-test : {T M : Type 0} (w : ℕ) (ls : List (Line T M)) → list_all (λ (l : Line T M). leb (columns l) w) ls ≡ true → AllWithinWidth w ls
 within-test {T} {M} w [] e = All-nil (λ (l : Line T M). columns l ≤ w)
 within-test {T} {M} w (l ∷ ls) e =
-    let h = and_true (leb (columns l) w) (are_within w ls) e in
+    let h = and_parts (leb (columns l) w) (list_all (λ (l : Line T M). leb (columns l) w) ls) e in
     All-cons (λ (l : Line T M). columns l ≤ w) l ls (leb-true _ _ h.0) (within-test w ls h.1)
-  where
-    and_true : (a b : Bool) → (a && b) ≡ true → (a ≡ true) × (b ≡ true)
-    and_true true b e = (refl, e)
-    and_true false b e = cc
 
 module _ (T : Type 0) where
   -- ---- with overflow off no line passes the width
@@ -60,14 +56,14 @@ module _ (T : Type 0) where
     chosen = λ o b x e. itself (cond (o || b) (Some x) None);
     fits = λ v o ls e.
         subst (λ z. Both (Unit {0}) ⊥ (λ x y. (y ≡ x) × AllWithinWidth v x) (fitting v z ls) (fitting v z ls)) (sym e)
-        (fitted v ls (are_within v ls) refl);
-    own = λ s e. (wrap_width-le s.width s.max_wrap_width, e);
+        (fitted v ls (list_all (λ (l : Line T ℕ). leb (columns l) v) ls) refl);
+    own = λ s e. (wrap-within s.width s.max_wrap_width, e);
     page = pages;
     text = λ v o cut t cs c e.
         subst (λ z. Both (Unit {0}) ⊥ (λ x y. (y ≡ x) × AllWithinWidth {M = ℕ} v x) (text_lines (record { width = v; overflow = o }) z t cs)
         (text_lines (record { width = v; overflow = o }) z t cs)) (sym c)
-        (subst (λ z. Both (Unit {0}) ⊥ (λ x y. (y ≡ x) × AllWithinWidth {M = ℕ} v x) (cut_lines (record { width = v; overflow = z }) t cs)
-        (cut_lines (record { width = v; overflow = z }) t cs)) (sym e)
+        (subst (λ z. Both (Unit {0}) ⊥ (λ x y. (y ≡ x) × AllWithinWidth {M = ℕ} v x) (text_lines (record { width = v; overflow = z }) true t cs)
+        (text_lines (record { width = v; overflow = z }) true t cs)) (sym e)
         (cut-beside (λ o. o) (Unit {0}) ⊥ (λ x. tt) (without_overflow v) (IsWithin v) (page_within v) (AllWithinWidth v) (λ p k.
         All-push (λ (l : Line T ℕ). columns l ≤ v) p.lines p.line k.lines k.line) t cs));
     none = λ v. All-nil (λ (l : Line T ℕ). columns l ≤ v);
@@ -97,7 +93,7 @@ module _ (T : Type 0) where
       itself None = tt
       itself (Some x) = refl
 
-      fitted : (v : ℕ) (ls : List (Line T ℕ)) (z : Bool) → are_within v ls ≡ z →
+      fitted : (v : ℕ) (ls : List (Line T ℕ)) (z : Bool) → list_all (λ (l : Line T ℕ). leb (columns l) v) ls ≡ z →
           Both (Unit {0}) ⊥ (λ x y. (y ≡ x) × AllWithinWidth v x) (cond z (Some ls) None) (cond z (Some ls) None)
       fitted v ls true e = (refl, within-test v ls e)
       fitted v ls false e = tt
@@ -116,7 +112,7 @@ module _ (T : Type 0) where
             m.0,
             λ padding. filled-within padding v (all_lines p)
                 (All-weaker (λ (l : Line T ℕ). columns l ≤ s.width) (λ (l : Line T ℕ). columns l ≤ v) (λ l n. omega (arith, n, le)) (all_lines p)
-                (with_line_within s.width p.lines p.line m.1.lines m.1.line)),
+                (all_lines_within s.width p m.1)),
           )))
 
   -- ---- with overflow on no operation refuses
@@ -168,7 +164,7 @@ module _ (T : Type 0) where
       (λ v ws p. Unit {0}) (λ v r. Unit {0})
   refines = record {
     chosen = λ o b x e. choice o b x;
-    fits = λ v o ls e. fitted v o ls (are_within v ls);
+    fits = λ v o ls e. fitted v o ls (list_all (λ (l : Line T ℕ). leb (columns l) v) ls);
     own = λ s e. tt;
     page = λ v s ms xs k. pages s.width s.overflow ms xs;
     text = λ v o cut t cs c e. texts v o cut t cs;

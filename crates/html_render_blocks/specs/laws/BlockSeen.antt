@@ -1,16 +1,18 @@
 -- What is seen of the tags of a block that is fed character by character is what is seen of the definition's, under each operation.
 use Rattle.std.proofs.Common.{◌≡◌, ℕ, Bool, true, false, leb, ◌||◌, ◌&&◌, List, [], ◌∷◌, ◌++◌, map, length, Option, Some, None}
 use Rattle.std.proofs.Common.{refl, sym, ap, ◌∙◌, subst, option_map, IfSome}
+use Rattle.std.specs.List.{list_all}
 use Rattle.std.proofs.lemmas.List.{map-append, length-map}
+use Rattle.std.proofs.lemmas.List.Sums.{fold_push}
 use Rattle.std.proofs.lemmas.Option.{same_Some}
 use Rattle.html_render_values.specs.declared.white_space.WhiteSpace.{WhiteSpace}
 use Rattle.html_render_lines.specs.declared.character.Item.{Item}
 use Rattle.html_render_lines.specs.declared.character.Item.TheVariants.{Mark}
 use Rattle.html_render_lines.specs.declared.line.Element.TheVariants.{Character}
-use Rattle.html_render_lines.specs.Line.{Line, columns, marks_line}
+use Rattle.html_render_lines.specs.Line.{Line, columns}
 use Rattle.html_render_lines.specs.TaggedText.{under}
 use Rattle.html_render_lines.specs.Tags.{element_with, line_with, lines_with}
-use Rattle.html_render_lines.specs.laws.Tags.{if_with, then_with, marks-with, columns-with}
+use Rattle.html_render_lines.specs.laws.Tags.{if_with, then_with, columns-with}
 use Rattle.html_render_paragraphs.specs.CutText.{text_lines}
 use Rattle.html_render_paragraphs.specs.Paragraph.{Setting, Page, paragraph, all_lines}
 use Rattle.html_render_paragraphs.specs.Stream.{State, start, after, finished, styled}
@@ -21,7 +23,7 @@ use Rattle.html_render_paragraphs.specs.laws.Whole.{finished-after, after-append
 use Rattle.html_render_pictures.specs.Drawing.{Drawing, begun, with_row, with_rows}
 use Rattle.html_render_pictures.specs.Marked.{marked_behind, marked_before}
 use Rattle.html_render_pictures.specs.Padding.{filled, repeated}
-use Rattle.html_render_pictures.specs.Picture.{KeptCell, TableRow}
+use Rattle.html_render_pictures.specs.Picture.{KeptCell}
 use Rattle.html_render_pictures.specs.Tags.{cell_with, row_with, drawing_with, drawn_with}
 use Rattle.html_render_pictures.specs.laws.Lines.{marked_behind-with}
 use Rattle.html_render_pictures.specs.laws.Padding.{filled-with, repeated-with}
@@ -33,7 +35,7 @@ use Rattle.html_render_blocks.specs.Block.{paragraph_setting, inner_width, mark_
 use Rattle.html_render_blocks.specs.Closing.{line_setting}
 use Rattle.html_render_blocks.specs.Definition as defined
 use Rattle.html_render_blocks.specs.Definition.{Fed, definition, DefinedBlock}
-use Rattle.html_render_blocks.specs.Joined.{behind, prefixed, are_within, fitting, joined}
+use Rattle.html_render_blocks.specs.Joined.{prefixed, fitting}
 use Rattle.html_render_blocks.specs.Machine as worked
 use Rattle.html_render_blocks.specs.Machine.{machine, MachineBlock}
 use Rattle.html_render_blocks.specs.OpenRows.{OpenRow, empty_cell, empty_cells, before_cell, past_cell, whole_row}
@@ -49,34 +51,26 @@ module _ {T U M : Type 0} (f : T → U) where
   under-with t [] = refl
   under-with t (c ∷ cs) = ap (λ l. Character c (f t) ∷ l) (under-with t cs)
 
-  behind-with : (p : Line T M) (ls : List (Line T M)) → lines_with f (behind p ls) ≡ behind (line_with f p) (lines_with f ls)
+  behind-with : (p : Line T M) (ls : List (Line T M)) → lines_with f (map (◌++◌ p) ls) ≡ map (◌++◌ (line_with f p)) (lines_with f ls)
   behind-with p [] = refl
-  behind-with p (l ∷ ls) = ap (λ x. x ∷ lines_with f (behind p ls)) (map-append (element_with f) p l)
+  behind-with p (l ∷ ls) = ap (λ x. x ∷ lines_with f (map (◌++◌ p) ls)) (map-append (element_with f) p l)
       ∙ ap (λ xs. (line_with f p ++ line_with f l) ∷ xs) (behind-with p ls)
 
   prefixed-with : (p q : Line T M) (ls : List (Line T M)) →
       lines_with f (prefixed p q ls) ≡ prefixed (line_with f p) (line_with f q) (lines_with f ls)
   prefixed-with p q [] = refl
-  prefixed-with p q (l ∷ ls) = ap (λ x. x ∷ lines_with f (behind q ls)) (map-append (element_with f) p l)
+  prefixed-with p q (l ∷ ls) = ap (λ x. x ∷ lines_with f (map (◌++◌ q) ls)) (map-append (element_with f) p l)
       ∙ ap (λ xs. (line_with f p ++ line_with f l) ∷ xs) (behind-with q ls)
 
-  are_within-with : (w : ℕ) (ls : List (Line T M)) → are_within w (lines_with f ls) ≡ are_within w ls
-  are_within-with w [] = refl
-  are_within-with w (l ∷ ls) = ap (λ n. leb n w && are_within w (lines_with f ls)) (columns-with f l)
-      ∙ ap (λ b. leb (columns l) w && b) (are_within-with w ls)
+  within-with : (w : ℕ) (ls : List (Line T M)) →
+      list_all (λ (l : Line U M). leb (columns l) w) (lines_with f ls) ≡ list_all (λ (l : Line T M). leb (columns l) w) ls
+  within-with w [] = refl
+  within-with w (l ∷ ls) = ap (λ n. leb n w && list_all (λ (l : Line U M). leb (columns l) w) (lines_with f ls)) (columns-with f l)
+      ∙ ap (λ b. leb (columns l) w && b) (within-with w ls)
 
   fitting-with : (w : ℕ) (o : Bool) (ls : List (Line T M)) → fitting w o (lines_with f ls) ≡ option_map (lines_with f) (fitting w o ls)
   fitting-with w o ls =
-      if_with (option_map (lines_with f)) (o || are_within w ls) _ _ _ _ _ (ap (λ b. o || b) (are_within-with w ls)) refl refl
-
-  joined-with : (w : ℕ) (o : Bool) (ms : List M) (p q : Line T M) (ls : List (Line T M)) (ns : List M) →
-      joined w o ms (line_with f p) (line_with f q) (lines_with f ls) ns ≡ option_map (lines_with f) (joined w o ms p q ls ns)
-  joined-with w o ms p q ls ns =
-      ap (λ x. fitting w o (prefixed x (line_with f q) (marked_behind ns (lines_with f ls))))
-      (ap (λ x. x ++ line_with f p) (sym (marks-with f ms)) ∙ sym (map-append (element_with f) (marks_line ms) p))
-      ∙ ap (λ x. fitting w o (prefixed (line_with f (marks_line ms ++ p)) (line_with f q) x)) (sym (marked_behind-with f ns ls))
-      ∙ ap (fitting w o) (sym (prefixed-with (marks_line ms ++ p) q (marked_behind ns ls)))
-      ∙ fitting-with w o (prefixed (marks_line ms ++ p) q (marked_behind ns ls))
+      if_with (option_map (lines_with f)) _ _ _ _ _ _ (ap (λ b. o || b) (within-with w ls)) refl refl
 
   mark_items-with : (ms : List M) → mark_items ms ≡ map (item_with f) (mark_items {T = T} ms)
   mark_items-with [] = refl
@@ -93,16 +87,14 @@ module _ {T U M : Type 0} (f : T → U) where
   abbrev pub open_row_with : OpenRow T M → OpenRow U M
   open_row_with r = record { ahead = r.ahead; cells = map (cell_with f) r.cells; placeholder = r.placeholder }
 
-  empty_cell-with : (width : Option ℕ) → map (cell_with f) (empty_cell {M = M} width) ≡ empty_cell width
-  empty_cell-with None = refl
-  empty_cell-with (Some width) = refl
-
   empty_cells-with : (ps : List RowPlace) → map (cell_with f) (empty_cells {M = M} ps) ≡ empty_cells ps
   empty_cells-with [] = refl
-  empty_cells-with (p ∷ ps) =
-      map-append (cell_with f) (empty_cell p.width) (empty_cells ps)
-      ∙ ap (λ cs. cs ++ map (cell_with f) (empty_cells ps)) (empty_cell-with p.width)
-      ∙ ap (λ cs. empty_cell p.width ++ cs) (empty_cells-with ps)
+  empty_cells-with (p ∷ ps) = by p.width (empty_cells-with ps)
+    where
+      by : (o : Option ℕ) → map (cell_with f) (empty_cells {M = M} ps) ≡ empty_cells ps →
+          map (cell_with f) (empty_cell {M = M} o ++ empty_cells ps) ≡ empty_cell o ++ empty_cells ps
+      by None h = h
+      by (Some width) h = let blank : KeptCell U M = record { width = width; lines = []; marks = [] } in ap (λ cs. blank ∷ cs) h
 
   past_cell-with : (r : OpenRow T M) (cell : List (KeptCell T M)) →
       past_cell (open_row_with r) (map (cell_with f) cell) ≡ open_row_with (past_cell r cell)
@@ -140,10 +132,6 @@ module _ {T M : Type 0} where
       by o None e s = tt
       by None (Some g) e s = cc
       by (Some q) (Some g) e s = ap (λ t. Some (start t g.waiting)) s
-
-  with_rows-push : (d : Drawing T M) (rows : List (TableRow T M)) (r : TableRow T M) → with_row (with_rows d rows) r ≡ with_rows d (rows ++ r ∷ [])
-  with_rows-push d [] r = refl
-  with_rows-push d (q ∷ rows) r = with_rows-push (with_row d q) rows r
 
 -- ---- under other tags
 
@@ -295,15 +283,18 @@ module _ {W T A V : Type 0} (shown : W → T → V) (seen : A → V) (Later : W 
         marked_behind-with (shown l) ms a ∙ ap (marked_behind ms) (k l x) ∙ sym (marked_behind-with seen ms b);
     rule = λ v w t u character one x l a. ap (λ z. z ∷ [])
         (repeated-with (shown l) t character v ∙ ap (λ z. repeated z character v) (x l a) ∙ sym (repeated-with seen u character v));
-    joined = λ v x w s r ms ns t u first later a b k y m.
-        subst (λ z. Both (Unit {0}) ⊥ (Lines v w) (joined s.width s.overflow ms (under t first) (under t later) a ns)
-        (joined z.width z.overflow ms (under u first) (under u later) b ns)) (sym k.1)
+    joined = λ v x w s r t u first later a b k y m.
+        subst (λ z. Both (Unit {0}) ⊥ (Lines v w) (fitting s.width s.overflow (prefixed (under t first) (under t later) a))
+        (fitting z.width z.overflow (prefixed (under u first) (under u later) b))) (sym k.1)
         (alike (λ l. lines_with (shown l)) (lines_with seen) w _ _ (λ l z.
-        sym (joined-with (shown l) s.width s.overflow ms (under t first) (under t later) a ns)
-        ∙ ap (λ i. joined s.width s.overflow ms i (line_with (shown l) (under t later)) (lines_with (shown l) a) ns) (under-seen w t u first y l z)
-        ∙ ap (λ i. joined s.width s.overflow ms (line_with seen (under u first)) i (lines_with (shown l) a) ns) (under-seen w t u later y l z)
-        ∙ ap (λ i. joined s.width s.overflow ms (line_with seen (under u first)) (line_with seen (under u later)) i ns) (m l z)
-        ∙ joined-with seen s.width s.overflow ms (under u first) (under u later) b ns));
+        sym (fitting-with (shown l) s.width s.overflow (prefixed (under t first) (under t later) a))
+        ∙ ap (fitting s.width s.overflow)
+        (prefixed-with (shown l) (under t first) (under t later) a
+        ∙ ap (λ i. prefixed i (line_with (shown l) (under t later)) (lines_with (shown l) a)) (under-seen w t u first y l z)
+        ∙ ap (λ i. prefixed (line_with seen (under u first)) i (lines_with (shown l) a)) (under-seen w t u later y l z)
+        ∙ ap (prefixed (line_with seen (under u first)) (line_with seen (under u later))) (m l z)
+        ∙ sym (prefixed-with seen (under u first) (under u later) b))
+        ∙ fitting-with seen s.width s.overflow (prefixed (under u first) (under u later) b)));
     start = λ v w s r k. (
       λ l a. ap (λ (z : BlockSetting). option_map (state_with seen) (paragraph_of (definition.start (paragraph_setting z) []))) (sym k.1),
       refl,
@@ -336,8 +327,8 @@ module _ {W T A V : Type 0} (shown : W → T → V) (seen : A → V) (Later : W 
         ∙ ap (with_row (drawing_with seen (drawing_of q)))
         (sym (whole_row-with (shown l) r) ∙ ap (λ z. whole_row z) (y l a) ∙ whole_row-with seen k)
         ∙ with_row-with seen (drawing_of q) (whole_row k)
-        ∙ ap (drawing_with seen) (with_rows-push (begun q.frame q.waiting) q.rows (whole_row k));
-    finished = λ v w widths p q k. (
+        ∙ ap (drawing_with seen) (sym (fold_push with_row (begun q.frame q.waiting) q.rows (whole_row k)));
+    drawn = λ v w widths p q k. (
       λ l a. ap (λ (z : List (Line V ℕ) × List ℕ). z.0) (pictures w p q k l a),
       sym (ap (λ (z : List (Line V ℕ) × List ℕ). z.1) (pictures w p q k w (stays w))),
     );
@@ -356,9 +347,9 @@ module _ {W T A V : Type 0} (shown : W → T → V) (seen : A → V) (Later : W 
       itself (Some x) = refl
 
       pictures : (w : W) (p : Drawing T ℕ) (q : Rows A ℕ) → Seen (λ l. drawing_with (shown l)) (λ q. drawing_with seen (drawing_of q)) w p q →
-          Seen (λ l p. drawn_with (shown l) (machine.pictures.finished p)) (λ q. drawn_with seen (definition.pictures.finished q)) w p q
+          Seen (λ l p. drawn_with (shown l) (machine.drawn p)) (λ q. drawn_with seen (definition.drawn q)) w p q
       pictures w p q k l a =
-          sym (picture-with (shown l) p) ∙ ap machine.pictures.finished (k l a) ∙ picture-with seen (drawing_of q)
+          sym (picture-with (shown l) p) ∙ ap machine.drawn (k l a) ∙ picture-with seen (drawing_of q)
           ∙ ap (drawn_with seen) (drawn_is q.frame q.waiting q.rows)
 
   text-seen : (v : ℕ) (w : W) (cut : Bool) (s r : BlockSetting) (t : T) (u : A) (cs : List ℕ) → Unit {0} → Settings v s r → Tags w t u →

@@ -6,7 +6,7 @@ use Rattle.html_render_parts.specs.TableCells.{CellGrid}
 use Rattle.html_render_blocks.specs.Operations.{Operations}
 
 -- what v counts in a block grows by what w counts in a text, and isn't less once blocks are joined
-pub record Counts {B T : Type 0} (v : B → ℕ) (w : List ℕ → ℕ) (o : Operations B T) : Type 0 where
+pub record Counts {B T : Type 0} (v : B → ℕ) (w : List ℕ → ℕ) (o : Operations B T ℕ) : Type 0 where
   pub add_inline_text : (b : B) (s : TextStyle T) (cs : List ℕ) → IfSome (o.add_inline_text b s cs) (λ c. v c ≡ v b + w cs)
   pub add_mark : (b : B) (m : ℕ) → v (o.add_mark b m) ≡ v b
   pub new_line : (b : B) → IfSome (o.new_line b) (λ c. v c ≡ v b)

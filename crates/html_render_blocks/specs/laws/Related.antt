@@ -3,9 +3,9 @@ use Rattle.std.proofs.Common.{◌≡◌, ℕ, Bool, true, false, not, cond, eqb,
 use Rattle.std.proofs.Common.{refl, sym, ap, ◌∙◌, subst, option_map, slice_index_or, arith}
 use Rattle.std.proofs.lemmas.Option.{same_Some}
 use Rattle.html_render_values.specs.declared.white_space.WhiteSpace.{WhiteSpace}
-use Rattle.html_render_lines.specs.Line.{Line}
+use Rattle.html_render_lines.specs.Line.{Line, is_empty}
 use Rattle.html_render_lines.specs.TaggedText.{under}
-use Rattle.html_render_paragraphs.specs.Paragraph.{Page, all_lines}
+use Rattle.html_render_paragraphs.specs.Paragraph.{all_lines}
 use Rattle.html_render_paragraphs.specs.Stream.{styled}
 use Rattle.html_render_parts.specs.declared.table.PlacedCell.{PlacedCell}
 use Rattle.html_render_parts.specs.declared.widths.shares.ColumnNeed.{ColumnNeed}
@@ -16,25 +16,25 @@ use Rattle.html_render_pictures.specs.Padding.{filled, repeated}
 use Rattle.html_render_pictures.specs.laws.Glyphs.{joint_width, slash_width}
 use Rattle.html_render_glyphs.specs.declared.borders.TheConstants.{BORDERS}
 use Rattle.html_render_lines.specs.Character.{width_of}
-use Rattle.html_render_pictures.specs.Picture.{is_empty}
+use Rattle.html_render_pictures.specs.Picture.{KeptCell}
 use Rattle.html_render_blocks.specs.declared.block.BlockSetting.{BlockSetting}
 use Rattle.html_render_blocks.specs.declared.block.tables.OpenTable.{OpenTable}
 use Rattle.html_render_blocks.specs.declared.block.tables.OpenTable.TheVariants.{Across, Stacked}
-use Rattle.html_render_blocks.specs.Block.{Block, paragraph_setting, is_blank, inner_width, mark_items, empty_block, add_page, flush, add_lines, unended}
-use Rattle.html_render_blocks.specs.Block.{start_block, feed, inner_block, append_lines, with_picture, end_open, end_table, add_border, stacked_begun}
-use Rattle.html_render_blocks.specs.Block.{with_table_begun, kept_cell, put_lines, put_below, put_stacked, cell_added, add_cell, row_ended, append, end_behind}
+use Rattle.html_render_blocks.specs.Block.{Block, paragraph_setting, is_blank, inner_width, mark_items, empty_block, flush, add_lines, unended}
+use Rattle.html_render_blocks.specs.Block.{start_block, feed, inner_block, put_lines, end_open, end_table, add_border, stacked_begun}
+use Rattle.html_render_blocks.specs.Block.{with_table_begun, put_stacked, cell_added, row_ended, append}
 use Rattle.html_render_blocks.specs.Block.{finish, add_closing_lines, operations, ending}
 use Rattle.html_render_blocks.specs.Closing.{line_setting, on_one_line, closing_lines}
 use Rattle.html_render_paragraphs.specs.CutText.{text_lines}
-use Rattle.html_render_blocks.specs.Joined.{joined}
+use Rattle.html_render_blocks.specs.Joined.{prefixed, fitting}
 use Rattle.html_render_blocks.specs.OpenRows.{OpenRow, open_row, next_width, past_cell, whole_row}
 use Rattle.html_render_blocks.specs.Parts.{Parts}
 use Rattle.html_render_blocks.specs.Operations.{Operations, DocumentEnd}
-use Rattle.html_render_blocks.specs.Tables.{frame_of, stacked_border, with_row_open, next_cell_width, skipped, with_open, with_ahead, picture_of}
+use Rattle.html_render_blocks.specs.Tables.{frame_of, with_row_open, next_cell_width, skipped, with_open, with_ahead}
 use Rattle.html_render_paragraphs.specs.laws.Answers.{Both, Both-then, Both-map, Both-weaken}
 
 -- each operation keeps blocks related; a block inside another has an i of its own. W is what tags stand for, and Later how that may go on
-pub record Relates {I W B C T U : Type 0} (o : Operations B T) (p : Operations C U) (N M : Type 0) (Later : W → W → Type 0)
+pub record Relates {I W B C T U : Type 0} (o : Operations B T ℕ) (p : Operations C U ℕ) (N M : Type 0) (Later : W → W → Type 0)
     (Tags : W → T → U → Type 0) (Blocks : I → W → B → C → Type 0) : Type 0 where
   pub add_inline_text : (i : I) (w : W) (mode : WhiteSpace) (t t' : T) (u u' : U) (cs : List ℕ) → Tags w t u → Tags w t' u' →
       (b : B) (c : C) → Blocks i w b c → Both N M (Blocks i w)
@@ -96,10 +96,9 @@ pub record RelatesParts {P R Q S T U W : Type 0} (from : Parts P R T ℕ) (to : 
       Lines v w (marked_behind ms a) (marked_behind ms b)
   pub rule : (v : ℕ) (w : W) (t : T) (u : U) (character : ℕ) → width_of character ≡ 1 → Tags w t u →
       Lines v w (repeated t character v ∷ []) (repeated u character v ∷ [])
-  pub joined : (v x : ℕ) (w : W) (s r : BlockSetting) (ms ns : List ℕ) (t : T) (u : U) (first later : List ℕ) (a : List (Line T ℕ))
-      (b : List (Line U ℕ)) → Settings v s r → Tags w t u → Lines x w a b →
-      Both N M (Lines v w) (joined s.width s.overflow ms (under t first) (under t later) a ns)
-      (joined r.width r.overflow ms (under u first) (under u later) b ns)
+  pub joined : (v x : ℕ) (w : W) (s r : BlockSetting) (t : T) (u : U) (first later : List ℕ) (a : List (Line T ℕ)) (b : List (Line U ℕ)) →
+      Settings v s r → Tags w t u → Lines x w a b → Both N M (Lines v w) (fitting s.width s.overflow (prefixed (under t first) (under t later) a))
+      (fitting r.width r.overflow (prefixed (under u first) (under u later) b))
   -- paragraphs
   pub start : (v : ℕ) (w : W) (s r : BlockSetting) → Settings v s r →
       Clear v w (from.start (paragraph_setting s) []) (to.start (paragraph_setting r) [])
@@ -118,11 +117,11 @@ pub record RelatesParts {P R Q S T U W : Type 0} (from : Parts P R T ℕ) (to : 
   -- pictures, and rows that are open
   pub begun : (v : ℕ) (w : W) (needs : List ColumnNeed) (widths : List ℕ) (borders : Bool) (t : T) (u : U) (ms : List ℕ) → Tags w t u →
       widths_across v needs ≡ Some widths →
-      Pictures v w widths (from.pictures.begun (frame_of t borders widths) ms) (to.pictures.begun (frame_of u borders widths) ms)
+      Pictures v w widths (from.begun (frame_of t borders widths) ms) (to.begun (frame_of u borders widths) ms)
   pub with_row : (v : ℕ) (w : W) (widths : List ℕ) (p : R) (q : S) (r : OpenRow T ℕ) (k : OpenRow U ℕ) → Pictures v w widths p q → Rows v w r k →
-      Pictures v w widths (from.pictures.with_row p (whole_row r)) (to.pictures.with_row q (whole_row k))
-  pub finished : (v : ℕ) (w : W) (widths : List ℕ) (p : R) (q : S) → Pictures v w widths p q →
-      Lines v w (from.pictures.finished p).0 (to.pictures.finished q).0 × ((to.pictures.finished q).1 ≡ (from.pictures.finished p).1)
+      Pictures v w widths (from.with_row p (whole_row r)) (to.with_row q (whole_row k))
+  pub drawn : (v : ℕ) (w : W) (widths : List ℕ) (p : R) (q : S) → Pictures v w widths p q →
+      Lines v w (from.drawn p).0 (to.drawn q).0 × ((to.drawn q).1 ≡ (from.drawn p).1)
   pub opened : (v : ℕ) (w : W) (widths : List ℕ) (p : R) (q : S) (cells : List PlacedCell) → Pictures v w widths p q →
       Rows v w (open_row widths cells) (open_row widths cells)
   pub ahead : (v : ℕ) (w : W) (r : OpenRow T ℕ) (k : OpenRow U ℕ) → Rows v w r k → k.ahead ≡ r.ahead
@@ -186,60 +185,35 @@ module _ {P R Q S T U W : Type 0} (from : Parts P R T ℕ) (to : Parts Q S U ℕ
   either E true a b c d k l = k
   either E false a b c d k l = l
 
+  -- blocks with other lines, another paragraph and another table
+  rebuilt : (v : ℕ) (w : W) (b : First) (c : Second) (a : List (Line T ℕ)) (e : List (Line U ℕ)) (p : P) (q : Q) (z y : Bool)
+      (o : Option (OpenTable R T ℕ)) (n : Option (OpenTable S U ℕ)) → Related v w b c → Lines v w a e → Paragraphs v w p q → y ≡ z → Tables v w o n →
+      Related v w (record b { lines = a; paragraph = p; at_block_end = z; table = o }) (record c { lines = e; paragraph = q; at_block_end = y; table = n })
+  rebuilt v w b c a e p q z y o n k l x same t =
+      record { settings = k.settings; padding = k.padding; lines = l; paragraph = x; at_block_end = same; table = t }
+
   with_table : (v : ℕ) (w : W) (b : First) (c : Second) (o : Option (OpenTable R T ℕ)) (p : Option (OpenTable S U ℕ)) → Related v w b c →
       Tables v w o p → Related v w (record b { table = o }) (record c { table = p })
-  with_table v w b c o p k t = record {
-    settings = k.settings;
-    padding = k.padding;
-    lines = k.lines;
-    paragraph = k.paragraph;
-    at_block_end = k.at_block_end;
-    table = t;
-  }
+  with_table v w b c o p k t = rebuilt v w b c _ _ _ _ _ _ _ _ k k.lines k.paragraph k.at_block_end t
 
   with_end : (v : ℕ) (w : W) (b : First) (c : Second) (z : Bool) → Related v w b c →
       Related v w (record b { at_block_end = z }) (record c { at_block_end = z })
-  with_end v w b c z k = record {
-    settings = k.settings;
-    padding = k.padding;
-    lines = k.lines;
-    paragraph = k.paragraph;
-    at_block_end = refl;
-    table = k.table;
-  }
+  with_end v w b c z k = rebuilt v w b c _ _ _ _ _ _ _ _ k k.lines k.paragraph refl k.table
 
   with_paragraph : (v : ℕ) (w : W) (b : First) (c : Second) (p : P) (q : Q) → Related v w b c → Paragraphs v w p q →
       Related v w (record b { paragraph = p }) (record c { paragraph = q })
-  with_paragraph v w b c p q k x = record {
-    settings = k.settings;
-    padding = k.padding;
-    lines = k.lines;
-    paragraph = x;
-    at_block_end = k.at_block_end;
-    table = k.table;
-  }
+  with_paragraph v w b c p q k x = rebuilt v w b c _ _ _ _ _ _ _ _ k k.lines x k.at_block_end k.table
 
   -- other lines, and a paragraph to which nothing is fed
   with_lines : (v : ℕ) (w : W) (b : First) (c : Second) (a : List (Line T ℕ)) (e : List (Line U ℕ)) (p : P) (q : Q) → Related v w b c →
       Lines v w a e → Clear v w p q → Flushed v w (record b { lines = a; paragraph = p }) (record c { lines = e; paragraph = q })
-  with_lines v w b c a e p q k l x = (
-    record {
-      settings = k.settings;
-      padding = k.padding;
-      lines = l;
-      paragraph = h.clear v w p q x;
-      at_block_end = k.at_block_end;
-      table = k.table;
-    },
-    x,
-  )
+  with_lines v w b c a e p q k l x = (rebuilt v w b c _ _ _ _ _ _ _ _ k l (h.clear v w p q x) k.at_block_end k.table, x)
 
   -- ---- flushed blocks
 
   pub flush-related : (v : ℕ) (w : W) (b : First) (c : Second) → Related v w b c → Both N M (Flushed v w) (flush from b) (flush to c)
   flush-related v w b c k =
-      Both-map N M _ (Flushed v w) (λ (g : Page T ℕ). add_page from b g) (λ (g : Page U ℕ). add_page to c g) (from.finish b.paragraph)
-      (to.finish c.paragraph)
+      Both-map N M _ (Flushed v w) _ _ (from.finish b.paragraph) (to.finish c.paragraph)
       (h.page v w b.setting c.setting b.padding c.padding b.paragraph c.paragraph k.settings k.padding k.paragraph) (λ g e m.
       with_lines v w b c _ _ _ _ k (h.behind v w b.lines _ c.lines _ k.lines m.0) m.1)
 
@@ -320,16 +294,19 @@ module _ {P R Q S T U W : Type 0} (from : Parts P R T ℕ) (to : Parts Q S U ℕ
 
   -- ---- blocks in blocks
 
+  pub empty-related : (v : ℕ) (w : W) (s r : BlockSetting) (padding : Option T) (other : Option U) → Settings v s r → OptionTags Tags w padding other →
+      Related v w (empty_block from s padding) (empty_block to r other)
+  empty-related v w s r padding other k x = record {
+    settings = k;
+    padding = x;
+    lines = h.none v w;
+    paragraph = h.clear v w _ _ (h.start v w s r k);
+    at_block_end = refl;
+    table = refl;
+  }
+
   inner_block-related : (v x : ℕ) (w : W) (b : First) (c : Second) → Related v w b c → Related x w (inner_block from b x) (inner_block to c x)
-  inner_block-related v x w b c k =
-      let s = h.inner v x b.setting c.setting k.settings in record {
-        settings = s;
-        padding = k.padding;
-        lines = h.none x w;
-        paragraph = h.clear x w _ _ (h.start x w (record b.setting { width = x }) (record c.setting { width = x }) s);
-        at_block_end = refl;
-        table = refl;
-      }
+  inner_block-related v x w b c k = empty-related x w _ _ b.padding c.padding (h.inner v x b.setting c.setting k.settings) k.padding
 
   sub_block-related : (v : ℕ) (w : W) (prefix least : ℕ) (b : First) (c : Second) → Related v w b c →
       Both N M (λ e f. (x : ℕ) × Related x w e f) ((operations from).sub_block b prefix least) ((operations to).sub_block c prefix least)
@@ -338,62 +315,48 @@ module _ {P R Q S T U W : Type 0} (from : Parts P R T ℕ) (to : Parts Q S U ℕ
       (h.inner_width v b.setting c.setting prefix least k.settings) (λ x y e.
       (x, subst (λ z. Related x w (inner_block from b x) (inner_block to c z)) e (inner_block-related v x w b c k)))
 
-  append_lines-related : (v x : ℕ) (w : W) (t : T) (u : U) (first later : List ℕ) → Tags w t u → (b : First) (c : Second) → Flushed v w b c →
-      (a : List (Line T ℕ)) (e : List (Line U ℕ)) (ms : List ℕ) → Lines x w a e →
-      Both N M (Related v w) (append_lines from b (under t first) (under t later) a ms) (append_lines to c (under u first) (under u later) e ms)
-  append_lines-related v x w t u first later y b c k [] [] ms l = marks-related v w b c ms k.0
-  append_lines-related v x w t u first later y b c k [] (e ∷ others) ms l = absurd (let n = h.count x w [] (e ∷ others) l in omega arith)
-  append_lines-related v x w t u first later y b c k (a ∷ rest) [] ms l = absurd (let n = h.count x w (a ∷ rest) [] l in omega arith)
-  append_lines-related v x w t u first later y b c k (a ∷ rest) (e ∷ others) ms l =
-      Both-map N M (Lines v w) (Related v w) _ _ _ _
-      (subst (λ ns. Both N M (Lines v w)
-      (joined b.setting.width b.setting.overflow (from.waiting b.paragraph) (under t first) (under t later) (a ∷ rest) ms)
-      (joined c.setting.width c.setting.overflow ns (under u first) (under u later) (e ∷ others) ms)) (sym (h.waiting v w b.paragraph c.paragraph k.1))
-      (h.joined v x w b.setting c.setting (from.waiting b.paragraph) ms t u first later (a ∷ rest) (e ∷ others) k.0.settings y l))
-      (λ all other m. (with_lines v w b c _ _ _ _ k.0 (h.behind v w b.lines all c.lines other k.0.lines m)
-      (h.without v w b.paragraph c.paragraph k.1)).0)
+  put_lines-related : (v : ℕ) (w : W) (a : List (Line T ℕ)) (e : List (Line U ℕ)) (ms ns : List ℕ) → ns ≡ ms → Lines v w a e →
+      (b : First) (c : Second) → Flushed v w b c → Related v w (put_lines from b a ms) (put_lines to c e ns)
+  put_lines-related v w a e ms ns same l b c k = subst (λ xs. Related v w (put_lines from b a ms) (put_lines to c e xs)) (sym same) (by a e l)
+    where
+      by : (a : List (Line T ℕ)) (e : List (Line U ℕ)) → Lines v w a e → Related v w (put_lines from b a ms) (put_lines to c e ms)
+      by [] [] l = marks-related v w b c ms k.0
+      by [] (e ∷ others) l = absurd (let n = h.count v w [] (e ∷ others) l in omega arith)
+      by (a ∷ rest) [] l = absurd (let n = h.count v w (a ∷ rest) [] l in omega arith)
+      by (a ∷ rest) (e ∷ others) l = (add_lines-related v w b c _ _ k (h.behind_marks v w ms (a ∷ rest) (e ∷ others) l)).0
 
   -- ---- tables
 
   -- rows in which no cell begins
   with_ahead-related : (v : ℕ) (w : W) (widths : List ℕ) (ahead : List (List PlacedCell)) (p : R) (q : S) → Pictures v w widths p q →
-      Pictures v w widths (with_ahead from.pictures widths ahead p) (with_ahead to.pictures widths ahead q)
+      Pictures v w widths (with_ahead from widths ahead p) (with_ahead to widths ahead q)
   with_ahead-related v w widths [] p q k = k
   with_ahead-related v w widths (cells ∷ rest) p q k =
       with_ahead-related v w widths rest _ _
       (h.with_row v w widths p q (open_row widths cells) (open_row widths cells) k (h.opened v w widths p q cells k))
 
   with_open-related : (v : ℕ) (w : W) (widths : List ℕ) (p : R) (q : S) (row : Option (OpenRow T ℕ)) (other : Option (OpenRow U ℕ)) →
-      Pictures v w widths p q → OpenRows v w row other → Pictures v w widths (with_open from.pictures p row) (with_open to.pictures q other)
+      Pictures v w widths p q → OpenRows v w row other → Pictures v w widths (with_open from p row) (with_open to q other)
   with_open-related v w widths p q None other k o =
-      subst (λ z. Pictures v w widths p (with_open to.pictures q z)) (sym o) k
+      subst (λ z. Pictures v w widths p (with_open to q z)) (sym o) k
   with_open-related v w widths p q (Some r) other k o =
-      subst (λ z. Pictures v w widths (with_open from.pictures p (Some r)) (with_open to.pictures q z)) (sym o.1.0)
+      subst (λ z. Pictures v w widths (with_open from p (Some r)) (with_open to q z)) (sym o.1.0)
       (h.with_row v w widths p q r o.0 k o.1.1)
-
-  with_picture-related : (v : ℕ) (w : W) (b : First) (c : Second) (a : List (Line T ℕ)) (e : List (Line U ℕ)) (ms : List ℕ) → Related v w b c →
-      Lines v w a e → Related v w (with_picture from b (a, ms)) (with_picture to c (e, ms))
-  with_picture-related v w b c a e ms k l =
-      marks-related v w (record b { lines = b.lines ++ a; table = None }) (record c { lines = c.lines ++ e; table = None }) ms (record {
-        settings = k.settings;
-        padding = k.padding;
-        lines = h.behind v w b.lines a c.lines e k.lines l;
-        paragraph = k.paragraph;
-        at_block_end = k.at_block_end;
-        table = refl;
-      })
 
   end_open-related : (v : ℕ) (w : W) (b : First) (c : Second) (o : Option (OpenTable R T ℕ)) (p : Option (OpenTable S U ℕ)) → Related v w b c →
       Tables v w o p → Related v w (end_open from b o) (end_open to c p)
   end_open-related v w b c None p k t = subst (λ z. Related v w b (end_open to c z)) (sym t) k
   end_open-related v w b c (Some (Across picture widths ahead row)) p k t =
-      let done = h.finished v w widths _ _ (with_ahead-related v w widths ahead _ _
+      let done = h.drawn v w widths _ _ (with_ahead-related v w widths ahead _ _
       (with_open-related v w widths picture t.other row t.other_row t.pictures t.rows)) in
-      let own = picture_of from.pictures picture widths ahead row in
-      let other = picture_of to.pictures t.other widths ahead t.other_row in
-      subst (λ z. Related v w (with_picture from b own) (end_open to c z)) (sym t.is)
-      (subst (λ ms. Related v w (with_picture from b own) (with_picture to c (other.0, ms))) (sym done.1)
-      (with_picture-related v w b c own.0 other.0 own.1 k done.0))
+      let own = from.drawn (with_ahead from widths ahead (with_open from picture row)) in
+      let other = to.drawn (with_ahead to widths ahead (with_open to t.other t.other_row)) in
+      let before : First = record b { lines = b.lines ++ own.0; table = None } in
+      let other_before : Second = record c { lines = c.lines ++ other.0; table = None } in
+      subst (λ z. Related v w (feed from before (mark_items own.1)) (end_open to c z)) (sym t.is)
+      (subst (λ ms. Related v w (feed from before (mark_items own.1)) (feed to other_before (mark_items ms))) (sym done.1)
+      (marks-related v w before other_before own.1
+      (rebuilt v w b c _ _ _ _ _ _ _ _ k (h.behind v w b.lines own.0 c.lines other.0 k.lines done.0) k.paragraph k.at_block_end refl)))
   end_open-related v w b c (Some (Stacked border has_lines)) p k t =
       subst (λ z. Related v w (record b { table = None }) (end_open to c z)) (sym t.is) (with_table v w b c None None k refl)
 
@@ -410,12 +373,13 @@ module _ {P R Q S T U W : Type 0} (from : Parts P R T ℕ) (to : Parts Q S U ℕ
   append-related v x w t u first later y b c k e f l =
       Both-then N M weak (Flushed v w) (Related v w) _ _ (flush from b) (flush to c) (flush-related v w b c k) (λ d g m.
       Both-then N M weak (Flushed x w) (Related v w)
-      (λ e. append_lines from d (under t first) (under t later) e.lines (from.waiting e.paragraph))
-      (λ f. append_lines to g (under u first) (under u later) f.lines (to.waiting f.paragraph))
+      (λ e. option_map (λ ls. put_lines from d ls (from.waiting e.paragraph))
+      (fitting d.setting.width d.setting.overflow (prefixed (under t first) (under t later) e.lines)))
+      (λ f. option_map (λ ls. put_lines to g ls (to.waiting f.paragraph))
+      (fitting g.setting.width g.setting.overflow (prefixed (under u first) (under u later) f.lines)))
       (flush from (end_table from e)) (flush to (end_table to f)) (ended_flush x w e f l) (λ a i n.
-      subst (λ ms. Both N M (Related v w) (append_lines from d (under t first) (under t later) a.lines (from.waiting a.paragraph))
-      (append_lines to g (under u first) (under u later) i.lines ms)) (sym (h.waiting x w a.paragraph i.paragraph n.1))
-      (append_lines-related v x w t u first later y d g m a.lines i.lines (from.waiting a.paragraph) n.0.lines)))
+      Both-map N M (Lines v w) (Related v w) _ _ _ _ (h.joined v x w d.setting g.setting t u first later a.lines i.lines m.0.settings y n.0.lines)
+      (λ p q o. put_lines-related v w p q _ _ (h.waiting x w a.paragraph i.paragraph n.1) o d g m)))
 
   -- a border of one character
   add_border-related : (v : ℕ) (w : W) (character : ℕ) → width_of character ≡ 1 →
@@ -437,7 +401,7 @@ module _ {P R Q S T U W : Type 0} (from : Parts P R T ℕ) (to : Parts Q S U ℕ
       (record { other = other; is = refl; borders = x })
 
   borders-related : (w : W) (t : T) (u : U) (borders : Bool) (n : ℕ) → Tags w t u →
-      OptionTags Tags w (stacked_border t borders n) (stacked_border u borders n)
+      OptionTags Tags w (cond (borders && not (n == 0)) (Some t) None) (cond (borders && not (n == 0)) (Some u) None)
   borders-related w t u borders n x = by (borders && not (n == 0))
     where
       by : (z : Bool) → OptionTags Tags w (cond z (Some t) None) (cond z (Some u) None)
@@ -449,27 +413,22 @@ module _ {P R Q S T U W : Type 0} (from : Parts P R T ℕ) (to : Parts Q S U ℕ
       Related v w (with_table_begun from b t borders ahead o) (with_table_begun to c u borders ahead o)
   with_table_begun-related v w t u borders needs ahead x b c k None is =
       let wide = h.width v b.setting c.setting k.0.settings in
-      stacked_begun-related v w (stacked_border t borders b.setting.width) (stacked_border u borders c.setting.width)
-      (subst (λ n. OptionTags Tags w (stacked_border t borders b.setting.width) (stacked_border u borders n)) (wide.0 ∙ sym wide.1)
+      let own = cond (borders && not (b.setting.width == 0)) (Some t) None in
+      stacked_begun-related v w own (cond (borders && not (c.setting.width == 0)) (Some u) None)
+      (subst (λ n. OptionTags Tags w own (cond (borders && not (n == 0)) (Some u) None)) (wide.0 ∙ sym wide.1)
       (borders-related w t u borders b.setting.width x)) b c k
   with_table_begun-related v w t u borders needs ahead x b c k (Some widths) is =
       let q = h.without v w b.paragraph c.paragraph k.1 in
-      let picture = from.pictures.begun (frame_of t borders widths) (from.waiting b.paragraph) in
-      let other = to.pictures.begun (frame_of u borders widths) (to.waiting c.paragraph) in record {
-        settings = k.0.settings;
-        padding = k.0.padding;
-        lines = k.0.lines;
-        paragraph = h.clear v w _ _ q;
-        at_block_end = k.0.at_block_end;
-        table = record {
-          other = other;
-          other_row = None;
-          is = refl;
-          pictures = subst (λ ms. Pictures v w widths picture (to.pictures.begun (frame_of u borders widths) ms))
-              (sym (h.waiting v w b.paragraph c.paragraph k.1)) (h.begun v w needs widths borders t u (from.waiting b.paragraph) x (is widths refl));
-          rows = refl;
-        };
-      }
+      let picture = from.begun (frame_of t borders widths) (from.waiting b.paragraph) in
+      let other = to.begun (frame_of u borders widths) (to.waiting c.paragraph) in
+      rebuilt v w b c _ _ _ _ _ _ _ _ k.0 k.0.lines (h.clear v w _ _ q) k.0.at_block_end (record {
+        other = other;
+        other_row = None;
+        is = refl;
+        pictures = subst (λ ms. Pictures v w widths picture (to.begun (frame_of u borders widths) ms))
+            (sym (h.waiting v w b.paragraph c.paragraph k.1)) (h.begun v w needs widths borders t u (from.waiting b.paragraph) x (is widths refl));
+        rows = refl;
+      })
 
   begin_table-related : (v : ℕ) (w : W) (t : T) (u : U) (borders stacked : Bool) (grid : CellGrid) (needs : List ColumnNeed) → Tags w t u →
       (b : First) (c : Second) → Related v w b c →
@@ -531,37 +490,29 @@ module _ {P R Q S T U W : Type 0} (from : Parts P R T ℕ) (to : Parts Q S U ℕ
   skipped-related v w (Some (Stacked border has_lines)) p t =
       record { other = t.other; is = ap (option_map skipped) t.is; borders = t.borders }
 
-  put_lines-related : (v : ℕ) (w : W) (a : List (Line T ℕ)) (e : List (Line U ℕ)) (ms : List ℕ) → Lines v w a e → (b : First) (c : Second) →
-      Flushed v w b c → Related v w (put_lines from b a ms) (put_lines to c e ms)
-  put_lines-related v w [] [] ms l b c k = marks-related v w b c ms k.0
-  put_lines-related v w [] (e ∷ others) ms l b c k = absurd (let n = h.count v w [] (e ∷ others) l in omega arith)
-  put_lines-related v w (a ∷ rest) [] ms l b c k = absurd (let n = h.count v w (a ∷ rest) [] l in omega arith)
-  put_lines-related v w (a ∷ rest) (e ∷ others) ms l b c k =
-      (add_lines-related v w b c _ _ k (h.behind_marks v w ms (a ∷ rest) (e ∷ others) l)).0
-
-  put_below-related : (v : ℕ) (w : W) (e : First) (f : Second) → Flushed v w e f → (b : First) (c : Second) → Flushed v w b c →
-      Related v w (put_below from b e) (put_below to c f)
-  put_below-related v w e f l b c k =
-      subst (λ ms. Related v w (put_below from b e) (put_lines to c f.lines ms)) (sym (h.waiting v w e.paragraph f.paragraph l.1))
-      (put_lines-related v w e.lines f.lines (from.waiting e.paragraph) l.0.lines b c k)
-
   put_stacked-related : (v : ℕ) (w : W) (border : Option T) (other : Option U) (has_lines more : Bool) → OptionTags Tags w border other →
       (e : First) (f : Second) → Flushed v w e f → (b : First) (c : Second) → Flushed v w b c →
       Related v w (put_stacked from b border has_lines more e) (put_stacked to c other has_lines more f)
   put_stacked-related v w border other has_lines more x e f l b c k =
       with_table v w _ _ _ _ (by (has_lines && more)) (record { other = other; is = refl; borders = x })
     where
-      by : (z : Bool) → Related v w (put_below from (cond z (add_border from b border BORDERS.slash) b) e)
-          (put_below to (cond z (add_border to c other BORDERS.slash) c) f)
-      by true = put_below-related v w e f l _ _ (add_border-related v w BORDERS.slash slash_width border other x b c k)
-      by false = put_below-related v w e f l b c k
+      put : (b : First) (c : Second) → Flushed v w b c →
+          Related v w (put_lines from b e.lines (from.waiting e.paragraph)) (put_lines to c f.lines (to.waiting f.paragraph))
+      put = put_lines-related v w e.lines f.lines _ _ (h.waiting v w e.paragraph f.paragraph l.1) l.0.lines
+
+      by : (z : Bool) → Related v w (put_lines from (cond z (add_border from b border BORDERS.slash) b) e.lines (from.waiting e.paragraph))
+          (put_lines to (cond z (add_border to c other BORDERS.slash) c) f.lines (to.waiting f.paragraph))
+      by true = put _ _ (add_border-related v w BORDERS.slash slash_width border other x b c k)
+      by false = put b c k
 
   -- a cell of x columns that stands below the block's lines
   below : (v x : ℕ) (w : W) (b : First) (c : Second) → Related v w b c → (e : First) (f : Second) → Flushed x w e f → Some v ≡ Some x →
-      Both N M (Related v w) (option_map (λ d. put_below from d e) (flush from b)) (option_map (λ d. put_below to d f) (flush to c))
+      Both N M (Related v w) (option_map (λ d. put_lines from d e.lines (from.waiting e.paragraph)) (flush from b))
+      (option_map (λ d. put_lines to d f.lines (to.waiting f.paragraph)) (flush to c))
   below v x w b c k e f l n =
-      Both-map N M (Flushed v w) (Related v w) _ _ (flush from b) (flush to c) (flush-related v w b c k) (λ d g m.
-      put_below-related v w e f (subst (λ y. Flushed y w e f) (sym (same_Some v x n)) l) d g m)
+      let m : Flushed v w e f = subst (λ y. Flushed y w e f) (sym (same_Some v x n)) l in
+      Both-map N M (Flushed v w) (Related v w) _ _ (flush from b) (flush to c) (flush-related v w b c k)
+      (put_lines-related v w e.lines f.lines _ _ (h.waiting v w e.paragraph f.paragraph m.1) m.0.lines)
 
   -- a cell of x columns, in its place
   cell_added-related : (v x : ℕ) (w : W) (b : First) (c : Second) → Related v w b c → (e : First) (f : Second) → Flushed x w e f →
@@ -570,23 +521,24 @@ module _ {P R Q S T U W : Type 0} (from : Parts P R T ℕ) (to : Parts Q S U ℕ
   cell_added-related v x w b c k e f l None p t n =
       subst (λ z. Both N M (Related v w) (cell_added from b None e) (cell_added to c z f)) (sym t) (below v x w b c k e f l n)
   cell_added-related v x w b c k e f l (Some (Across picture widths ahead None)) p t n =
-      subst (λ z. Both N M (Related v w) (option_map (λ d. put_below from d e) (flush from b)) (cell_added to c z f))
+      subst (λ z. Both N M (Related v w) (cell_added from b None e) (cell_added to c z f))
       (sym (t.is ∙ ap (λ r. Some (Across t.other widths ahead r)) t.rows)) (below v x w b c k e f l n)
   cell_added-related v x w b c k e f l (Some (Across picture widths ahead (Some row))) p t n =
       let r = t.rows.0 in
       let wide = h.width x e.setting f.setting l.0.settings in
+      let kept : KeptCell U ℕ = record { width = f.setting.width; lines = f.lines; marks = to.waiting f.paragraph } in
       subst (λ z. Both N M (Related v w) (cell_added from b (Some (Across picture widths ahead (Some row))) e) (cell_added to c z f))
       (sym (t.is ∙ ap (λ r. Some (Across t.other widths ahead r)) t.rows.1.0))
       (with_table v w b c _ _ k (record {
         other = t.other;
-        other_row = Some (past_cell r (kept_cell to f ∷ []));
+        other_row = Some (past_cell r (kept ∷ []));
         is = refl;
         pictures = t.pictures;
         rows = (
-          past_cell r (kept_cell to f ∷ []),
+          past_cell r (kept ∷ []),
           (
             refl,
-            subst (λ n. Rows v w (past_cell row (record { width = n; lines = e.lines; marks = from.waiting e.paragraph } ∷ [])) (past_cell r (kept_cell to f ∷ [])))
+            subst (λ n. Rows v w (past_cell row (record { width = n; lines = e.lines; marks = from.waiting e.paragraph } ∷ [])) (past_cell r (kept ∷ [])))
                 (sym wide.0)
                 (subst (λ n. Rows v w (past_cell row (record { width = x; lines = e.lines; marks = from.waiting e.paragraph } ∷ []))
                 (past_cell r (record { width = n; lines = f.lines; marks = to.waiting f.paragraph } ∷ []))) (sym wide.1)
@@ -607,7 +559,7 @@ module _ {P R Q S T U W : Type 0} (from : Parts P R T ℕ) (to : Parts Q S U ℕ
       put_stacked-related v w border t.other has_lines (not (is_empty e.lines)) t.borders e f m d g y)))
 
   add_cell-related : (v x : ℕ) (w : W) (b : First) (c : Second) → Related v w b c → (e : First) (f : Second) → Related x w e f →
-      next_cell_width v b.table ≡ Some x → Both N M (Related v w) (add_cell from b e) (add_cell to c f)
+      next_cell_width v b.table ≡ Some x → Both N M (Related v w) ((operations from).add_cell b e) ((operations to).add_cell c f)
   add_cell-related v x w b c k e f l n =
       Both-then N M weak (Flushed x w) (Related v w) _ _ (flush from (end_table from e)) (flush to (end_table to f)) (ended_flush x w e f l)
       (λ d g m. cell_added-related v x w b c k d g m b.table c.table k.table n)
@@ -624,7 +576,7 @@ module _ {P R Q S T U W : Type 0} (from : Parts P R T ℕ) (to : Parts Q S U ℕ
 
   cell-related : (v : ℕ) (w : W) (b : First) (c : Second) → Related v w b c →
       Both (Unit {0}) ⊥ (λ e f. (j : ℕ) × (Related j w e f × ((z : W) → Later w z → Related v z b c →
-      (e : First) (f : Second) → Related j z e f → Both N M (Related v z) (add_cell from b e) (add_cell to c f))))
+      (e : First) (f : Second) → Related j z e f → Both N M (Related v z) ((operations from).add_cell b e) ((operations to).add_cell c f))))
       ((operations from).cell_block b) ((operations to).cell_block c)
   cell-related v w b c k =
       let wide = h.width v b.setting c.setting k.settings in
@@ -636,7 +588,7 @@ module _ {P R Q S T U W : Type 0} (from : Parts P R T ℕ) (to : Parts Q S U ℕ
     where
       Inner : First → Second → Type 0
       Inner e f = (j : ℕ) × (Related j w e f × ((z : W) → Later w z → Related v z b c →
-          (e : First) (f : Second) → Related j z e f → Both N M (Related v z) (add_cell from b e) (add_cell to c f)))
+          (e : First) (f : Second) → Related j z e f → Both N M (Related v z) ((operations from).add_cell b e) ((operations to).add_cell c f)))
 
       by : (o : Option ℕ) → next_cell_width v b.table ≡ o →
           Both (Unit {0}) ⊥ Inner (option_map (λ x. inner_block from b x) o) (option_map (λ x. inner_block to c x) o)
@@ -649,7 +601,7 @@ module _ {P R Q S T U W : Type 0} (from : Parts P R T ℕ) (to : Parts Q S U ℕ
   row_ended-related v w b c k (Some (Across picture widths ahead row)) p t =
       subst (λ z. Both N M (Related v w) (row_ended from b (Some (Across picture widths ahead row))) (row_ended to c z)) (sym t.is)
       (with_table v w b c _ _ k (record {
-        other = with_open to.pictures t.other t.other_row;
+        other = with_open to t.other t.other_row;
         other_row = None;
         is = refl;
         pictures = with_open-related v w widths picture t.other row t.other_row t.pictures t.rows;
@@ -683,21 +635,30 @@ module _ {P R Q S T U W : Type 0} (from : Parts P R T ℕ) (to : Parts Q S U ℕ
 
   -- ---- a document's end
 
-  end_behind-related : (v : ℕ) (w : W) (b : First) (c : Second) → Flushed v w b c → (a : List (Line T ℕ)) (e : List (Line U ℕ)) → Lines v w a e →
-      Related v w (end_behind from b a) (end_behind to c e)
-  end_behind-related v w b c k [] [] l = k.0
-  end_behind-related v w b c k [] (e ∷ others) l = absurd (let n = h.count v w [] (e ∷ others) l in omega arith)
-  end_behind-related v w b c k (a ∷ rest) [] l = absurd (let n = h.count v w (a ∷ rest) [] l in omega arith)
-  end_behind-related v w b c k (a ∷ rest) (e ∷ others) l =
-      (with_lines v w b c _ _ _ _ k.0
-      (subst (λ ms. Lines v w (marked_behind (from.waiting b.paragraph) (a ∷ rest)) (marked_behind ms (e ∷ others)))
-      (sym (h.waiting v w b.paragraph c.paragraph k.1)) (h.behind_marks v w (from.waiting b.paragraph) (a ∷ rest) (e ∷ others) l))
-      (h.without v w b.paragraph c.paragraph k.1)).0
+  ended-related : (v : ℕ) (w : W) (b : First) (c : Second) → Flushed v w b c → Related v w
+      (cond (is_empty b.lines) b (record b { lines = marked_behind (from.waiting b.paragraph) b.lines; paragraph = from.without_waiting b.paragraph }))
+      (cond (is_empty c.lines) c (record c { lines = marked_behind (to.waiting c.paragraph) c.lines; paragraph = to.without_waiting c.paragraph }))
+  ended-related v w b c k =
+      subst (λ n. Related v w (cond (is_empty b.lines) b own) (cond (n == 0) c other)) (sym (counted v w b c k.0)) (by (is_empty b.lines))
+    where
+      own : First
+      own = record b { lines = marked_behind (from.waiting b.paragraph) b.lines; paragraph = from.without_waiting b.paragraph }
+
+      other : Second
+      other = record c { lines = marked_behind (to.waiting c.paragraph) c.lines; paragraph = to.without_waiting c.paragraph }
+
+      by : (z : Bool) → Related v w (cond z b own) (cond z c other)
+      by true = k.0
+      by false =
+          (with_lines v w b c _ _ _ _ k.0
+          (subst (λ ms. Lines v w (marked_behind (from.waiting b.paragraph) b.lines) (marked_behind ms c.lines))
+          (sym (h.waiting v w b.paragraph c.paragraph k.1)) (h.behind_marks v w (from.waiting b.paragraph) b.lines c.lines k.0.lines))
+          (h.without v w b.paragraph c.paragraph k.1)).0
 
   pub finish-related : (v : ℕ) (w : W) (b : First) (c : Second) → Related v w b c → Both N M (Related v w) (finish from b) (finish to c)
   finish-related v w b c k =
-      Both-map N M (Flushed v w) (Related v w) _ _ (flush from (end_table from b)) (flush to (end_table to c)) (ended_flush v w b c k) (λ e f m.
-      end_behind-related v w e f m e.lines f.lines m.0.lines)
+      Both-map N M (Flushed v w) (Related v w) _ _ (flush from (end_table from b)) (flush to (end_table to c)) (ended_flush v w b c k)
+      (ended-related v w)
 
   -- closing lines, where the lines of each text are related
   module _ (Cut : Bool → Type 0) (text : (v : ℕ) (w : W) (cut : Bool) (s r : BlockSetting) (t : T) (u : U) (cs : List ℕ) → Cut cut → Settings v s r →
@@ -724,18 +685,7 @@ module _ {P R Q S T U W : Type 0} (from : Parts P R T ℕ) (to : Parts Q S U ℕ
     pub ends-related : RelatesEnds (ending from) (ending to) N M Cut Tags (λ v w b c. Related v w b c)
     ends-related = record { finish = finish-related; add_closing_lines = closing-related }
 
-  -- ---- an empty block, and what tags stand for later
-
-  pub empty-related : (v : ℕ) (w : W) (s r : BlockSetting) (padding : Option T) (other : Option U) → Settings v s r → OptionTags Tags w padding other →
-      Related v w (empty_block from s padding) (empty_block to r other)
-  empty-related v w s r padding other k x = record {
-    settings = k;
-    padding = x;
-    lines = h.none v w;
-    paragraph = h.clear v w _ _ (h.start v w s r k);
-    at_block_end = refl;
-    table = refl;
-  }
+  -- ---- what tags stand for later
 
   module _ (tags_later : (w z : W) (t : T) (u : U) → Tags w t u → Later w z → Tags z t u)
       (lines_later : (v : ℕ) (w z : W) (a : List (Line T ℕ)) (b : List (Line U ℕ)) → Lines v w a b → Later w z → Lines v z a b)

@@ -1,6 +1,6 @@
 -- The rows of a table whose cells stand side by side keep to its block's width.
-use Rattle.std.proofs.Common.{◌≡◌, ℕ, ◌+◌, ◌-◌, ◌≤◌, ◌==◌, Bool, true, false, not, cond, List, [], ◌∷◌, ◌++◌, length, sum, take, drop, Option, Some, None}
-use Rattle.std.proofs.Common.{refl, ap, arith, All, sum_by, length-append}
+use Rattle.std.proofs.Common.{◌≡◌, ℕ, suc, ◌+◌, ◌-◌, ◌≤◌, ◌==◌, Bool, true, false, not, cond, List, [], ◌∷◌, ◌++◌, length, sum, take, drop, Option, Some, None}
+use Rattle.std.proofs.Common.{refl, ap, arith, All, sum_by, count_by, length-append}
 use Rattle.std.proofs.lemmas.List.{take-append-drop}
 use Rattle.std.proofs.lemmas.List.Elements.{All-nil, All-cons, All-append}
 use Rattle.std.proofs.lemmas.List.Sums.{sum_by-cons, sum_by-append, count_by-le-length}
@@ -9,9 +9,8 @@ use Rattle.html_render_parts.specs.declared.table.PlacedCell.{PlacedCell}
 use Rattle.html_render_pictures.specs.Picture.{KeptCell}
 use Rattle.html_render_pictures.specs.Widths.{row_width, KeepsToWidth, RowWithin}
 use Rattle.html_render_blocks.specs.declared.block.rows.RowPlace.{RowPlace}
-use Rattle.html_render_blocks.specs.OpenRows.{OpenRow, cell_width, places, next_width, behind_cell, empty_cell, empty_cells, before_cell}
+use Rattle.html_render_blocks.specs.OpenRows.{OpenRow, cell_width, places, next_width, empty_cell, empty_cells, before_cell}
 use Rattle.html_render_blocks.specs.OpenRows.{open_row, past_cell, whole_row}
-use Rattle.html_render_blocks.specs.Tables.{frame_width}
 
 -- the columns of cells, each with a separator
 abbrev pub cells_room : {T M : Type 0} → List (KeptCell T M) → ℕ
@@ -64,39 +63,35 @@ places-within ws (s ∷ ss) =
 
 -- the places before the next cell, that cell's, and those behind it
 places-parted : (ps : List RowPlace) →
-    places_room ps ≡ places_room (before_cell ps) + place_room (next_width ps) + places_room (behind_cell ps)
+    places_room ps ≡ places_room (before_cell ps) + place_room (next_width ps) + places_room (drop (suc (length (before_cell ps))) ps)
 places-parted [] = refl
 places-parted (p ∷ ps) = by p.is_cell (places-parted ps)
   where
-    by : (b : Bool) → places_room ps ≡ places_room (before_cell ps) + place_room (next_width ps) + places_room (behind_cell ps) →
+    by : (b : Bool) → places_room ps ≡ places_room (before_cell ps) + place_room (next_width ps) + places_room (drop (suc (length (before_cell ps))) ps) →
         place_room p.width + places_room ps
-        ≡ places_room (cond b [] (p ∷ before_cell ps)) + place_room (cond b p.width (next_width ps)) + places_room (cond b ps (behind_cell ps))
+        ≡ places_room (cond b [] (p ∷ before_cell ps)) + place_room (cond b p.width (next_width ps)) + places_room (drop (length (cond b [] (p ∷ before_cell ps))) ps)
     by true h = omega arith
     by false h = omega (arith, h)
 
-empty-room : (T M : Type 0) (width : Option ℕ) → cells_room (empty_cell {T = T} {M = M} width) ≡ place_room width
-empty-room T M None = refl
-empty-room T M (Some width) = omega (arith, sum_by-cons (λ (c : KeptCell T M). 1 + c.width) (record { width = width; lines = []; marks = [] }) [])
-
 empties-room : (T M : Type 0) (ps : List RowPlace) → cells_room (empty_cells {T = T} {M = M} ps) ≡ places_room ps
 empties-room T M [] = refl
-empties-room T M (p ∷ ps) =
-    omega (
-      arith,
-      sum_by-append (λ (c : KeptCell T M). 1 + c.width) (empty_cell p.width) (empty_cells ps),
-      empty-room T M p.width,
-      empties-room T M ps,
-    )
+empties-room T M (p ∷ ps) = by p.width (empties-room T M ps)
+  where
+    by : (o : Option ℕ) → cells_room (empty_cells {T = T} {M = M} ps) ≡ places_room ps →
+        cells_room (empty_cell {T = T} {M = M} o ++ empty_cells ps) ≡ place_room o + places_room ps
+    by None h = omega (arith, h)
+    by (Some width) h =
+        omega (arith, h, sum_by-cons (λ (c : KeptCell T M). 1 + c.width) (record { width = width; lines = []; marks = [] }) (empty_cells ps))
 
 module _ {T M : Type 0} where
-  empty-keeps : (width : Option ℕ) → All (KeepsToWidth {T = T} {M = M}) (empty_cell width)
-  empty-keeps None = All-nil KeepsToWidth
-  empty-keeps (Some width) =
-      All-cons KeepsToWidth (record { width = width; lines = []; marks = [] }) [] (All-nil (λ (l : Line T M). columns l ≤ width)) (All-nil KeepsToWidth)
-
   empties-keep : (ps : List RowPlace) → All (KeepsToWidth {T = T} {M = M}) (empty_cells ps)
   empties-keep [] = All-nil KeepsToWidth
-  empties-keep (p ∷ ps) = All-append KeepsToWidth (empty_cell p.width) (empty_cells ps) (empty-keeps p.width) (empties-keep ps)
+  empties-keep (p ∷ ps) = by p.width (empties-keep ps)
+    where
+      by : (o : Option ℕ) → All (KeepsToWidth {T = T} {M = M}) (empty_cells ps) → All (KeepsToWidth {T = T} {M = M}) (empty_cell o ++ empty_cells ps)
+      by None h = h
+      by (Some width) h =
+          All-cons KeepsToWidth (record { width = width; lines = []; marks = [] }) (empty_cells ps) (All-nil (λ (l : Line T M). columns l ≤ width)) h
 
   -- ---- rows
 
@@ -135,7 +130,7 @@ module _ {T M : Type 0} where
       )
 
 -- a table is no wider than its columns and the separators between them
-pub frame_width_within : (ws : List ℕ) → frame_width ws ≤ sum ws + (length ws - 1)
+pub frame_width_within : (ws : List ℕ) → sum ws + (count_by (λ w. not (w == 0)) ws - 1) ≤ sum ws + (length ws - 1)
 frame_width_within ws = omega (arith, count_by-le-length (λ w. not (w == 0)) ws)
 
 pub columns_room-within : (w : ℕ) (ws : List ℕ) → sum ws + (length ws - 1) ≤ w → columns_room ws ≤ w + 1

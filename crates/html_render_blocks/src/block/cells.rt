@@ -2,9 +2,9 @@
 
 ghost use Rattle.std.specs.Prelude.{◌≡◌, ◌==◌, [], Some, OnOk, IfOk, IfErr, drop, not, option_map, slice_index_or};
 ghost use Rattle.html_render_values.specs.Outcome.{Refuses};
-ghost use Rattle.html_render_pictures.specs.Picture.{is_empty};
+ghost use Rattle.html_render_lines.specs.Line.{is_empty};
 ghost use Rattle.html_render_blocks.specs.OpenRows.{open_row};
-ghost use Rattle.html_render_blocks.specs.Tables.{drawn_pictures, with_row_open, next_cell_width, skipped, with_next, with_row_over, cell_place};
+ghost use Rattle.html_render_blocks.specs.Tables.{with_row_open, next_cell_width, skipped, with_next, with_row_over, cell_place};
 ghost use Rattle.html_render_blocks.specs.Block as block;
 ghost use Rattle.html_render_blocks.specs.Machine as machine;
 ghost use Rattle.html_render_blocks.specs.Machine.{machine};
@@ -121,7 +121,7 @@ impl<T: Tag, M: Copy> OpenTable<Picture<T, M>, T, M> {
 
     /// Draws the row that is open, if one is: it is over.
     fn end_row(&mut self, alloc: Global) -> Result<(), Error>
-        ensures ok { OnOk result (self.new ≡ with_row_over drawn_pictures self.old) }
+        ensures ok { OnOk result (self.new ≡ with_row_over machine self.old) }
         ensures err { IfErr result (λ e. e ≡ Error.OutOfMemory) }
     {
         match self {
@@ -211,7 +211,7 @@ impl<T: Tag, M: Copy> Block<T, M> {
     /// A flushed block as a cell.
     #[inline(always)]
     fn into_cell(mut self) -> Cell<T, M>
-        ensures { result ≡ block.kept_cell machine self }
+        ensures { result ≡ record { width = self.setting.width; lines = self.lines; marks = machine.waiting self.paragraph } }
     {
         let marks = self.take_waiting();
         Cell {
@@ -234,7 +234,7 @@ impl<T: Tag, M: Copy> Block<T, M> {
 
     /// Draws the row that is open, if one is: it is over.
     fn draw_row(&mut self) -> Result<(), Error>
-        ensures ok { OnOk result (self.new ≡ record self.old { table = option_map (with_row_over drawn_pictures) self.old.table }) }
+        ensures ok { OnOk result (self.new ≡ record self.old { table = option_map (with_row_over machine) self.old.table }) }
         ensures err { IfErr result (λ e. e ≡ Error.OutOfMemory) }
     {
         let alloc = self.alloc;
@@ -260,7 +260,7 @@ impl<T: Tag, M: Copy> Block<T, M> {
 
     /// Adds the lines of a flushed block, as this one is.
     fn put_below(&mut self, cell: Block<T, M>) -> Result<(), Error>
-        ensures ok { OnOk result (self.new ≡ block.put_below machine self.old cell) }
+        ensures ok { OnOk result (self.new ≡ block.put_lines machine self.old cell.lines (machine.waiting cell.paragraph)) }
         ensures err { IfErr result (λ e. e ≡ Error.OutOfMemory) }
     {
         let Cell { lines, marks, .. } = cell.into_cell();
@@ -289,8 +289,8 @@ impl<T: Tag, M: Copy> Block<T, M> {
     /// Adds a cell that is flushed below the lines of this block.
     #[tactic(auto, using(html_render_values::specs::laws::Outcome::refusals))]
     fn flush_and_put_below(&mut self, cell: Block<T, M>) -> Result<(), Error>
-        ensures ok { OnOk result (option_map (λ e. block.put_below machine e cell) (block.flush machine self.old) ≡ Some self.new) }
-        ensures err { IfErr result (λ e. Refuses e (option_map (λ e. block.put_below machine e cell) (block.flush machine self.old))) }
+        ensures ok { OnOk result (option_map (λ e. block.put_lines machine e cell.lines (machine.waiting cell.paragraph)) (block.flush machine self.old) ≡ Some self.new) }
+        ensures err { IfErr result (λ e. Refuses e (option_map (λ e. block.put_lines machine e cell.lines (machine.waiting cell.paragraph)) (block.flush machine self.old))) }
     {
         self.flush()?;
         self.put_below(cell)

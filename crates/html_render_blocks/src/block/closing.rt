@@ -1,14 +1,15 @@
 //! The end of a document's block: the marks that wait behind its last line, and the lines that close it.
 
-ghost use Rattle.std.specs.Prelude.{◌≡◌, ◌++◌, Some, map, option_map, string_bytes};
+ghost use Rattle.std.specs.Prelude.{◌≡◌, ◌==◌, ◌++◌, Some, cond, map, option_map, string_bytes};
 ghost use Rattle.std.specs.Prelude.{OnOk, IfOk, IfErr};
 ghost use Rattle.std.specs.Bool.{OnTrue};
 ghost use Rattle.std.specs.Str.{chars};
 ghost use Rattle.html_render_values.specs.Outcome.{Refuses};
 ghost use Rattle.html_render_paragraphs.specs.CutText.{text_lines};
+ghost use Rattle.html_render_lines.specs.Line.{is_empty};
 ghost use Rattle.html_render_lines.specs.TaggedText.{under};
 ghost use Rattle.html_render_pictures.specs.Marked.{marked_behind};
-ghost use Rattle.html_render_blocks.specs.Closing.{line_setting, unbroken, on_one_line, closing_lines};
+ghost use Rattle.html_render_blocks.specs.Closing.{line_setting, on_one_line, closing_lines};
 ghost use Rattle.html_render_blocks.specs.Block as block;
 ghost use Rattle.html_render_blocks.specs.Machine as machine;
 ghost use Rattle.html_render_blocks.specs.Machine.{machine};
@@ -31,7 +32,10 @@ impl<T: Tag, M: Copy> Block<T, M> {
 
     /// Puts the marks that wait at the end of the last line. Where there is no line, they wait on.
     fn mark_end(&mut self) -> Result<(), AllocError>
-        ensures { OnOk result (self.new ≡ block.end_behind machine self.old self.old.lines) }
+        ensures { OnOk result (self.new ≡ cond (is_empty self.old.lines) self.old (record self.old {
+          lines = marked_behind (machine.waiting self.old.paragraph) self.old.lines;
+          paragraph = machine.without_waiting self.old.paragraph;
+        })) }
     {
         if self.lines.is_empty() {
             return Ok(());
@@ -111,7 +115,7 @@ fn is_on_one_line(text: &str) -> bool
 
 /// A space for a newline.
 fn unbroken(c: char) -> char
-    ensures { result ≡ unbroken c }
+    ensures { result ≡ cond (c == 10) 32 c }
 {
     if c == '\n' { ' ' } else { c }
 }

@@ -1,12 +1,12 @@
 //! How a table begins in a block: whether its cells stand side by side, and the borders of one whose cells stand one below
 //! another.
 
-ghost use Rattle.std.specs.Prelude.{◌≡◌, cond, Some, None, OnOk, IfOk, IfErr};
+ghost use Rattle.std.specs.Prelude.{◌≡◌, ◌==◌, ◌&&◌, not, cond, Some, None, OnOk, IfOk, IfErr};
 ghost use Rattle.html_render_values.specs.Outcome.{Refuses};
 ghost use Rattle.html_render_parts.specs.Shares.{widths_across};
 ghost use Rattle.html_render_parts.specs.TableCells.{rows_on};
 ghost use Rattle.html_render_blocks.specs.declared.block.tables.OpenTable.TheVariants.{Stacked};
-ghost use Rattle.html_render_blocks.specs.Tables.{frame_of, stacked_border};
+ghost use Rattle.html_render_blocks.specs.Tables.{frame_of};
 ghost use Rattle.html_render_blocks.specs.Block as block;
 ghost use Rattle.html_render_blocks.specs.Machine as machine;
 ghost use Rattle.html_render_blocks.specs.Machine.{machine};
@@ -25,7 +25,7 @@ use html_render_pictures::picture::{Frame, Picture};
 use html_render_values::Error;
 use std::alloc::{AllocError, Global};
 
-/// The widths of a table's columns side by side in so many columns; none where they can't stand so, or aren't to.
+/// The widths of a table's columns side by side in `width` columns; none where they can't stand so, or aren't to.
 #[tactic(auto, using(html_render_parts::specs::laws::Needs::across_within))]
 fn column_widths(
     alloc: Global,
@@ -67,7 +67,7 @@ fn frame_of<T: Tag>(tag: T, borders: bool, widths: &Widths) -> Frame<T>
 
 /// The tag of the borders of a table whose cells stand one below another, if they are drawn.
 fn stacked_border<T: Tag>(tag: T, borders: bool, width: usize) -> Option<T>
-    ensures { result ≡ stacked_border tag borders width }
+    ensures { result ≡ cond (borders && not (width == 0)) (Some tag) None }
 {
     if borders && width != 0 {
         Some(tag)

@@ -14,7 +14,7 @@ use html_render_pictures::finished::fill_all;
 use html_render_values::Error;
 use std::alloc::Global;
 
-/// Adds the lines of a paragraph, each filled with spaces up to so many columns, under a tag. The paragraph begins anew with the
+/// Adds the lines of a paragraph, each filled with spaces up to `width` columns, under a tag. The paragraph begins anew with the
 /// marks that wait.
 #[inline(never)]
 #[tactic(auto, using(html_render_values::specs::laws::Outcome::refusals))]
@@ -37,7 +37,7 @@ fn flush_filled<T: Tag, M: Copy>(
     Ok(())
 }
 
-/// Adds the lines of a paragraph, each filled with spaces up to so many columns, if there is padding. The paragraph begins anew
+/// Adds the lines of a paragraph, each filled with spaces up to `width` columns, if there is padding. The paragraph begins anew
 /// with the marks that wait.
 ///
 /// # Errors

@@ -1,8 +1,8 @@
 //! A row that is open in a table whose cells stand side by side: its places, and the cells before them.
 
-ghost use Rattle.std.specs.Prelude.{◌≡◌, ◌+◌, ◌-◌, ◌^◌, ◌<◌, ◌++◌, ◌∷◌, [], length, reverse, sum, take, drop, count_by, not, ◌==◌, OnOk, IfOk};
+ghost use Rattle.std.specs.Prelude.{◌≡◌, suc, ◌+◌, ◌-◌, ◌^◌, ◌<◌, ◌++◌, ◌∷◌, [], length, reverse, sum, take, drop, count_by, not, ◌==◌, OnOk, IfOk};
+ghost use Rattle.std.specs.List.{list_any};
 ghost use Rattle.html_render_blocks.specs.OpenRows as rows;
-ghost use Rattle.html_render_blocks.specs.Tables.{frame_width};
 
 use html_render_lines::tag::Tag;
 use html_render_parts::table::{CellKind, PlacedCell};
@@ -67,7 +67,7 @@ fn is_placeholder(kind: CellKind) -> bool
 
 /// Whether a cell of a row above is among those of a row.
 fn has_placeholder(cells: &[PlacedCell]) -> bool
-    ensures { result ≡ rows.has_placeholder cells.now }
+    ensures { result ≡ list_any (λ s. rows.is_placeholder s.kind) cells.now }
 {
     cells.iter().any(|cell| is_placeholder(cell.kind))
 }
@@ -97,7 +97,7 @@ fn cell_width(columns: &[usize]) -> Option<usize>
     }
 }
 
-/// The first columns, as many as there are of so many, and those behind them.
+/// The first `columns` columns, or all there are, and those behind them.
 #[tactic(auto, using(crate::proofs::Places::columns_at))]
 fn columns_at(widths: &[usize], columns: usize) -> (&[usize], &[usize])
     ensures own { result.0.now ≡ take columns widths.now }
@@ -167,7 +167,8 @@ fn pass_cell<T: Tag, M: Copy>(
     ahead: &mut Vec<RowPlace>,
     cells: &mut Vec<Cell<T, M>>,
 ) -> Result<(), AllocError>
-    ensures ahead { OnOk result (reverse ahead.new.items ≡ rows.behind_cell (reverse ahead.old.items)) }
+    ensures ahead { OnOk result (reverse ahead.new.items
+        ≡ drop (suc (length (rows.before_cell (reverse ahead.old.items)))) (reverse ahead.old.items)) }
     ensures cells { OnOk result (cells.new.items ≡ cells.old.items ++ rows.empty_cells (rows.before_cell (reverse ahead.old.items))) }
 {
     while let Some(place) = ahead.pop() {
@@ -212,7 +213,7 @@ impl Widths {
     /// The columns of the table: those of its columns, and the separators between the ones that aren't empty.
     #[tactic(auto, using(crate::specs::laws::TableWithin::frame_width_within))]
     pub fn frame_width(&self) -> usize
-        ensures { result ≡ frame_width self.now }
+        ensures { result ≡ sum self.now + (count_by (λ w. not (w == 0)) self.now - 1) }
     {
         let widths = self.widths.as_slice();
         total(widths) + count_filled(widths).saturating_sub(1)

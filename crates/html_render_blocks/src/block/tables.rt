@@ -1,10 +1,11 @@
 //! The table that is open in a block.
 
-ghost use Rattle.std.specs.Prelude.{◌≡◌, ◌++◌, Some, OnOk, IfOk, IfErr, option_map};
+ghost use Rattle.std.specs.Prelude.{◌≡◌, ◌++◌, Some, None, OnOk, IfOk, IfErr, option_map};
 ghost use Rattle.html_render_values.specs.Outcome.{Refuses};
 ghost use Rattle.html_render_pictures.specs.Picture.{TableRow};
-ghost use Rattle.html_render_blocks.specs.Tables.{drawn_pictures, with_open, with_ahead, picture_of};
+ghost use Rattle.html_render_blocks.specs.Tables.{with_open, with_ahead};
 ghost use Rattle.html_render_blocks.specs.Block as block;
+ghost use Rattle.html_render_blocks.specs.Block.{mark_items};
 ghost use Rattle.html_render_blocks.specs.Machine as machine;
 ghost use Rattle.html_render_blocks.specs.Machine.{machine};
 
@@ -46,7 +47,7 @@ fn with_open<T: Tag, M: Copy>(
     picture: Picture<T, M>,
     row: Option<OpenRow<T, M>>,
 ) -> Result<Picture<T, M>, Error>
-    ensures ok { IfOk result (λ p. p ≡ with_open drawn_pictures picture row) }
+    ensures ok { IfOk result (λ p. p ≡ with_open machine picture row) }
     ensures err { IfErr result (λ e. e ≡ Error.OutOfMemory) }
 {
     let mut picture = picture;
@@ -64,7 +65,7 @@ fn with_ahead<T: Tag, M: Copy>(
     widths: &Widths,
     ahead: RowsAhead,
 ) -> Result<Picture<T, M>, Error>
-    ensures ok { IfOk result (λ p. p ≡ with_ahead drawn_pictures widths.now ahead picture) }
+    ensures ok { IfOk result (λ p. p ≡ with_ahead machine widths.now ahead picture) }
     ensures err { IfErr result (λ e. e ≡ Error.OutOfMemory) }
 {
     let mut picture = picture;
@@ -85,7 +86,7 @@ fn picture_of<T: Tag, M: Copy>(
     ahead: RowsAhead,
     row: Option<OpenRow<T, M>>,
 ) -> Result<Drawn<T, M>, Error>
-    ensures ok { IfOk result (λ d. (d.lines, d.waiting.items) ≡ picture_of drawn_pictures picture widths.now ahead row) }
+    ensures ok { IfOk result (λ d. (d.lines, d.waiting.items) ≡ (machine).drawn (with_ahead machine widths.now ahead (with_open machine picture row))) }
     ensures err { IfErr result (λ e. e ≡ Error.OutOfMemory) }
 {
     let picture = with_open(alloc, picture, row)?;
@@ -96,7 +97,8 @@ fn picture_of<T: Tag, M: Copy>(
 impl<T: Tag, M: Copy> Block<T, M> {
     /// Adds a picture's lines; the marks that wait behind it wait on.
     fn add_drawn(&mut self, drawn: Drawn<T, M>) -> Result<(), Error>
-        ensures ok { OnOk result (self.new ≡ block.with_picture machine self.old (drawn.lines, drawn.waiting.items)) }
+        ensures ok { OnOk result (self.new ≡ block.feed machine (record self.old { lines = self.old.lines ++ drawn.lines; table = None })
+            (mark_items drawn.waiting.items)) }
         ensures err { IfErr result (λ e. e ≡ Error.OutOfMemory) }
     {
         let Drawn { lines, waiting } = drawn;

@@ -1,6 +1,6 @@
 -- THE DRAFTS of a document become its render tree.
 use Rattle.std.proofs.Common.{◌≡◌, Bool, true, false, if◌then◌else◌, List, [], ◌++◌, Option, Some, None, option_map, refl, sym, ap, subst, ◌∙◌}
-use Rattle.std.specs.Prelude.{filter, option_to_list}
+use Rattle.std.specs.Prelude.{filter, option_to_list, ◌&&◌, codes}
 use Rattle.html_render_values.specs.Forest.{Forest, none, node}
 use Rattle.html_render_values.specs.Outcome.{◌>>=◌}
 use Rattle.html_render_dom.specs.Content.{Content, document, text, element}
@@ -13,12 +13,10 @@ use Rattle.html_render_nodes.specs.RenderNodes.{no_style, without_style}
 use Rattle.html_render_insertions.specs.declared.drafts.Draft.{Draft}
 use Rattle.html_render_insertions.specs.Drafts.{expanded, plain_draft}
 use Rattle.html_render_insertions.specs.laws.Drafts.{wrapped-none}
-use Rattle.html_render_conversion.specs.declared.mapping.ElementKind.TheVariants as becomes
 use Rattle.html_render_conversion.specs.declared.mapping.IfEmpty.TheVariants.{Stands}
 use Rattle.html_render_conversion.specs.Conversion.{element_mapping, own_style}
 use Rattle.html_render_conversion.specs.Outlines.{outline_of}
-use Rattle.html_render_conversion.specs.Marks.{mark_of}
-use Rattle.html_render_conversion.specs.Results as new
+use Rattle.html_render_conversion.specs.Marks.{mark_of, is_html}
 use Rattle.html_render_conversion.specs.Results.{Nodes, Result, over, render_tree_of, result_of, results, trees_of}
 use Rattle.html_render_building.specs.declared.elements.OpenKind.TheVariants.{Node}
 use Rattle.html_render_building.specs.declared.order.Pick.{Pick}
@@ -26,16 +24,14 @@ use Rattle.html_render_building.specs.declared.order.Pick.TheVariants.{All, Capt
 use Rattle.html_render_building.specs.Order.{picks}
 use Rattle.html_render_building.specs.Building.{Arrival, arrivals, closed, document_drafts, document_of, document_start, fresh}
 use Rattle.html_render_building.specs.laws.Arrivals.{all_arrive, all_came, arrivals_told, came}
-use Rattle.html_render_building.specs.laws.Closing.{ShowsIn, agrees-node, close-gives, node_closed, together-alone}
+use Rattle.html_render_building.specs.laws.Closing.{ShowsIn, close-gives, node_closed, together-alone}
 use Rattle.html_render_building.specs.laws.ElementShown.{styled-any}
 use Rattle.html_render_building.specs.laws.Mappings.{element_fits}
 use Rattle.html_render_building.specs.laws.Parting.{add, picked_results, results-parted, results-picked}
 use Rattle.html_render_building.specs.laws.PartsShown.{all-kept}
 use Rattle.html_render_building.specs.laws.Shown.{shows_by, AllShow, Gives}
 use Rattle.html_render_building.specs.laws.TableParted.{AllShowAny, AnyShows, show-elsewhere}
-use Rattle.std.specs.Prelude.{◌&&◌, codes}
 use Rattle.std.specs.Str.{bytes_eq}
-use Rattle.html_render_building.specs.Order.{is_html}
 
 -- one more has come
 one-more : (in_table : Bool) (a : Option (Option Arrival)) (r : Option (Option Result)) → AnyShows in_table a r →
@@ -59,10 +55,10 @@ document-any : (in_table : Bool) (x : Option (List Arrival)) (o : Option (List R
     AnyShows in_table (x >>= (λ xs. Some (closed in_table (all_arrive xs (fresh (Node Container) no_style Stands [])))))
     (do
       inside ← o
-      Some (Some (over (without_style Container) inside)))
+      Some (Some (over no_style Container inside)))
 document-any in_table None None h = tt
 document-any in_table (Some xs) (Some rs) h =
-    subst (λ l. ShowsIn in_table (closed in_table (all_arrive xs (fresh (Node Container) no_style Stands []))) (Some (over (without_style Container) l)))
+    subst (λ l. ShowsIn in_table (closed in_table (all_arrive xs (fresh (Node Container) no_style Stands []))) (Some (over no_style Container l)))
     (all-kept rs) (node_closed in_table Container no_style Stands None None None refl xs rs (show-elsewhere xs rs h))
 document-any in_table x o h = elim h [ ]
 
@@ -124,8 +120,7 @@ document-shown xs rs h =
     given q.element.is_stray q.drafts (trees_of rs)
     (subst (λ l. Gives q.element.is_stray q.drafts (trees_of l)) (all-kept rs)
     (subst (Gives q.element.is_stray q.drafts) (together-alone (filter (λ (r : Result). true) rs))
-    (close-gives false (Node Container) no_style Stands None None None (λ (r : Result). new.keeps Container r.node.kind) (new.counts (becomes.Node Container)) new.stands_alone
-    (agrees-node Container refl) xs rs h)))
+    (close-gives false (Node Container) no_style Stands None None None xs rs h)))
 
 all-agree : (x : Option (List Arrival)) (o : Option (List Result)) → AllShowAny false x o →
     option_map expanded (option_map (λ xs. all_arrive xs document_start) x >>= document_of) ≡ option_map container_over (o >>= trees_of)
@@ -167,7 +162,7 @@ tree_of_drafts rules dom f =
         ≡ ((do
           r ← do
             rs ← o
-            Some (Some (over (without_style Container) rs))
+            Some (Some (over no_style Container rs))
           rest ← Some []
           Some (option_to_list r ++ rest)) >>= trees_of)
     by None = refl

@@ -1,5 +1,5 @@
 -- What comes to an element is a list, and the element what this makes of it, the last first.
-use Rattle.std.proofs.Common.{◌≡◌, Bool, true, false, ◌||◌, if◌then◌else◌, List, [], ◌∷◌, ◌++◌, Option, Some, None, IfSome, option_map, refl, ap, ◌∙◌}
+use Rattle.std.proofs.Common.{◌≡◌, Bool, true, false, ◌||◌, if◌then◌else◌, List, [], ◌∷◌, ◌++◌, Option, Some, None, IfSome, option_map, refl, sym, ap, ◌∙◌}
 use Rattle.std.specs.Prelude.{option_to_list}
 use Rattle.html_render_values.specs.Forest.{Forest, none, node}
 use Rattle.html_render_values.specs.Outcome.{◌>>=◌}
@@ -24,8 +24,6 @@ use Rattle.html_render_conversion.specs.Outlines.{outline_of}
 use Rattle.html_render_building.specs.declared.elements.Element.{Element}
 use Rattle.html_render_building.specs.declared.elements.OpenKind.{OpenKind}
 use Rattle.html_render_building.specs.declared.elements.OpenKind.TheVariants.{Captioned, Table, Rows, Row}
-use Rattle.html_render_building.specs.declared.elements.Role.{Role}
-use Rattle.html_render_building.specs.declared.elements.Role.TheVariants as role
 use Rattle.html_render_building.specs.declared.order.Pick.{Pick}
 use Rattle.html_render_building.specs.declared.order.Pick.TheVariants.{All, Captions, Feet, Others}
 use Rattle.html_render_building.specs.Elements.{counts, keeps, gathered, with_kept, opened_kind}
@@ -33,6 +31,7 @@ use Rattle.html_render_building.specs.Order.{picks}
 use Rattle.html_render_building.specs.Spans.{spans_of_parts}
 use Rattle.html_render_building.specs.Building.{Arrival, Holding, arrive, arrive_any, leaf_arrival, closed, closed_by, closed_into}
 use Rattle.html_render_building.specs.Building.{rows_of, is_captioned, table_stands, fresh, come_of, come, arrivals}
+use Rattle.html_render_conversion.specs.Results as new
 
 -- ---- what comes, as a list
 
@@ -59,7 +58,7 @@ came in_table (Alone n) inside = Some (Some (leaf_arrival (draft_of n)))
 came in_table (Over k style if_empty has_children mark before after) inside =
     came_of in_table (opened_kind k) style if_empty has_children (inserted_of mark before after) inside
 
--- what comes of the trees that are picked among these, in order
+-- what comes of the trees that are picked from these, in order
 abbrev pub all_came : List StyleRule → Forest Content → Pick → (in_table : Bool) → Option (List Arrival)
 all_came rules none pick in_table = Some []
 all_came rules (node content children others) pick in_table = do
@@ -69,8 +68,17 @@ all_came rules (node content children others) pick in_table = do
 
 -- ---- what stays as it is
 
-module _ {X : Type 0} (f : OpenKind → X) (same : (r : Role) (k : OpenKind) → f (gathered r k) ≡ f k) where
-  pub arrive-same : (a : Arrival) (p : Holding) → f (arrive a p).element.kind ≡ f p.element.kind
+-- what a table, a part of it and a row have gathered is of no matter here
+module _ {X : Type 0} (f : OpenKind → X) (table : (parts : List (List (List CellSpan))) → f (Table parts) ≡ f (Table []))
+    (part : (behind : Bool) (rows : List (List CellSpan)) → f (Rows behind rows) ≡ f (Rows behind []))
+    (row : (cells : List CellSpan) → f (Row cells) ≡ f (Row [])) where
+  same : (r : new.Role) (k : OpenKind) → f (gathered r k) ≡ f k
+  same (new.Rows behind rows) (Table parts) = table (rows ∷ parts) ∙ sym (table parts)
+  same (new.Row cells) (Rows behind rows) = part behind (cells ∷ rows) ∙ sym (part behind rows)
+  same (new.Cell span) (Row cells) = row (span ∷ cells) ∙ sym (row cells)
+  same r k = refl
+
+  arrive-same : (a : Arrival) (p : Holding) → f (arrive a p).element.kind ≡ f p.element.kind
   arrive-same a p =
       by (keeps p.element.kind a.role a.kind)
       (record p.element { has_results = p.element.has_results || counts p.element.kind a.role a.kind a.has_children })
@@ -83,21 +91,15 @@ module _ {X : Type 0} (f : OpenKind → X) (same : (r : Role) (k : OpenKind) →
   all_arrive-same [] p = refl
   all_arrive-same (a ∷ xs) p = arrive-same a (all_arrive xs p) ∙ all_arrive-same xs p
 
-captioned-gathered : (r : Role) (k : OpenKind) → is_captioned (gathered r k) ≡ is_captioned k
-captioned-gathered (role.Rows behind rows) (Table parts) = refl
-captioned-gathered (role.Row row) (Rows behind rows) = refl
-captioned-gathered (role.Cell cell) (Row cells) = refl
-captioned-gathered r k = refl
-
 abbrev pub is_table : OpenKind → Bool
 is_table (Table parts) = true
 is_table _ = false
 
-table-gathered : (r : Role) (k : OpenKind) → is_table (gathered r k) ≡ is_table k
-table-gathered (role.Rows behind rows) (Table parts) = refl
-table-gathered (role.Row row) (Rows behind rows) = refl
-table-gathered (role.Cell cell) (Row cells) = refl
-table-gathered r k = refl
+table-same : (xs : List Arrival) (p : Holding) → is_table (all_arrive xs p).element.kind ≡ is_table p.element.kind
+table-same = all_arrive-same is_table (λ parts. refl) (λ behind rows. refl) (λ cells. refl)
+
+captioned-same : (xs : List Arrival) (p : Holding) → is_captioned (all_arrive xs p).element.kind ≡ is_captioned p.element.kind
+captioned-same = all_arrive-same is_captioned (λ parts. refl) (λ behind rows. refl) (λ cells. refl)
 
 no_rows : (k : OpenKind) → is_table k ≡ false → rows_of k ≡ None
 no_rows (Table parts) h = cc
@@ -109,7 +111,7 @@ opened-no_table k = refl
 
 any-same : (a : Option Arrival) (p : Holding) → is_captioned (arrive_any a p).element.kind ≡ is_captioned p.element.kind
 any-same None p = refl
-any-same (Some a) p = arrive-same is_captioned captioned-gathered a p
+any-same (Some a) p = captioned-same (a ∷ []) p
 
 into-same : (h p : Holding) → IfSome (closed_into h p) (λ q. is_captioned q.element.kind ≡ is_captioned p.element.kind)
 into-same h p = by (rows_of h.element.kind)
@@ -168,7 +170,7 @@ module _ (q : Holding) (f : Pick → Holding → Option Holding) (g : Pick → B
       let start = fresh k style e i in
       after-all to_q (if has_children then f All start else Some start) start (if has_children then g All false else Some [])
       (λ h. closed_into h q) (λ xs. Some (closed in_table (all_arrive xs start))) (by has_children)
-      (λ xs. close-told (all_arrive xs start) (all_arrive-same is_table table-gathered xs start ∙ t))
+      (λ xs. close-told (all_arrive xs start) (table-same xs start ∙ t))
     where
       by : (b : Bool) → (if b then f All (fresh k style e i) else Some (fresh k style e i))
           ≡ option_map (λ xs. all_arrive xs (fresh k style e i)) (if b then g All false else Some [])
@@ -186,7 +188,7 @@ module _ (q : Holding) (f : Pick → Holding → Option Holding) (g : Pick → B
       after-all to_q (f Captions start) start (g Captions true) (λ h. closed_into h q)
       (λ xs. Some (closed in_table (all_arrive xs start)))
       (same Captions start ∙ ap (λ b. option_map (λ xs. all_arrive xs start) (g Captions b)) c)
-      (λ xs. close-told (all_arrive xs start) (all_arrive-same is_table table-gathered xs start ∙ t))
+      (λ xs. close-told (all_arrive xs start) (table-same xs start ∙ t))
 
   captioned-no_table : (k : OpenKind) → is_captioned k ≡ true → is_table k ≡ false
   captioned-no_table (Table parts) h = cc
@@ -207,7 +209,7 @@ module _ (q : Holding) (f : Pick → Holding → Option Holding) (g : Pick → B
       (λ table. closed_into table outer >>= (λ p. f Captions p >>= (λ all. closed_into all q)))
       (λ others. closed_into (all_arrive others next) outer >>=
       (λ p. g Captions true >>= (λ captions. Some (closed in_table (all_arrive captions p)))))
-      (same Others next ∙ ap (λ b. option_map (λ xs. all_arrive xs next) (g Others b)) (all_arrive-same is_captioned captioned-gathered feet start))
+      (same Others next ∙ ap (λ b. option_map (λ xs. all_arrive xs next) (g Others b)) (captioned-same feet start))
       (λ others. after-closed to_q (λ p. is_captioned p.element.kind ≡ true) (closed_into (all_arrive others next) outer)
       (λ p. f Captions p >>= (λ all. closed_into all q))
       (λ p. g Captions true >>= (λ captions. Some (closed in_table (all_arrive captions p))))
@@ -235,7 +237,7 @@ arrivals_told rules (node content children others) pick p =
     (arrivals_told rules others pick p)
     (λ rest. by rest (picks pick content) (come o (λ k h. arrivals rules children k h) (all_arrive rest p)) (came in_p o inside)
     (come-told (all_arrive rest p) (λ k h. arrivals rules children k h) inside (λ k h. arrivals_told rules children k h) o
-    ∙ ap (λ b. option_map (λ a. arrive_any a (all_arrive rest p)) (came b o inside)) (all_arrive-same is_captioned captioned-gathered rest p)))
+    ∙ ap (λ b. option_map (λ a. arrive_any a (all_arrive rest p)) (came b o inside)) (captioned-same rest p)))
   where
     put : (rest : List Arrival) (a : Option Arrival) → arrive_any a (all_arrive rest p) ≡ all_arrive (option_to_list a ++ rest) p
     put rest None = refl

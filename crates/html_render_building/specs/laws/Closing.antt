@@ -1,34 +1,30 @@
 -- What an element becomes that is no table shows what its node becomes over the results of its children.
-use Rattle.std.proofs.Common.{◌≡◌, ℕ, Bool, true, false, not, ◌&&◌, ◌||◌, if◌then◌else◌, List, [], ◌∷◌, Option, Some, None, option_map, refl, sym, ap, subst, ◌∙◌}
+use Rattle.html_render_building.specs.laws.Roles.{as_block}
+use Rattle.std.proofs.Common.{◌≡◌, ℕ, Bool, true, false, ◌&&◌, ◌||◌, if◌then◌else◌, List, [], ◌∷◌, Option, Some, None, option_map, refl, sym, ap, subst, ◌∙◌}
 use Rattle.std.specs.Prelude.{filter, map}
 use Rattle.std.specs.List.{list_any, list_all}
 use Rattle.html_render_values.specs.Forest.{Forest, none, node}
 use Rattle.html_render_values.specs.Outcome.{◌>>=◌}
 use Rattle.html_render_nodes.specs.declared.tree.NodeKind.{NodeKind}
-use Rattle.html_render_nodes.specs.declared.tree.NodeKind.TheVariants.{Link}
 use Rattle.html_render_nodes.specs.declared.tree.NodeStyle.{NodeStyle}
 use Rattle.html_render_insertions.specs.declared.drafts.Draft.{Draft}
 use Rattle.html_render_insertions.specs.declared.drafts.Insertions.{Insertions}
 use Rattle.html_render_insertions.specs.Drafts.{draft, inserted_of}
-use Rattle.html_render_conversion.specs.declared.mapping.ElementKind.TheVariants as becomes
 use Rattle.html_render_conversion.specs.declared.mapping.IfEmpty.{IfEmpty}
 use Rattle.html_render_conversion.specs.Conversion.{vanishes}
 use Rattle.html_render_dom.specs.Selectors.{is_filled}
 use Rattle.html_render_conversion.specs.Results as new
-use Rattle.html_render_conversion.specs.Results.{Nodes, Result, as_block, beside, completed, in_style, leaf, over, shows_nothing, trees_of}
+use Rattle.html_render_conversion.specs.Results.{Nodes, Result, beside, completed, leaf, over, shows_nothing, trees_of}
 use Rattle.html_render_building.specs.declared.elements.Element.{Element}
 use Rattle.html_render_building.specs.declared.elements.OpenKind.{OpenKind}
-use Rattle.html_render_building.specs.declared.elements.OpenKind.TheVariants.{Node}
-use Rattle.html_render_building.specs.declared.elements.Role.{Role}
-use Rattle.html_render_building.specs.declared.elements.Role.TheVariants as role
-use Rattle.html_render_building.specs.Elements.{counts, gathered, is_caption, keeps, stands_alone, with_kept}
-use Rattle.html_render_conversion.specs.Results.{keeps as keeps_kind}
+use Rattle.html_render_building.specs.declared.elements.OpenKind.TheVariants.{Node, Row, Rows, Table}
+use Rattle.html_render_building.specs.Elements.{counts, gathered, keeps, with_kept, has_place}
 use Rattle.html_render_building.specs.Building.{Arrival, Holding, arrive, beside_insertions, goes_beside, closed, fresh, made_of, mark_left, node_made, with_insertions}
 use Rattle.html_render_building.specs.laws.Arrivals.{all_arrive}
 use Rattle.html_render_building.specs.laws.Mappings.{stands_as_is}
-use Rattle.html_render_building.specs.laws.Shown.{Agrees, AllShow, Gives, Shows, both, both-none, caption-meant, alone-meant, own_trees, together}
+use Rattle.html_render_building.specs.laws.Shown.{AllShow, Gives, Shows, both, both-none, counts_result, keeps_result, own_trees, together}
 use Rattle.html_render_building.specs.laws.Shown.{children-shown, results-shown, trees_shown}
-use Rattle.html_render_building.specs.laws.Inserting.{ShowsAny, inserted-noted, mark-shown, node_shown, with_noted}
+use Rattle.html_render_building.specs.laws.Inserting.{ShowsAny, completed-noted, mark-shown, node_shown, with_noted}
 
 -- ---- as a table sees it
 
@@ -44,9 +40,9 @@ seen in_table r = seen_role r.role in_table r
 abbrev pub ShowsIn : (in_table : Bool) → Option Arrival → Option Result → Type 0
 ShowsIn in_table a r = ShowsAny a (option_map (seen in_table) r)
 
-pub shows-other : (in_table : Bool) (a : Arrival) (r : Result) → is_caption a.role ≡ false → Shows a r → Shows a (seen in_table r)
+pub shows-other : (in_table : Bool) (a : Arrival) (r : Result) → new.is_caption a.role ≡ false → Shows a r → Shows a (seen in_table r)
 shows-other in_table a r h s =
-    subst (Shows a) (sym (by r.role (ap new.is_caption (sym s.role_is) ∙ sym (caption-meant a.role) ∙ h))) s
+    subst (Shows a) (sym (by r.role (ap new.is_caption (sym s.role_is) ∙ h))) s
   where
     by : (x : new.Role) → new.is_caption x ≡ false → seen_role x in_table r ≡ r
     by new.Caption e = cc
@@ -63,7 +59,7 @@ seen-elsewhere (r ∷ rs) = ap (λ x. x ∷ map (seen false) rs) (by r.role) ∙
 -- ---- what stays of an element
 
 module _ {X : Type 0} (f : Element → X) (counted : (e : Element) (b : Bool) → f (record e { has_results = b }) ≡ f e)
-    (kept : (r : Role) (s : Bool) (e : Element) → f (with_kept r s e) ≡ f e) where
+    (kept : (r : new.Role) (s : Bool) (e : Element) → f (with_kept r s e) ≡ f e) where
   arrive-stays : (a : Arrival) (p : Holding) → f (arrive a p).element ≡ f p.element
   arrive-stays a p = by (keeps p.element.kind a.role a.kind)
       (record p.element { has_results = p.element.has_results || counts p.element.kind a.role a.kind a.has_children })
@@ -77,17 +73,30 @@ module _ {X : Type 0} (f : Element → X) (counted : (e : Element) (b : Bool) �
   all-stays [] p = refl
   all-stays (a ∷ xs) p = arrive-stays a (all_arrive xs p) ∙ all-stays xs p
 
--- one that gathers nothing stays of its kind
-pub kind-stays : (k : OpenKind) → ((r : Role) → gathered r k ≡ k) → (xs : List Arrival) (p : Holding) → p.element.kind ≡ k →
+-- whether an element gathers what comes; one that doesn't stays of its kind
+abbrev pub gathers_any : OpenKind → Bool
+gathers_any (Table parts) = true
+gathers_any (Rows behind rows) = true
+gathers_any (Row cells) = true
+gathers_any _ = false
+
+nothing_gathered : (r : new.Role) (k : OpenKind) → gathers_any k ≡ false → gathered r k ≡ k
+nothing_gathered new.Contents k h = refl
+nothing_gathered r (Table parts) h = cc
+nothing_gathered r (Rows behind rows) h = cc
+nothing_gathered r (Row cells) h = cc
+nothing_gathered r k h = refl
+
+pub kind-stays : (k : OpenKind) → gathers_any k ≡ false → (xs : List Arrival) (p : Holding) → p.element.kind ≡ k →
     (all_arrive xs p).element.kind ≡ k
-kind-stays k same [] p e = e
-kind-stays k same (a ∷ xs) p e = by (keeps (all_arrive xs p).element.kind a.role a.kind) (kind-stays k same xs p e)
+kind-stays k gathers_none [] p e = e
+kind-stays k gathers_none (a ∷ xs) p e = by (keeps (all_arrive xs p).element.kind a.role a.kind) (kind-stays k gathers_none xs p e)
   where
     by : (b : Bool) → (all_arrive xs p).element.kind ≡ k →
         (let q = (all_arrive xs p).element in
         let c : Element = record q { has_results = q.has_results || counts q.kind a.role a.kind a.has_children } in
         if b then with_kept a.role a.is_stray c else c).kind ≡ k
-    by true e = ap (gathered a.role) e ∙ same a.role
+    by true e = ap (gathered a.role) e ∙ nothing_gathered a.role k gathers_none
     by false e = e
 
 -- ---- an element that is closed
@@ -98,19 +107,18 @@ closed_as in_table k style e has_results has_children is_stray i drafts =
     if vanishes e has_results then mark_left i else made_of in_table k style i has_children is_stray drafts
 
 -- what it is
-module _ (in_table : Bool) (p : Holding) (keeps_result counts_result : Result → Bool) (places : new.Role → Bool)
-    (agrees : Agrees p.element.kind keeps_result counts_result places) (xs : List Arrival) (rs : List Result) (shown : AllShow xs rs) where
+module _ (in_table : Bool) (p : Holding) (xs : List Arrival) (rs : List Result) (shown : AllShow xs rs) where
   pub closed-is : (k : OpenKind) → (all_arrive xs p).element.kind ≡ k →
       closed in_table (all_arrive xs p)
-      ≡ closed_as in_table k p.element.style p.element.if_empty (p.element.has_results || list_any counts_result rs)
-      (p.element.has_children || is_filled (filter keeps_result rs)) (all_arrive xs p).element.is_stray p.element.inserted (all_arrive xs p).drafts
+      ≡ closed_as in_table k p.element.style p.element.if_empty (p.element.has_results || list_any (counts_result p.element.kind) rs)
+      (p.element.has_children || is_filled (filter (keeps_result p.element.kind) rs)) (all_arrive xs p).element.is_stray p.element.inserted (all_arrive xs p).drafts
   closed-is k kind_is =
       let q = all_arrive xs p in
       let i = p.element.inserted in
       let style = p.element.style in
       let e = p.element.if_empty in
-      let any = p.element.has_results || list_any counts_result rs in
-      let some = p.element.has_children || is_filled (filter keeps_result rs) in
+      let any = p.element.has_results || list_any (counts_result p.element.kind) rs in
+      let some = p.element.has_children || is_filled (filter (keeps_result p.element.kind) rs) in
       ap (λ x. closed_as in_table x q.element.style q.element.if_empty q.element.has_results q.element.has_children q.element.is_stray
       q.element.inserted q.drafts) kind_is
       ∙ ap (λ x. closed_as in_table k x q.element.if_empty q.element.has_results q.element.has_children q.element.is_stray
@@ -118,9 +126,9 @@ module _ (in_table : Bool) (p : Holding) (keeps_result counts_result : Result �
       ∙ ap (λ x. closed_as in_table k style x q.element.has_results q.element.has_children q.element.is_stray
       q.element.inserted q.drafts) (all-stays (λ e. e.if_empty) (λ e b. refl) (λ r s e. refl) xs p)
       ∙ ap (λ x. closed_as in_table k style e x q.element.has_children q.element.is_stray q.element.inserted q.drafts)
-      (results-shown p keeps_result counts_result places agrees xs rs shown)
+      (results-shown p xs rs shown)
       ∙ ap (λ x. closed_as in_table k style e any x q.element.is_stray q.element.inserted q.drafts)
-      (children-shown p keeps_result counts_result places agrees xs rs shown)
+      (children-shown p xs rs shown)
       ∙ ap (λ x. closed_as in_table k style e any some q.element.is_stray x q.drafts)
       (all-stays (λ e. e.inserted) (λ e b. refl) (λ r s e. refl) xs p)
 
@@ -134,8 +142,7 @@ mark-in in_table mark before after = by (mark_left (inserted_of mark before afte
     by (Some a) (Some name) h = h
     by a m h = elim h [ ]
 
-module _ (in_table : Bool) (k : OpenKind) (style : NodeStyle) (e : IfEmpty) (mark before after : Option (List ℕ))
-    (keeps_result counts_result : Result → Bool) (places : new.Role → Bool) (agrees : Agrees k keeps_result counts_result places) where
+module _ (in_table : Bool) (k : OpenKind) (style : NodeStyle) (e : IfEmpty) (mark before after : Option (List ℕ)) where
   abbrev pub noted : List Insertions
   noted = inserted_of mark before after
 
@@ -145,28 +152,28 @@ module _ (in_table : Bool) (k : OpenKind) (style : NodeStyle) (e : IfEmpty) (mar
   -- it shows a result, if what it is made of does
   pub close-shown : (xs : List Arrival) (rs : List Result) → AllShow xs rs → (gathered : OpenKind) →
       (all_arrive xs start).element.kind ≡ gathered → (r : Result) →
-      ShowsIn in_table (made_of in_table gathered style noted (is_filled (filter keeps_result rs)) (all_arrive xs start).element.is_stray
+      ShowsIn in_table (made_of in_table gathered style noted (is_filled (filter (keeps_result k) rs)) (all_arrive xs start).element.is_stray
       (all_arrive xs start).drafts) (Some (with_noted noted r)) →
       ShowsIn in_table (closed in_table (all_arrive xs start))
-      (completed mark before after (if vanishes e (list_any counts_result rs) then None else Some r))
+      (completed mark before after (if vanishes e (list_any (counts_result k) rs) then None else Some r))
   close-shown xs rs h gathered kind_is r made =
       let q = all_arrive xs start in
-      subst (λ o. ShowsIn in_table o (completed mark before after (if vanishes e (list_any counts_result rs) then None else Some r)))
-      (sym (closed-is in_table start keeps_result counts_result places agrees xs rs h gathered kind_is))
-      (by (vanishes e (list_any counts_result rs))
-      (made_of in_table gathered style noted (is_filled (filter keeps_result rs)) q.element.is_stray q.drafts) made)
+      subst (λ o. ShowsIn in_table o (completed mark before after (if vanishes e (list_any (counts_result k) rs) then None else Some r)))
+      (sym (closed-is in_table start xs rs h gathered kind_is))
+      (by (vanishes e (list_any (counts_result k) rs))
+      (made_of in_table gathered style noted (is_filled (filter (keeps_result k) rs)) q.element.is_stray q.drafts) made)
     where
       by : (b : Bool) (o : Option Arrival) → ShowsIn in_table o (Some (with_noted noted r)) →
           ShowsIn in_table (if b then mark_left noted else o) (completed mark before after (if b then None else Some r))
       by true o made = mark-in in_table mark before after
-      by false o made = subst (λ x. ShowsIn in_table o (Some x)) (sym (inserted-noted mark before after r)) made
+      by false o made = subst (ShowsIn in_table o) (sym (completed-noted mark before after r)) made
 
   -- and it has the trees of what it keeps
   pub close-gives : (xs : List Arrival) (rs : List Result) → AllShow xs rs →
-      Gives (all_arrive xs start).element.is_stray (all_arrive xs start).drafts (together places (filter keeps_result rs))
+      Gives (all_arrive xs start).element.is_stray (all_arrive xs start).drafts (together (has_place k) (filter (keeps_result k) rs))
   close-gives xs rs h =
-      subst (Gives (all_arrive xs start).element.is_stray (all_arrive xs start).drafts) (both-none (together places (filter keeps_result rs)))
-      (trees_shown start keeps_result counts_result places agrees xs rs h (Some none) (refl, refl))
+      subst (Gives (all_arrive xs start).element.is_stray (all_arrive xs start).drafts) (both-none (together (has_place k) (filter (keeps_result k) rs)))
+      (trees_shown start xs rs h (Some none) (refl, refl))
 
 -- ---- nodes
 
@@ -199,37 +206,12 @@ together-alone (r ∷ rs) =
     by new.Caption o all b = alone o all b
     by x o all b = refl
 
-agrees-keeps : (k : NodeKind) (a : Arrival) (r : Result) → Shows a r → keeps_kind k a.kind ≡ new.keeps k r.node.kind
-agrees-keeps k a r s = ap (new.keeps k) s.kind_is
-
-pub places-alone : (a : Arrival) (r : Result) → Shows a r → stands_alone a.role ≡ new.stands_alone r.role
-places-alone a r s = alone-meant a.role ∙ ap new.stands_alone s.role_is
-
-agrees-counts : (k : NodeKind) → stands_as_is k ≡ true → (a : Arrival) (r : Result) → Shows a r →
-    counts (Node k) a.role a.kind a.has_children ≡ new.counts (becomes.Node k) r
-agrees-counts (Link target) h a r s =
-    ap (λ x. not (x && shows_nothing a.kind a.has_children)) (places-alone a r s)
-    ∙ ap (λ x. not (new.stands_alone r.role && shows_nothing x a.has_children)) s.kind_is
-    ∙ ap (λ x. not (new.stands_alone r.role && shows_nothing r.node.kind x)) s.children_are
-agrees-counts k h a r s = refl
-
-pub agrees-node : (k : NodeKind) → stands_as_is k ≡ true → Agrees (Node k) (λ (r : Result). new.keeps k r.node.kind) (new.counts (becomes.Node k)) new.stands_alone
-agrees-node k h = record {
-  keeps_are = agrees-keeps k;
-  counts_are = agrees-counts k h;
-  places_are = places-alone;
-}
-
-node-gathered : (k : NodeKind) (r : Role) → gathered r (Node k) ≡ Node k
-node-gathered k role.Contents = refl
-node-gathered k r = refl
-
 pub made-role : (k : NodeKind) (style : NodeStyle) (i : List Insertions) (has_children s : Bool) (below : Forest Draft) →
-    is_caption (node_made (draft k style i) has_children s below).role ≡ false
+    new.is_caption (node_made (draft k style i) has_children s below).role ≡ false
 made-role k style i has_children s below = by (goes_beside (draft k style i))
   where
-    by : (b : Bool) → is_caption (if b then beside_insertions (draft k style i) s below
-        else with_insertions role.Contents (draft k style i) has_children s below).role ≡ false
+    by : (b : Bool) → new.is_caption (if b then beside_insertions (draft k style i) s below
+        else with_insertions new.Contents (draft k style i) has_children s below).role ≡ false
     by true = refl
     by false = refl
 
@@ -238,16 +220,14 @@ pub node_closed : (in_table : Bool) (k : NodeKind) (style : NodeStyle) (e : IfEm
     stands_as_is k ≡ true → (xs : List Arrival) (rs : List Result) → AllShow xs rs →
     ShowsIn in_table (closed in_table (all_arrive xs (fresh (Node k) style e (inserted_of mark before after))))
     (completed mark before after
-    (if vanishes e (list_any (new.counts (becomes.Node k)) rs) then None else Some (over (in_style style k) (filter (λ (r : Result). new.keeps k r.node.kind) rs))))
+    (if vanishes e (list_any (counts_result (Node k)) rs) then None else Some (over style k (filter (keeps_result (Node k)) rs))))
 node_closed in_table k style e mark before after h xs rs shown =
     let i = inserted_of mark before after in
     let q = all_arrive xs (fresh (Node k) style e i) in
-    let kept = filter (λ (r : Result). new.keeps k r.node.kind) rs in
-    let r = over (in_style style k) kept in
-    close-shown in_table (Node k) style e mark before after (λ (r : Result). new.keeps k r.node.kind) (new.counts (becomes.Node k)) new.stands_alone (agrees-node k h) xs rs shown
-    (Node k) (kind-stays (Node k) (node-gathered k) xs (fresh (Node k) style e i) refl) r
-    (shows-other in_table (node_made (draft k style i) (is_filled kept) q.element.is_stray q.drafts) (with_noted i r)
+    let kept = filter (keeps_result (Node k)) rs in
+    close-shown in_table (Node k) style e mark before after xs rs shown (Node k)
+    (kind-stays (Node k) refl xs (fresh (Node k) style e i) refl) (over style k kept)
+    (shows-other in_table (node_made (draft k style i) (is_filled kept) q.element.is_stray q.drafts) (with_noted i (over style k kept))
     (made-role k style i (is_filled kept) q.element.is_stray q.drafts)
     (node_shown k style i (is_filled kept) q.element.is_stray q.drafts (trees_of kept) h
-    (subst (Gives q.element.is_stray q.drafts) (together-alone kept)
-    (close-gives in_table (Node k) style e mark before after (λ (r : Result). new.keeps k r.node.kind) (new.counts (becomes.Node k)) new.stands_alone (agrees-node k h) xs rs shown))))
+    (subst (Gives q.element.is_stray q.drafts) (together-alone kept) (close-gives in_table (Node k) style e mark before after xs rs shown))))

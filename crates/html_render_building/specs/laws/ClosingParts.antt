@@ -1,4 +1,6 @@
 -- What a part of a table becomes shows what it becomes over the results of its children.
+use Rattle.html_render_building.specs.laws.Roles as roles
+use Rattle.html_render_building.specs.laws.Roles.{in_style}
 use Rattle.std.proofs.Common.{◌≡◌, Bool, true, false, ◌||◌, if◌then◌else◌, List, [], ◌∷◌, ◌++◌, Option, Some, None, option_map, refl, ap, ◌∙◌, subst, sym}
 use Rattle.std.specs.Prelude.{filter, flat_map}
 use Rattle.html_render_values.specs.Forest.{Forest, none, node, followed_by}
@@ -14,55 +16,53 @@ use Rattle.html_render_insertions.specs.declared.drafts.Draft.{Draft}
 use Rattle.html_render_insertions.specs.declared.drafts.Insertions.{Insertions}
 use Rattle.html_render_insertions.specs.Drafts.{draft, expanded, insert_first, front, back}
 use Rattle.html_render_conversion.specs.Results as new
-use Rattle.html_render_conversion.specs.Results.{Nodes, Result, beside, completed, in_first_cell, in_first_row, in_style, over, row_over, rows_over, trees_of}
+use Rattle.html_render_conversion.specs.Results.{Nodes, Result, beside, completed, over, row_over, rows_over, trees_of, in_first}
 use Rattle.html_render_building.specs.declared.elements.Element.{Element}
 use Rattle.html_render_building.specs.declared.elements.OpenKind.{OpenKind}
 use Rattle.html_render_building.specs.declared.elements.OpenKind.TheVariants.{Row, Rows}
-use Rattle.html_render_building.specs.declared.elements.Role.{Role}
-use Rattle.html_render_building.specs.declared.elements.Role.TheVariants as role
 use Rattle.html_render_building.specs.Elements.{counts, gathered, keeps, with_kept}
 use Rattle.html_render_building.specs.Building.{Arrival, Holding, arrive, are_any, caption_kind, row_made, rows_made, with_insertions}
 use Rattle.html_render_building.specs.laws.Arrivals.{all_arrive}
-use Rattle.html_render_building.specs.laws.Shown.{shows_by, RowsArePlain, AllPlain, AllShow, Gives, Shows, meant, own_trees, together, both}
+use Rattle.html_render_building.specs.laws.Shown.{shows_by, RowsArePlain, AllPlain, AllShow, Gives, Shows, own_trees, together, both}
 use Rattle.html_render_building.specs.laws.Inserting.{gives-alone, gives-over, insert-cell, insert-row, plain-insert_row, with_noted}
 use Rattle.html_render_building.specs.laws.Closing.{seen}
 
 -- ---- what is inserted into rows
 
-first_cell-none : (t : Nodes) → in_first_cell none none t ≡ t
+first_cell-none : (t : Nodes) → in_first 1 none none t ≡ t
 first_cell-none none = refl
 first_cell-none (node n children others) = ap (λ x. node n x others) (followed_by-none children)
 
-first_row-none : (t : Nodes) → in_first_row none none t ≡ t
+first_row-none : (t : Nodes) → in_first 2 none none t ≡ t
 first_row-none none = refl
 first_row-none (node n children others) = ap (λ x. node n x others) (first_cell-none children)
 
 pub gives-cell : (i : List Insertions) (s : Bool) (d : Forest Draft) (o : Option Nodes) → Gives s d o →
-    Gives s (insert_first 0 i d) (if are_any i then option_map (in_first_cell (front i) (back i)) o else o)
+    Gives s (insert_first 0 i d) (if are_any i then option_map (in_first 1 (front i) (back i)) o else o)
 gives-cell [] s d None g = g
 gives-cell [] s d (Some t) g = (g.0, insert-cell [] d ∙ first_cell-none (expanded d) ∙ g.1)
 gives-cell (x ∷ xs) s d None g = g
-gives-cell (x ∷ xs) s d (Some t) g = (g.0, insert-cell (x ∷ xs) d ∙ ap (in_first_cell (front (x ∷ xs)) (back (x ∷ xs))) g.1)
+gives-cell (x ∷ xs) s d (Some t) g = (g.0, insert-cell (x ∷ xs) d ∙ ap (in_first 1 (front (x ∷ xs)) (back (x ∷ xs))) g.1)
 
 pub gives-row : (i : List Insertions) (s : Bool) (d : Forest Draft) (o : Option Nodes) → AllPlain d → Gives s d o →
-    Gives s (insert_first 1 i d) (if are_any i then option_map (in_first_row (front i) (back i)) o else o)
+    Gives s (insert_first 1 i d) (if are_any i then option_map (in_first 2 (front i) (back i)) o else o)
 gives-row [] s d None h g = g
 gives-row [] s d (Some t) h g = (g.0, insert-row [] d h ∙ first_row-none (expanded d) ∙ g.1)
 gives-row (x ∷ xs) s d None h g = g
-gives-row (x ∷ xs) s d (Some t) h g = (g.0, insert-row (x ∷ xs) d h ∙ ap (in_first_row (front (x ∷ xs)) (back (x ∷ xs))) g.1)
+gives-row (x ∷ xs) s d (Some t) h g = (g.0, insert-row (x ∷ xs) d h ∙ ap (in_first 2 (front (x ∷ xs)) (back (x ∷ xs))) g.1)
 
 -- ---- what a part becomes
 
 pub cell-shown : (span : CellSpan) (style : NodeStyle) (i : List Insertions) (has_children s : Bool) (below : Forest Draft) (o : Option Nodes) →
     Gives s below o →
-    Shows (with_insertions (role.Cell span) (draft TableCell style i) has_children s below)
+    Shows (with_insertions (new.Cell span) (draft TableCell style i) has_children s below)
     (with_noted i (record { role = new.Cell span; node = in_style style TableCell; has_children = has_children; below = o }))
 cell-shown span style [] has_children s below o g = shows_by refl refl refl (gives-alone s TableCell style below o g) tt
 cell-shown span style (x ∷ xs) has_children s below o g = shows_by refl refl refl (gives-over s (draft TableCell style (x ∷ xs)) below o g) tt
 
 pub caption-shown : (in_table : Bool) (style : NodeStyle) (i : List Insertions) (has_children s : Bool) (below : Forest Draft) (o : Option Nodes) →
     Gives s below o →
-    Shows (with_insertions role.Caption (draft (caption_kind in_table) style i) has_children s below)
+    Shows (with_insertions new.Caption (draft (caption_kind in_table) style i) has_children s below)
     (seen in_table (with_noted i (record { role = new.Caption; node = in_style style Container; has_children = has_children; below = o })))
 caption-shown true style [] has_children s below o g = shows_by refl refl refl (gives-alone s (caption_kind true) style below o g) tt
 caption-shown false style [] has_children s below o g = shows_by refl refl refl (gives-alone s Container style below o g) tt
@@ -77,7 +77,7 @@ pub row-shown : (cells : List CellSpan) (style : NodeStyle) (i : List Insertions
 row-shown cells style [] has_children s kept o g =
     shows_by refl refl refl (gives-alone s TableRow style (insert_first 0 [] kept) o (gives-cell [] s kept o g)) (refl, tt)
 row-shown cells style (x ∷ xs) has_children s kept o g = shows_by refl refl refl
-    (gives-alone s TableRow style (insert_first 0 (x ∷ xs) kept) (option_map (in_first_cell (front (x ∷ xs)) (back (x ∷ xs))) o)
+    (gives-alone s TableRow style (insert_first 0 (x ∷ xs) kept) (option_map (in_first 1 (front (x ∷ xs)) (back (x ∷ xs))) o)
     (gives-cell (x ∷ xs) s kept o g)) (refl, tt)
 
 pub rows-shown : (behind : Bool) (rows : List (List CellSpan)) (i : List Insertions) (has_children s : Bool) (kept : Forest Draft) (o : Option Nodes) →
@@ -129,8 +129,8 @@ kind-after a q = by (keeps q.element.kind a.role a.kind)
 
 -- an element that gathers, of each role that it keeps, what the role spans
 module _ {F : Type 0} (gatherer : List F → OpenKind) (is : new.Role → Bool) (spans : new.Role → List F)
-    (one : (x : Role) (n : NodeKind) (f : List F) →
-    (if keeps (gatherer f) x n then gathered x (gatherer f) else gatherer f) ≡ gatherer (if is (meant x) then spans (meant x) ++ f else f)) where
+    (one : (x : new.Role) (n : NodeKind) (f : List F) →
+    (if keeps (gatherer f) x n then gathered x (gatherer f) else gatherer f) ≡ gatherer (if is x then spans x ++ f else f)) where
   abbrev kept_spans : List Result → List F
   kept_spans rs = flat_map (λ r. spans r.role) (filter (λ r. is r.role) rs)
 
@@ -149,7 +149,7 @@ module _ {F : Type 0} (gatherer : List F → OpenKind) (is : new.Role → Bool) 
   gathers xs rs h p e = elim h [ ]
 
   -- where what it keeps is plain, so is what it holds
-  pub gathers-plain : ((x : Role) (n : NodeKind) (f : List F) (d t : Forest Draft) → RowsArePlain x d → AllPlain t →
+  pub gathers-plain : ((x : new.Role) (n : NodeKind) (f : List F) (d t : Forest Draft) → RowsArePlain x d → AllPlain t →
       AllPlain (if keeps (gatherer f) x n then followed_by d t else t)) → (xs : List Arrival) (rs : List Result) → AllShow xs rs →
       (p : Holding) → p.element.kind ≡ gatherer [] → AllPlain p.drafts → AllPlain (all_arrive xs p).drafts
   gathers-plain plain [] [] h p e f = f
@@ -159,13 +159,13 @@ module _ {F : Type 0} (gatherer : List F → OpenKind) (is : new.Role → Bool) 
       (plain a.role a.kind (kept_spans rs) a.drafts (all_arrive xs p).drafts h.0.rows_are_plain (gathers-plain plain xs rs h.1 p e f))
   gathers-plain plain xs rs h p e f = elim h [ ]
 
-pub row-one : (x : Role) (n : NodeKind) (f : List CellSpan) →
-    (if keeps (Row f) x n then gathered x (Row f) else Row f) ≡ Row (if new.is_cell (meant x) then new.cell_spans (meant x) ++ f else f)
-row-one role.Contents n f = refl
+pub row-one : (x : new.Role) (n : NodeKind) (f : List CellSpan) →
+    (if keeps (Row f) x n then gathered x (Row f) else Row f) ≡ Row (if roles.is_cell x then roles.cell_spans x ++ f else f)
+row-one new.Contents n f = refl
 row-one x n f = refl
 
-pub rows-one : (behind : Bool) (x : Role) (n : NodeKind) (f : List (List CellSpan)) →
+pub rows-one : (behind : Bool) (x : new.Role) (n : NodeKind) (f : List (List CellSpan)) →
     (if keeps (Rows behind f) x n then gathered x (Rows behind f) else Rows behind f)
-    ≡ Rows behind (if new.is_row (meant x) then new.row_spans (meant x) ++ f else f)
-rows-one behind role.Contents n f = refl
+    ≡ Rows behind (if roles.is_row x then roles.row_spans x ++ f else f)
+rows-one behind new.Contents n f = refl
 rows-one behind x n f = refl

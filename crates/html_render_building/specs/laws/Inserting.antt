@@ -1,42 +1,42 @@
 -- What is inserted into drafts stands where it is inserted into a result.
-use Rattle.std.proofs.Common.{◌≡◌, ℕ, Bool, true, false, not, ◌&&◌, if◌then◌else◌, List, [], ◌∷◌, Option, Some, None, option_map, refl, sym, ap, subst, ◌∙◌}
+use Rattle.html_render_building.specs.laws.Roles.{in_style}
+use Rattle.std.proofs.Common.{is_some, ◌||◌, ◌≡◌, ℕ, Bool, true, false, not, ◌&&◌, if◌then◌else◌, List, [], ◌∷◌, Option, Some, None, option_map, refl, sym, ap, subst, ◌∙◌}
 use Rattle.html_render_values.specs.Forest.{Forest, none, node, followed_by}
 use Rattle.html_render_nodes.specs.declared.tree.NodeKind.{NodeKind}
-use Rattle.html_render_nodes.specs.declared.tree.NodeKind.TheVariants.{Container, FragmentStart, Table}
+use Rattle.html_render_nodes.specs.declared.tree.NodeKind.TheVariants.{Container, FragmentStart, Table, Text}
 use Rattle.html_render_nodes.specs.declared.tree.NodeStyle.{NodeStyle}
 use Rattle.html_render_nodes.specs.RenderNodes.{no_style, without_style}
 use Rattle.html_render_insertions.specs.declared.drafts.Draft.{Draft}
 use Rattle.html_render_insertions.specs.declared.drafts.Insertions.{Insertions}
 use Rattle.html_render_insertions.specs.Drafts.{front, back, wrapped, draft, plain_draft, node_of, expanded, insert_first, inserted_of, mark_in}
 use Rattle.html_render_insertions.specs.laws.Drafts.{wrapped-none, expanded-insert_top}
-use Rattle.html_render_conversion.specs.Insertion.{text_node, fragment_start}
-use Rattle.html_render_conversion.specs.Results.{Nodes, Result, Inside, Beside, Contents, in_style, into_kind, into_role, inserted, over}
-use Rattle.html_render_conversion.specs.Results.{with_inserted, leaf, completed, in_first_cell, in_first_row}
-use Rattle.html_render_building.specs.Kinds.{holds_insertions}
+use Rattle.html_render_conversion.specs.Results.{Nodes, Result, Contents, inserted, over, level_in, leaf, completed, in_first, holds_insertions}
+use Rattle.html_render_nodes.specs.laws.Splits.{followed_by-none}
 use Rattle.html_render_building.specs.Building.{Arrival, are_any, leaf_arrival, mark_left, node_made, with_insertions, beside_insertions}
-use Rattle.html_render_building.specs.declared.elements.Role.TheVariants as role
 use Rattle.html_render_building.specs.laws.Mappings.{stands_as_is}
-use Rattle.html_render_building.specs.laws.Shown.{shows_by, AllPlain, Gives, Shows}
+use Rattle.html_render_building.specs.laws.Shown.{shows_by, AllPlain, Both, Gives, Shows}
+use Rattle.html_render_conversion.specs.Results as new
 
 -- ---- what one element inserts
 
 -- a result, where this is inserted
 abbrev pub with_noted : List Insertions → Result → Result
-with_noted i r = if are_any i then inserted (into_role r.role r.node.kind) (front i) (back i) r else r
+with_noted i r = if are_any i then inserted (level_in r.role r.node.kind) (front i) (back i) r else r
 
 abbrev pub fronts : (mark before : Option (List ℕ)) → Nodes
-fronts mark before = followed_by (leaf (option_map fragment_start mark)) (leaf (option_map text_node before))
+fronts mark before = followed_by (leaf FragmentStart mark) (leaf Text before)
 
-pub inserted-noted : (mark before after : Option (List ℕ)) (r : Result) →
-    with_inserted (fronts mark before) (leaf (option_map text_node after)) r ≡ with_noted (inserted_of mark before after) r
-inserted-noted None None None r = refl
-inserted-noted None None (Some c) r = refl
-inserted-noted None (Some b) None r = refl
-inserted-noted None (Some b) (Some c) r = refl
-inserted-noted (Some a) None None r = refl
-inserted-noted (Some a) None (Some c) r = refl
-inserted-noted (Some a) (Some b) None r = refl
-inserted-noted (Some a) (Some b) (Some c) r = refl
+pub completed-noted : (mark before after : Option (List ℕ)) (r : Result) →
+    completed mark before after (Some r) ≡ Some (with_noted (inserted_of mark before after) r)
+completed-noted mark before after r = by (is_some mark || (is_some before || is_some after))
+  where
+    noted : Insertions
+    noted = record { mark = mark; before = before; after = after }
+
+    by : (b : Bool) → Some (if b then inserted (level_in r.role r.node.kind) (fronts mark before) (leaf Text after) r else r)
+        ≡ Some (with_noted (if b then noted ∷ [] else []) r)
+    by true = ap (λ back. Some (inserted (level_in r.role r.node.kind) (fronts mark before) back r)) (sym (followed_by-none (leaf Text after)))
+    by false = refl
 
 pub mark-noted : (mark before after : Option (List ℕ)) → mark_in (inserted_of mark before after) ≡ mark
 mark-noted None None None = refl
@@ -46,10 +46,7 @@ mark-noted mark before after = refl
 
 -- what something became shows what its node became
 abbrev pub ShowsAny : Option Arrival → Option Result → Type 0
-ShowsAny None None = Unit {0}
-ShowsAny None (Some r) = ⊥
-ShowsAny (Some a) None = ⊥
-ShowsAny (Some a) (Some r) = Shows a r
+ShowsAny = Both Shows
 
 -- a draft over others gives its node over theirs
 pub gives-over : (s : Bool) (d : Draft) (below : Forest Draft) (o : Option Nodes) → Gives s below o →
@@ -74,7 +71,7 @@ gives-beside s k style i below (Some t) g = (
       (wrapped-none (expanded below) ∙ g.1),
 )
 
-into-holds : (k : NodeKind) → stands_as_is k ≡ true → into_kind k ≡ (if holds_insertions k then Inside else Beside)
+into-holds : (k : NodeKind) → stands_as_is k ≡ true → level_in Contents k ≡ (if holds_insertions k then Some 0 else None)
 into-holds (Table grid) h = cc
 into-holds k h = refl
 
@@ -94,8 +91,8 @@ node_shown k style (x ∷ xs) has_children s below o h g =
 
     by : (b : Bool) →
         Shows (if true && not b then beside_insertions (draft k style (x ∷ xs)) s below
-        else with_insertions role.Contents (draft k style (x ∷ xs)) has_children s below)
-        (inserted (if b then Inside else Beside) (front (x ∷ xs)) (back (x ∷ xs))
+        else with_insertions new.Contents (draft k style (x ∷ xs)) has_children s below)
+        (inserted (if b then Some 0 else None) (front (x ∷ xs)) (back (x ∷ xs))
         (record { role = Contents; node = in_style style k; has_children = has_children; below = o }))
     by true = shows_by refl refl refl (gives-over s (draft k style (x ∷ xs)) below o g) tt
     by false = shows_by refl refl refl (gives-beside s k style (x ∷ xs) below o g) tt
@@ -108,26 +105,26 @@ mark-shown mark before after =
     (sym (mark-noted mark before after)) (by mark)
   where
     by : (m : Option (List ℕ)) → ShowsAny (option_map (λ name. leaf_arrival (plain_draft (FragmentStart name))) m)
-        (option_map (λ name. over (fragment_start name) []) m)
+        (option_map (λ name. over no_style (FragmentStart name) []) m)
     by None = tt
     by (Some name) = shows_by refl refl refl (refl, refl) tt
 
 -- ---- inside the first cell
 
-pub insert-cell : (i : List Insertions) (t : Forest Draft) → expanded (insert_first 0 i t) ≡ in_first_cell (front i) (back i) (expanded t)
+pub insert-cell : (i : List Insertions) (t : Forest Draft) → expanded (insert_first 0 i t) ≡ in_first 1 (front i) (back i) (expanded t)
 insert-cell i none = refl
 insert-cell i (node d children others) = expanded-insert_top i d children others
 
 -- and in the first cell of the first row
 pub insert-row : (i : List Insertions) (t : Forest Draft) → AllPlain t →
-    expanded (insert_first 1 i t) ≡ in_first_row (front i) (back i) (expanded t)
+    expanded (insert_first 1 i t) ≡ in_first 2 (front i) (back i) (expanded t)
 insert-row i none h = refl
 insert-row i (node d children others) h =
     ap (λ n. node (node_of d) (wrapped n (expanded (insert_first 0 i children))) (expanded others)) h.0
     ∙ ap (λ x. node (node_of d) x (expanded others)) (wrapped-none (expanded (insert_first 0 i children)))
     ∙ ap (λ x. node (node_of d) x (expanded others)) (insert-cell i children)
-    ∙ ap (λ x. node (node_of d) (in_first_cell (front i) (back i) x) (expanded others)) (sym (wrapped-none (expanded children)))
-    ∙ ap (λ n. node (node_of d) (in_first_cell (front i) (back i) (wrapped n (expanded children))) (expanded others)) (sym h.0)
+    ∙ ap (λ x. node (node_of d) (in_first 1 (front i) (back i) x) (expanded others)) (sym (wrapped-none (expanded children)))
+    ∙ ap (λ n. node (node_of d) (in_first 1 (front i) (back i) (wrapped n (expanded children))) (expanded others)) (sym h.0)
 
 pub plain-insert_row : (i : List Insertions) (t : Forest Draft) → AllPlain t → AllPlain (insert_first 1 i t)
 plain-insert_row i none h = tt

@@ -16,7 +16,7 @@ use Rattle.html_render_conversion.specs.declared.mapping.IfEmpty.TheVariants.{St
 use Rattle.html_render_conversion.specs.declared.mapping.Mapping.{Mapping}
 use Rattle.html_render_conversion.specs.declared.mapping.Mapping.TheVariants.{Nothing, Leaf, Parent}
 use Rattle.html_render_conversion.specs.Conversion.{element_mapping, is_one_of, link_mapping}
-use Rattle.html_render_building.specs.Order.{is_html}
+use Rattle.html_render_conversion.specs.Marks.{is_html}
 
 abbrev pub may_vanish : IfEmpty → Bool
 may_vanish Stands = false

@@ -8,12 +8,14 @@ use Rattle.html_render_dom.specs.Content.{Content, element}
 use Rattle.html_render_dom.specs.Rules.{Rule as StyleRule}
 use Rattle.html_render_conversion.specs.Results as new
 use Rattle.html_render_conversion.specs.Results.{Result, result_of, results, of_role}
-use Rattle.html_render_building.specs.Order.{is_html, is_named, picks}
+use Rattle.html_render_building.specs.Order.{is_named, picks}
+use Rattle.html_render_conversion.specs.Marks.{is_html}
 use Rattle.html_render_building.specs.declared.order.Pick.{Pick}
 use Rattle.html_render_building.specs.declared.order.Pick.TheVariants.{All, Captions, Feet, Others}
 use Rattle.html_render_building.specs.laws.Mappings.{named-once}
 use Rattle.html_render_building.specs.laws.ResultRoles.{FitsAny, fits_role, result-fits}
-use Rattle.html_render_building.specs.laws.TableShown.{parts_of}
+use Rattle.html_render_building.specs.laws.TableShown.{parts_of, rows-either}
+use Rattle.html_render_building.specs.laws.Shown.{or-false}
 use Rattle.html_render_building.specs.laws.TableClosed.{captions_of}
 use Rattle.html_render_building.specs.laws.TableParted.{Parted}
 
@@ -24,7 +26,7 @@ add r rest = do
   l ← rest
   Some (option_to_list x ++ l)
 
--- the results of the trees that are picked among these
+-- the results of the trees that are picked from these
 abbrev pub picked_results : List StyleRule → Forest Content → Pick → Option (List Result)
 picked_results rules none pick = Some []
 picked_results rules (node content children others) pick =
@@ -88,7 +90,8 @@ to-feet (Some (Some x)) h (Some rs) (Some f) (Some u) (Some c) p = (
   ap (λ b. first_if b x (captions_of rs)) (role-caption false true x.role h refl) ∙ p.0,
   ap (λ b. first_if b x (of_role (new.are_rows false) rs)) (role-first false true x.role h refl) ∙ p.1,
   ap (first_if (new.are_rows true x.role) x) p.2
-      ∙ ap (λ b. first_if (b || new.are_rows true x.role) x (parts_of f)) (sym (role-first false true x.role h refl)),
+      ∙ ap (λ b. first_if b x (parts_of f))
+      (ap (λ b. b || new.are_rows true x.role) (sym (role-first false true x.role h refl)) ∙ sym (rows-either x.role)),
 )
 to-feet (Some (Some x)) h (Some rs) f u c p = elim p [ ]
 
@@ -102,14 +105,11 @@ to-others (Some (Some x)) h None f None c p = p
 to-others (Some (Some x)) h None f (Some u) c p = p
 to-others (Some (Some x)) h (Some rs) (Some f) (Some u) (Some c) p = (
   ap (λ b. first_if b x (captions_of rs)) (role-caption false false x.role h refl) ∙ p.0,
-  ap (first_if (new.are_rows false x.role) x) p.1 ∙ either (new.are_rows false x.role)
-      ∙ ap (λ b. first_if (new.are_rows false x.role || b) x (parts_of u)) (sym (role-behind false false x.role h refl)),
+  ap (first_if (new.are_rows false x.role) x) p.1
+      ∙ ap (λ b. first_if b x (parts_of u)) (sym (or-false (new.are_rows false x.role))
+      ∙ ap (λ b. new.are_rows false x.role || b) (sym (role-behind false false x.role h refl)) ∙ sym (rows-either x.role)),
   ap (λ b. first_if b x (of_role (new.are_rows true) rs)) (role-behind false false x.role h refl) ∙ p.2,
 )
-  where
-    either : (b : Bool) → first_if b x (parts_of u) ≡ first_if (b || false) x (parts_of u)
-    either true = refl
-    either false = refl
 to-others (Some (Some x)) h (Some rs) None u c p = elim p [ ]
 to-others (Some (Some x)) h (Some rs) (Some f) None c p = elim p [ ]
 to-others (Some (Some x)) h (Some rs) (Some f) (Some u) None p = elim p [ ]

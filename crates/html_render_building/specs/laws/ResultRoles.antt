@@ -1,5 +1,7 @@
 -- Which results are captions, and which are rows that stand behind all others: only those of elements of that name.
-use Rattle.std.proofs.Common.{◌≡◌, ℕ, Bool, true, false, not, ◌&&◌, ◌||◌, if◌then◌else◌, List, Option, Some, None, is_some, option_map, refl}
+use Rattle.html_render_nodes.specs.declared.tree.NodeKind.TheVariants.{Text}
+use Rattle.html_render_conversion.specs.Marks.{mark_of, is_html}
+use Rattle.std.proofs.Common.{◌≡◌, ℕ, Bool, true, false, not, ◌&&◌, ◌||◌, if◌then◌else◌, List, Option, Some, None, is_some, option_map, refl, ◌++◌}
 use Rattle.std.specs.Prelude.{codes, flat_map}
 use Rattle.std.specs.List.{list_any}
 use Rattle.std.specs.Str.{bytes_eq}
@@ -19,13 +21,11 @@ use Rattle.html_render_conversion.specs.declared.mapping.IfEmpty.{IfEmpty}
 use Rattle.html_render_conversion.specs.declared.mapping.Mapping.{Mapping}
 use Rattle.html_render_conversion.specs.declared.mapping.Mapping.TheVariants.{Leaf, Parent}
 use Rattle.html_render_conversion.specs.Conversion.{element_mapping, node_style, own_style, vanishes}
-use Rattle.html_render_conversion.specs.Insertion.{are_any, text_node}
-use Rattle.html_render_conversion.specs.Marks.{mark_of}
 use Rattle.html_render_dom.specs.Selectors.{is_filled}
 use Rattle.html_render_conversion.specs.Results as new
-use Rattle.html_render_conversion.specs.Results.{Insertion, Inside, FirstRow, FirstCell, Beside, Nodes, Result, built, captioned, completed, inserted, into_role}
-use Rattle.html_render_conversion.specs.Results.{leaf, mapped, of_role, over, result_of, styled, table_of, table_over, with_inserted, with_rows}
-use Rattle.html_render_building.specs.Order.{is_html, is_named}
+use Rattle.html_render_conversion.specs.Results.{Nodes, Result, built, captioned, completed, inserted, level_in}
+use Rattle.html_render_conversion.specs.Results.{leaf, mapped, of_role, over, result_of, styled, table_of, table_over}
+use Rattle.html_render_building.specs.Order.{is_named}
 use Rattle.html_render_building.specs.laws.Inserting.{fronts}
 use Rattle.html_render_building.specs.laws.Mappings.{element_fits, fits, fits_kind}
 
@@ -45,21 +45,21 @@ FitsAny caption foot None = Unit {0}
 FitsAny caption foot (Some r) = Fits caption foot r
 
 module _ (caption foot : Bool) where
-  fits-inserted : (w : Insertion) (front back : Nodes) (r : Result) → fits_role caption foot r.role ≡ true →
-      fits_role caption foot (inserted w front back r).role ≡ true
-  fits-inserted Beside front back r h = refl
-  fits-inserted w front back r h = h
+  fits-inserted : (level : Option ℕ) (front back : Nodes) (r : Result) → fits_role caption foot r.role ≡ true →
+      fits_role caption foot (inserted level front back r).role ≡ true
+  fits-inserted None front back r h = refl
+  fits-inserted (Some level) front back r h = h
 
   fits-completed : (mark before after : Option (List ℕ)) (r : Option Result) → Fits caption foot r →
       Fits caption foot (completed mark before after r)
   fits-completed None before after None h = tt
   fits-completed (Some name) before after None h = refl
-  fits-completed mark before after (Some r) h = by (are_any (fronts mark before) || are_any (leaf (option_map text_node after)))
+  fits-completed mark before after (Some r) h = by (is_some mark || (is_some before || is_some after))
     where
       by : (b : Bool) →
-          fits_role caption foot (if b then inserted (into_role r.role r.node.kind) (fronts mark before) (leaf (option_map text_node after)) r else r).role
+          fits_role caption foot (if b then inserted (level_in r.role r.node.kind) (fronts mark before) (leaf Text after) r else r).role
           ≡ true
-      by true = fits-inserted (into_role r.role r.node.kind) (fronts mark before) (leaf (option_map text_node after)) r h
+      by true = fits-inserted (level_in r.role r.node.kind) (fronts mark before) (leaf Text after) r h
       by false = h
 
   fits-table : (style : NodeStyle) (captions parts : List Result) → Fits caption foot (table_of style captions parts)
@@ -78,7 +78,8 @@ module _ (caption foot : Bool) where
 
   fits-built : (k : ElementKind) (e : IfEmpty) (style : NodeStyle) (rs : List Result) → fits_kind caption foot e k ≡ true →
       Fits caption foot (built k style rs)
-  fits-built (Part part.Table) e style rs h = fits-table style (of_role new.is_caption rs) (with_rows rs)
+  fits-built (Part part.Table) e style rs h =
+      fits-table style (of_role new.is_caption rs) (of_role (new.are_rows false) rs ++ of_role (new.are_rows true) rs)
   fits-built (Part part.Row) e style rs h = refl
   fits-built (Part (part.Cell span)) e style rs h = refl
   fits-built (Node k) e style rs h = refl
@@ -95,9 +96,9 @@ module _ (caption foot : Bool) where
 
       by : (o : Option Result) → Fits caption foot o → FitsAny caption foot (do
         r ← o
-        Some (if vanishes e (list_any (new.counts k) rs) then None else Some r))
+        Some (if vanishes e (list_any (λ r. new.counts k r.role r.node.kind r.has_children) rs) then None else Some r))
       by None h = tt
-      by (Some r) h = vanishing (vanishes e (list_any (new.counts k) rs)) r h
+      by (Some r) h = vanishing (vanishes e (list_any (λ r. new.counts k r.role r.node.kind r.has_children) rs)) r h
   fits-mapped m style inside h = tt
 
   fits-styled : (m : Mapping) (mark : Option (List ℕ)) (style : ElementStyle) (inside : Option (List Result)) → fits caption foot m ≡ true →

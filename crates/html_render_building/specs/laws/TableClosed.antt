@@ -1,54 +1,35 @@
 -- A table that is closed shows what its node becomes over its captions and its rows.
+use Rattle.html_render_building.specs.laws.Roles.{as_block, have_rows, in_style, joined}
 use Rattle.std.proofs.Common.{◌≡◌, ℕ, Bool, true, false, not, ◌||◌, if◌then◌else◌, List, [], ◌∷◌, ◌++◌, Option, Some, None, option_map, refl, sym, ap, subst, ◌∙◌}
-use Rattle.std.specs.Prelude.{filter}
+use Rattle.std.specs.Prelude.{filter, map}
 use Rattle.std.specs.List.{list_any}
 use Rattle.html_render_values.specs.Forest.{Forest, none, node}
 use Rattle.html_render_values.specs.Outcome.{◌>>=◌}
-use Rattle.html_render_nodes.specs.declared.tree.NodeKind.TheVariants.{Container, TableRow, TableCell}
+use Rattle.html_render_nodes.specs.declared.tree.NodeKind.TheVariants.{Container, TableRow, TableCell, Block}
 use Rattle.html_render_nodes.specs.declared.tree.NodeStyle.{NodeStyle}
 use Rattle.html_render_nodes.specs.declared.tree.RenderNode.{RenderNode}
 use Rattle.html_render_insertions.specs.declared.drafts.Draft.{Draft}
 use Rattle.html_render_insertions.specs.declared.drafts.Insertions.{Insertions}
-use Rattle.html_render_insertions.specs.Drafts.{inserted_of, insert_first, front, back}
+use Rattle.html_render_insertions.specs.Drafts.{inserted_of, insert_first, front, back, plain_draft}
 use Rattle.html_render_dom.specs.Selectors.{is_filled}
 use Rattle.html_render_conversion.specs.Results as new
-use Rattle.html_render_conversion.specs.Results.{Nodes, Result, beside, completed, in_first_cell, in_first_row, in_style, over, row_over, rows_over, trees_of}
-use Rattle.html_render_building.specs.declared.elements.Role.{Role}
-use Rattle.html_render_building.specs.declared.elements.Role.TheVariants as role
-use Rattle.html_render_building.specs.Elements.{gathered}
-use Rattle.html_render_building.specs.Building.{Arrival, Holding, closed, fresh}
+use Rattle.html_render_conversion.specs.Results.{Nodes, Result, beside, completed, over, row_over, rows_over, trees_of, in_first, captioned}
+use Rattle.html_render_conversion.specs.Results.{table_over, built}
+use Rattle.html_render_building.specs.Elements.{has_place}
+use Rattle.html_render_building.specs.Building.{Arrival, Holding, closed, fresh, captioned_made, mark_left, table_made, table_stands}
 use Rattle.html_render_building.specs.laws.Arrivals.{all_arrive}
-use Rattle.html_render_building.specs.laws.Shown.{Agrees, AllPlain, AllShow, Gives, both}
-use Rattle.html_render_building.specs.laws.Inserting.{gives-alone, with_noted}
-use Rattle.html_render_building.specs.laws.Closing.{ShowsIn, kind-stays, seen, shows-other}
-use Rattle.std.specs.Prelude.{map}
+use Rattle.html_render_building.specs.laws.Shown.{AllPlain, AllShow, Gives, both, counts_result, keeps_result, together}
+use Rattle.html_render_building.specs.laws.Inserting.{gives-alone, with_noted, ShowsAny, completed-noted, node_shown}
+use Rattle.html_render_building.specs.laws.Closing.{ShowsIn, kind-stays, seen, shows-other, closed-is, closed_as, mark-in}
 use Rattle.html_render_nodes.specs.Tables.{TableParts}
 use Rattle.html_render_nodes.specs.declared.tree.NodeKind.TheVariants as kind
 use Rattle.html_render_nodes.specs.RenderNodes.{no_style}
-use Rattle.html_render_insertions.specs.Drafts.{plain_draft}
 use Rattle.html_render_conversion.specs.declared.mapping.IfEmpty.TheVariants.{Vanishes}
-use Rattle.html_render_conversion.specs.Results.{as_block, captioned, have_rows, joined, table_over}
 use Rattle.html_render_building.specs.declared.elements.OpenKind.TheVariants.{Captioned}
-use Rattle.html_render_building.specs.Building.{captioned_made, mark_left, table_made, table_stands}
-use Rattle.html_render_building.specs.laws.Shown.{caption-meant, none-both, shows_by, trees_shown, drafts-stay, stray-stays}
-use Rattle.html_render_building.specs.laws.Inserting.{ShowsAny, inserted-noted, node_shown}
-use Rattle.html_render_building.specs.laws.Closing.{closed-is, closed_as, mark-in}
+use Rattle.html_render_building.specs.laws.Shown.{none-both, nothing-kept, shows_by, trees_shown}
 use Rattle.html_render_building.specs.laws.ClosingParts.{gives-row, together-beside}
-use Rattle.html_render_conversion.specs.Results.{built}
-use Rattle.html_render_nodes.specs.declared.tree.NodeKind.TheVariants.{Block}
 
 -- ---- captions
-
-agrees-captioned : Agrees Captioned (λ r. new.is_caption r.role) (λ r. new.is_caption r.role) (λ r. true)
-agrees-captioned = record {
-  keeps_are = λ a r s. caption-meant a.role ∙ ap new.is_caption s.role_is;
-  counts_are = λ a r s. caption-meant a.role ∙ ap new.is_caption s.role_is;
-  places_are = λ a r s. refl;
-}
-
-captioned-gathered : (r : Role) → gathered r Captioned ≡ Captioned
-captioned-gathered role.Contents = refl
-captioned-gathered r = refl
 
 abbrev pub captions_of : List Result → List Result
 captions_of rs = filter (λ r. new.is_caption r.role) rs
@@ -110,14 +91,14 @@ alone-shown grid style [] s rows parts h g = shows_by refl refl refl
     (gives-alone s (kind.Table grid) style (insert_first 1 [] rows) (joined parts) (gives-row [] s rows (joined parts) h g)) tt
 alone-shown grid style (x ∷ xs) s rows parts h g = shows_by refl refl refl
     (gives-alone s (kind.Table grid) style (insert_first 1 (x ∷ xs) rows)
-    (option_map (in_first_row (front (x ∷ xs)) (back (x ∷ xs))) (joined parts)) (gives-row (x ∷ xs) s rows (joined parts) h g)) tt
+    (option_map (in_first 2 (front (x ∷ xs)) (back (x ∷ xs))) (joined parts)) (gives-row (x ∷ xs) s rows (joined parts) h g)) tt
 
 -- what is shown is no caption
 module _ (in_table : Bool) where
   shows-contents : (a : Option Arrival) (r : Result) → new.is_caption r.role ≡ false → ShowsAny a (Some r) → ShowsIn in_table a (Some r)
   shows-contents None r h s = elim s [ ]
   shows-contents (Some a) r h s =
-      shows-other in_table a r (caption-meant a.role ∙ ap new.is_caption s.role_is ∙ h) s
+      shows-other in_table a r (ap new.is_caption s.role_is ∙ h) s
 
 noted-alone : (i : List Insertions) (grid : TableParts) (style : NodeStyle) (parts : List Result) →
     new.is_caption (with_noted i (table_over style grid parts)).role ≡ false
@@ -134,7 +115,7 @@ module _ (in_table : Bool) (grid : TableParts) (style : NodeStyle) (mark before 
   abbrev noted : List Insertions
   noted = inserted_of mark before after
 
-  -- what stands round it
+  -- its wrapper
   abbrev outer : (has_rows : Bool) → Holding
   outer has_rows = table_stands grid has_rows s rows (fresh Captioned style Vanishes noted)
 
@@ -157,10 +138,6 @@ module _ (in_table : Bool) (grid : TableParts) (style : NodeStyle) (mark before 
   outer-kind : (b : Bool) → (outer b).element.kind ≡ Captioned
   outer-kind true = refl
   outer-kind false = refl
-
-  outer-agrees : (b : Bool) → Agrees (outer b).element.kind (λ r. new.is_caption r.role) (λ r. new.is_caption r.role) (λ r. true)
-  outer-agrees true = agrees-captioned
-  outer-agrees false = agrees-captioned
 
   outer-made : (b any some : Bool) (st : Bool) (ds : Forest Draft) →
       closed_as in_table Captioned (outer b).element.style (outer b).element.if_empty ((outer b).element.has_results || any)
@@ -185,23 +162,23 @@ module _ (in_table : Bool) (grid : TableParts) (style : NodeStyle) (mark before 
 
   finished : (b : Bool) → have_rows parts ≡ b → (captions : List Result) (c : Bool) → is_filled captions ≡ c → (st : Bool) (ds : Forest Draft) →
       Gives st ds (both (beside (map as_block captions)) (beside (table_among (have_rows parts)))) →
-      (c ≡ false → st ≡ (outer b).element.is_stray) → (c ≡ false → ds ≡ (outer b).drafts) →
+      (c ≡ false → (ds ≡ (outer b).drafts) × (st ≡ (outer b).element.is_stray)) →
       ShowsIn in_table (if not (b || c) then mark_left noted else captioned_made style noted c st ds)
       (completed mark before after (if not (b || c) then None else Some (if c then captioned style grid captions parts else table_over style grid parts)))
-  finished false e captions false f st ds g same_stray same_drafts = mark-in in_table mark before after
-  finished true e captions false f st ds g same_stray same_drafts =
-      subst (λ x. ShowsIn in_table (captioned_made style noted false st ds) (Some x)) (sym (inserted-noted mark before after (table_over style grid parts)))
-      (subst (λ x. ShowsIn in_table (captioned_made style noted false x ds) (Some (with_noted noted (table_over style grid parts)))) (sym (same_stray refl))
-      (subst (λ x. ShowsIn in_table (captioned_made style noted false s x) (Some (with_noted noted (table_over style grid parts)))) (sym (same_drafts refl))
+  finished false e captions false f st ds g same = mark-in in_table mark before after
+  finished true e captions false f st ds g same =
+      subst (ShowsIn in_table (captioned_made style noted false st ds)) (sym (completed-noted mark before after (table_over style grid parts)))
+      (subst (λ x. ShowsIn in_table (captioned_made style noted false x ds) (Some (with_noted noted (table_over style grid parts)))) (sym (same refl).1)
+      (subst (λ x. ShowsIn in_table (captioned_made style noted false s x) (Some (with_noted noted (table_over style grid parts)))) (sym (same refl).0)
       (shows-contents in_table (table_made style noted s (node (plain_draft (kind.Table grid)) rows none))
       (with_noted noted (table_over style grid parts)) (noted-alone noted grid style parts)
       (alone-shown grid style noted s rows parts plain gives))))
-  finished false e captions true f st ds g same_stray same_drafts =
-      subst (λ x. ShowsIn in_table (captioned_made style noted true st ds) (Some x))
-      (sym (inserted-noted mark before after (captioned style grid captions parts))) (made-captioned st ds captions g)
-  finished true e captions true f st ds g same_stray same_drafts =
-      subst (λ x. ShowsIn in_table (captioned_made style noted true st ds) (Some x))
-      (sym (inserted-noted mark before after (captioned style grid captions parts))) (made-captioned st ds captions g)
+  finished false e captions true f st ds g same =
+      subst (ShowsIn in_table (captioned_made style noted true st ds))
+      (sym (completed-noted mark before after (captioned style grid captions parts))) (made-captioned st ds captions g)
+  finished true e captions true f st ds g same =
+      subst (ShowsIn in_table (captioned_made style noted true st ds))
+      (sym (completed-noted mark before after (captioned style grid captions parts))) (made-captioned st ds captions g)
 
   -- A TABLE over its rows, once its captions have come
   pub table-shown : (xs : List Arrival) (rs : List Result) → AllShow xs (map (seen true) rs) →
@@ -213,19 +190,23 @@ module _ (in_table : Bool) (grid : TableParts) (style : NodeStyle) (mark before 
       let p = outer b in
       let q = all_arrive xs p in
       let seen_rs = map (seen true) rs in
-      let some : is_filled (captions_of seen_rs) ≡ is_filled (captions_of rs) = ap is_filled (seen-captions rs) ∙ any-map (captions_of rs) in
-      let any : list_any (λ r. new.is_caption r.role) seen_rs ≡ is_filled (captions_of rs) = any-filter (λ r. new.is_caption r.role) seen_rs ∙ some in
+      let filled : is_filled (captions_of seen_rs) ≡ is_filled (captions_of rs) = ap is_filled (seen-captions rs) ∙ any-map (captions_of rs) in
+      let some : is_filled (filter (keeps_result p.element.kind) seen_rs) ≡ is_filled (captions_of rs) =
+      ap (λ k. is_filled (filter (keeps_result k) seen_rs)) (outer-kind b) ∙ filled in
+      let any : list_any (counts_result p.element.kind) seen_rs ≡ is_filled (captions_of rs) =
+      ap (λ k. list_any (counts_result k) seen_rs) (outer-kind b) ∙ any-filter (λ r. new.is_caption r.role) seen_rs ∙ filled in
       let wanted = completed mark before after
       (if not (b || is_filled (captions_of rs)) then None else Some (table_result (captions_of rs))) in
       subst (λ o. ShowsIn in_table o wanted)
-      (sym (closed-is in_table p (λ r. new.is_caption r.role) (λ r. new.is_caption r.role) (λ r. true) (outer-agrees b) xs seen_rs h Captioned
-      (kind-stays Captioned captioned-gathered xs p (outer-kind b))
-      ∙ outer-made b (list_any (λ r. new.is_caption r.role) seen_rs) (is_filled (captions_of seen_rs)) q.element.is_stray q.drafts
-      ∙ ap (λ x. if not (b || x) then mark_left noted else captioned_made style noted (is_filled (captions_of seen_rs)) q.element.is_stray q.drafts) any
+      (sym (closed-is in_table p xs seen_rs h Captioned (kind-stays Captioned refl xs p (outer-kind b))
+      ∙ outer-made b (list_any (counts_result p.element.kind) seen_rs) (is_filled (filter (keeps_result p.element.kind) seen_rs))
+      q.element.is_stray q.drafts
+      ∙ ap (λ x. if not (b || x) then mark_left noted
+      else captioned_made style noted (is_filled (filter (keeps_result p.element.kind) seen_rs)) q.element.is_stray q.drafts) any
       ∙ ap (λ x. if not (b || is_filled (captions_of rs)) then mark_left noted else captioned_made style noted x q.element.is_stray q.drafts) some))
       (finished b refl (captions_of rs) (is_filled (captions_of rs)) refl q.element.is_stray q.drafts
       (subst (λ o. Gives q.element.is_stray q.drafts (both o (beside (table_among b))))
-      (together-beside new.is_caption (λ b rows. refl) seen_rs ∙ ap beside (seen-captions rs))
-      (trees_shown p (λ r. new.is_caption r.role) (λ r. new.is_caption r.role) (λ r. true) (outer-agrees b) xs seen_rs h (beside (table_among b)) (outer-gives b)))
-      (λ none_there. stray-stays p (λ r. new.is_caption r.role) (λ r. new.is_caption r.role) (λ r. true) (outer-agrees b) xs seen_rs h (some ∙ none_there))
-      (λ none_there. drafts-stay p (λ r. new.is_caption r.role) (λ r. new.is_caption r.role) (λ r. true) (outer-agrees b) xs seen_rs h (some ∙ none_there)))
+      (ap (λ k. together (has_place k) (filter (keeps_result k) seen_rs)) (outer-kind b)
+      ∙ together-beside new.is_caption (λ b rows. refl) seen_rs ∙ ap beside (seen-captions rs))
+      (trees_shown p xs seen_rs h (beside (table_among b)) (outer-gives b)))
+      (λ none_there. nothing-kept p xs seen_rs h (some ∙ none_there)))

@@ -1,4 +1,5 @@
 -- A table whose captions, feet and other children are converted apart shows what it becomes over all of them.
+use Rattle.html_render_building.specs.laws.Roles.{have_rows}
 use Rattle.std.proofs.Common.{◌≡◌, ℕ, Bool, true, false, not, ◌&&◌, ◌||◌, if◌then◌else◌, List, [], ◌∷◌, ◌++◌, Option, Some, None, refl, sym, ap, subst, ◌∙◌}
 use Rattle.std.specs.List.{list_any}
 use Rattle.html_render_values.specs.Outcome.{◌>>=◌}
@@ -8,39 +9,28 @@ use Rattle.html_render_conversion.specs.declared.mapping.ElementKind.TheVariants
 use Rattle.html_render_conversion.specs.Conversion.{vanishes}
 use Rattle.html_render_dom.specs.Selectors.{is_filled}
 use Rattle.html_render_conversion.specs.Results as new
-use Rattle.html_render_conversion.specs.Results.{Nodes, Result, beside, completed, in_first_cell, in_first_row, in_style, over, row_over, rows_over, trees_of}
-use Rattle.html_render_building.specs.Building.{Arrival, Holding, arrive, closed, fresh}
+use Rattle.html_render_conversion.specs.Results.{Nodes, Result, beside, completed, over, row_over, rows_over, trees_of, in_first, captioned}
+use Rattle.html_render_conversion.specs.Results.{table_over, built, of_role, table_of}
+use Rattle.html_render_building.specs.Building.{Arrival, Holding, arrive, closed, fresh, closed_into}
 use Rattle.html_render_building.specs.laws.Arrivals.{all_arrive}
-use Rattle.html_render_building.specs.laws.Shown.{AllShow}
-use Rattle.html_render_building.specs.laws.Closing.{ShowsIn, seen}
-use Rattle.std.specs.Prelude.{map}
+use Rattle.html_render_building.specs.laws.Shown.{AllShow, Both}
+use Rattle.html_render_building.specs.laws.Closing.{ShowsIn, seen, seen-elsewhere}
+use Rattle.std.specs.Prelude.{map, is_some}
 use Rattle.html_render_nodes.specs.Tables.{TableParts}
 use Rattle.html_render_conversion.specs.declared.mapping.IfEmpty.TheVariants.{Vanishes}
-use Rattle.html_render_conversion.specs.Results.{as_block, captioned, have_rows, joined, table_over}
 use Rattle.html_render_building.specs.declared.elements.OpenKind.TheVariants.{Captioned}
-use Rattle.html_render_building.specs.Building.{closed_into}
-use Rattle.html_render_conversion.specs.Results.{built}
-use Rattle.html_render_building.specs.laws.TableShown.{any_rows, parts_of}
-use Rattle.std.specs.Prelude.{is_some}
+use Rattle.html_render_building.specs.laws.TableShown.{parts_of, grid_over, into_grid, table-gives, table-into, table-plain, table_start}
+use Rattle.html_render_building.specs.Elements.{are_rows}
 use Rattle.html_render_conversion.specs.declared.tables.Part.TheVariants as part
-use Rattle.html_render_conversion.specs.Results.{of_role, table_of, with_rows}
-use Rattle.html_render_building.specs.laws.Closing.{seen-elsewhere}
-use Rattle.html_render_building.specs.laws.TableShown.{grid_over, into_grid, table-gives, table-into, table-plain, table_start}
 use Rattle.html_render_building.specs.laws.TableClosed.{captions_of, table-shown}
 
 -- ---- lists of what has come
 
 abbrev pub AllShowAny : (in_table : Bool) → Option (List Arrival) → Option (List Result) → Type 0
-AllShowAny in_table None None = Unit {0}
-AllShowAny in_table None (Some rs) = ⊥
-AllShowAny in_table (Some xs) None = ⊥
-AllShowAny in_table (Some xs) (Some rs) = AllShow xs (map (seen in_table) rs)
+AllShowAny in_table = Both (λ xs rs. AllShow xs (map (seen in_table) rs))
 
 abbrev pub AnyShows : (in_table : Bool) → Option (Option Arrival) → Option (Option Result) → Type 0
-AnyShows in_table None None = Unit {0}
-AnyShows in_table None (Some r) = ⊥
-AnyShows in_table (Some a) None = ⊥
-AnyShows in_table (Some a) (Some r) = ShowsIn in_table a r
+AnyShows in_table = Both (ShowsIn in_table)
 
 pub show-elsewhere : (xs : List Arrival) (rs : List Result) → AllShow xs (map (seen false) rs) → AllShow xs rs
 show-elsewhere xs rs h = subst (AllShow xs) (seen-elsewhere rs) h
@@ -64,7 +54,7 @@ Parted (Some rs) _ _ _ = ⊥
 
 parts-append : (u f : List Result) → parts_of u ++ parts_of f ≡ parts_of (u ++ f)
 parts-append [] f = refl
-parts-append (r ∷ u) f = by (any_rows r.role) (parts-append u f)
+parts-append (r ∷ u) f = by (are_rows r.role) (parts-append u f)
   where
     by : (b : Bool) → parts_of u ++ parts_of f ≡ parts_of (u ++ f) →
         (if b then r ∷ parts_of u else parts_of u) ++ parts_of f ≡ (if b then r ∷ parts_of (u ++ f) else parts_of (u ++ f))
@@ -79,12 +69,15 @@ rows-append (r ∷ xs) ys = ap (λ b. r.has_children || b) (rows-append xs ys) �
     by true b c = refl
     by false b c = refl
 
+abbrev table_counts : Result → Bool
+table_counts r = new.counts (Part part.Table) r.role r.node.kind r.has_children
+
 -- a table counts its captions, and rows where there are any
-table-counts : (rs : List Result) → list_any (new.counts (Part part.Table)) rs
+table-counts : (rs : List Result) → list_any table_counts rs
     ≡ ((have_rows (of_role (new.are_rows false) rs) || have_rows (of_role (new.are_rows true) rs)) || is_filled (captions_of rs))
 table-counts [] = refl
 table-counts (r ∷ rs) =
-    ap (λ b. new.counts (Part part.Table) r || b) (table-counts rs)
+    ap (λ b. table_counts r || b) (table-counts rs)
     ∙ by r.role r.has_children (of_role (new.are_rows false) rs) (of_role (new.are_rows true) rs) (captions_of rs)
   where
     true-first : (a b c : Bool) → ((a || (true || b)) || c) ≡ true
@@ -131,7 +124,7 @@ module _ (in_table : Bool) (style : NodeStyle) (mark before after : Option (List
     made ← (do
       results ← all
       r ← built (Part part.Table) style results
-      Some (if vanishes Vanishes (list_any (new.counts (Part part.Table)) results) then None else Some r))
+      Some (if vanishes Vanishes (list_any table_counts results) then None else Some r))
     Some (completed mark before after made)
 
   -- over a grid
@@ -148,14 +141,15 @@ module _ (in_table : Bool) (style : NodeStyle) (mark before after : Option (List
       table_becomes (Some rs)
       ≡ over_grid (have_rows (parts_of (u ++ f)) || is_filled (captions_of c)) (captions_of c) (parts_of (u ++ f)) (grid_over (parts_of (u ++ f)))
   becomes-over rs f u c h =
-      let rows : with_rows rs ≡ parts_of (u ++ f) = ap (λ l. l ++ of_role (new.are_rows true) rs) h.1 ∙ ap (λ l. parts_of u ++ l) h.2 ∙ parts-append u f in
-      let counted : list_any (new.counts (Part part.Table)) rs ≡ (have_rows (parts_of (u ++ f)) || is_filled (captions_of c)) =
+      let with_rows = of_role (new.are_rows false) rs ++ of_role (new.are_rows true) rs in
+      let rows : with_rows ≡ parts_of (u ++ f) = ap (λ l. l ++ of_role (new.are_rows true) rs) h.1 ∙ ap (λ l. parts_of u ++ l) h.2 ∙ parts-append u f in
+      let counted : list_any table_counts rs ≡ (have_rows (parts_of (u ++ f)) || is_filled (captions_of c)) =
       table-counts rs
       ∙ ap (λ b. b || is_filled (captions_of rs)) (sym (rows-append (of_role (new.are_rows false) rs) (of_role (new.are_rows true) rs)))
       ∙ ap (λ l. have_rows l || is_filled (captions_of rs)) rows
       ∙ ap (λ l. have_rows (parts_of (u ++ f)) || is_filled l) h.0 in
-      ap (λ b. over_grid b (captions_of rs) (with_rows rs) (grid_over (with_rows rs))) counted
-      ∙ ap (λ l. over_grid (have_rows (parts_of (u ++ f)) || is_filled (captions_of c)) l (with_rows rs) (grid_over (with_rows rs))) h.0
+      ap (λ b. over_grid b (captions_of rs) with_rows (grid_over with_rows)) counted
+      ∙ ap (λ l. over_grid (have_rows (parts_of (u ++ f)) || is_filled (captions_of c)) l with_rows (grid_over with_rows)) h.0
       ∙ ap (λ l. over_grid (have_rows (parts_of (u ++ f)) || is_filled (captions_of c)) (captions_of c) l (grid_over l)) rows
 
   pub parted-shown : (xf xu xc : List Arrival) (rs f u c : List Result) → AllShow xf f → AllShow xu u → AllShow xc (map (seen true) c) →

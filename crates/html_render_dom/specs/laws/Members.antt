@@ -1,8 +1,9 @@
 -- What stands in a list.
-use Rattle.std.proofs.Common.{◌≡◌, ℕ, true, false, List, [], ◌∷◌, ◌⊎◌, inl, inr, refl, sym, subst, arith, eqb, Contains}
+use Rattle.std.proofs.Common.{◌≡◌, ℕ, true, false, List, [], ◌∷◌, ◌⊎◌, inl, inr, refl, subst, arith, eqb, Contains}
 use Rattle.std.specs.List.{list_any}
-use Rattle.std.proofs.lemmas.Bool.{cases_Bool, false≢true}
-use Rattle.std.proofs.lemmas.Bool.Decides.{eqb_tells}
+use Rattle.std.proofs.lemmas.Bool.{cases_Bool, eqb-true}
+use Rattle.std.proofs.lemmas.Cmp.{nat_eq_equiv}
+use Rattle.std.proofs.lemmas.Map.Views as Views
 use Rattle.std.proofs.lemmas.List.Elements.{Contains-append_right, Contains-append_cases, Contains-push_cases}
 
 pub Contains-nil : {X : Type 0} (x : X) → Contains [] x → ⊥
@@ -27,24 +28,11 @@ Contains-single P x p y h = elim (Contains-cons_cases x [] y h) [ inl e ↦ subs
 
 -- a number that a test finds stands in the list
 pub Contains-from_any : (xs : List ℕ) (y : ℕ) → list_any (eqb y) xs ≡ true → Contains xs y
-Contains-from_any [] y e = absurd (false≢true e)
-Contains-from_any (x ∷ xs) y e =
-    elim (eqb_tells y x) [
-      | inl s ↦ rw s.1 (Contains-head x xs)
-      | inr d ↦ Contains-tail x xs y (Contains-from_any xs y (rw d.0 at e))
-    ]
+Contains-from_any xs y e = Views.Contains-from_any {eq = eqb} eqb-true y xs e
 
 pub any-from_absent : (xs : List ℕ) (y : ℕ) → (Contains xs y → ⊥) → list_any (eqb y) xs ≡ false
 any-from_absent xs y absent =
     elim (cases_Bool (list_any (eqb y) xs)) [ inl e ↦ absurd (absent (Contains-from_any xs y e)) | inr e ↦ e ]
 
 pub any-from_Contains : (xs : List ℕ) (y : ℕ) → Contains xs y → list_any (eqb y) xs ≡ true
-any-from_Contains [] y h = absurd (Contains-nil y h)
-any-from_Contains (x ∷ xs) y h =
-    elim (eqb_tells y x) [
-      | inl s ↦ rw s.0 refl
-      | inr d ↦ elim (Contains-cons_cases x xs y h) [
-        | inl e ↦ absurd (d.1 (sym e))
-        | inr t ↦ rw d.0 (any-from_Contains xs y t)
-      ]
-    ]
+any-from_Contains xs y h = Views.list_any-from_Contains {eq = eqb} nat_eq_equiv y xs h

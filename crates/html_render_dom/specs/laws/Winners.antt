@@ -3,7 +3,7 @@ use Rattle.std.specs.Prelude.{◌≡◌, Bool, true, false, ◌&&◌, List, [], 
 use Rattle.std.specs.List.{list_all, last_or}
 use Rattle.std.specs.Ordering.{is_le}
 use Rattle.std.proofs.Common.{refl, sym, ap, ◌∙◌, inl, inr, append_assoc, cond}
-use Rattle.std.proofs.lemmas.Bool.{cases_Bool, false≢true}
+use Rattle.std.proofs.lemmas.Bool.{and_parts, cases_Bool, false≢true}
 use Rattle.std.proofs.lemmas.List.{append-nil}
 use Rattle.std.proofs.lemmas.List.Elements.{filter-append}
 use Rattle.std.proofs.lemmas.List.Folds.{list_all-append}
@@ -27,21 +27,15 @@ and_first : (a b : Bool) → (a ≡ true → b ≡ true) → (a && b) ≡ a
 and_first false b h = refl
 and_first true b h = h refl
 
-and_before : (a b : Bool) → (a ≡ true → b ≡ true) → (a && (b && true)) ≡ a
-and_before false b h = refl
-and_before true b h = rw (h refl) refl
-
-and_last : (a b : Bool) → (b ≡ true → a ≡ true) → (a && (b && true)) ≡ b
-and_last a false h = elim a as (λ c. (c && false) ≡ false) [ true ↦ refl | false ↦ refl ]
-and_last a true h = rw (h refl) refl
-
 and_true : (a : Bool) → (a && true) ≡ a
 and_true false = refl
 and_true true = refl
 
-split : (a b : Bool) → (a && b) ≡ true → (a ≡ true) × (b ≡ true)
-split true b e = (refl, e)
-split false b e = absurd (false≢true e)
+and_before : (a b : Bool) → (a ≡ true → b ≡ true) → (a && (b && true)) ≡ a
+and_before a b h = ap (λ c. a && c) (and_true b) ∙ and_first a b h
+
+and_last : (a b : Bool) → (b ≡ true → a ≡ true) → (a && (b && true)) ≡ b
+and_last a b h = ap (λ c. a && c) (and_true b) ∙ and_second a b h
 
 -- an element before the last one changes nothing
 kept_behind : {X : Type 0} (test : X → Bool) (x : X) (xs : List X) (w : X) → last_or None (filter test xs) ≡ Some w →
@@ -88,7 +82,7 @@ module _ {U : Type 0} (le : U → U → Bool) where
     filter-none : (us : List U) (u w : U) → greatest us w ≡ true → le u w ≡ false → filter (le u) us ≡ []
     filter-none [] u w h e = refl
     filter-none (x ∷ us) u w h e =
-        let both = split (le x w) (greatest us w) h in
+        let both = and_parts (le x w) (greatest us w) h in
         elim (cases_Bool (le u x)) [
           | inl a ↦ absurd (false≢true (sym e ∙ chain u x w a both.0))
           | inr a ↦ rw a (filter-none us u w both.1 e)

@@ -183,7 +183,7 @@ fn write_line(
     text.push('\n')
 }
 
-/// Writes so many spaces.
+/// Writes `indent` spaces.
 fn write_indent(text: &mut String, indent: usize) -> Result<(), AllocError>
     ensures { OnOk result (string_bytes text.new ≡ string_bytes text.old ++ replicate indent 32) }
 {

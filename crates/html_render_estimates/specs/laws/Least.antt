@@ -13,11 +13,10 @@ use Rattle.html_render_nodes.specs.Preorder.{flatten}
 use Rattle.html_render_parts.specs.TableCells.{columns_of}
 use Rattle.html_render_parts.specs.declared.table.cells.GridCell.{GridCell}
 use Rattle.html_render_parts.specs.declared.widths.needs.CellNeed.{CellNeed}
-use Rattle.html_render_parts.specs.declared.widths.shares.ColumnNeed.{ColumnNeed}
 use Rattle.html_render_estimates.specs.Cells.{row_needs, cell_needs}
-use Rattle.html_render_estimates.specs.Estimates.{trees, greatest_least, total_size, needs_of, with_needs, estimate_of, measured}
+use Rattle.html_render_estimates.specs.Estimates.{trees, greatest_least, total_size, measured_kind, estimate_of, measured}
 use Rattle.html_render_estimates.specs.Passes.{is_table, has_table, without_sizes, with_needed_sizes}
-use Rattle.html_render_estimates.specs.laws.Tables.{AreWithin, table_within, table_bounded}
+use Rattle.html_render_estimates.specs.laws.Tables.{AreWithin, table_within}
 
 -- the entry's least width doesn't pass its size
 abbrev pub IsWithin : Entry RenderNode → Type 0
@@ -84,7 +83,7 @@ module _ {D A : Type 0} (decoration : Decoration D A) (decorator : D) (min_wrap_
   node_within kind below h w = omega (arith, h)
 
   node_bounded : (kind : NodeKind) (below : Forest RenderNode) → (estimate kind below).size ≤ 2 ^ 64 - 1
-  node_bounded (Table grid) below = table_bounded (columns_of grid.cells) (cell_needs grid.cells.rows below) (trees below)
+  node_bounded (Table grid) below = omega arith
   node_bounded kind below = omega arith
 
   -- ---- trees
@@ -104,14 +103,14 @@ module _ {D A : Type 0} (decoration : Decoration D A) (decorator : D) (min_wrap_
 
   -- ---- trees without a table
 
-  table-kept : (needs : List ColumnNeed) (kind : NodeKind) → is_table (with_needs needs kind) ≡ is_table kind
-  table-kept needs (Table grid) = refl
-  table-kept needs kind = refl
+  table-kept : (kind : NodeKind) (below : Forest RenderNode) → is_table (measured_kind kind below) ≡ is_table kind
+  table-kept (Table grid) below = refl
+  table-kept kind below = refl
 
   pub tables-measured : (t : Forest RenderNode) → has_table (all_measured t) ≡ has_table t
   tables-measured none = refl
   tables-measured (node n children beside) =
-      ap (λ b. b || (has_table (all_measured children) || has_table (all_measured beside))) (table-kept (needs_of n.kind (all_measured children)) n.kind)
+      ap (λ b. b || (has_table (all_measured children) || has_table (all_measured beside))) (table-kept n.kind (all_measured children))
       ∙ ap (λ b. is_table n.kind || (b || has_table (all_measured beside))) (tables-measured children)
       ∙ ap (λ b. is_table n.kind || (has_table children || b)) (tables-measured beside)
 

@@ -1,6 +1,6 @@
 -- A table's least width doesn't pass its size.
-use Rattle.std.proofs.Common.{◌≡◌, Bool, true, false, ltb, leb, cond, ℕ, ◌+◌, ◌-◌, ◌^◌, ◌*◌, ◌/◌, ◌≤◌, max, List, [], ◌∷◌, map, zero, suc}
-use Rattle.std.proofs.Common.{refl, sym, ap, ◌∙◌, subst, arith}
+use Rattle.std.proofs.Common.{◌≡◌, Bool, true, false, ltb, leb, cond, ℕ, ◌+◌, ◌-◌, ◌*◌, ◌/◌, ◌≤◌, max, List, [], ◌∷◌, map, zero, suc}
+use Rattle.std.proofs.Common.{◌&&◌, refl, sym, ap, ◌∙◌, subst, arith}
 use Rattle.std.specs.List.{range_with_len}
 use Rattle.std.specs.Prelude.{sum_by}
 use Rattle.std.proofs.Math.Nat.{div-mul-le_self, le-div_iff_mul-le, mul-le-mul_left}
@@ -9,8 +9,8 @@ use Rattle.std.proofs.lemmas.List.Sums.{sum_by-cons}
 use Rattle.html_render_parts.specs.declared.widths.needs.CellNeed.{CellNeed}
 use Rattle.html_render_parts.specs.declared.widths.shares.ColumnNeed.{ColumnNeed}
 use Rattle.html_render_parts.specs.declared.widths.spans.Span.{Span}
-use Rattle.html_render_parts.specs.Spans.{covers, given, greatest_at}
-use Rattle.html_render_parts.specs.Needs.{least_part, need_at, column_needs}
+use Rattle.html_render_parts.specs.Spans.{given, greatest_at}
+use Rattle.html_render_parts.specs.Needs.{part, need_at, column_needs}
 use Rattle.html_render_estimates.specs.Estimates.{table_estimate}
 
 -- ---- sums
@@ -37,9 +37,9 @@ abbrev columns_from : Span → (at : ℕ) → ℕ
 columns_from s at = s.start + s.count - max at s.start
 
 given-next : (s : Span) (at rest : ℕ) → rest ≤ columns_from s (at + 1) * s.value → given s at + rest ≤ columns_from s at * s.value
-given-next s at rest h = by (covers s at) refl
+given-next s at rest h = by (leb s.start at && ltb at (s.start + s.count)) refl
   where
-    by : (b : Bool) → covers s at ≡ b → cond b s.value 0 + rest ≤ columns_from s at * s.value
+    by : (b : Bool) → (leb s.start at && ltb at (s.start + s.count)) ≡ b → cond b s.value 0 + rest ≤ columns_from s at * s.value
     by true e =
         let parts = and_parts (leb s.start at) (ltb at (s.start + s.count)) e in
         let low = leb-true s.start at parts.0 in
@@ -70,17 +70,17 @@ parts-le (suc n) least size h =
     (le-div_iff_mul-le {k = suc n} {x = least / suc n} {y = size} (omega arith)).1 (omega (arith, part, h)) in
     omega (arith, mul-le-mul_left (suc n) less)
 
-cell-le : (columns : ℕ) (c : CellNeed) → c.least ≤ c.size → sum_by (given (least_part c)) (range_with_len 0 columns) ≤ part_of c
+cell-le : (columns : ℕ) (c : CellNeed) → c.least ≤ c.size → sum_by (given (part c c.least)) (range_with_len 0 columns) ≤ part_of c
 cell-le columns c h =
-    let all : columns_from (least_part c) 0 ≡ c.count = omega arith in
-    let sum : sum_by (given (least_part c)) (range_with_len 0 columns) ≤ c.count * (c.least / c.count) =
-    subst (λ n. sum_by (given (least_part c)) (range_with_len 0 columns) ≤ n * (c.least / c.count)) all (sum-given (least_part c) 0 columns) in
+    let all : columns_from (part c c.least) 0 ≡ c.count = omega arith in
+    let sum : sum_by (given (part c c.least)) (range_with_len 0 columns) ≤ c.count * (c.least / c.count) =
+    subst (λ n. sum_by (given (part c c.least)) (range_with_len 0 columns) ≤ n * (c.least / c.count)) all (sum-given (part c c.least) 0 columns) in
     omega (arith, sum, parts-le c.count c.least c.size h)
 
 -- ---- all cells
 
 abbrev needed_by : List CellNeed → (column : ℕ) → ℕ
-needed_by cells k = greatest_at (map least_part cells) k
+needed_by cells k = greatest_at (map (λ c. part c c.least) cells) k
 
 -- cells that need no more at least than their sizes
 abbrev pub AreWithin : List CellNeed → Type 0
@@ -93,7 +93,7 @@ sum-le columns [] h = omega (arith, sum_by-zero (range_with_len 0 columns))
 sum-le columns (c ∷ cs) h =
     omega (
       arith,
-      sum_by-parts (needed_by (c ∷ cs)) (given (least_part c)) (needed_by cs) (range_with_len 0 columns) (λ k. omega arith),
+      sum_by-parts (needed_by (c ∷ cs)) (given (part c c.least)) (needed_by cs) (range_with_len 0 columns) (λ k. omega arith),
       cell-le columns c h.0,
       sum-le columns cs h.1,
       sum_by-cons part_of c cs,
@@ -107,6 +107,3 @@ table_within columns cells children h =
     let needs : sum_by (λ (n : ColumnNeed). n.least) (column_needs columns cells) ≡ sum_by (needed_by cells) (range_with_len 0 columns) =
     sum_by-map (λ (n : ColumnNeed). n.least) (need_at cells) (range_with_len 0 columns) in
     omega (arith, needs, sum-le columns cells h)
-
-pub table_bounded : (columns : ℕ) (cells : List CellNeed) (children : ℕ) → (table_estimate columns cells children).size ≤ 2 ^ 64 - 1
-table_bounded columns cells children = omega arith

@@ -1,6 +1,6 @@
 -- What follows from the definitions of drafts.
 use Rattle.std.specs.Prelude.{ℕ, ◌+◌, ◌≡◌, List, [], ◌∷◌, ◌++◌, refl}
-use Rattle.std.proofs.Common.{suc, zero, ap, ◌∙◌, sym}
+use Rattle.std.proofs.Common.{suc, zero, ap, sym}
 use Rattle.html_render_values.specs.Forest.{Forest, none, node, count, followed_by}
 use Rattle.html_render_nodes.specs.declared.tree.RenderNode.{RenderNode}
 use Rattle.html_render_nodes.specs.Splits.{SplitAt}
@@ -11,24 +11,17 @@ use Rattle.html_render_insertions.specs.Drafts.{front_of, back_of, front, back, 
 
 -- ---- what is inserted
 
-pub front-append : (a b : List Insertions) → front (a ++ b) ≡ followed_by (front b) (front a)
+front-append : (a b : List Insertions) → front (a ++ b) ≡ followed_by (front b) (front a)
 front-append [] b = sym (followed_by-none (front b))
-front-append (i ∷ a) b =
-    ap (λ t. followed_by t (front_of i)) (front-append a b) ∙ followed_by-followed_by (front b) (front a) (front_of i)
+front-append (i ∷ a) b = rw (front-append a b) (followed_by-followed_by (front b) (front a) (front_of i))
 
-pub back-append : (a b : List Insertions) → back (a ++ b) ≡ followed_by (back a) (back b)
+back-append : (a b : List Insertions) → back (a ++ b) ≡ followed_by (back a) (back b)
 back-append [] b = refl
-back-append (i ∷ a) b =
-    ap (λ t. followed_by (back_of i) t) (back-append a b) ∙ sym (followed_by-followed_by (back_of i) (back a) (back b))
+back-append (i ∷ a) b = rw (back-append a b) (sym (followed_by-followed_by (back_of i) (back a) (back b)))
 
 -- what is inserted later stands round what is there
 pub wrapped-append : (a b : List Insertions) (children : Forest RenderNode) → wrapped (a ++ b) children ≡ wrapped b (wrapped a children)
-wrapped-append a b children =
-    ap (λ t. followed_by t (followed_by children (back (a ++ b)))) (front-append a b)
-    ∙ ap (λ t. followed_by (followed_by (front b) (front a)) (followed_by children t)) (back-append a b)
-    ∙ followed_by-followed_by (front b) (front a) (followed_by children (followed_by (back a) (back b)))
-    ∙ ap (λ t. followed_by (front b) (followed_by (front a) t)) (sym (followed_by-followed_by children (back a) (back b)))
-    ∙ ap (λ t. followed_by (front b) t) (sym (followed_by-followed_by (front a) (followed_by children (back a)) (back b)))
+wrapped-append a b children = simp (front-append, back-append, followed_by-followed_by)
 
 pub wrapped-none : (children : Forest RenderNode) → wrapped [] children ≡ children
 wrapped-none children = followed_by-none children

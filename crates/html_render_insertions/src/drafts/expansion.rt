@@ -114,7 +114,7 @@ fn push_bare(nodes: &mut Vec<Entry<RenderNode>>, draft: Draft, size: usize) -> R
     push_node(nodes, draft.kind, draft.style, size)
 }
 
-/// Writes the node of a draft, and what is inserted at its front; so many drafts are left.
+/// Writes the node of a draft, and what is inserted at its front; `left` drafts remain.
 fn open(
     alloc: Global,
     nodes: &mut Vec<Entry<RenderNode>>,
@@ -160,7 +160,7 @@ fn close(nodes: &mut Vec<Entry<RenderNode>>, done: Opened) -> Result<(), Error>
     Ok(())
 }
 
-/// Takes the innermost open node, if its children are written once so many drafts are left.
+/// Takes the innermost open node, if its children are written once `left` drafts remain.
 fn pop_done(opened: &mut Vec<Opened>, left: usize) -> Option<Opened>
     ensures done { IfSome result (λ o. opened.old.items ≡ opened.new.items ++ o ∷ []) }
     ensures left { IfSome result (λ o. o.left ≡ left) }

@@ -1,12 +1,13 @@
 -- The laws of the layout: with overflow off no line passes the width; with overflow on no width is too small but 0, and where overflow off gives
 -- lines, they are these.
-use Rattle.std.proofs.Common.{◌≡◌, ℕ, ◌<◌, ◌==◌, Bool, true, false, cond, List, [], ◌∷◌, ◌++◌, Option, Some, None, refl, sym, ap, ◌∙◌, arith}
+use Rattle.std.proofs.Common.{◌≡◌, ℕ, ◌<◌, ◌==◌, Bool, true, false, cond, List, [], ◌∷◌, ◌++◌, Option, Some, None, refl, sym, ap, ◌∙◌, subst, arith}
 use Rattle.std.proofs.Common.{IfSome, IsSome}
 use Rattle.std.proofs.lemmas.Bool.{eqb-true}
 use Rattle.std.proofs.lemmas.Option.{same_Some}
 use Rattle.html_render_values.specs.Forest.{Forest}
 use Rattle.html_render_parts.specs.Decoration.{Decoration}
 use Rattle.html_render_lines.specs.Line.{Line, AllWithinWidth}
+use Rattle.html_render_lines.specs.laws.Cases.{if_cases}
 use Rattle.html_render_nodes.specs.declared.tree.RenderNode.{RenderNode}
 use Rattle.html_render_nodes.specs.Pass.{run}
 use Rattle.html_render_paragraphs.specs.Paragraph.{Setting}
@@ -21,7 +22,9 @@ use Rattle.html_render_blocks.specs.laws.Beside.{Holds, Blocks, operations-besid
 use Rattle.html_render_blocks.specs.laws.BlockHolds.{OwnWithin, PictureWithin, within, answers, refines}
 use Rattle.html_render_blocks.specs.laws.TableWithin.{OpenWithin}
 use Rattle.html_render_layout.specs.declared.settings.LayoutSettings.{LayoutSettings}
-use Rattle.html_render_layout.specs.Layout.{onto, by_stacks, shown_after, Defined, defined, block_setting, padding, empty_state, estimated, layout_lines, mark_names}
+use Rattle.html_render_layout.specs.Layout.{by_stacks, shown_after, Defined, defined, empty_state, estimated, layout_lines, mark_names}
+use Rattle.html_render_layout.specs.Working.{block_setting, padding}
+use Rattle.html_render_layout.specs.laws.Answers.{IfSome-weaken}
 use Rattle.html_render_layout.specs.laws.LayoutReturns.{layout-returns}
 use Rattle.html_render_layout.specs.laws.Related.{Other, with_other, shown-related}
 
@@ -60,7 +63,7 @@ module _ {S A : Type 0} (d : Decoration S A) (settings : LayoutSettings) (g : Bo
       Both N M R (shown_after (by_stacks d) definition.ending view t (empty_state d settings decorator w o))
       (shown_after (by_stacks d) definition.ending view t (empty_state d settings decorator w (g o)))
   shown-beside R view t decorator w o on related =
-      shown-related (by_stacks d) onto definition.operations N M weak Later (λ w. tt) (λ w v u k l. tt) Tags (λ w v t u e l. e) Beside
+      shown-related (by_stacks d) (by_stacks d).push definition.operations N M weak Later (λ w. tt) (λ w v u k l. tt) Tags (λ w v t u e l. e) Beside
       (λ v w z b c k l. later-beside g N M Tags (λ w t u e. e) Cut OnOverflow OnOwn OnLines OnPicture OnRow h weak Later (λ w z t u e l. e) v w z b c k l)
       (λ k l t u a e. tt) (λ k l t u a e. ap (λ z. z ++ a ∷ []) e)
       (operations-beside g N M Tags (λ w t u e. e) Cut OnOverflow OnOwn OnLines OnPicture OnRow h weak Later (λ w z t u e l. e))
@@ -89,104 +92,63 @@ module _ {S A : Type 0} (d : Decoration S A) (settings : LayoutSettings) (g : Bo
       (shown_after (by_stacks d) definition.ending (λ (r : Defined S A). r.names) t (empty_state d settings decorator w (g o)))
   names-shown t decorator w o on = shown-beside (λ a b. b ≡ a) (λ (r : Defined S A). r.names) t decorator w o on (λ r u k. refl)
 
--- what is there with overflow on is there with overflow on or off
-with_either : {L : Type 0} (f : Bool → Option L) → IfSome (f false) (λ lines. f true ≡ Some lines) →
-    (o : Bool) → IfSome (f false) (λ lines. f o ≡ Some lines)
-with_either f h true = h
-with_either {L} f h false = itself (f false)
-  where
-    itself : (p : Option L) → IfSome p (λ lines. p ≡ Some lines)
-    itself None = tt
-    itself (Some lines) = refl
-
--- so an answer is what is there with overflow off
+-- where what is there with overflow off is there with overflow on, each answer is that
 pub same_answer : {L : Type 0} (f : Bool → Option L) → IfSome (f false) (λ lines. f true ≡ Some lines) → (o : Bool) (lines : L) →
     f o ≡ Some lines → IfSome (f false) (λ others. lines ≡ others)
-same_answer {L} f h o lines e = by (f false) (with_either f h o)
-  where
-    by : (p : Option L) → IfSome p (λ others. f o ≡ Some others) → IfSome p (λ others. lines ≡ others)
-    by None h = tt
-    by (Some others) h = same_Some lines others (sym e ∙ h)
+same_answer f h true lines e =
+    IfSome-weaken (λ others. f true ≡ Some others) (λ others. lines ≡ others) (f false) h (λ others k. same_Some lines others (sym e ∙ k))
+same_answer f h false lines e = subst (λ p. IfSome p (λ others. lines ≡ others)) (sym e) refl
 
 module _ {S A : Type 0} (d : Decoration S A) (settings : LayoutSettings) where
-  abbrev lines_from : Forest RenderNode → Defined S A → Option (List (Line (List A) ℕ))
-  lines_from t s = shown_after (by_stacks d) definition.ending (λ (r : Defined S A). r.block.lines) t s
-
   -- with overflow off, and closing lines that are cut, no line passes the width
   pub layout_within : (t : Forest RenderNode) (decorator : S) (w : ℕ) → settings.wrap_links ≡ true →
       IfSome (layout_lines d settings t decorator w false) (λ lines. AllWithinWidth w lines)
-  layout_within t decorator w wrapped = by (w == 0)
+  layout_within t decorator w wrapped =
+      if_cases (λ x. IfSome x (AllWithinWidth w)) (w == 0) _ _ (λ _. tt) (λ _.
+      first _ _ (lines-shown d settings (λ o. o) (Unit {0}) ⊥ (λ x. tt) (λ cut. cut ≡ true) (λ o. o ≡ false) (OwnWithin (List A))
+      (λ v ls. AllWithinWidth v ls) (PictureWithin (List A)) (λ v r. OpenWithin v r) (within (List A)) wrapped
+      (estimated d settings decorator t) decorator w false refl))
     where
-      lines : Option (List (Line (List A) ℕ))
-      lines = lines_from (estimated d settings decorator t) (empty_state d settings decorator w false)
-
       first : (o p : Option (List (Line (List A) ℕ))) → Both (Unit {0}) ⊥ (λ a b. (b ≡ a) × AllWithinWidth w a) o p → IfSome o (AllWithinWidth w)
       first None None k = tt
       first None (Some b) k = tt
       first (Some a) None k = absurd k
       first (Some a) (Some b) k = k.1
 
-      by : (z : Bool) → IfSome (cond z None lines) (λ lines. AllWithinWidth w lines)
-      by true = tt
-      by false =
-          first lines lines (lines-shown d settings (λ o. o) (Unit {0}) ⊥ (λ x. tt) (λ cut. cut ≡ true) (λ o. o ≡ false) (OwnWithin (List A))
-          (λ v ls. AllWithinWidth v ls) (PictureWithin (List A)) (λ v r. OpenWithin v r) (within (List A)) wrapped
-          (estimated d settings decorator t) decorator w false refl)
-
   -- with overflow on it is never too narrow, but at width 0
   pub layout_succeeds : (t : Forest RenderNode) (decorator : S) (w : ℕ) → 0 < w → IsSome (layout_lines d settings t decorator w true)
-  layout_succeeds t decorator w h = by (w == 0) refl
+  layout_succeeds t decorator w h =
+      if_cases (λ (x : Option (List (Line (List A) ℕ))). IsSome x) (w == 0) _ _ (λ e. absurd (let zero = eqb-true w 0 e in omega arith)) (λ _.
+      there _ _ (lines-shown d settings (λ o. o) ⊥ ⊥ (λ x. x) (λ cut. Unit {0}) (λ o. o ≡ true) (λ v s. s.overflow ≡ true)
+      (λ v ls. Unit {0}) (λ v ws p. Unit {0}) (λ v r. Unit {0}) (answers (List A)) tt (estimated d settings decorator t) decorator w true refl))
     where
-      lines : Option (List (Line (List A) ℕ))
-      lines = lines_from (estimated d settings decorator t) (empty_state d settings decorator w true)
-
       there : (o p : Option (List (Line (List A) ℕ))) → Both ⊥ ⊥ (λ a b. (b ≡ a) × Unit {0}) o p → IsSome o
       there None None k = absurd k
       there None (Some b) k = absurd k
       there (Some a) p k = refl
 
-      by : (z : Bool) → (w == 0) ≡ z → IsSome (cond z None lines)
-      by true e = absurd (let zero = eqb-true w 0 e in omega arith)
-      by false e =
-          there lines lines (lines-shown d settings (λ o. o) ⊥ ⊥ (λ x. x) (λ cut. Unit {0}) (λ o. o ≡ true) (λ v s. s.overflow ≡ true)
-          (λ v ls. Unit {0}) (λ v ws p. Unit {0}) (λ v r. Unit {0}) (answers (List A)) tt (estimated d settings decorator t) decorator w true refl)
-
-  same_shown : {X : Type 0} (R : X → X → Type 0) → ((a b : X) → R a b → b ≡ a) → (o p : Option X) → Both (Unit {0}) (Unit {0}) R o p →
-      IfSome o (λ x. p ≡ Some x)
-  same_shown R is None p k = tt
-  same_shown R is (Some a) None k = absurd k
-  same_shown R is (Some a) (Some b) k = ap Some (is a b k)
+  same_shown : {X : Type 0} (R : X → X → Type 0) → ((a b : X) → R a b → b ≡ a) → (narrow : Bool) (o p : Option X) →
+      Both (Unit {0}) (Unit {0}) R o p → IfSome (cond narrow None o) (λ x. cond narrow None p ≡ Some x)
+  same_shown R is true o p k = tt
+  same_shown R is false None p k = tt
+  same_shown R is false (Some a) None k = absurd k
+  same_shown R is false (Some a) (Some b) k = ap Some (is a b k)
 
   -- where there are lines with overflow off, they are the lines with overflow on
   pub layout_same : (t : Forest RenderNode) (decorator : S) (w : ℕ) →
       IfSome (layout_lines d settings t decorator w false) (λ lines. layout_lines d settings t decorator w true ≡ Some lines)
-  layout_same t decorator w = by (w == 0)
-    where
-      lines : Bool → Option (List (Line (List A) ℕ))
-      lines o = lines_from (estimated d settings decorator t) (empty_state d settings decorator w o)
-
-      by : (z : Bool) → IfSome (cond z None (lines false)) (λ x. cond z None (lines true) ≡ Some x)
-      by true = tt
-      by false =
-          same_shown (λ a b. (b ≡ a) × Unit {0}) (λ a b k. k.0) (lines false) (lines true)
-          (lines-shown d settings (λ o. true) (Unit {0}) (Unit {0}) (λ x. x) (λ cut. Unit {0}) (λ o. Unit {0}) (λ v s. Unit {0}) (λ v ls. Unit {0})
-          (λ v ws p. Unit {0}) (λ v r. Unit {0}) (refines (List A)) tt (estimated d settings decorator t) decorator w false tt)
+  layout_same t decorator w =
+      same_shown (λ a b. (b ≡ a) × Unit {0}) (λ a b k. k.0) (w == 0) _ _
+      (lines-shown d settings (λ o. true) (Unit {0}) (Unit {0}) (λ x. x) (λ cut. Unit {0}) (λ o. Unit {0}) (λ v s. Unit {0}) (λ v ls. Unit {0})
+      (λ v ws p. Unit {0}) (λ v r. Unit {0}) (refines (List A)) tt (estimated d settings decorator t) decorator w false tt)
 
   -- and so are the names of their marks
   pub names_same : (t : Forest RenderNode) (decorator : S) (w : ℕ) →
       IfSome (mark_names d settings t decorator w false) (λ names. mark_names d settings t decorator w true ≡ Some names)
-  names_same t decorator w = by (w == 0)
-    where
-      names : Bool → Option (List (List ℕ))
-      names o = shown_after (by_stacks d) definition.ending (λ (s : Defined S A). s.names) (estimated d settings decorator t)
-          (empty_state d settings decorator w o)
-
-      by : (z : Bool) → IfSome (cond z None (names false)) (λ x. cond z None (names true) ≡ Some x)
-      by true = tt
-      by false =
-          same_shown (λ a b. b ≡ a) (λ a b k. k) (names false) (names true)
-          (names-shown d settings (λ o. true) (Unit {0}) (Unit {0}) (λ x. x) (λ cut. Unit {0}) (λ o. Unit {0}) (λ v s. Unit {0}) (λ v ls. Unit {0})
-          (λ v ws p. Unit {0}) (λ v r. Unit {0}) (refines (List A)) tt (estimated d settings decorator t) decorator w false tt)
+  names_same t decorator w =
+      same_shown (λ a b. b ≡ a) (λ a b k. k) (w == 0) _ _
+      (names-shown d settings (λ o. true) (Unit {0}) (Unit {0}) (λ x. x) (λ cut. Unit {0}) (λ o. Unit {0}) (λ v s. Unit {0}) (λ v ls. Unit {0})
+      (λ v ws p. Unit {0}) (λ v r. Unit {0}) (refines (List A)) tt (estimated d settings decorator t) decorator w false tt)
 
   -- trees that are laid out leave the texts that follow, with their annotations, and the decorator as they were
   pub layout_leaves : (t : Forest RenderNode) (s : Defined S A) →

@@ -1,25 +1,25 @@
 -- What a layout gives back.
-use Rattle.std.proofs.Common.{◌≡◌, ℕ, ◌+◌, Bool, true, false, ◌&&◌, not, List, [], ◌∷◌, ◌++◌, length, codes, Option, Some, None, option_and_then}
-use Rattle.std.proofs.Common.{IfSome, refl, ◌∙◌}
+use Rattle.std.proofs.Common.{◌≡◌, ℕ, ◌+◌, ◌&&◌, not, List, [], ◌∷◌, ◌++◌, length, codes, Option, Some, None, IfSome, refl, ◌∙◌}
 use Rattle.std.specs.Fmt.{decimal}
 use Rattle.std.specs.Str.{chars}
-use Rattle.std.specs.Prelude.{if◌then◌else◌}
+use Rattle.std.specs.Prelude.{if◌then◌else◌, option_map}
 use Rattle.html_render_values.specs.Forest.{Forest, none, node}
+use Rattle.html_render_values.specs.declared.white_space.WhiteSpace.TheVariants.{Normal}
+use Rattle.html_render_lines.specs.laws.Cases.{if_cases}
 use Rattle.html_render_nodes.specs.declared.tree.RenderNode.{RenderNode}
-use Rattle.html_render_nodes.specs.Pass.{Place, Bare, Skipped, Within, Places, bare, Visit, Leaf, Inner, through_visit, followed, from_state, placed}
-use Rattle.html_render_nodes.specs.Pass.{run_at, run}
-use Rattle.html_render_layout.specs.laws.Answers.{IfSome-then, IfSome-weaken}
+use Rattle.html_render_nodes.specs.Pass.{Place, Bare, Skipped, Within, Places, bare, Visit, Leaf, Inner, through_visit, followed, placed, run_at, run}
+use Rattle.html_render_nodes.specs.laws.Visits.{from_state}
+use Rattle.html_render_layout.specs.laws.Answers.{IfSome-then, IfSome-map, IfSome-weaken}
 use Rattle.html_render_estimates.specs.Estimates.{prefix_columns}
 use Rattle.html_render_layout.specs.declared.layout.state.LayoutState.{LayoutState}
 use Rattle.html_render_layout.specs.Layout.{Means, Step, Write, WriteNumber, Annotate, Treat, Strike, Unstrike, Restore, NewLine, NewLineHard}
-use Rattle.html_render_layout.specs.Layout.{StartBlock, EndBlock, Fence, BeginTable, EndTable, AddTarget, AddMark}
-use Rattle.html_render_layout.specs.Layout.{Shape, Steps, Around, Prefixed, Indented, Items, Cells, shape_of, style_steps}
-use Rattle.html_render_layout.specs.Layout.{on_block, text_style, write, plain_style, written, fence, perform, perform_all, appended_block, within, nested, joined}
-use Rattle.html_render_layout.specs.Layout.{appended, padded, spaces, item_place, cell_place}
+use Rattle.html_render_layout.specs.Layout.{StartBlock, EndBlock, Fence, BeginTable, EndTable, AddTarget, AddMark, Shape, Steps, Around, Prefixed}
+use Rattle.html_render_layout.specs.Layout.{Indented, Items, Cells, shape_of, style_steps, annotated, on_block, text_style, write, struck, perform}
+use Rattle.html_render_layout.specs.Layout.{perform_all, appended_block, nested, joined, appended, padded, spaces, item_place, cell_place}
 use Rattle.html_render_layout.specs.Layout.{shape_layout, layout_of}
 
 -- whatever there is
-whatever : {X Y : Type 0} (Q : Y → Type 0) (o : Option X) (f : X → Option Y) → ((x : X) → IfSome (f x) Q) → IfSome (option_and_then f o) Q
+whatever : {X Y : Type 0} (Q : Y → Type 0) (o : Option X) (f : X → Y) → ((x : X) → Q (f x)) → IfSome (option_map f o) Q
 whatever Q None f k = tt
 whatever Q (Some x) f k = k x
 
@@ -42,31 +42,28 @@ module _ {S A K T B : Type 0} (m : Means S A K T B) where
   on_block-stays : (f : B → Option B) → Stays (on_block f)
   on_block-stays f s r a = whatever _ (f r.block) _ (λ b. a)
 
-  if-stays : (z : Bool) (f : State → Option State) (s r : State) → SameDecorator s r → IfSome (f r) (SameDecorator s) →
-      IfSome (if z then f r else Some r) (SameDecorator s)
-  if-stays true f s r a k = k
-  if-stays false f s r a k = a
-
   write-stays : (cs : List ℕ) → Stays (write m cs)
   write-stays cs s r a =
       let x = text_style m r.decorator r.stacks r.text r.text.preformatted in
-      on_block-stays (λ b. m.operations.add_inline_text b x.1 (written r.text.struck_out cs)) s (record r { stacks = x.0 }) a
+      on_block-stays (λ b. m.operations.add_inline_text b x.1 (if r.text.struck_out then struck cs else cs)) s (record r { stacks = x.0 }) a
 
   step-stays : (b : State) (x : Step S A) → Stays (perform m b x)
   step-stays b (Write text) s r a = write-stays (text r.decorator) s r a
   step-stays b WriteNumber s r a =
-      if-stays r.settings.link_footnotes (write m (chars (codes "[" ++ decimal (length b.targets + 1) ++ codes "]"))) s r a (write-stays _ s r a)
+      if_cases (λ x. IfSome x (SameDecorator s)) r.settings.link_footnotes _ _
+      (λ _. write-stays (chars (codes "[" ++ decimal (length b.targets + 1) ++ codes "]")) s r a) (λ _. a)
   step-stays b NewLine s r a = on_block-stays m.operations.new_line s r a
   step-stays b NewLineHard s r a = on_block-stays m.operations.new_line_hard s r a
   step-stays b StartBlock s r a = on_block-stays m.operations.start_block s r a
   step-stays b Fence s r a =
-      let text : B → Option B = λ b. m.operations.add_inline_text b (plain_style r.blank) (codes "```") in
-      if-stays (r.settings.fence_tables && not r.in_table) (fence m) s r a
-      (IfSome-then _ _ (on_block text r) _ (on_block-stays text s r a) (on_block-stays m.operations.new_line s))
+      let text : B → Option B = λ b. m.operations.add_inline_text b (record { mode = Normal; tag = r.blank; continuation_tag = r.blank }) (codes "```") in
+      if_cases (λ x. IfSome x (SameDecorator s)) (r.settings.fence_tables && not r.in_table) _ _
+      (λ _. IfSome-then _ _ (on_block text r) _ (on_block-stays text s r a) (on_block-stays m.operations.new_line s)) (λ _. a)
   step-stays b (BeginTable grid needs) s r a =
       let begin : B → Option B = λ t. m.operations.begin_table t r.blank r.settings.table_borders r.settings.raw_mode grid needs in
-      IfSome-then _ _ (on_block begin r) _ (on_block-stays begin s r a) (λ t e. e)
-  step-stays b (Annotate annotation) s r a = a
+      IfSome-map _ _ (on_block begin r) _ (on_block-stays begin s r a) (λ t e. e)
+  step-stays b (Annotate annotation) s r a =
+      elim (annotation r.decorator) as (λ o. SameDecorator s (annotated m o r)) [ None ↦ a | Some x ↦ a ]
   step-stays b (Treat mode preformatted) s r a = a
   step-stays b Strike s r a = a
   step-stays b Unstrike s r a = a
@@ -103,31 +100,18 @@ module _ {S A K T B : Type 0} (m : Means S A K T B) where
 
   -- in a block inside that of s
   joined-gives : (f : B → B → Option B) (s r : State) → IfSome (joined m f s r) (λ t. (t.text ≡ r.text) × (t.decorator ≡ s.decorator))
-  joined-gives f s r = by (f s.block r.block)
-    where
-      by : (o : Option B) → IfSome (option_and_then (λ b. Some (record r { decorator = s.decorator; block = b })) o)
-          (λ t. (t.text ≡ r.text) × (t.decorator ≡ s.decorator))
-      by None = tt
-      by (Some b) = (refl, refl)
+  joined-gives f s r = whatever _ (f s.block r.block) _ (λ b. (refl, refl))
 
   inside-gives : (f : B → B → Option B) (prefix least : ℕ) (s : State) →
       IfSome (nested m prefix least s) (λ q. (r : State) → SameDecorator q r → IfSome (joined m f s r) (SameDecorator s))
-  inside-gives f prefix least s = by (m.operations.sub_block s.block prefix least)
-    where
-      by : (o : Option B) → IfSome (option_and_then (λ b. Some (within m b s)) o)
-          (λ q. (r : State) → SameDecorator q r → IfSome (joined m f s r) (SameDecorator s))
-      by None = tt
-      by (Some b) = λ r a. IfSome-weaken _ _ (joined m f s r) (joined-gives f s r) (λ t k. k.1)
+  inside-gives f prefix least s =
+      whatever _ (m.operations.sub_block s.block prefix least) _ (λ b r a. IfSome-weaken _ _ (joined m f s r) (joined-gives f s r) (λ t k. k.1))
 
   item-gives : (prefix : List ℕ) (columns least : ℕ) (s : State) → PlaceGives s (item_place m prefix columns least s)
-  item-gives prefix columns least s = by (m.operations.sub_block s.block columns least)
-    where
-      by : (o : Option B) → IfSome (option_and_then (λ b. Some (within m b s)) o) (λ q. (r : State) → r.text ≡ q.text →
-          IfSome (appended m s (padded columns prefix) columns r) (Returned s))
-      by None = tt
-      by (Some b) = λ r same.
-          IfSome-weaken _ _ (appended m s (padded columns prefix) columns r)
-          (joined-gives (λ b c. m.operations.append b c s.text.tag (chars (padded columns prefix)) (spaces columns)) s r) (λ t k. (k.0 ∙ same, k.1))
+  item-gives prefix columns least s =
+      whatever _ (m.operations.sub_block s.block columns least) _ (λ b r same.
+      IfSome-weaken _ _ (appended m s (padded columns prefix) columns r)
+      (joined-gives (λ b c. m.operations.append b c s.text.tag (chars (padded columns prefix)) (spaces columns)) s r) (λ t k. (k.0 ∙ same, k.1)))
 
   shape-gives : (x : Shape S A) (s : State) → Gives (SameDecorator s) (shape_layout m x s)
   shape-gives (Steps xs) s = steps-stay s xs s s refl

@@ -1,12 +1,13 @@
 -- A layout loses no visible character of the texts that it visits.
 use Rattle.std.specs.Fmt.{decimal}
 use Rattle.std.specs.Str.{chars}
-use Rattle.std.proofs.Common.{◌≡◌, ℕ, ◌+◌, ◌≤◌, ◌==◌, Bool, true, false, List, [], ◌∷◌, ◌++◌, length, codes, Option, Some, None, option_and_then}
+use Rattle.std.proofs.Common.{◌≡◌, ℕ, ◌+◌, ◌≤◌, ◌==◌, Bool, false, List, [], ◌∷◌, ◌++◌, length, codes, Option, Some, None, option_and_then}
 use Rattle.std.proofs.Common.{IfSome, refl, ap, sym, ◌∙◌, subst, arith}
-use Rattle.std.specs.Prelude.{sum_by, not, ◌&&◌, if◌then◌else◌}
+use Rattle.std.specs.Prelude.{flat_map, sum_by, not, ◌&&◌, if◌then◌else◌}
 use Rattle.std.proofs.lemmas.List.Concat.{flat_map-append}
 use Rattle.std.proofs.lemmas.List.Sums.{sum_by-cons, sum_by-append}
 use Rattle.html_render_values.specs.Forest.{Forest, none, node}
+use Rattle.html_render_values.specs.declared.white_space.WhiteSpace.TheVariants.{Normal}
 use Rattle.html_render_parts.specs.Decoration.{Decoration}
 use Rattle.html_render_lines.specs.Character.{is_collapsible}
 use Rattle.html_render_lines.specs.Line.{Line}
@@ -17,32 +18,32 @@ use Rattle.html_render_nodes.specs.declared.tree.NodeKind.{NodeKind}
 use Rattle.html_render_nodes.specs.declared.tree.NodeKind.TheVariants.{Text}
 use Rattle.html_render_nodes.specs.declared.tree.RenderNode.{RenderNode}
 use Rattle.html_render_nodes.specs.Pass.{Place, Bare, Skipped, Within, is_skipped, Places, bare, Visit, Leaf, Inner, through_visit, inside, followed}
-use Rattle.html_render_nodes.specs.Pass.{from_state, placed, run_at, run, nodes_at, unskipped}
-use Rattle.html_render_nodes.specs.laws.Visits.{from}
-use Rattle.html_render_layout.specs.laws.Answers.{IfSome-then, IfSome-weaken}
+use Rattle.html_render_nodes.specs.Pass.{placed, run_at, run, nodes_at}
+use Rattle.html_render_nodes.specs.laws.Visits.{from, from_state}
+use Rattle.html_render_layout.specs.laws.Answers.{IfSome-then, IfSome-map, IfSome-weaken}
 use Rattle.html_render_blocks.specs.Definition as definition
 use Rattle.html_render_blocks.specs.Definition.{DefinedBlock}
-use Rattle.html_render_blocks.specs.Visible.{visible_in_text, text_count, visible_count}
+use Rattle.html_render_blocks.specs.Visible.{visible_in_text}
+use Rattle.html_render_blocks.specs.laws.BlockVisible.{text_count, visible_count, operations_keep_visible}
 use Rattle.html_render_pictures.specs.Visible.{count}
 use Rattle.html_render_pictures.specs.laws.Lines.{count-append}
 use Rattle.html_render_blocks.specs.laws.Operations.{Counts}
-use Rattle.html_render_blocks.specs.laws.BlockVisible.{operations_keep_visible}
 use Rattle.html_render_blocks.specs.laws.Closing.{IsClear, finish_count, closed_count}
 use Rattle.html_render_layout.specs.declared.layout.state.LayoutState.{LayoutState}
 use Rattle.html_render_layout.specs.declared.settings.LayoutSettings.{LayoutSettings}
-use Rattle.html_render_layout.specs.Kept.{visited_nodes, node_characters, text_characters, KeepsTexts}
+use Rattle.html_render_layout.specs.Kept.{visited_nodes, node_characters, KeepsTexts}
 use Rattle.html_render_layout.specs.Layout.{Means, Step, Write, WriteNumber, Annotate, Treat, Strike, Unstrike, Restore, NewLine, NewLineHard}
 use Rattle.html_render_layout.specs.Layout.{StartBlock, EndBlock, Fence, BeginTable, EndTable, AddTarget, AddMark}
 use Rattle.html_render_layout.specs.Layout.{Shape, Steps, Around, Prefixed, Indented, Items, Cells, shape_of, style_steps}
-use Rattle.html_render_layout.specs.Layout.{struck, written, on_block, text_style, write, plain_style, fence, perform, perform_all, joined, appended, appended_block}
+use Rattle.html_render_layout.specs.Layout.{annotated, struck, on_block, text_style, write, perform, perform_all, joined, appended, appended_block}
 use Rattle.html_render_layout.specs.Layout.{cell_place, shape_layout, layout_of, Defined, defined, by_stacks, empty_state, estimated, layout_lines}
 use Rattle.html_render_layout.specs.Ending.{ended}
 use Rattle.html_render_layout.specs.laws.Ending.{ended-keeps}
 
--- what v counts in a block grows by what w counts in a text, and nothing counts less; w counts no less in a text as it is
--- written
+-- what v counts in a block grows by what w counts in a text, and nothing counts less; w counts no less in a text that is
+-- struck out
 module _ {S A K T B : Type 0} (m : Means S A K T B) (v : B → ℕ) (w : List ℕ → ℕ) (h : Counts v w m.operations) (empty : w [] ≡ 0)
-    (no_less : (struck_out : Bool) (cs : List ℕ) → w cs ≤ w (written struck_out cs)) where
+    (no_less : (cs : List ℕ) → w cs ≤ w (struck cs)) where
   abbrev State : Type 0
   State = LayoutState S K T B
 
@@ -63,38 +64,35 @@ module _ {S A K T B : Type 0} (m : Means S A K T B) (v : B → ℕ) (w : List �
 
   on_block-counts : {P : B → B → Type 0} (f : B → Option B) → ((b : B) → IfSome (f b) (P b)) → ((b c : B) → P b c → v b ≤ v c) →
       NoLess (on_block f)
-  on_block-counts f k so n r a = IfSome-then _ _ (f r.block) _ (k r.block) (λ c p. let le = so r.block c p in omega arith)
+  on_block-counts f k so n r a = IfSome-map _ _ (f r.block) _ (k r.block) (λ c p. let le = so r.block c p in omega arith)
 
   write-count : (cs : List ℕ) (n : ℕ) (r : State) → AtLeast n r → IfSome (write m cs r) (AtLeast (n + w cs))
   write-count cs n r a =
       let style = (text_style m r.decorator r.stacks r.text r.text.preformatted).1 in
-      IfSome-then _ _ (m.operations.add_inline_text r.block style (written r.text.struck_out cs)) _ (h.add_inline_text _ _ _)
-      (λ c e. omega (arith, no_less r.text.struck_out cs))
+      IfSome-map _ _ (m.operations.add_inline_text r.block style (if r.text.struck_out then struck cs else cs)) _ (h.add_inline_text _ _ _)
+      (λ c e. omega (arith, if_cases (λ l. w cs ≤ w l) r.text.struck_out (struck cs) cs (λ _. no_less cs) (λ _. omega arith)))
 
   write-counts : (cs : List ℕ) → NoLess (write m cs)
   write-counts cs n r a = IfSome-weaken _ _ (write m cs r) (write-count cs n r a) (λ q b. omega arith)
 
-  if-counts : (z : Bool) (f : State → Option State) (n : ℕ) (r : State) → AtLeast n r → IfSome (f r) (AtLeast n) →
-      IfSome (if z then f r else Some r) (AtLeast n)
-  if-counts true f n r a k = k
-  if-counts false f n r a k = a
-
   step-counts : (b : State) (x : Step S A) → NoLess (perform m b x)
   step-counts b (Write text) n r a = write-counts (text r.decorator) n r a
   step-counts b WriteNumber n r a =
-      if-counts r.settings.link_footnotes (write m (chars (codes "[" ++ decimal (length b.targets + 1) ++ codes "]"))) n r a (write-counts _ n r a)
+      if_cases (λ x. IfSome x (AtLeast n)) r.settings.link_footnotes _ _
+      (λ _. write-counts (chars (codes "[" ++ decimal (length b.targets + 1) ++ codes "]")) n r a) (λ _. a)
   step-counts b NewLine n r a = on_block-counts m.operations.new_line h.new_line (λ b c e. omega arith) n r a
   step-counts b NewLineHard n r a = on_block-counts m.operations.new_line_hard h.new_line_hard (λ b c e. omega arith) n r a
   step-counts b StartBlock n r a = on_block-counts m.operations.start_block h.start_block (λ b c e. omega arith) n r a
   step-counts b Fence n r a =
-      let text : B → Option B = λ b. m.operations.add_inline_text b (plain_style r.blank) (codes "```") in
-      if-counts (r.settings.fence_tables && not r.in_table) (fence m) n r a
-      (IfSome-then _ _ (on_block text r) _ (on_block-counts text (λ b. h.add_inline_text b _ _) (λ b c e. omega arith) n r a)
-      (on_block-counts m.operations.new_line h.new_line (λ b c e. omega arith) n))
+      let text : B → Option B = λ b. m.operations.add_inline_text b (record { mode = Normal; tag = r.blank; continuation_tag = r.blank }) (codes "```") in
+      if_cases (λ x. IfSome x (AtLeast n)) (r.settings.fence_tables && not r.in_table) _ _
+      (λ _. IfSome-then _ _ (on_block text r) _ (on_block-counts text (λ b. h.add_inline_text b _ _) (λ b c e. omega arith) n r a)
+      (on_block-counts m.operations.new_line h.new_line (λ b c e. omega arith) n)) (λ _. a)
   step-counts b (BeginTable grid needs) n r a =
       let begin : B → Option B = λ t. m.operations.begin_table t r.blank r.settings.table_borders r.settings.raw_mode grid needs in
-      IfSome-then _ _ (on_block begin r) _ (on_block-counts begin (λ t. h.begin_table t _ _ _ _ _) (λ t u le. le) n r a) (λ q e. e)
-  step-counts b (Annotate annotation) n r a = a
+      IfSome-map _ _ (on_block begin r) _ (on_block-counts begin (λ t. h.begin_table t _ _ _ _ _) (λ t u le. le) n r a) (λ q e. e)
+  step-counts b (Annotate annotation) n r a =
+      elim (annotation r.decorator) as (λ o. AtLeast n (annotated m o r)) [ None ↦ a | Some x ↦ a ]
   step-counts b (Treat mode preformatted) n r a = a
   step-counts b Strike n r a = a
   step-counts b Unstrike n r a = a
@@ -114,13 +112,13 @@ module _ {S A K T B : Type 0} (m : Means S A K T B) (v : B → ℕ) (w : List �
   Joins s f = (r : State) → IfSome (f r) (AtLeast (counted s + counted r))
 
   appended-joins : (s : State) (prefix : List ℕ) (columns : ℕ) → Joins s (appended m s prefix columns)
-  appended-joins s prefix columns r = IfSome-then _ _ (m.operations.append s.block r.block _ _ _) _ (h.append _ _ _ _ _) (λ b a. a)
+  appended-joins s prefix columns r = IfSome-map _ _ (m.operations.append s.block r.block _ _ _) _ (h.append _ _ _ _ _) (λ b a. a)
 
   block-joins : (s : State) (prefix : List ℕ) → Joins s (joined m (appended_block m s.text.tag prefix) s)
   block-joins s prefix r =
-      IfSome-then (λ b. counted s + counted r ≤ v b) _ (appended_block m s.text.tag prefix s.block r.block) _
+      IfSome-map (λ b. counted s + counted r ≤ v b) _ (appended_block m s.text.tag prefix s.block r.block) _
       (IfSome-then _ _ (m.operations.start_block s.block) _ (h.start_block s.block) (λ b e.
-      IfSome-then _ _ (m.operations.append b r.block s.text.tag (chars prefix) (chars prefix)) _ (h.append _ _ _ _ _)
+      IfSome-map _ _ (m.operations.append b r.block s.text.tag (chars prefix) (chars prefix)) _ (h.append _ _ _ _ _)
       (λ c a. omega (arith, h.end_block c)))) (λ b a. a)
 
   -- what a place adds to s: what is counted of a node in it, unless that is skipped
@@ -169,7 +167,7 @@ module _ {S A K T B : Type 0} (m : Means S A K T B) (v : B → ℕ) (w : List �
     where
       cell-adds : (cell : Option B) (q : State) → PlaceAdds q (cell_place m cell q)
       cell-adds None q = omega (arith, h.skip_cell q.block)
-      cell-adds (Some cell) q = λ r. IfSome-then _ _ (m.operations.add_cell q.block r.block) _ (h.add_cell q.block r.block) (λ b a. a)
+      cell-adds (Some cell) q = λ r. IfSome-map _ _ (m.operations.add_cell q.block r.block) _ (h.add_cell q.block r.block) (λ b a. a)
 
   textless : (n : ℕ) (l : Visit State) → Adds n l → Adds (n + w []) l
   textless n l a = subst (λ k. Adds k l) (omega (arith, empty)) a
@@ -255,10 +253,13 @@ module _ {S A K T B : Type 0} (m : Means S A K T B) (v : B → ℕ) (w : List �
 
   -- what is counted grows by what is counted in the texts that are visited and aren't skipped
   pub layout-grows : (t : Forest RenderNode) (s : State) → IfSome (run (layout_of m) t s)
-      (λ r. v s.block + sum_by (λ (n : RenderNode). w (node_characters n.kind)) (unskipped (layout_of m) t s) ≤ v r.block)
+      (λ r. v s.block + sum_by (λ (n : RenderNode). w (node_characters n.kind)) (nodes_at false (layout_of m) bare 0 t s) ≤ v r.block)
   layout-grows t s = trees-grow t bare (λ number q. tt) 0 s
 
 -- ---- how often a character stands in texts
+
+abbrev text_characters : List RenderNode → List ℕ
+text_characters nodes = flat_map (λ n. node_characters n.kind) nodes
 
 texts_count : (c : ℕ) (ns : List RenderNode) →
     text_count c (text_characters ns) ≡ sum_by (λ (n : RenderNode). text_count c (node_characters n.kind)) ns
@@ -282,11 +283,6 @@ struck-count c (x ∷ cs) =
     if_cases (λ l. text_count c (x ∷ cs) ≤ text_count c l) (is_collapsible x) _ _ (λ _. omega (arith, text_count-cons c x (struck cs)))
     (λ _. omega (arith, text_count-cons c x (822 ∷ struck cs), text_count-cons c 822 (struck cs)))
 
--- and so it does in a text as it is written
-written-count : (c : ℕ) (struck_out : Bool) (cs : List ℕ) → text_count c cs ≤ text_count c (written struck_out cs)
-written-count c true cs = struck-count c cs
-written-count c false cs = omega arith
-
 -- a law for each character
 for_each : {X : Type 0} (P : ℕ → X → Type 0) (o : Option X) → ((c : ℕ) → IfSome o (P c)) → IfSome o (λ x. (c : ℕ) → P c x)
 for_each P None h = tt
@@ -299,8 +295,8 @@ module _ {S A : Type 0} (d : Decoration S A) where
   layout_keeps_texts settings t decorator w o =
       for_each Stands (layout_lines d settings t decorator w o) (λ c. if_cases (λ x. IfSome x (Stands c)) (w == 0) _ _ (λ _. tt) (λ _.
       IfSome-then _ _ (run (defined d) trees start) _ (layout-grows (by_stacks d) (visible_count c) (text_count c)
-      (operations_keep_visible c) refl (written-count c) trees start) (λ r a.
-      IfSome-then _ _ (ended d definition.ending settings.link_footnotes settings.wrap_links [] r) _
+      (operations_keep_visible c) refl (struck-count c) trees start) (λ r a.
+      IfSome-map _ _ (ended d definition.ending settings.link_footnotes settings.wrap_links [] r) _
       (ended-keeps d definition.ending settings.link_footnotes settings.wrap_links []
       (λ (b : DefinedBlock (List A) ℕ). IsClear b × (visible_count c r.block ≤ visible_count c b))
       (λ b. visible_count c r.block ≤ count c (visible_in_lines b.lines)) r (finish_count c r.block) (λ b ts h.

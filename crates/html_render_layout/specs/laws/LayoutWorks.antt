@@ -2,7 +2,7 @@
 -- stacks: with tags that are numbers, and without any.
 use Rattle.std.proofs.Common.{◌≡◌, ◌≢◌, ◌==◌, ℕ, Bool, true, false, cond, [], ◌∷◌, ◌++◌, length, List, Option, Some, None, Result}
 use Rattle.std.proofs.Common.{refl, sym, ap, ◌∙◌, subst, append_assoc, append-nil, option_map}
-use Rattle.std.proofs.lemmas.Bool.{eqb-true}
+use Rattle.std.proofs.lemmas.Bool.{ne_eqb}
 use Rattle.std.proofs.Math.Seq.{get_or-append_seam}
 use Rattle.html_render_values.specs.declared.errors.Error.{Error}
 use Rattle.html_render_values.specs.Forest.{Forest}
@@ -11,6 +11,7 @@ use Rattle.html_render_parts.specs.declared.widths.Meter.{Meter}
 use Rattle.html_render_lines.specs.declared.line.Element.{Element}
 use Rattle.html_render_lines.specs.declared.line.Element.TheVariants.{Character, Mark}
 use Rattle.html_render_lines.specs.Line.{Line}
+use Rattle.html_render_lines.specs.laws.Cases.{if_false}
 use Rattle.html_render_lines.specs.Tags.{element_with, line_with, lines_with}
 use Rattle.html_render_nodes.specs.declared.tree.RenderNode.{RenderNode}
 use Rattle.html_render_estimates.specs.Passes.{with_needed_sizes}
@@ -26,12 +27,12 @@ use Rattle.html_render_nodes.specs.Counts.{CountsNodes}
 use Rattle.html_render_nodes.specs.Pass.{visited, most_open}
 use Rattle.html_render_nodes.specs.laws.Counts.{counts-same}
 use Rattle.html_render_layout.specs.declared.settings.LayoutSettings.{LayoutSettings}
-use Rattle.html_render_layout.specs.Layout.{by_stacks, layout_of, shown_after, Defined, defined, begin_with, block_setting, padding, empty_state}
-use Rattle.html_render_layout.specs.Layout.{estimated, layout_lines, mark_names, unannotated}
+use Rattle.html_render_layout.specs.Layout.{by_stacks, layout_of, shown_after, Defined, defined, begin_with, empty_state}
+use Rattle.html_render_layout.specs.Layout.{estimated, layout, layout_lines, mark_names, unannotated}
 use Rattle.html_render_layout.specs.laws.Related.{Other}
 use Rattle.html_render_layout.specs.laws.Sizes.{shown-needed, counts-needed}
-use Rattle.html_render_layout.specs.Working.{by_tags, Worked, tabled, tagged, work_lines, work_names, Untagged, untagged, untagged_work}
-use Rattle.html_render_layout.specs.laws.Representation.{Represents, visited-represented, most_open-represented, lines-represented, names-represented}
+use Rattle.html_render_layout.specs.Working.{block_setting, padding, by_tags, Worked, tabled, tagged, work_lines, work_names, Untagged, untagged, untagged_work}
+use Rattle.html_render_layout.specs.laws.Representation.{Represents, walk-represented, lines-represented, names-represented}
 
 -- ---- a map of tags that changes none
 
@@ -58,14 +59,11 @@ module _ {S A : Type 0} (d : Decoration S A) (settings : LayoutSettings) where
   wanted t decorator w o =
       shown_after (by_stacks d) definition.ending (λ (r : Defined S A). r.block.lines) t (empty_state d settings decorator w o)
 
-  wanted-lines : (t : Forest RenderNode) (decorator : S) (w : ℕ) (o : Bool) → w ≢ 0 →
-      wanted (estimated d settings decorator t) decorator w o ≡ layout_lines d settings t decorator w o
-  wanted-lines t decorator w o wide = by (w == 0) refl
-    where
-      by : (z : Bool) → (w == 0) ≡ z →
-          wanted (estimated d settings decorator t) decorator w o ≡ cond z None (wanted (estimated d settings decorator t) decorator w o)
-      by true z = absurd (wide (eqb-true w 0 z))
-      by false z = refl
+  -- what is shown in a width that isn't 0
+  shown-wide : {X : Type 0} (view : Defined S A → X) (t : Forest RenderNode) (decorator : S) (w : ℕ) (o : Bool) → w ≢ 0 →
+      shown_after (by_stacks d) definition.ending view (estimated d settings decorator t) (empty_state d settings decorator w o)
+      ≡ layout d settings view t decorator w o
+  shown-wide view t decorator w o wide = sym (if_false (w == 0) None _ (ne_eqb w 0 wide))
 
   -- ---- tags that are numbers
 
@@ -139,7 +137,7 @@ module _ {S A : Type 0} (d : Decoration S A) (settings : LayoutSettings) where
       ap (λ x. work_lines d measured x) e ∙ ap (λ x. work_lines d x (empty_worked decorator w o)) m
       ∙ shown-needed (by_tags d tabled) machine.ending (λ (r : Worked S A). tagged r.stacks r.block.lines)
       (estimated d settings decorator t) (empty_worked decorator w o)
-      ∙ work_lines-wanted (estimated d settings decorator t) decorator w o ∙ wanted-lines t decorator w o wide
+      ∙ work_lines-wanted (estimated d settings decorator t) decorator w o ∙ shown-wide (λ (r : Defined S A). r.block.lines) t decorator w o wide
 
   -- and so are the names of its marks
   pub mark_names-works : (t measured : Forest RenderNode) (decorator : S) (w : ℕ) (o : Bool) (s : Worked S A) → w ≢ 0 →
@@ -151,42 +149,22 @@ module _ {S A : Type 0} (d : Decoration S A) (settings : LayoutSettings) where
       ∙ names-represented d tabled stack_at (λ (s : List A). s) Pushed (λ k. ([], sym (append-nil k))) Pushed-goes
       (λ k t a. ((stack_at k t ++ a ∷ []) ∷ [], refl)) tag_pushed (estimated d settings decorator t) w (empty_worked decorator w o)
       (stacked w o) (begins decorator w o)
-      ∙ by (w == 0) refl
-    where
-      names : Option (List (List ℕ))
-      names = shown_after (by_stacks d) definition.ending (λ (r : Defined S A). r.names) (estimated d settings decorator t)
-          (empty_state d settings decorator w o)
+      ∙ shown-wide (λ (r : Defined S A). r.names) t decorator w o wide
 
-      by : (z : Bool) → (w == 0) ≡ z → names ≡ cond z None names
-      by true z = absurd (wide (eqb-true w 0 z))
-      by false z = refl
-
-  -- of any trees it visits what the definition visits, with as many open at once
-  counts-wanted : {X : Type 0} (r : Result X Error) (t : Forest RenderNode) (decorator : S) (w : ℕ) (o : Bool) (s : Worked S A)
-      (old other new : Meter) → s ≡ empty_worked decorator w o → other.probes ≡ old.probes →
-      CountsNodes r (layout_of (by_tags d tabled)) t s other new →
-      CountsNodes r (defined d) t (empty_state d settings decorator w o) old new
-  counts-wanted r t decorator w o s old other new e probes c =
-      counts-same r (layout_of (by_tags d tabled)) (defined d) t s
-      (empty_state d settings decorator w o) old other new
-      (ap (λ x. visited (layout_of (by_tags d tabled)) t x) e
-      ∙ visited-represented d tabled stack_at (λ (s : List A). s) Pushed (λ k. ([], sym (append-nil k))) Pushed-goes
-      (λ k t a. ((stack_at k t ++ a ∷ []) ∷ [], refl)) tag_pushed t w (empty_worked decorator w o) (stacked w o) (begins decorator w o))
-      (ap (λ x. most_open (layout_of (by_tags d tabled)) t x) e
-      ∙ most_open-represented d tabled stack_at (λ (s : List A). s) Pushed (λ k. ([], sym (append-nil k))) Pushed-goes
-      (λ k t a. ((stack_at k t ++ a ∷ []) ∷ [], refl)) tag_pushed t w (empty_worked decorator w o) (stacked w o) (begins decorator w o))
-      probes c
-
-  -- and it counts what the definition visits
+  -- and it visits what the definition visits, with as many open at once
   pub counts-work : {X : Type 0} (r : Result X Error) (t measured : Forest RenderNode) (decorator : S) (w : ℕ) (o : Bool)
       (s : Worked S A) (old other new : Meter) → measured ≡ with_needed_sizes (estimated d settings decorator t) → s ≡ empty_worked decorator w o →
       other.probes ≡ old.probes →
       CountsNodes r (layout_of (by_tags d tabled)) measured s other new →
       CountsNodes r (defined d) (estimated d settings decorator t) (empty_state d settings decorator w o) old new
   counts-work r t measured decorator w o s old other new m e probes c =
-      counts-wanted r (estimated d settings decorator t) decorator w o s old other new e probes
-      (counts-needed (by_tags d tabled) r (estimated d settings decorator t) s other new
-      (subst (λ x. CountsNodes r (layout_of (by_tags d tabled)) x s other new) m c))
+      let u = estimated d settings decorator t in
+      let walk = walk-represented d tabled stack_at (λ (s : List A). s) Pushed (λ k. ([], sym (append-nil k))) Pushed-goes
+      (λ k t a. ((stack_at k t ++ a ∷ []) ∷ [], refl)) tag_pushed u w (empty_worked decorator w o) (stacked w o) (begins decorator w o) in
+      counts-same r (layout_of (by_tags d tabled)) (defined d) u s (empty_state d settings decorator w o) old other new
+      (ap (λ x. visited (layout_of (by_tags d tabled)) u x) e ∙ walk.0)
+      (ap (λ x. most_open (layout_of (by_tags d tabled)) u x) e ∙ walk.1) probes
+      (counts-needed (by_tags d tabled) r u s other new (subst (λ x. CountsNodes r (layout_of (by_tags d tabled)) x s other new) m c))
 
   -- ---- no tags
 
@@ -220,4 +198,4 @@ module _ {S A : Type 0} (d : Decoration S A) (settings : LayoutSettings) where
       ∙ shown-needed (by_tags d untagged) machine.ending (λ (r : Untagged S K). r.block.lines)
       (estimated d settings decorator t) (empty_untagged k decorator w o)
       ∙ untagged_work-wanted (estimated d settings decorator t) decorator w o k
-      ∙ ap (option_map (lines_with (λ (s : List A). tt))) (wanted-lines t decorator w o wide)
+      ∙ ap (option_map (lines_with (λ (s : List A). tt))) (shown-wide (λ (r : Defined S A). r.block.lines) t decorator w o wide)

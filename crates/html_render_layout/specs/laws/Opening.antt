@@ -1,23 +1,24 @@
 -- What the walk does at a node is what is defined.
-use Rattle.std.specs.Prelude.{◌≡◌, ℕ, List, Option, Some, None, option_and_then, refl}
+use Rattle.std.specs.Prelude.{◌≡◌, ℕ, List, Option, Some, None, option_and_then, option_map, refl}
 use Rattle.std.proofs.Common.{ap, ◌∙◌, sym}
 use Rattle.html_render_values.specs.Forest.{Forest}
 use Rattle.html_render_nodes.specs.declared.tree.Estimate.{Estimate}
 use Rattle.html_render_nodes.specs.declared.tree.NodeKind.{NodeKind}
 use Rattle.html_render_nodes.specs.declared.tree.NodeKind.TheVariants.{Text, Break, Superscript, Image, Svg, FragmentStart}
 use Rattle.html_render_nodes.specs.declared.tree.RenderNode.{RenderNode}
-use Rattle.html_render_nodes.specs.Pass.{Places, Visit, Leaf, Inner, through_visit, inside, followed, from_state, placed, places_in}
+use Rattle.html_render_nodes.specs.Pass.{Places, Visit, Leaf, Inner, through_visit, inside, followed, placed, places_in}
 use Rattle.html_render_nodes.specs.Pass.{Way, past, opened_with, IsOpened}
+use Rattle.html_render_nodes.specs.laws.Visits.{from_state}
 use Rattle.html_render_layout.specs.declared.layout.state.Closing.{Closing}
 use Rattle.html_render_layout.specs.declared.layout.state.Interruption.{Interruption}
-use Rattle.html_render_layout.specs.declared.layout.state.Interruption.TheVariants.{NoBlock, Indented}
+use Rattle.html_render_layout.specs.declared.layout.state.Interruption.TheVariants.{NoBlock, Indented, Cell}
 use Rattle.html_render_layout.specs.declared.layout.state.KindClosing.{KindClosing}
 use Rattle.html_render_layout.specs.declared.layout.state.KindClosing.TheVariants.{Bullets, Numbers, EndRow}
 use Rattle.html_render_layout.specs.declared.layout.state.LayoutState.{LayoutState}
 use Rattle.html_render_layout.specs.declared.layout.state.TextContext.{TextContext}
 use Rattle.html_render_layout.specs.Layout.{Means, superscript, digits_of, shape_of, style_steps, perform_all, appended, within, joined}
-use Rattle.html_render_layout.specs.Layout.{number_from, padded, item_place, cell_place, shape_layout, layout_of}
-use Rattle.html_render_layout.specs.Opening.{item, interrupted, item_closed, keeping, kind_kept, kind_opened, kind_closed, kind_below, cell_kept, opened_in}
+use Rattle.html_render_layout.specs.Layout.{padded, item_place, cell_place, shape_layout, layout_of}
+use Rattle.html_render_layout.specs.Opening.{number_from, item, interrupted, item_closed, keeping, kind_kept, kind_opened, kind_closed, kind_below, opened_in}
 use Rattle.html_render_layout.specs.Opening.{cell_opened, item_opened, opened_below, opened, below, closed}
 
 -- two that go on alike
@@ -122,16 +123,16 @@ module _ {S A K T B : Type 0} (m : Means S A K T B) where
       i = Indented (interrupted m s (padded columns prefix) columns)
 
       by : (b : Option B) →
-          Opened (from_state (option_and_then (λ c. Some (within m c s)) b) (λ q.
+          Opened (from_state (option_map (λ c. within m c s) b) (λ q.
           followed (layout_of m n trees q) (appended m s (padded columns prefix) columns)))
-          (option_and_then (λ (q : State). opened_in m i n trees q) (option_and_then (λ c. Some (within m c s)) b))
+          (option_and_then (λ (q : State). opened_in m i n trees q) (option_map (λ c. within m c s) b))
       by None = record { told = λ children. refl; asked = refl }
       by (Some c) = node-kept n trees (within m c s) i (appended m s (padded columns prefix) columns) (λ r. refl)
 
   cell-opened : (n : RenderNode) (trees : Forest RenderNode) (s : State) (b : Option B) →
       Opened (placed (cell_place m b s) (layout_of m n trees) s) (cell_opened m n trees b s)
   cell-opened n trees s None = record { told = λ children. refl; asked = refl }
-  cell-opened n trees s (Some cell) = node-kept n trees (within m cell s) (cell_kept m s) (joined m m.operations.add_cell s) (λ r. refl)
+  cell-opened n trees s (Some cell) = node-kept n trees (within m cell s) (Cell (record { decorator = s.decorator; block = s.block })) (joined m m.operations.add_cell s) (λ r. refl)
 
   -- THE LAW: a node is opened so in its place, its children come, and it is closed
   pub layout-opened : (parent : Option (Closing S T B)) (number : ℕ) (n : RenderNode) (trees : Forest RenderNode) (s : State) →

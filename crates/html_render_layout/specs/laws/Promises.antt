@@ -14,8 +14,7 @@ use Rattle.html_render_layout.specs.Kept.{visited_nodes, KeepsTexts}
 use Rattle.html_render_layout.specs.Layout.{layout_lines, mark_names, unannotated}
 use Rattle.html_render_layout.specs.Promises.{AreLines, Lines, HasLines, LeavesTexts}
 use Rattle.html_render_layout.specs.Settings.{default_settings}
-use Rattle.html_render_layout.specs.laws.LayoutLaws.{layout_within, layout_succeeds, layout_leaves}
-use Rattle.html_render_layout.specs.laws.LayoutLaws.{layout_same, names_same, same_answer}
+use Rattle.html_render_layout.specs.laws.LayoutLaws.{layout_within, layout_succeeds, layout_leaves, layout_same, names_same, same_answer}
 use Rattle.html_render_layout.specs.laws.LayoutVisible.{layout_keeps_texts}
 
 module _ {S A : Type 0} (d : Decoration S A) (settings : LayoutSettings) (tree : Forest RenderNode) (decorator : S) (width : ℕ)

@@ -10,21 +10,20 @@ use Rattle.html_render_values.specs.Forest.{Forest, none, node}
 use Rattle.html_render_values.specs.declared.white_space.WhiteSpace.TheVariants.{Normal}
 use Rattle.html_render_nodes.specs.declared.tree.RenderNode.{RenderNode}
 use Rattle.html_render_estimates.specs.Estimates.{prefix_columns}
-use Rattle.html_render_nodes.specs.Pass.{Place, Bare, Skipped, Within, Places, bare, Visit, Leaf, Inner, through_visit, inside, followed, from_state}
+use Rattle.html_render_nodes.specs.Pass.{Place, Bare, Skipped, Within, Places, bare, Visit, Leaf, Inner, through_visit, inside, followed}
 use Rattle.html_render_nodes.specs.Pass.{placed, run_at, run, nodes_at, visited, open_at, most_open}
-use Rattle.html_render_nodes.specs.laws.Visits.{from}
-use Rattle.html_render_paragraphs.specs.laws.Answers.{Both, Both-then, Both-weaken}
+use Rattle.html_render_nodes.specs.laws.Visits.{from, from_state}
+use Rattle.html_render_paragraphs.specs.laws.Answers.{Both, Both-then, Both-map, Both-weaken}
 use Rattle.html_render_blocks.specs.Operations.{Operations, DocumentEnd}
 use Rattle.html_render_blocks.specs.laws.Related.{Relates, RelatesEnds}
 use Rattle.html_render_layout.specs.declared.layout.state.LayoutState.{LayoutState}
 use Rattle.html_render_layout.specs.declared.layout.state.TextContext.{TextContext}
 use Rattle.html_render_layout.specs.Ending.{closing_texts, ended}
 use Rattle.html_render_layout.specs.Layout.{Means, Step, Write, WriteNumber, Annotate, Treat, Strike, Unstrike, Restore, NewLine, NewLineHard}
-use Rattle.html_render_layout.specs.Layout.{StartBlock, EndBlock, Fence, BeginTable, EndTable, AddTarget, AddMark}
-use Rattle.html_render_layout.specs.Layout.{Shape, Steps, Around, Prefixed, Indented, Items, Cells, spaces, padded, shape_of, style_steps, written}
-use Rattle.html_render_layout.specs.Layout.{white_space_in, plain_style, on_block, text_style, add_styled, write, annotated, fence}
-use Rattle.html_render_layout.specs.Layout.{perform, perform_all, nested, joined, appended, appended_block, cell_place}
-use Rattle.html_render_layout.specs.Layout.{shape_layout, layout_of, shown_after}
+use Rattle.html_render_layout.specs.Layout.{StartBlock, EndBlock, Fence, BeginTable, EndTable, AddTarget, AddMark, Shape, Steps, Around, Prefixed}
+use Rattle.html_render_layout.specs.Layout.{Indented, Items, Cells, spaces, padded, shape_of, style_steps, struck, white_space_in, on_block}
+use Rattle.html_render_layout.specs.Layout.{text_style, add_styled, write, annotated, fence, perform, perform_all, within, nested, joined, appended}
+use Rattle.html_render_layout.specs.Layout.{appended_block, cell_place, shape_layout, layout_of, shown_after}
 
 -- how texts are treated, under another tag
 abbrev pub context : {T U : Type 0} → TextContext T → U → TextContext U
@@ -54,7 +53,7 @@ with_other s v =
 
 -- m and n are the means of the two sides, which answer for the same decorators; Tags says which tags are related, and Blocks which
 -- blocks, with these stacks; Later says how stacks may go on, with which both stay so
-module _ {S A K T B L U C I : Type 0} (m : Means S A K T B) (pull : L → U → A → L × U) (p : Operations C U) (N M : Type 0) (weak : M → N)
+module _ {S A K T B L U C I : Type 0} (m : Means S A K T B) (pull : L → U → A → L × U) (p : Operations C U ℕ) (N M : Type 0) (weak : M → N)
     (Later : K × L → K × L → Type 0) (stays : (w : K × L) → Later w w)
     (goes : (w v u : K × L) → Later w v → Later v u → Later w u)
     (Tags : K × L → T → U → Type 0) (tags_later : (w v : K × L) (t : T) (u : U) → Tags w t u → Later w v → Tags v t u)
@@ -120,7 +119,7 @@ module _ {S A K T B L U C I : Type 0} (m : Means S A K T B) (pull : L → U → 
       Both N M (Blocks i (stacks_of s v)) (f s.block) (g v.block) →
       Both N M (Reached i (stacks_of s v)) (on_block f s) (on_block g (with_other s v))
   on_block-related f g i s v k x =
-      Both-then N M weak (Blocks i (stacks_of s v)) (Reached i (stacks_of s v)) _ _ (f s.block) (g v.block) x (λ b c z.
+      Both-map N M (Blocks i (stacks_of s v)) (Reached i (stacks_of s v)) _ _ (f s.block) (g v.block) x (λ b c z.
       record { other = record v { block = c }; is = refl; later = stays (stacks_of s v); holds = (k.0, (k.1.0, z)) })
 
   -- ---- steps
@@ -148,10 +147,10 @@ module _ {S A K T B L U C I : Type 0} (m : Means S A K T B) (pull : L → U → 
   write-related cs i s v k = by s.text.preformatted
     where
       fed : List ℕ
-      fed = written s.text.struck_out cs
+      fed = if s.text.struck_out then struck cs else cs
 
-      by : (z : Bool) → Both N M (Reached i (stacks_of s v)) (add_styled m (text_style m s.decorator s.stacks s.text z) fed s)
-          (add_styled n (text_style n s.decorator v.stacks (context s.text v.tag) z) fed (with_other s v))
+      by : (z : Bool) → Both N M (Reached i (stacks_of s v)) (add_styled m (text_style m s.decorator s.stacks s.text z) cs s)
+          (add_styled n (text_style n s.decorator v.stacks (context s.text v.tag) z) cs (with_other s v))
       by false =
           on_block-related (λ b. m.operations.add_inline_text b (record { mode = s.text.mode; tag = s.text.tag; continuation_tag = s.text.tag }) fed)
           (λ c. p.add_inline_text c (record { mode = s.text.mode; tag = v.tag; continuation_tag = v.tag }) fed) i s v k
@@ -191,8 +190,8 @@ module _ {S A K T B L U C I : Type 0} (m : Means S A K T B) (pull : L → U → 
       Both N M (Reached i (stacks_of s v)) (fence m s) (fence n (with_other s v))
   fence-related i s v k =
       then_reached i i (stacks_of s v) _ _ (on_block m.operations.new_line) (on_block p.new_line)
-      (on_block-related (λ b. m.operations.add_inline_text b (plain_style s.blank) (codes "```"))
-      (λ c. p.add_inline_text c (plain_style v.blank) (codes "```")) i s v k
+      (on_block-related (λ b. m.operations.add_inline_text b (record { mode = Normal; tag = s.blank; continuation_tag = s.blank }) (codes "```"))
+      (λ c. p.add_inline_text c (record { mode = Normal; tag = v.blank; continuation_tag = v.blank }) (codes "```")) i s v k
       (h.add_inline_text i (stacks_of s v) Normal s.blank s.blank v.blank v.blank (codes "```") k.1.0 k.1.0 s.block v.block k.1.1))
       (λ q u l z. on_block-related m.operations.new_line p.new_line i q u z (h.new_line i (stacks_of q u) q.block u.block z.1.1))
 
@@ -222,10 +221,10 @@ module _ {S A K T B L U C I : Type 0} (m : Means S A K T B) (pull : L → U → 
   step-related (BeginTable grid needs) b e i s v t k =
       let borders = s.settings.table_borders in
       let stacked = s.settings.raw_mode in
-      then_reached i i (stacks_of s v) _ _ _ _
+      Both-map N M (Reached i (stacks_of s v)) (Reached i (stacks_of s v)) _ _ _ _
       (on_block-related (λ c. m.operations.begin_table c s.blank borders stacked grid needs) (λ c. p.begin_table c v.blank borders stacked grid needs)
-      i s v k (h.begin_table i (stacks_of s v) s.blank v.blank borders stacked grid needs k.1.0 s.block v.block k.1.1))
-      (λ q u l z. here i (record q { in_table = true }) u z)
+      i s v k (h.begin_table i (stacks_of s v) s.blank v.blank borders stacked grid needs k.1.0 s.block v.block k.1.1)) (λ q e z.
+      record { other = z.other; is = ap (λ (x : OtherState). record x { in_table = true }) z.is; later = z.later; holds = z.holds })
   step-related EndTable b e i s v t k =
       here i (record s { block = m.operations.end_table s.block; in_table = b.in_table }) (record v { block = p.end_table v.block })
       (k.0, (k.1.0, h.end_table i (stacks_of s v) s.block v.block k.1.1))
@@ -248,11 +247,9 @@ module _ {S A K T B L U C I : Type 0} (m : Means S A K T B) (pull : L → U → 
   nested-related : (prefix least : ℕ) (i : I) (s : State) (v : Different) → Holds i s v →
       Both N M (Deeper (stacks_of s v)) (nested m prefix least s) (nested n prefix least (with_other s v))
   nested-related prefix least i s v k =
-      Both-then N M weak (λ e f. (j : I) × Blocks j (stacks_of s v) e f) (Deeper (stacks_of s v)) _ _ (m.operations.sub_block s.block prefix least)
-      (p.sub_block v.block prefix least) (h.sub_block i (stacks_of s v) prefix least s.block v.block k.1.1) (λ b c z. (
-        z.0,
-        record { other = record v { block = c }; is = refl; later = stays (stacks_of s v); holds = (k.0, (k.1.0, z.1)) },
-      ))
+      Both-map N M (λ e f. (j : I) × Blocks j (stacks_of s v) e f) (Deeper (stacks_of s v)) _ _ (m.operations.sub_block s.block prefix least)
+      (p.sub_block v.block prefix least) (h.sub_block i (stacks_of s v) prefix least s.block v.block k.1.1) (λ b c z.
+      (z.0, here z.0 (within m b s) (record v { block = c }) (k.0, (k.1.0, z.1))))
 
   -- behind a node in a block inside that of s
   abbrev JoinRelated : I → State → Different → (B → B → Option B) → (C → C → Option C) → Type 0
@@ -263,7 +260,7 @@ module _ {S A K T B L U C I : Type 0} (m : Means S A K T B) (pull : L → U → 
       (r : State) (u : Different) → Later (stacks_of s v) (stacks_of r u) → Holds j r u →
       Both N M (Reached i (stacks_of r u)) (joined m f s r) (joined n g (with_other s v) (with_other r u))
   joined-related f g i j s v k x r u l z =
-      Both-then N M weak (Blocks i (stacks_of r u)) (Reached i (stacks_of r u)) _ _ (f s.block r.block) (g v.block u.block)
+      Both-map N M (Blocks i (stacks_of r u)) (Reached i (stacks_of r u)) _ _ (f s.block r.block) (g v.block u.block)
       (x j (stacks_of r u) l (blocks_later i (stacks_of s v) (stacks_of r u) s.block v.block k.1.1 l) r.block u.block z.1.1) (λ b c y.
       record { other = record u { block = c }; is = refl; later = stays (stacks_of r u); holds = (z.0, (z.1.0, y)) })
 
@@ -277,7 +274,7 @@ module _ {S A K T B L U C I : Type 0} (m : Means S A K T B) (pull : L → U → 
       JoinRelated i s v (appended_block m s.text.tag prefix) (appended_block n v.tag prefix)
   block-related prefix i s v k j w l x b c y =
       Both-then N M weak (Blocks i w) (Blocks i w) _ _ _ _ (h.start_block i w s.block v.block x) (λ e f z.
-      Both-then N M weak (Blocks i w) (Blocks i w) _ _ _ _
+      Both-map N M (Blocks i w) (Blocks i w) _ _ _ _
       (h.append i j w s.text.tag v.tag (chars prefix) (chars prefix) (tags_later (stacks_of s v) w s.text.tag v.tag k.0 l) e f z b c y)
       (λ q r o. h.end_block i w q r o))
 
@@ -422,24 +419,22 @@ module _ {S A K T B L U C I : Type 0} (m : Means S A K T B) (pull : L → U → 
       Both (Unit {0}) ⊥ (λ e f. (j : I) × (Blocks j (stacks_of s v) e f × ((w : K × L) → Later (stacks_of s v) w → Blocks i w s.block v.block →
       (e : B) (f : C) → Blocks j w e f → Both N M (Blocks i w) (m.operations.add_cell s.block e) (p.add_cell v.block f)))) a b →
       PlaceRelated i (stacks_of s v) (cell_place m a s) (cell_place n b (with_other s v))
+  unfolding here
   cell-related i s v k None None c =
       here i (record s { block = m.operations.skip_cell s.block }) (record v { block = p.skip_cell v.block })
       (k.0, (k.1.0, h.skip_cell i (stacks_of s v) s.block v.block k.1.1))
   cell-related i s v k None (Some y) c = absurd c
   cell-related i s v k (Some x) None c = absurd c
-  cell-related i s v k (Some x) (Some y) c =
-      let w = stacks_of s v in
-      let other : Different = record v { block = y } in (
-        c.0,
-        (
-          record { other = other; is = refl; later = stays w; holds = (k.0, (k.1.0, c.1.0)) },
-          λ r u l z.
-              Both-then N M weak (Blocks i (stacks_of r u)) (Reached i (stacks_of r u)) _ _ (m.operations.add_cell s.block r.block)
-              (p.add_cell v.block u.block)
-              (c.1.1 (stacks_of r u) l (blocks_later i w (stacks_of r u) s.block v.block k.1.1 l) r.block u.block z.1.1) (λ e f d.
-              record { other = record u { block = f }; is = refl; later = stays (stacks_of r u); holds = (z.0, (z.1.0, d)) }),
-        ),
-      )
+  cell-related i s v k (Some x) (Some y) c = (
+    c.0,
+    (
+      here c.0 (within m x s) (record v { block = y }) (k.0, (k.1.0, c.1.0)),
+      λ r u l z.
+          Both-map N M (Blocks i (stacks_of r u)) (Reached i (stacks_of r u)) _ _ (m.operations.add_cell s.block r.block) (p.add_cell v.block u.block)
+          (c.1.1 (stacks_of r u) l (blocks_later i (stacks_of s v) (stacks_of r u) s.block v.block k.1.1 l) r.block u.block z.1.1) (λ e f d.
+          here i (record r { decorator = s.decorator; block = e }) (record u { block = f }) (z.0, (z.1.0, d))),
+    ),
+  )
 
   shape-related : (x : Shape S A) (i : I) (s : State) (v : Different) → Holds i s v →
       Related i (stacks_of s v) (shape_layout m x s) (shape_layout n x (with_other s v))
@@ -552,7 +547,7 @@ module _ {S A K T B L U C I : Type 0} (m : Means S A K T B) (pull : L → U → 
     inside-related i w (Leaf a) (Inner b y g) k = absurd (never k.1)
     inside-related i w (Inner a x f) (Leaf b) k = absurd k
     inside-related i w (Inner a x f) (Inner b y g) k =
-        Both-then N M weak (λ q e. After i w q e f g) (InnerRelated w) _ _ a b k.0 (λ q e c. (k.1, (c.0, c.1.0)))
+        Both-map N M (λ q e. After i w q e f g) (InnerRelated w) _ _ a b k.0 (λ q e c. (k.1, (c.0, c.1.0)))
 
     -- the same of a state as of its other side
     at-related : {X : Type 0} (f : State → X) (g : OtherState → X) (i : I) (w : K × L) (q : State) (e : OtherState) → Reached i w q e →
@@ -593,10 +588,6 @@ module _ {S A K T B L U C I : Type 0} (m : Means S A K T B) (pull : L → U → 
         (behind-related x children a b same number i s v k) (λ q e z.
         at-related next other_next i w q e z (λ u d. nodes-related beside a b same (number + 1) i q u d)))
 
-    pub visited-related : (t : Forest RenderNode) (i : I) (s : State) (v : Different) → Holds i s v →
-        visited (layout_of m) t s ≡ visited (layout_of n) t (with_other s v)
-    visited-related t i s v k = nodes-related t bare bare bare-related 0 i s v k
-
     -- and as many of them stand open at once
     open-related : (t : Forest RenderNode) (a : Places State) (b : Places OtherState) → PlacesRelated a b → (number : ℕ) (i : I) (s : State)
         (v : Different) → Holds i s v → open_at (layout_of m) a number t s ≡ open_at (layout_of n) b number t (with_other s v)
@@ -619,9 +610,9 @@ module _ {S A K T B L U C I : Type 0} (m : Means S A K T B) (pull : L → U → 
               at-related next other_next i w q e z (λ u d. open-related beside a b same (number + 1) i q u d)),
         )
 
-    pub most_open-related : (t : Forest RenderNode) (i : I) (s : State) (v : Different) → Holds i s v →
-        most_open (layout_of m) t s ≡ most_open (layout_of n) t (with_other s v)
-    most_open-related t i s v k = open-related t bare bare bare-related 0 i s v k
+    pub walked-related : (t : Forest RenderNode) (i : I) (s : State) (v : Different) → Holds i s v →
+        (visited (layout_of m) t s ≡ visited (layout_of n) t (with_other s v)) × (most_open (layout_of m) t s ≡ most_open (layout_of n) t (with_other s v))
+    walked-related t i s v k = (nodes-related t bare bare bare-related 0 i s v k, open-related t bare bare bare-related 0 i s v k)
 
   -- ---- what is shown
 
@@ -649,7 +640,7 @@ module _ {S A K T B L U C I : Type 0} (m : Means S A K T B) (pull : L → U → 
         let cut = s.settings.wrap_links in
         Both-then N M weak (Reached i (stacks_of s v)) R _ _ (run (layout_of m) t s) (run (layout_of n) t (with_other s v))
         (run-related t i s v k) (λ r e z.
-        Both-then N M weak (Reached i (stacks_of r z.other)) R (λ q. Some (view q)) (λ q. Some (wanted q)) (ended m.decoration end footnotes cut s.text.tag r)
+        Both-map N M (Reached i (stacks_of r z.other)) R view wanted (ended m.decoration end footnotes cut s.text.tag r)
         (ended m.decoration other_end footnotes cut v.tag e)
         (subst (λ x. Both N M (Reached i (stacks_of r z.other)) (ended m.decoration end footnotes cut s.text.tag r)
         (ended m.decoration other_end footnotes cut v.tag x)) (sym z.is)

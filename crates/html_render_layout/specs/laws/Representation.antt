@@ -13,9 +13,9 @@ use Rattle.html_render_blocks.specs.Machine.{MachineBlock}
 use Rattle.html_render_paragraphs.specs.laws.Answers.{Both}
 use Rattle.html_render_blocks.specs.laws.BlockSeen.{Tags, Blocks, operations-seen, ends-seen, later-seen, lines-seen}
 use Rattle.html_render_layout.specs.declared.layout.state.LayoutState.{LayoutState}
-use Rattle.html_render_layout.specs.Layout.{onto, by_stacks, layout_of, shown_after, Defined, defined}
+use Rattle.html_render_layout.specs.Layout.{by_stacks, layout_of, shown_after, Defined, defined}
 use Rattle.html_render_layout.specs.Working.{by_tags}
-use Rattle.html_render_layout.specs.laws.Related.{Other, with_other, visited-related, most_open-related, shown-related}
+use Rattle.html_render_layout.specs.laws.Related.{Other, with_other, walked-related, shown-related}
 
 -- push puts an annotation onto a tag of what is kept, shown is what is seen of a tag and seen of a stack; Later says how
 -- what is kept may go on, and what is seen of a tag that was pushed is what is seen of the stack, from then on
@@ -58,21 +58,12 @@ module _ {S A K T V : Type 0} (d : Decoration S A) (push : K → T → A → K �
   tag_shown : (k : K) (l : Unit {0}) (t : T) (u : List A) (a : A) → ShowsTag (k, l) t u → ShowsTag ((push k t a).0, l) (push k t a).1 (u ++ a ∷ [])
   tag_shown k l t u a x = λ m g. tag_pushed k t a u (λ n b. x (n, tt) b) m.0 g
 
-  -- the code's walk visits what the definition visits
-  pub visited-represented : (t : Forest RenderNode) (i : ℕ) (s : Worked) (v : Stacked) → Represents i s v →
-      visited (layout_of (by_tags d push)) t s
-      ≡ visited (defined d) t (with_other s v)
-  visited-represented t i s v h =
-      visited-related (by_tags d push) onto definition.operations (Unit {0}) ⊥ (λ x. tt) GoesOn (λ w. stays w.0) Going ShowsTag later_tag
-      ShowsBlock (λ i w v b c k l. later-seen (λ (w : Kept) t. shown w.0 t) seen GoesOn (λ w. stays w.0) Going i w v b c k l)
-      (λ k l t u a x. pushed k t a) tag_shown (operations-seen (λ (w : Kept) t. shown w.0 t) seen GoesOn (λ w. stays w.0) Going) tt (λ x. x) t i s v h
-
-  -- and keeps as many of them open at once
-  pub most_open-represented : (t : Forest RenderNode) (i : ℕ) (s : Worked) (v : Stacked) → Represents i s v →
-      most_open (layout_of (by_tags d push)) t s
-      ≡ most_open (defined d) t (with_other s v)
-  most_open-represented t i s v h =
-      most_open-related (by_tags d push) onto definition.operations (Unit {0}) ⊥ (λ x. tt) GoesOn (λ w. stays w.0) Going ShowsTag later_tag
+  -- the code's walk visits what the definition visits, and keeps as many of them open at once
+  pub walk-represented : (t : Forest RenderNode) (i : ℕ) (s : Worked) (v : Stacked) → Represents i s v →
+      (visited (layout_of (by_tags d push)) t s ≡ visited (defined d) t (with_other s v))
+      × (most_open (layout_of (by_tags d push)) t s ≡ most_open (defined d) t (with_other s v))
+  walk-represented t i s v h =
+      walked-related (by_tags d push) (by_stacks d).push definition.operations (Unit {0}) ⊥ (λ x. tt) GoesOn (λ w. stays w.0) Going ShowsTag later_tag
       ShowsBlock (λ i w v b c k l. later-seen (λ (w : Kept) t. shown w.0 t) seen GoesOn (λ w. stays w.0) Going i w v b c k l)
       (λ k l t u a x. pushed k t a) tag_shown (operations-seen (λ (w : Kept) t. shown w.0 t) seen GoesOn (λ w. stays w.0) Going) tt (λ x. x) t i s v h
 
@@ -83,7 +74,7 @@ module _ {S A K T V : Type 0} (d : Decoration S A) (push : K → T → A → K �
       Both (Unit {0}) ⊥ R (shown_after (by_tags d push) machine.ending view t s)
       (shown_after (by_stacks d) definition.ending wanted t (with_other s v))
   shown-represented R view wanted i related t s v h =
-      shown-related (by_tags d push) onto definition.operations (Unit {0}) ⊥ (λ x. tt) GoesOn (λ w. stays w.0) Going ShowsTag later_tag
+      shown-related (by_tags d push) (by_stacks d).push definition.operations (Unit {0}) ⊥ (λ x. tt) GoesOn (λ w. stays w.0) Going ShowsTag later_tag
       ShowsBlock (λ i w v b c k l. later-seen (λ (w : Kept) t. shown w.0 t) seen GoesOn (λ w. stays w.0) Going i w v b c k l)
       (λ k l t u a x. pushed k t a) tag_shown (operations-seen (λ (w : Kept) t. shown w.0 t) seen GoesOn (λ w. stays w.0) Going)
       machine.ending definition.ending (λ cut. Unit {0}) (ends-seen (λ (w : Kept) t. shown w.0 t) seen GoesOn (λ w. stays w.0) Going)

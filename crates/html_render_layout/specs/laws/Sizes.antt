@@ -1,18 +1,18 @@
 -- Sizes that are left out: trees without a table are laid out the same without them, as tables alone ask for sizes.
-use Rattle.std.proofs.Common.{◌≡◌, ◌||◌, Bool, true, false, cond, ℕ, ◌+◌, List, length, Option, Some, None, Result, OnOk, option_and_then}
+use Rattle.std.proofs.Common.{◌≡◌, ◌||◌, true, false, ℕ, ◌+◌, length, Option, Some, None, Result, OnOk, option_and_then}
 use Rattle.std.proofs.Common.{refl, ap, ◌∙◌, ◌≤◌, subst, arith, length-append}
-use Rattle.std.specs.Option.{option_map_or}
 use Rattle.std.proofs.lemmas.Bool.{or_parts, true≢false}
 use Rattle.html_render_values.specs.Forest.{Forest, none, node, count, depth}
 use Rattle.html_render_parts.specs.declared.widths.Meter.{Meter}
+use Rattle.html_render_lines.specs.laws.Cases.{if_cases}
 use Rattle.html_render_nodes.specs.declared.tree.Estimate.{Estimate}
 use Rattle.html_render_nodes.specs.declared.tree.NodeKind.{NodeKind}
 use Rattle.html_render_nodes.specs.declared.tree.NodeKind.TheVariants.{Superscript, Table}
 use Rattle.html_render_nodes.specs.declared.tree.RenderNode.{RenderNode}
 use Rattle.html_render_nodes.specs.Counts.{CountsNodes}
-use Rattle.html_render_nodes.specs.Pass.{Place, Bare, Skipped, Within, Places, bare, Visit, Leaf, Inner, through_visit, inside, followed, from_state}
+use Rattle.html_render_nodes.specs.Pass.{Place, Bare, Skipped, Within, Places, bare, Visit, Leaf, Inner, through_visit, inside, followed}
 use Rattle.html_render_nodes.specs.Pass.{placed, run_at, run, nodes_at, open_at}
-use Rattle.html_render_nodes.specs.laws.Visits.{from}
+use Rattle.html_render_nodes.specs.laws.Visits.{from, from_state, count_from, count_from-same, length-from}
 use Rattle.html_render_estimates.specs.Passes.{is_table, has_table, without_size, without_sizes, with_needed_sizes}
 use Rattle.html_render_blocks.specs.Operations.{DocumentEnd}
 use Rattle.html_render_layout.specs.declared.layout.state.LayoutState.{LayoutState}
@@ -37,10 +37,6 @@ count-same (node n children beside) = omega (arith, count-same children, count-s
 depth-same : (t : Forest RenderNode) → depth (without_sizes t) ≡ depth t
 depth-same none = refl
 depth-same (node n children beside) = omega (arith, depth-same children, depth-same beside)
-
-length-from : {K S : Type 0} (f : S → List K) (o : Option S) → length (from f o) ≡ option_map_or (λ s. length (f s)) o 0
-length-from f None = refl
-length-from f (Some s) = refl
 
 from_state-same : {S : Type 0} (o : Option S) (f h : S → Visit S) → ((x : S) → f x ≡ h x) → from_state o f ≡ from_state o h
 from_state-same None f h e = refl
@@ -101,25 +97,15 @@ module _ {S A K T B : Type 0} (m : Means S A K T B) where
       ∙ and_then_same (through_visit (placed (places number s) (layout_of m n children) s) (behind children)) _ _
       (λ q. run-same beside places (number + 1) q rest.1)
 
-  -- what is made of the visit of a node, from what is made of the nodes below it and beside it
-  module _ {X : Type 0} (otherwise : X) where
-    made-same : (f g : State → X) (o p : Option State) → ((s : State) → f s ≡ g s) → o ≡ p → option_map_or f o otherwise ≡ option_map_or g p otherwise
-    made-same f g o p same e = ap (λ x. option_map_or f x otherwise) e ∙ by p
-      where
-        by : (x : Option State) → option_map_or f x otherwise ≡ option_map_or g x otherwise
-        by None = refl
-        by (Some s) = same s
+  -- what is counted of the nodes below a node, and of those beside it
+  below-same : (f g : Places State × State → ℕ) (p : Place State) (n : RenderNode) (children : Forest RenderNode) (s : State) →
+      is_table n.kind ≡ false → ((x : Places State × State) → f x ≡ g x) →
+      count_from f (inside (placed p (layout_of m (unsized n) (without_sizes children)) s)) ≡ count_from g (inside (placed p (layout_of m n children) s))
+  below-same f g p n children s plain same =
+      ap (λ v. count_from f (inside v)) (placed-same p n children s plain) ∙ count_from-same f g (inside (placed p (layout_of m n children) s)) same
 
-    below-same : (f g : Places State × State → X) (p : Place State) (n : RenderNode) (children : Forest RenderNode) (s : State) →
-        is_table n.kind ≡ false → ((x : Places State × State) → f x ≡ g x) →
-        option_map_or f (inside (placed p (layout_of m (unsized n) (without_sizes children)) s)) otherwise
-        ≡ option_map_or g (inside (placed p (layout_of m n children) s)) otherwise
-    below-same f g p n children s plain same =
-        ap (λ v. option_map_or f (inside v) otherwise) (placed-same p n children s plain) ∙ by (inside (placed p (layout_of m n children) s))
-      where
-        by : (x : Option (Places State × State)) → option_map_or f x otherwise ≡ option_map_or g x otherwise
-        by None = refl
-        by (Some x) = same x
+  beside-same : (f g : State → ℕ) (o p : Option State) → ((s : State) → f s ≡ g s) → o ≡ p → count_from f o ≡ count_from g p
+  beside-same f g o p same e = ap (count_from f) e ∙ count_from-same f g p same
 
   -- how many nodes are visited
   abbrev visits : Places State → ℕ → Forest RenderNode → State → ℕ
@@ -146,9 +132,9 @@ module _ {S A K T B : Type 0} (m : Means S A K T B) where
         length-from nodes (inside visit),
         length-from next_less (through_visit visit_less (behind less)),
         length-from next (through_visit visit (behind children)),
-        below-same 0 (λ x. length (nodes_less x)) (λ x. length (nodes x)) (places number s) n children s front.0
+        below-same (λ x. length (nodes_less x)) (λ x. length (nodes x)) (places number s) n children s front.0
             (λ x. visits-same children x.0 0 x.1 rest.0),
-        made-same 0 (λ q. length (next_less q)) (λ q. length (next q)) _ _ (λ q. visits-same beside places (number + 1) q rest.1)
+        beside-same (λ q. length (next_less q)) (λ q. length (next q)) _ _ (λ q. visits-same beside places (number + 1) q rest.1)
             (behind-same (places number s) n children s front.0 (λ below q. run-same children below 0 q rest.0)),
       )
 
@@ -161,9 +147,9 @@ module _ {S A K T B : Type 0} (m : Means S A K T B) where
       let rest = or_parts (has_table children) (has_table beside) front.1 in
       omega (
         arith,
-        below-same 0 (λ x. 1 + open_at (layout_of m) x.0 0 (without_sizes children) x.1) (λ x. 1 + open_at (layout_of m) x.0 0 children x.1)
+        below-same (λ x. 1 + open_at (layout_of m) x.0 0 (without_sizes children) x.1) (λ x. 1 + open_at (layout_of m) x.0 0 children x.1)
             (places number s) n children s front.0 (λ x. ap (λ k. 1 + k) (opens-same children x.0 0 x.1 rest.0)),
-        made-same 0 (λ q. open_at (layout_of m) places (number + 1) (without_sizes beside) q) (λ q. open_at (layout_of m) places (number + 1) beside q)
+        beside-same (λ q. open_at (layout_of m) places (number + 1) (without_sizes beside) q) (λ q. open_at (layout_of m) places (number + 1) beside q)
             _ _ (λ q. opens-same beside places (number + 1) q rest.1)
             (behind-same (places number s) n children s front.0 (λ below q. run-same children below 0 q rest.0)),
       )
@@ -171,11 +157,8 @@ module _ {S A K T B : Type 0} (m : Means S A K T B) where
   -- ---- all trees, with the sizes that are needed
 
   run-needed : (t : Forest RenderNode) (s : State) → run (layout_of m) (with_needed_sizes t) s ≡ run (layout_of m) t s
-  run-needed t s = by (has_table t) refl
-    where
-      by : (b : Bool) → has_table t ≡ b → run (layout_of m) (cond b t (without_sizes t)) s ≡ run (layout_of m) t s
-      by true e = refl
-      by false e = run-same t bare 0 s e
+  run-needed t s =
+      if_cases (λ x. run (layout_of m) x s ≡ run (layout_of m) t s) (has_table t) _ _ (λ _. refl) (λ e. run-same t bare 0 s e)
 
   -- THE LAW: they show the same
   pub shown-needed : {L : Type 0} (end : DocumentEnd B T) (shown : State → L) (t : Forest RenderNode) (s : State) →
@@ -186,14 +169,8 @@ module _ {S A K T B : Type 0} (m : Means S A K T B) where
   pub counts-needed : {X E : Type 0} (r : Result X E) (t : Forest RenderNode) (s : State) (old new : Meter) →
       CountsNodes r (layout_of m) (with_needed_sizes t) s old new →
       CountsNodes r (layout_of m) t s old new
-  counts-needed {X} {E} r t s old new = by (has_table t) refl
-    where
-      Counts : Forest RenderNode → Type 0
-      Counts u = CountsNodes r (layout_of m) u s old new
-
-      by : (b : Bool) → has_table t ≡ b → Counts (cond b t (without_sizes t)) → Counts t
-      by true e c = c
-      by false e c = record {
+  counts-needed r t s old new =
+      if_cases (λ u. CountsNodes r (layout_of m) u s old new → CountsNodes r (layout_of m) t s old new) (has_table t) _ _ (λ _ c. c) (λ e c. record {
         entered = subst (λ n. OnOk r (new.entered ≡ n)) (visits-same t bare 0 s e) c.entered;
         left = subst (λ n. OnOk r (new.left ≡ n)) (visits-same t bare 0 s e) c.left;
         entered_at_most = subst (λ n. new.entered ≤ n) (visits-same t bare 0 s e) c.entered_at_most;
@@ -203,4 +180,4 @@ module _ {S A K T B : Type 0} (m : Means S A K T B) where
         frames_at_most = subst (λ n. new.frames ≤ n) (opens-same t bare 0 s e) c.frames_at_most;
         open_at_most = omega (arith, c.open_at_most, opens-same t bare 0 s e, depth-same t);
         probes = c.probes;
-      }
+      })

@@ -1,10 +1,11 @@
 -- A stack that is pushed is the last of the table, and stays where it is.
 use Rattle.std.proofs.lemmas.Bool.{eqb-true, eq-eqb}
-use Rattle.std.specs.Prelude.{◌≡◌, ℕ, zero, suc, ◌+◌, ◌<◌, ◌≤◌, Bool, true, false, ◌&&◌, ◌==◌, List, [], ◌∷◌, ◌++◌, length, refl}
+use Rattle.std.specs.Prelude.{◌≡◌, ℕ, zero, suc, ◌+◌, ◌<◌, Bool, true, false, ◌&&◌, ◌==◌, List, [], ◌∷◌, ◌++◌, length, refl}
 use Rattle.std.specs.Prelude.{Option, Some, None, MatchOption}
 use Rattle.std.specs.Slice.{IsItemAt}
 use Rattle.std.proofs.Common.{Bor, true≢false, arith, length-append, get_or, get_or-append-add, sym, ap, ◌∙◌, subst}
-use Rattle.std.proofs.lemmas.List.{get_or_append_left}
+use Rattle.std.proofs.lemmas.List.{get_or_append_left, get_or_past}
+use Rattle.std.proofs.Math.Bool.{and_comm}
 use Rattle.std.specs.Cmp.Lexicographic.{pointwise, unequal}
 use Rattle.html_render_layout.specs.declared.stacks.Pushed.{Pushed}
 use Rattle.html_render_layout.specs.Stacks.{stack_at, stacks_after, stacks_of, IsPushed, ArePushed, IsStack}
@@ -26,12 +27,6 @@ pub ArePushed-push : {A : Type 0} (stacks : List (List A)) (ps : List (Pushed A)
 ArePushed-push stacks [] p known new = (new, tt)
 ArePushed-push stacks (q ∷ ps) p known new =
     (known.0, ArePushed-push (stacks ++ (stack_at stacks q.below ++ q.annotation ∷ []) ∷ []) ps p known.1 new)
-
--- no stack stands behind the last one
-pub stack_at-past : {A : Type 0} (stacks : List (List A)) (tag : ℕ) → length stacks ≤ tag → stack_at stacks tag ≡ []
-stack_at-past [] tag h = refl
-stack_at-past (s ∷ ss) zero h = absurd (omega (arith, h))
-stack_at-past (s ∷ ss) (suc tag) h = stack_at-past ss tag (omega (arith, h))
 
 -- what is pushed leaves the stacks before it
 pub stack_at-after : {A : Type 0} (stacks : List (List A)) (ps : List (Pushed A)) (tag : ℕ) → tag < length stacks →
@@ -78,7 +73,7 @@ stack_at-zero {A} ps = stack_at-after {A = A} ([] ∷ []) ps 0 (omega arith)
 -- what is read at the place of a tag's stack
 pub read-at : {A : Type 0} (ps : List (Pushed A)) (tag i : ℕ) (r : Option (Bor (Pushed A))) → ArePushed ([] ∷ []) ps → i + 1 ≡ tag →
     IsItemAt ps i r → MatchOption r (stack_at (stacks_of ps) tag ≡ []) (λ p. IsStack (stacks_of ps) tag p.now)
-read-at {A} ps tag i None known e item = stack_at-past (stacks_of ps) tag (omega (arith, e, item.3, length-stacks_after {A = A} ([] ∷ []) ps))
+read-at {A} ps tag i None known e item = get_or_past (stacks_of ps) tag [] (omega (arith, e, item.3, length-stacks_after {A = A} ([] ∷ []) ps))
 read-at {A} ps tag i (Some p) known e item =
     let place : length {A = List A} ([] ∷ []) + i ≡ tag = omega (arith, e) in
     subst (λ n. IsStack (stacks_of ps) n p.now) place (IsStack-at ([] ∷ []) ps i p.now known item.3.0 item.1)
@@ -86,7 +81,7 @@ read-at {A} ps tag i (Some p) known e item =
 -- a tag that no stack has stands for the empty one
 pub stack_at-kept : {A : Type 0} (ps : List (Pushed A)) (tag : ℕ) → length ps < tag → stack_at (stacks_of ps) 0 ≡ stack_at (stacks_of ps) tag
 stack_at-kept {A} ps tag h =
-    stack_at-zero ps ∙ sym (stack_at-past (stacks_of ps) tag (omega (arith, h, length-stacks_after {A = A} ([] ∷ []) ps)))
+    stack_at-zero ps ∙ sym (get_or_past (stacks_of ps) tag [] (omega (arith, h, length-stacks_after {A = A} ([] ∷ []) ps)))
 
 -- ---- equal stacks
 
@@ -94,12 +89,6 @@ stack_at-kept {A} ps tag h =
 height : {A : Type 0} (stacks : List (List A)) (tag : ℕ) (p : Pushed A) → IsStack stacks tag p →
     length (stack_at stacks tag) ≡ length (stack_at stacks p.below) + 1
 height stacks tag p known = ap length known.is ∙ length-append (stack_at stacks p.below) (p.annotation ∷ [])
-
-and_comm : (a b : Bool) → a && b ≡ b && a
-and_comm true true = refl
-and_comm true false = refl
-and_comm false true = refl
-and_comm false false = refl
 
 -- lists of one length are equal with an equal element more
 pub pointwise-push : {A : Type 0} (eq : A → A → Bool) (xs ys : List A) (x y : A) → length xs ≡ length ys →

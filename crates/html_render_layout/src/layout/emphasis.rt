@@ -6,10 +6,9 @@ ghost use Rattle.html_render_values.specs.Outcome.{Refuses};
 ghost use Rattle.html_render_layout.specs.Layout.{emphasis_decoration, start, annotated, write, perform_all};
 ghost use Rattle.html_render_layout.specs.Working.{by_tags};
 
-use super::state::LayoutState;
 use super::texts::add_text;
+use super::working::State;
 use crate::tagging::Tagging;
-use html_render_blocks::block::Block;
 use html_render_nodes::tree::Emphasis;
 use html_render_parts::decorate::TextDecorator;
 use html_render_values::Error;
@@ -61,7 +60,7 @@ pub fn end_of<D: TextDecorator>(
 pub fn begin<D: TextDecorator, G: Tagging<D::Annotation>>(
     alloc: Global,
     start: (String, D::Annotation),
-    state: &mut LayoutState<D, G, G::Tag, Block<G::Tag, usize>>,
+    state: &mut State<D, G>,
 ) -> Result<(), Error>
     ensures ok { OnOk result (write (by_tags D.decoration G.annotated) (chars (string_bytes start.0))
         (annotated (by_tags D.decoration G.annotated) (Some start.1) state.old) ≡ Some state.new) }
@@ -82,7 +81,7 @@ pub fn begin<D: TextDecorator, G: Tagging<D::Annotation>>(
 pub fn begin_emphasis<D: TextDecorator, G: Tagging<D::Annotation>>(
     alloc: Global,
     emphasis: Emphasis,
-    state: &mut LayoutState<D, G, G::Tag, Block<G::Tag, usize>>,
+    state: &mut State<D, G>,
 ) -> Result<(), Error>
     ensures ok { OnOk result (perform_all (by_tags D.decoration G.annotated) state.old (start D.decoration (emphasis_decoration D.decoration emphasis)) state.old ≡ Some state.new) }
     ensures err { IfErr result (λ e. Refuses e (perform_all (by_tags D.decoration G.annotated) state.old (start D.decoration (emphasis_decoration D.decoration emphasis)) state.old)) }
@@ -99,7 +98,7 @@ pub fn begin_emphasis<D: TextDecorator, G: Tagging<D::Annotation>>(
 #[tactic(auto, using(html_render_values::specs::laws::Outcome::refusals))]
 pub fn begin_strikeout<D: TextDecorator, G: Tagging<D::Annotation>>(
     alloc: Global,
-    state: &mut LayoutState<D, G, G::Tag, Block<G::Tag, usize>>,
+    state: &mut State<D, G>,
 ) -> Result<(), Error>
     ensures ok { OnOk result (perform_all (by_tags D.decoration G.annotated) state.old (start D.decoration D.decoration.strikeout) state.old ≡ Some state.new) }
     ensures err { IfErr result (λ e. Refuses e (perform_all (by_tags D.decoration G.annotated) state.old (start D.decoration D.decoration.strikeout) state.old)) }
@@ -116,7 +115,7 @@ pub fn begin_strikeout<D: TextDecorator, G: Tagging<D::Annotation>>(
 #[tactic(auto, using(html_render_values::specs::laws::Outcome::refusals))]
 pub fn begin_superscript<D: TextDecorator, G: Tagging<D::Annotation>>(
     alloc: Global,
-    state: &mut LayoutState<D, G, G::Tag, Block<G::Tag, usize>>,
+    state: &mut State<D, G>,
 ) -> Result<(), Error>
     ensures ok { OnOk result (perform_all (by_tags D.decoration G.annotated) state.old (start D.decoration D.decoration.superscript) state.old ≡ Some state.new) }
     ensures err { IfErr result (λ e. Refuses e (perform_all (by_tags D.decoration G.annotated) state.old (start D.decoration D.decoration.superscript) state.old)) }

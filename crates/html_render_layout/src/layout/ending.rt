@@ -1,14 +1,14 @@
 //! The end of a document: what its block is closed with.
 
-ghost use Rattle.std.specs.Prelude.{◌≡◌, [], Some, map, string_bytes, if◌then◌else◌};
+ghost use Rattle.std.specs.Prelude.{◌≡◌, ◌++◌, [], Some, codes, map, string_bytes, if◌then◌else◌};
+ghost use Rattle.std.specs.Fmt.{decimal};
 ghost use Rattle.std.specs.Prelude.{OnOk, IfOk, IfErr};
 ghost use Rattle.html_render_values.specs.Outcome.{Refuses};
 ghost use Rattle.html_render_blocks.specs.Machine as machine;
-ghost use Rattle.html_render_layout.specs.Ending.{footnote, footnotes, closing_texts, ended};
+ghost use Rattle.html_render_layout.specs.Ending.{footnotes, closing_texts, ended};
 
-use super::state::LayoutState;
+use super::working::State;
 use crate::tagging::Tagging;
-use html_render_blocks::block::Block;
 use html_render_parts::decorate::TextDecorator;
 use html_render_values::Error;
 use html_render_values::text::Text;
@@ -20,7 +20,7 @@ const NUMBER_ROOM: usize = 24;
 /// The number of a link and its target.
 #[tactic(auto, using(crate::proofs::Ending::joined))]
 fn footnote(alloc: Global, number: usize, target: &Text) -> Result<String, AllocError>
-    ensures { IfOk result (λ text. string_bytes text ≡ footnote number target.now) }
+    ensures { IfOk result (λ text. string_bytes text ≡ codes "[" ++ decimal number ++ codes "]: " ++ target.now) }
 {
     let room = target.as_str().len().saturating_add(NUMBER_ROOM);
     let mut text = String::with_capacity(alloc, room)?;
@@ -84,7 +84,7 @@ pub fn end<D: TextDecorator, G: Tagging<D::Annotation>>(
     link_footnotes: bool,
     wrap_links: bool,
     tag: G::Tag,
-    state: &mut LayoutState<D, G, G::Tag, Block<G::Tag, usize>>,
+    state: &mut State<D, G>,
 ) -> Result<(), Error>
     ensures ok { OnOk result (ended D.decoration machine.ending link_footnotes wrap_links tag state.old ≡ Some state.new) }
     ensures err { IfErr result (λ e. Refuses e (ended D.decoration machine.ending link_footnotes wrap_links tag state.old)) }

@@ -7,10 +7,9 @@ ghost use Rattle.html_render_layout.specs.Layout.{image, perform_all};
 ghost use Rattle.html_render_layout.specs.Working.{by_tags};
 
 use super::emphasis::begin;
-use super::state::LayoutState;
+use super::working::State;
 use crate::settings::ImageRenderMode;
 use crate::tagging::Tagging;
-use html_render_blocks::block::Block;
 use html_render_parts::decorate::TextDecorator;
 use html_render_values::Error;
 use std::alloc::Global;
@@ -58,7 +57,7 @@ pub fn add_image<D: TextDecorator, G: Tagging<D::Annotation>>(
     alloc: Global,
     source: &str,
     title: &str,
-    state: &mut LayoutState<D, G, G::Tag, Block<G::Tag, usize>>,
+    state: &mut State<D, G>,
 ) -> Result<(), Error>
     ensures ok { OnOk result (perform_all (by_tags D.decoration G.annotated) state.old
         (image D.decoration source.now (shown_title state.old.settings.empty_images source.now title.now)) state.old ≡ Some state.new) }

@@ -1,14 +1,14 @@
 //! The items of a list: what each stands behind.
 
 ghost use Rattle.std.specs.Prelude.{◌≡◌, IfOk, IfErr, string_bytes};
-ghost use Rattle.html_render_layout.specs.Layout.{number_from};
+ghost use Rattle.html_render_layout.specs.Opening.{number_from};
 ghost use Rattle.html_render_layout.specs.Opening.{item, item_of};
 ghost use Rattle.html_render_layout.specs.Working.{by_tags};
 
 use super::spaces::padded;
 use super::state::KindClosing;
+use super::working::KindKept;
 use crate::tagging::Tagging;
-use html_render_blocks::block::Block;
 use html_render_parts::decorate::TextDecorator;
 use html_render_values::Error;
 use html_render_values::text::Text;
@@ -25,7 +25,7 @@ pub struct Item {
     pub least: usize,
 }
 
-/// An item behind a prefix that is filled up to so many columns.
+/// An item behind a prefix that is padded to `columns` columns.
 fn padded_item(prefix: String, columns: usize, least: usize) -> Result<Item, Error>
     ensures ok { IfOk result (λ i. i ≡ item (string_bytes prefix) columns least) }
     ensures err { IfErr result (λ e. e ≡ Error.OutOfMemory) }
@@ -38,7 +38,7 @@ fn padded_item(prefix: String, columns: usize, least: usize) -> Result<Item, Err
     })
 }
 
-/// The number of the item behind so many others; numbers stop at the ends of their type.
+/// The number of the item behind `number` others; numbers stop at the ends of their type.
 fn number_from(first: i64, number: usize) -> i64
     ensures { result ≡ number_from first number }
 {
@@ -53,7 +53,7 @@ fn number_from(first: i64, number: usize) -> i64
 pub fn item_of<D: TextDecorator, G: Tagging<D::Annotation>>(
     alloc: Global,
     decorator: &D,
-    parent: &KindClosing<D, G::Tag, Block<G::Tag, usize>>,
+    parent: &KindKept<D, G>,
     number: usize,
 ) -> Result<Option<Item>, Error>
     ensures ok { IfOk result (λ i. i ≡ item_of (by_tags D.decoration G.annotated) decorator.now parent.now number) }

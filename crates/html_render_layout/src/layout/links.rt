@@ -8,10 +8,10 @@ ghost use Rattle.html_render_layout.specs.Opening.{kind_closed};
 ghost use Rattle.html_render_layout.specs.Working.{by_tags};
 
 use super::emphasis::begin;
-use super::state::{KindClosing, LayoutState, TextContext};
+use super::state::{KindClosing, TextContext};
 use super::texts::add_text;
+use super::working::State;
 use crate::tagging::Tagging;
-use html_render_blocks::block::Block;
 use html_render_parts::decorate::TextDecorator;
 use html_render_values::Error;
 use std::alloc::Global;
@@ -23,7 +23,7 @@ use std::alloc::Global;
 /// `OutOfMemory`.
 pub fn add_mark<D: TextDecorator, G: Tagging<D::Annotation>>(
     name: &str,
-    state: &mut LayoutState<D, G, G::Tag, Block<G::Tag, usize>>,
+    state: &mut State<D, G>,
 ) -> Result<(), Error>
     ensures ok { OnOk result (perform (by_tags D.decoration G.annotated) state.old (AddMark name.now) state.old ≡ Some state.new) }
     ensures err { IfErr result (λ e. e ≡ Error.OutOfMemory) }
@@ -41,7 +41,7 @@ pub fn add_mark<D: TextDecorator, G: Tagging<D::Annotation>>(
 pub fn begin_link<D: TextDecorator, G: Tagging<D::Annotation>>(
     alloc: Global,
     target: &str,
-    state: &mut LayoutState<D, G, G::Tag, Block<G::Tag, usize>>,
+    state: &mut State<D, G>,
 ) -> Result<(), Error>
     ensures ok { OnOk result (perform_all (by_tags D.decoration G.annotated) state.old
         (AddTarget target.now ∷ start D.decoration (link D.decoration target.now)) state.old ≡ Some state.new) }
@@ -58,7 +58,7 @@ pub fn begin_link<D: TextDecorator, G: Tagging<D::Annotation>>(
 fn add_number<D: TextDecorator, G: Tagging<D::Annotation>>(
     alloc: Global,
     number: usize,
-    state: &mut LayoutState<D, G, G::Tag, Block<G::Tag, usize>>,
+    state: &mut State<D, G>,
 ) -> Result<(), Error>
     ensures ok { OnOk result (write_number (by_tags D.decoration G.annotated) number state.old ≡ Some state.new) }
     ensures err { IfErr result (λ e. Refuses e (write_number (by_tags D.decoration G.annotated) number state.old)) }
@@ -80,7 +80,7 @@ pub fn close_link<D: TextDecorator, G: Tagging<D::Annotation>>(
     alloc: Global,
     text: TextContext<G::Tag>,
     number: usize,
-    state: &mut LayoutState<D, G, G::Tag, Block<G::Tag, usize>>,
+    state: &mut State<D, G>,
 ) -> Result<(), Error>
     ensures ok { OnOk result (kind_closed (by_tags D.decoration G.annotated) (KindClosing.EndLink text number) state.old ≡ Some state.new) }
     ensures err { IfErr result (λ e. Refuses e (kind_closed (by_tags D.decoration G.annotated) (KindClosing.EndLink text number) state.old)) }

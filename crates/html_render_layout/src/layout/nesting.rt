@@ -9,7 +9,8 @@ ghost use Rattle.html_render_layout.specs.Opening.{interrupted, indent_closed, q
 ghost use Rattle.html_render_layout.specs.Working.{by_tags};
 
 use super::spaces::many_spaces;
-use super::state::{Interrupted, LayoutState, Outer};
+use super::state::{Interrupted, Outer};
+use super::working::State;
 use crate::tagging::Tagging;
 use html_render_blocks::block::Block;
 use html_render_lines::tag::Tag;
@@ -20,7 +21,7 @@ use html_render_values::text::Text;
 use std::alloc::Global;
 use std::mem;
 
-/// Begins an empty block inside the state's, behind a prefix of so many columns and with at least `least` of its own, and
+/// Begins an empty block inside the state's, behind a prefix of `columns` columns and with at least `least` of its own, and
 /// answers what it interrupts.
 ///
 /// # Errors
@@ -32,7 +33,7 @@ pub fn nest<D: TextDecorator, G: Tagging<D::Annotation>>(
     prefix: Text,
     columns: usize,
     least: usize,
-    state: &mut LayoutState<D, G, G::Tag, Block<G::Tag, usize>>,
+    state: &mut State<D, G>,
 ) -> Result<Interrupted<D, G::Tag, Block<G::Tag, usize>>, Error>
     ensures ok { OnOk result (nested (by_tags D.decoration G.annotated) columns least state.old ≡ Some state.new) }
     ensures outer { IfOk result (λ outer. outer ≡ interrupted (by_tags D.decoration G.annotated) state.old prefix columns) }
@@ -50,7 +51,7 @@ pub fn nest<D: TextDecorator, G: Tagging<D::Annotation>>(
     Interrupted::new(alloc, outer)
 }
 
-/// Adds the lines of a block, the first behind a prefix and the later ones behind so many spaces.
+/// Adds the lines of a block, the first behind a prefix and the later ones behind `columns` spaces.
 fn append_behind<T: Tag>(
     alloc: Global,
     block: &mut Block<T, usize>,
@@ -79,7 +80,7 @@ fn append_behind<T: Tag>(
 pub fn close_indent<D: TextDecorator, G: Tagging<D::Annotation>>(
     alloc: Global,
     outer: Interrupted<D, G::Tag, Block<G::Tag, usize>>,
-    state: &mut LayoutState<D, G, G::Tag, Block<G::Tag, usize>>,
+    state: &mut State<D, G>,
 ) -> Result<(), Error>
     ensures ok { OnOk result (indent_closed (by_tags D.decoration G.annotated) outer state.old ≡ Some state.new) }
     ensures err { IfErr result (λ e. Refuses e (indent_closed (by_tags D.decoration G.annotated) outer state.old)) }
@@ -106,7 +107,7 @@ pub fn close_indent<D: TextDecorator, G: Tagging<D::Annotation>>(
 #[tactic(auto, using(html_render_values::specs::laws::Outcome::refusals))]
 pub fn close_quote<D: TextDecorator, G: Tagging<D::Annotation>>(
     outer: Interrupted<D, G::Tag, Block<G::Tag, usize>>,
-    state: &mut LayoutState<D, G, G::Tag, Block<G::Tag, usize>>,
+    state: &mut State<D, G>,
 ) -> Result<(), Error>
     ensures ok { OnOk result (quote_closed (by_tags D.decoration G.annotated) outer state.old ≡ Some state.new) }
     ensures err { IfErr result (λ e. Refuses e (quote_closed (by_tags D.decoration G.annotated) outer state.old)) }

@@ -8,7 +8,7 @@ use html_render_estimates::text::columns;
 use html_render_values::Error;
 use std::alloc::{AllocError, Global};
 
-/// Writes so many spaces behind a text.
+/// Writes `count` spaces behind a text.
 fn push_spaces(text: &mut String, count: usize) -> Result<(), AllocError>
     ensures { OnOk result (string_bytes text.new ≡ string_bytes text.old ++ spaces count) }
 {
@@ -18,7 +18,7 @@ fn push_spaces(text: &mut String, count: usize) -> Result<(), AllocError>
     Ok(())
 }
 
-/// So many spaces.
+/// `count` spaces.
 ///
 /// # Errors
 ///
@@ -32,7 +32,7 @@ pub fn many_spaces(alloc: Global, count: usize) -> Result<String, Error>
     Ok(text)
 }
 
-/// A prefix with spaces behind it up to so many columns.
+/// A prefix, padded with spaces to `count` columns.
 ///
 /// # Errors
 ///

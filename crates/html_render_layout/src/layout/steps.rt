@@ -1,13 +1,13 @@
 //! What a layout does as it opens and closes a node.
 
-ghost use Rattle.std.specs.Prelude.{◌≡◌, ◌+◌, ◌++◌, ◌∷◌, [], length, Some, OnOk, IfOk, IfErr, option_copied, string_bytes};
+ghost use Rattle.std.specs.Prelude.{◌≡◌, ◌+◌, ◌-◌, ◌++◌, ◌∷◌, [], length, Some, OnOk, IfOk, IfErr, option_copied, string_bytes};
 ghost use Rattle.html_render_values.specs.Outcome.{Refuses};
 ghost use Rattle.html_render_blocks.specs.Machine as machine;
 ghost use Rattle.html_render_nodes.specs.Pass.{way};
 ghost use Rattle.html_render_nodes.specs.Preorder.{flatten, forest_of};
 ghost use Rattle.html_render_parts.specs.Decoration.{link};
 ghost use Rattle.html_render_estimates.specs.Estimates.{prefix_columns, prefix_of};
-ghost use Rattle.html_render_layout.specs.Layout.{AddTarget, BeginTable, Fence, NewLine, StartBlock, Strike, inner_least, nested, perform_all};
+ghost use Rattle.html_render_layout.specs.Layout.{AddTarget, BeginTable, Fence, NewLine, StartBlock, Strike, nested, perform_all};
 ghost use Rattle.html_render_layout.specs.Layout.{spaces, start};
 ghost use Rattle.html_render_layout.specs.Opening.{interrupted, item_of, item_begun, item_kept, item_closed};
 ghost use Rattle.html_render_layout.specs.Opening.{kind_opened, kind_closed, node_opened, opened_in, cell_opened, item_opened, opened_below};
@@ -19,11 +19,12 @@ use super::images::add_image;
 use super::items::{Item, item_of};
 use super::links::{add_mark, begin_link, close_link};
 use super::nesting::{close_indent, close_quote, nest};
-use super::state::{Closing, Interruption, KindClosing, LayoutState};
+use super::state::{Closing, Interruption, KindClosing};
 use super::styles::begin_style;
 use super::superscripts::{digits_of, write_raised};
 use super::tables::{begin_cell, begin_table, end_cell, end_table};
 use super::texts::add_text;
+use super::working::{Kept, KindKept, State};
 use crate::tagging::Tagging;
 use html_render_blocks::block::Block;
 use html_render_estimates::estimate::number_columns;
@@ -36,7 +37,7 @@ use std::alloc::Global;
 
 /// The columns that a node needs behind its prefix.
 fn inner_least(estimate: &Estimate) -> usize
-    ensures { result ≡ inner_least estimate.now }
+    ensures { result ≡ estimate.now.least - estimate.now.prefix }
 {
     estimate.least.saturating_sub(estimate.prefix)
 }
@@ -47,12 +48,12 @@ fn open_quote<D: TextDecorator, G: Tagging<D::Annotation>>(
     alloc: Global,
     prefix: String,
     estimate: &Estimate,
-    state: &mut LayoutState<D, G, G::Tag, Block<G::Tag, usize>>,
-) -> Result<Option<KindClosing<D, G::Tag, Block<G::Tag, usize>>>, Error>
-    ensures ok { OnOk result (nested (by_tags D.decoration G.annotated) (prefix_columns (string_bytes prefix)) (inner_least estimate.now) state.old ≡ Some state.new) }
+    state: &mut State<D, G>,
+) -> Result<Option<KindKept<D, G>>, Error>
+    ensures ok { OnOk result (nested (by_tags D.decoration G.annotated) (prefix_columns (string_bytes prefix)) (estimate.now.least - estimate.now.prefix) state.old ≡ Some state.new) }
     ensures kept { IfOk result (λ c. c ≡ Some (KindClosing.EndQuote
         (interrupted (by_tags D.decoration G.annotated) state.old (string_bytes prefix) (prefix_columns (string_bytes prefix))))) }
-    ensures err { IfErr result (λ e. Refuses e (nested (by_tags D.decoration G.annotated) (prefix_columns (string_bytes prefix)) (inner_least estimate.now) state.old)) }
+    ensures err { IfErr result (λ e. Refuses e (nested (by_tags D.decoration G.annotated) (prefix_columns (string_bytes prefix)) (estimate.now.least - estimate.now.prefix) state.old)) }
 {
     let columns = columns(prefix.as_str());
     let prefix = Text::from(prefix);
@@ -65,9 +66,9 @@ fn open_bullets<D: TextDecorator, G: Tagging<D::Annotation>>(
     alloc: Global,
     decorator: &D,
     estimate: &Estimate,
-) -> Result<Option<KindClosing<D, G::Tag, Block<G::Tag, usize>>>, Error>
+) -> Result<Option<KindKept<D, G>>, Error>
     ensures ok { IfOk result (λ c. c ≡ Some (KindClosing.Bullets
-        (prefix_columns (D.decoration.unordered_item_prefix decorator.now)) (inner_least estimate.now))) }
+        (prefix_columns (D.decoration.unordered_item_prefix decorator.now)) (estimate.now.least - estimate.now.prefix))) }
     ensures err { IfErr result (λ e. e ≡ Error.OutOfMemory) }
 {
     let bullet = decorator.unordered_item_prefix(alloc)?;
@@ -83,9 +84,9 @@ fn open_numbers<D: TextDecorator, G: Tagging<D::Annotation>>(
     decorator: &D,
     first: i64,
     estimate: &Estimate,
-) -> Result<Option<KindClosing<D, G::Tag, Block<G::Tag, usize>>>, Error>
+) -> Result<Option<KindKept<D, G>>, Error>
     ensures ok { IfOk result (λ c. c ≡ Some (KindClosing.Numbers first
-        (prefix_of D.decoration decorator.now (NodeKind.Ol first) estimate.now.children) (inner_least estimate.now))) }
+        (prefix_of D.decoration decorator.now (NodeKind.Ol first) estimate.now.children) (estimate.now.least - estimate.now.prefix))) }
     ensures err { IfErr result (λ e. e ≡ Error.OutOfMemory) }
 {
     let columns = number_columns(alloc, decorator, first, estimate.children)?;
@@ -100,7 +101,7 @@ fn open_numbers<D: TextDecorator, G: Tagging<D::Annotation>>(
 #[tactic(auto, using(html_render_values::specs::laws::Outcome::refusals))]
 fn begin_term<D: TextDecorator, G: Tagging<D::Annotation>>(
     alloc: Global,
-    state: &mut LayoutState<D, G, G::Tag, Block<G::Tag, usize>>,
+    state: &mut State<D, G>,
 ) -> Result<(), Error>
     ensures ok { OnOk result (perform_all (by_tags D.decoration G.annotated) state.old (NewLine ∷ start D.decoration D.decoration.em) state.old ≡ Some state.new) }
     ensures err { IfErr result (λ e. Refuses e (perform_all (by_tags D.decoration G.annotated) state.old (NewLine ∷ start D.decoration D.decoration.em) state.old)) }
@@ -114,11 +115,11 @@ fn begin_term<D: TextDecorator, G: Tagging<D::Annotation>>(
 fn open_description<D: TextDecorator, G: Tagging<D::Annotation>>(
     alloc: Global,
     estimate: &Estimate,
-    state: &mut LayoutState<D, G, G::Tag, Block<G::Tag, usize>>,
-) -> Result<Option<KindClosing<D, G::Tag, Block<G::Tag, usize>>>, Error>
-    ensures ok { OnOk result (nested (by_tags D.decoration G.annotated) 2 (inner_least estimate.now) state.old ≡ Some state.new) }
+    state: &mut State<D, G>,
+) -> Result<Option<KindKept<D, G>>, Error>
+    ensures ok { OnOk result (nested (by_tags D.decoration G.annotated) 2 (estimate.now.least - estimate.now.prefix) state.old ≡ Some state.new) }
     ensures kept { IfOk result (λ c. c ≡ Some (KindClosing.EndIndent (interrupted (by_tags D.decoration G.annotated) state.old (spaces 2) 2))) }
-    ensures err { IfErr result (λ e. Refuses e (nested (by_tags D.decoration G.annotated) 2 (inner_least estimate.now) state.old)) }
+    ensures err { IfErr result (λ e. Refuses e (nested (by_tags D.decoration G.annotated) 2 (estimate.now.least - estimate.now.prefix) state.old)) }
 {
     let prefix = Text::from_str(alloc, "  ")?;
     let outer = nest(alloc, prefix, 2, inner_least(estimate), state)?;
@@ -129,7 +130,7 @@ fn open_description<D: TextDecorator, G: Tagging<D::Annotation>>(
 #[tactic(auto, using(html_render_values::specs::laws::Outcome::refusals))]
 fn strike<D: TextDecorator, G: Tagging<D::Annotation>>(
     alloc: Global,
-    state: &mut LayoutState<D, G, G::Tag, Block<G::Tag, usize>>,
+    state: &mut State<D, G>,
 ) -> Result<(), Error>
     ensures ok { OnOk result (perform_all (by_tags D.decoration G.annotated) state.old
         (start D.decoration D.decoration.strikeout ++ Strike ∷ []) state.old ≡ Some state.new) }
@@ -147,8 +148,8 @@ fn open_superscript<D: TextDecorator, G: Tagging<D::Annotation>>(
     alloc: Global,
     estimate: &Estimate,
     children: &[Entry<RenderNode>],
-    state: &mut LayoutState<D, G, G::Tag, Block<G::Tag, usize>>,
-) -> Result<Option<KindClosing<D, G::Tag, Block<G::Tag, usize>>>, Error>
+    state: &mut State<D, G>,
+) -> Result<Option<KindKept<D, G>>, Error>
     requires { flatten (forest_of children.now) ≡ children.now }
     ensures ok { IfOk result (λ c. kind_opened (by_tags D.decoration G.annotated) NodeKind.Superscript estimate.now (forest_of children.now) state.old
         ≡ Some (way state.new c)) }
@@ -171,8 +172,8 @@ fn open_superscript<D: TextDecorator, G: Tagging<D::Annotation>>(
 fn open_link<D: TextDecorator, G: Tagging<D::Annotation>>(
     alloc: Global,
     target: &str,
-    state: &mut LayoutState<D, G, G::Tag, Block<G::Tag, usize>>,
-) -> Result<Option<KindClosing<D, G::Tag, Block<G::Tag, usize>>>, Error>
+    state: &mut State<D, G>,
+) -> Result<Option<KindKept<D, G>>, Error>
     ensures ok { OnOk result (perform_all (by_tags D.decoration G.annotated) state.old
         (AddTarget target.now ∷ start D.decoration (link D.decoration target.now)) state.old ≡ Some state.new) }
     ensures kept { IfOk result (λ c. c ≡ Some (KindClosing.EndLink state.old.text (length state.old.targets + 1))) }
@@ -189,8 +190,8 @@ fn open_link<D: TextDecorator, G: Tagging<D::Annotation>>(
 #[tactic(auto, using(html_render_values::specs::laws::Outcome::refusals))]
 fn open_table<D: TextDecorator, G: Tagging<D::Annotation>>(
     grid: &Grid,
-    state: &mut LayoutState<D, G, G::Tag, Block<G::Tag, usize>>,
-) -> Result<Option<KindClosing<D, G::Tag, Block<G::Tag, usize>>>, Error>
+    state: &mut State<D, G>,
+) -> Result<Option<KindKept<D, G>>, Error>
     ensures ok { OnOk result (perform_all (by_tags D.decoration G.annotated) state.old
         (StartBlock ∷ (Fence ∷ (BeginTable grid.now.cells grid.now.needs ∷ []))) state.old ≡ Some state.new) }
     ensures kept { IfOk result (λ c. c ≡ Some (KindClosing.EndTable state.old.in_table)) }
@@ -204,8 +205,8 @@ fn open_table<D: TextDecorator, G: Tagging<D::Annotation>>(
 
 /// The next row of a table begins.
 fn open_row<D: TextDecorator, G: Tagging<D::Annotation>>(
-    state: &mut LayoutState<D, G, G::Tag, Block<G::Tag, usize>>,
-) -> Result<Option<KindClosing<D, G::Tag, Block<G::Tag, usize>>>, Error>
+    state: &mut State<D, G>,
+) -> Result<Option<KindKept<D, G>>, Error>
     ensures ok { OnOk result (state.new ≡ record state.old { block = machine.operations.begin_row state.old.block }) }
     ensures kept { IfOk result (λ c. c ≡ Some KindClosing.EndRow) }
     ensures err { IfErr result (λ e. e ≡ Error.OutOfMemory) }
@@ -221,8 +222,8 @@ fn open_kind<D: TextDecorator, G: Tagging<D::Annotation>>(
     kind: &NodeKind,
     estimate: &Estimate,
     children: &[Entry<RenderNode>],
-    state: &mut LayoutState<D, G, G::Tag, Block<G::Tag, usize>>,
-) -> Result<Option<KindClosing<D, G::Tag, Block<G::Tag, usize>>>, Error>
+    state: &mut State<D, G>,
+) -> Result<Option<KindKept<D, G>>, Error>
     requires { flatten (forest_of children.now) ≡ children.now }
     ensures ok { IfOk result (λ c. kind_opened (by_tags D.decoration G.annotated) kind.now estimate.now (forest_of children.now)
         state.old ≡ Some (way state.new c)) }
@@ -303,8 +304,8 @@ fn open_kind<D: TextDecorator, G: Tagging<D::Annotation>>(
 #[tactic(auto, using(html_render_values::specs::laws::Outcome::refusals))]
 fn close_kind<D: TextDecorator, G: Tagging<D::Annotation>>(
     alloc: Global,
-    closing: KindClosing<D, G::Tag, Block<G::Tag, usize>>,
-    state: &mut LayoutState<D, G, G::Tag, Block<G::Tag, usize>>,
+    closing: KindKept<D, G>,
+    state: &mut State<D, G>,
 ) -> Result<(), Error>
     ensures ok { OnOk result (kind_closed (by_tags D.decoration G.annotated) closing state.old ≡ Some state.new) }
     ensures err { IfErr result (λ e. Refuses e (kind_closed (by_tags D.decoration G.annotated) closing state.old)) }
@@ -349,7 +350,7 @@ fn close_kind<D: TextDecorator, G: Tagging<D::Annotation>>(
 fn begin_item<D: TextDecorator, G: Tagging<D::Annotation>>(
     alloc: Global,
     item: Option<Item>,
-    state: &mut LayoutState<D, G, G::Tag, Block<G::Tag, usize>>,
+    state: &mut State<D, G>,
 ) -> Result<Interruption<D, G::Tag, Block<G::Tag, usize>>, Error>
     ensures ok { OnOk result (item_begun (by_tags D.decoration G.annotated) item state.old ≡ Some state.new) }
     ensures kept { IfOk result (λ i. i ≡ item_kept (by_tags D.decoration G.annotated) item state.old) }
@@ -368,7 +369,7 @@ fn begin_item<D: TextDecorator, G: Tagging<D::Annotation>>(
 fn end_item<D: TextDecorator, G: Tagging<D::Annotation>>(
     alloc: Global,
     item: Interruption<D, G::Tag, Block<G::Tag, usize>>,
-    state: &mut LayoutState<D, G, G::Tag, Block<G::Tag, usize>>,
+    state: &mut State<D, G>,
 ) -> Result<(), Error>
     ensures ok { OnOk result (item_closed (by_tags D.decoration G.annotated) item state.old ≡ Some state.new) }
     ensures err { IfErr result (λ e. Refuses e (item_closed (by_tags D.decoration G.annotated) item state.old)) }
@@ -387,8 +388,8 @@ fn open_in_style<D: TextDecorator, G: Tagging<D::Annotation>>(
     alloc: Global,
     node: &RenderNode,
     children: &[Entry<RenderNode>],
-    state: &mut LayoutState<D, G, G::Tag, Block<G::Tag, usize>>,
-) -> Result<Option<KindClosing<D, G::Tag, Block<G::Tag, usize>>>, Error>
+    state: &mut State<D, G>,
+) -> Result<Option<KindKept<D, G>>, Error>
     requires { flatten (forest_of children.now) ≡ children.now }
     ensures ok { IfOk result (λ c. node_opened (by_tags D.decoration G.annotated) node.now (forest_of children.now) state.old
         ≡ Some (way state.new c)) }
@@ -407,8 +408,8 @@ fn open_in<D: TextDecorator, G: Tagging<D::Annotation>>(
     item: Interruption<D, G::Tag, Block<G::Tag, usize>>,
     node: &RenderNode,
     children: &[Entry<RenderNode>],
-    state: &mut LayoutState<D, G, G::Tag, Block<G::Tag, usize>>,
-) -> Result<Option<Closing<D, G::Tag, Block<G::Tag, usize>>>, Error>
+    state: &mut State<D, G>,
+) -> Result<Option<Kept<D, G>>, Error>
     requires { flatten (forest_of children.now) ≡ children.now }
     ensures ok { IfOk result (λ c. opened_in (by_tags D.decoration G.annotated) item node.now (forest_of children.now) state.old
         ≡ Some (way state.new c)) }
@@ -433,8 +434,8 @@ fn open_cell<D: TextDecorator, G: Tagging<D::Annotation>>(
     alloc: Global,
     node: &RenderNode,
     children: &[Entry<RenderNode>],
-    state: &mut LayoutState<D, G, G::Tag, Block<G::Tag, usize>>,
-) -> Result<Option<Closing<D, G::Tag, Block<G::Tag, usize>>>, Error>
+    state: &mut State<D, G>,
+) -> Result<Option<Kept<D, G>>, Error>
     requires { flatten (forest_of children.now) ≡ children.now }
     ensures ok { IfOk result (λ c. cell_opened (by_tags D.decoration G.annotated) node.now (forest_of children.now)
         (machine.operations.cell_block state.old.block) state.old ≡ Some (way state.new c)) }
@@ -458,10 +459,10 @@ fn open_listed<D: TextDecorator, G: Tagging<D::Annotation>>(
     alloc: Global,
     node: &RenderNode,
     children: &[Entry<RenderNode>],
-    list: &KindClosing<D, G::Tag, Block<G::Tag, usize>>,
+    list: &KindKept<D, G>,
     number: usize,
-    state: &mut LayoutState<D, G, G::Tag, Block<G::Tag, usize>>,
-) -> Result<Option<Closing<D, G::Tag, Block<G::Tag, usize>>>, Error>
+    state: &mut State<D, G>,
+) -> Result<Option<Kept<D, G>>, Error>
     requires { flatten (forest_of children.now) ≡ children.now }
     ensures ok { IfOk result (λ c. item_opened (by_tags D.decoration G.annotated) node.now (forest_of children.now)
         (item_of (by_tags D.decoration G.annotated) state.old.decorator list.now number) state.old ≡ Some (way state.new c)) }
@@ -485,10 +486,10 @@ pub fn open<D: TextDecorator, G: Tagging<D::Annotation>>(
     alloc: Global,
     node: &RenderNode,
     children: &[Entry<RenderNode>],
-    parent: Option<&Closing<D, G::Tag, Block<G::Tag, usize>>>,
+    parent: Option<&Kept<D, G>>,
     number: usize,
-    state: &mut LayoutState<D, G, G::Tag, Block<G::Tag, usize>>,
-) -> Result<Option<Closing<D, G::Tag, Block<G::Tag, usize>>>, Error>
+    state: &mut State<D, G>,
+) -> Result<Option<Kept<D, G>>, Error>
     requires { flatten (forest_of children.now) ≡ children.now }
     ensures ok { IfOk result (λ c. opened (by_tags D.decoration G.annotated) (option_copied parent.entry) number node.now (forest_of children.now) state.old
         ≡ Some (way state.new c)) }
@@ -515,8 +516,8 @@ pub fn open<D: TextDecorator, G: Tagging<D::Annotation>>(
 #[tactic(auto, using(html_render_values::specs::laws::Outcome::refusals))]
 pub fn close<D: TextDecorator, G: Tagging<D::Annotation>>(
     alloc: Global,
-    closing: Closing<D, G::Tag, Block<G::Tag, usize>>,
-    state: &mut LayoutState<D, G, G::Tag, Block<G::Tag, usize>>,
+    closing: Kept<D, G>,
+    state: &mut State<D, G>,
 ) -> Result<(), Error>
     ensures ok { OnOk result (closed (by_tags D.decoration G.annotated) closing state.old ≡ Some state.new) }
     ensures err { IfErr result (λ e. Refuses e (closed (by_tags D.decoration G.annotated) closing state.old)) }

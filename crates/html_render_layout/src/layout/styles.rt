@@ -5,9 +5,8 @@ ghost use Rattle.std.specs.Prelude.{◌≡◌, Some, OnOk, IfErr};
 ghost use Rattle.html_render_layout.specs.Layout.{annotated, style_steps, perform_all};
 ghost use Rattle.html_render_layout.specs.Working.{by_tags};
 
-use super::state::LayoutState;
+use super::working::State;
 use crate::tagging::Tagging;
-use html_render_blocks::block::Block;
 use html_render_nodes::tree::NodeStyle;
 use html_render_parts::decorate::TextDecorator;
 use html_render_values::Error;
@@ -17,7 +16,7 @@ use std::alloc::Global;
 /// The texts that come have one annotation more, if there is one.
 fn annotate<D: TextDecorator, G: Tagging<D::Annotation>>(
     annotation: Option<D::Annotation>,
-    state: &mut LayoutState<D, G, G::Tag, Block<G::Tag, usize>>,
+    state: &mut State<D, G>,
 ) -> Result<(), Error>
     ensures ok { OnOk result (state.new ≡ annotated (by_tags D.decoration G.annotated) annotation state.old) }
     ensures err { IfErr result (λ e. e ≡ Error.OutOfMemory) }
@@ -37,7 +36,7 @@ fn annotate<D: TextDecorator, G: Tagging<D::Annotation>>(
 pub fn begin_style<D: TextDecorator, G: Tagging<D::Annotation>>(
     alloc: Global,
     style: &NodeStyle,
-    state: &mut LayoutState<D, G, G::Tag, Block<G::Tag, usize>>,
+    state: &mut State<D, G>,
 ) -> Result<(), Error>
     ensures ok { OnOk result (perform_all (by_tags D.decoration G.annotated) state.old (style_steps D.decoration style.now) state.old ≡ Some state.new) }
     ensures err { IfErr result (λ e. e ≡ Error.OutOfMemory) }

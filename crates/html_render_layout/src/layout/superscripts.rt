@@ -1,18 +1,17 @@
 //! Superscripts of digits, which have characters of their own.
 
-ghost use Rattle.std.specs.Prelude.{◌≡◌, Some, OnOk, IfOk, IfErr, map, option_map, string_bytes};
+ghost use Rattle.std.specs.Prelude.{◌≡◌, Some, None, MatchOption, OnOk, IfOk, IfErr, map, option_map, string_bytes};
 ghost use Rattle.std.specs.Char.{is_ascii_digit};
 ghost use Rattle.std.specs.List.{list_all};
 ghost use Rattle.std.specs.Str.{chars};
 ghost use Rattle.html_render_values.specs.Outcome.{Refuses};
 ghost use Rattle.html_render_nodes.specs.Preorder.{flatten, forest_of};
-ghost use Rattle.html_render_layout.specs.Layout.{write, only_node, digits_of_kind, digits_of, raised};
+ghost use Rattle.html_render_layout.specs.Layout.{write, digits_of_kind, digits_of, raised};
 ghost use Rattle.html_render_layout.specs.Working.{by_tags};
 
-use super::state::LayoutState;
 use super::texts::add_text;
+use super::working::State;
 use crate::tagging::Tagging;
-use html_render_blocks::block::Block;
 use html_render_nodes::tree::{Entry, NodeKind, RenderNode};
 use html_render_parts::decorate::TextDecorator;
 use html_render_values::Error;
@@ -24,7 +23,7 @@ const SUPERSCRIPTS: [char; 10] = ['⁰', '¹', '²', '³', '⁴', '⁵', '⁶', 
 /// The node of these trees, where they are one without children.
 fn only_node(nodes: &[Entry<RenderNode>]) -> Option<&RenderNode>
     requires { flatten (forest_of nodes.now) ≡ nodes.now }
-    ensures { option_map (λ node. node.now) result ≡ only_node (forest_of nodes.now) }
+    ensures { MatchOption result (digits_of (forest_of nodes.now) ≡ None) (λ node. digits_of (forest_of nodes.now) ≡ digits_of_kind node.now.kind) }
 {
     if nodes.len() == 1 {
         Some(&nodes[0].node)
@@ -90,7 +89,7 @@ fn raised_text(alloc: Global, digits: &str) -> Result<String, AllocError>
 pub fn write_raised<D: TextDecorator, G: Tagging<D::Annotation>>(
     alloc: Global,
     digits: &str,
-    state: &mut LayoutState<D, G, G::Tag, Block<G::Tag, usize>>,
+    state: &mut State<D, G>,
 ) -> Result<(), Error>
     ensures ok { OnOk result (write (by_tags D.decoration G.annotated) (map raised digits.now) state.old ≡ Some state.new) }
     ensures err { IfErr result (λ e. Refuses e (write (by_tags D.decoration G.annotated) (map raised digits.now) state.old)) }

@@ -3,11 +3,12 @@
 ghost use Rattle.std.specs.Prelude.{◌≡◌, [], ◌∷◌, Some, OnOk, IfOk, IfErr, codes};
 ghost use Rattle.std.specs.Str.{chars};
 ghost use Rattle.html_render_values.specs.Outcome.{Refuses};
-ghost use Rattle.html_render_layout.specs.Layout.{StartBlock, Fence, BeginTable, plain_style, fence, fenced, perform_all, within};
+ghost use Rattle.html_render_layout.specs.Layout.{StartBlock, Fence, BeginTable, fence, perform, perform_all, within};
 ghost use Rattle.html_render_layout.specs.Opening.{cell_closed, kind_closed};
 ghost use Rattle.html_render_layout.specs.Working.{by_tags};
 
-use super::state::{InterruptedTable, KindClosing, LayoutState, OuterTable};
+use super::state::{InterruptedTable, KindClosing, OuterTable};
+use super::working::State;
 use crate::tagging::Tagging;
 use html_render_blocks::block::Block;
 use html_render_lines::character::TextStyle;
@@ -28,7 +29,7 @@ fn fence_text() -> &'static str
 
 /// The style of a fence.
 fn fence_style<T: Copy>(tag: T) -> TextStyle<T>
-    ensures { result ≡ plain_style tag }
+    ensures { result ≡ record { mode = WhiteSpace.Normal; tag = tag; continuation_tag = tag } }
 {
     TextStyle {
         mode: WhiteSpace::Normal,
@@ -40,7 +41,7 @@ fn fence_style<T: Copy>(tag: T) -> TextStyle<T>
 /// Adds a fence.
 #[tactic(auto, using(html_render_values::specs::laws::Outcome::refusals))]
 fn write_fence<D: TextDecorator, G: Tagging<D::Annotation>>(
-    state: &mut LayoutState<D, G, G::Tag, Block<G::Tag, usize>>,
+    state: &mut State<D, G>,
 ) -> Result<(), Error>
     ensures ok { OnOk result (fence (by_tags D.decoration G.annotated) state.old ≡ Some state.new) }
     ensures err { IfErr result (λ e. Refuses e (fence (by_tags D.decoration G.annotated) state.old)) }
@@ -54,10 +55,10 @@ fn write_fence<D: TextDecorator, G: Tagging<D::Annotation>>(
 /// Adds a fence, where tables are fenced and the state stands in none.
 #[tactic(auto, using(html_render_values::specs::laws::Outcome::refusals))]
 fn add_fence<D: TextDecorator, G: Tagging<D::Annotation>>(
-    state: &mut LayoutState<D, G, G::Tag, Block<G::Tag, usize>>,
+    state: &mut State<D, G>,
 ) -> Result<(), Error>
-    ensures ok { OnOk result (fenced (by_tags D.decoration G.annotated) state.old ≡ Some state.new) }
-    ensures err { IfErr result (λ e. Refuses e (fenced (by_tags D.decoration G.annotated) state.old)) }
+    ensures ok { OnOk result (perform (by_tags D.decoration G.annotated) state.old Fence state.old ≡ Some state.new) }
+    ensures err { IfErr result (λ e. Refuses e (perform (by_tags D.decoration G.annotated) state.old Fence state.old)) }
 {
     if !state.settings.fence_tables {
         return Ok(());
@@ -76,7 +77,7 @@ fn add_fence<D: TextDecorator, G: Tagging<D::Annotation>>(
 #[tactic(auto, using(html_render_values::specs::laws::Outcome::refusals))]
 pub fn begin_table<D: TextDecorator, G: Tagging<D::Annotation>>(
     grid: &Grid,
-    state: &mut LayoutState<D, G, G::Tag, Block<G::Tag, usize>>,
+    state: &mut State<D, G>,
 ) -> Result<(), Error>
     ensures ok { OnOk result (perform_all (by_tags D.decoration G.annotated) state.old
         (StartBlock ∷ (Fence ∷ (BeginTable grid.now.cells grid.now.needs ∷ []))) state.old ≡ Some state.new) }
@@ -103,7 +104,7 @@ pub fn begin_table<D: TextDecorator, G: Tagging<D::Annotation>>(
 #[tactic(auto, using(html_render_values::specs::laws::Outcome::refusals))]
 pub fn end_table<D: TextDecorator, G: Tagging<D::Annotation>>(
     in_table: bool,
-    state: &mut LayoutState<D, G, G::Tag, Block<G::Tag, usize>>,
+    state: &mut State<D, G>,
 ) -> Result<(), Error>
     ensures ok { OnOk result (kind_closed (by_tags D.decoration G.annotated) (KindClosing.EndTable in_table) state.old ≡ Some state.new) }
     ensures err { IfErr result (λ e. Refuses e (kind_closed (by_tags D.decoration G.annotated) (KindClosing.EndTable in_table) state.old)) }
@@ -122,7 +123,7 @@ pub fn end_table<D: TextDecorator, G: Tagging<D::Annotation>>(
 pub fn begin_cell<D: TextDecorator, G: Tagging<D::Annotation>>(
     alloc: Global,
     cell: Block<G::Tag, usize>,
-    state: &mut LayoutState<D, G, G::Tag, Block<G::Tag, usize>>,
+    state: &mut State<D, G>,
 ) -> Result<InterruptedTable<D, Block<G::Tag, usize>>, Error>
     ensures ok { OnOk result (state.new ≡ within (by_tags D.decoration G.annotated) cell state.old) }
     ensures outer { IfOk result (λ outer. outer ≡ record { decorator = state.old.decorator; block = state.old.block }) }
@@ -145,7 +146,7 @@ pub fn begin_cell<D: TextDecorator, G: Tagging<D::Annotation>>(
 #[tactic(auto, using(html_render_values::specs::laws::Outcome::refusals))]
 pub fn end_cell<D: TextDecorator, G: Tagging<D::Annotation>>(
     outer: InterruptedTable<D, Block<G::Tag, usize>>,
-    state: &mut LayoutState<D, G, G::Tag, Block<G::Tag, usize>>,
+    state: &mut State<D, G>,
 ) -> Result<(), Error>
     ensures ok { OnOk result (cell_closed (by_tags D.decoration G.annotated) outer state.old ≡ Some state.new) }
     ensures err { IfErr result (λ e. Refuses e (cell_closed (by_tags D.decoration G.annotated) outer state.old)) }

@@ -1,15 +1,14 @@
 //! Texts, as they are written.
 
-ghost use Rattle.std.specs.Prelude.{◌≡◌, [], ◌∷◌, ◌++◌, true, Some, OnOk, IfOk, IfErr, string_bytes};
+ghost use Rattle.std.specs.Prelude.{◌≡◌, [], ◌∷◌, ◌++◌, true, Some, OnOk, IfOk, IfErr, string_bytes, if◌then◌else◌};
 ghost use Rattle.std.specs.Str.{chars, encode_utf8_all};
 ghost use Rattle.html_render_values.specs.Outcome.{Refuses};
 ghost use Rattle.html_render_blocks.specs.Machine as machine;
-ghost use Rattle.html_render_layout.specs.Layout.{struck, written, on_block, text_style, add_styled, write};
+ghost use Rattle.html_render_layout.specs.Layout.{struck, on_block, text_style, add_styled, write};
 ghost use Rattle.html_render_layout.specs.Working.{by_tags};
 
-use super::state::LayoutState;
+use super::working::State;
 use crate::tagging::Tagging;
-use html_render_blocks::block::Block;
 use html_render_lines::character::{TextStyle, is_collapsible};
 use html_render_parts::decorate::TextDecorator;
 use html_render_values::Error;
@@ -49,7 +48,7 @@ fn add_struck<D: TextDecorator, G: Tagging<D::Annotation>>(
     alloc: Global,
     text: &str,
     style: TextStyle<G::Tag>,
-    state: &mut LayoutState<D, G, G::Tag, Block<G::Tag, usize>>,
+    state: &mut State<D, G>,
 ) -> Result<(), Error>
     ensures ok { OnOk result (on_block (λ b. machine.operations.add_inline_text b style (struck (chars text.now))) state.old ≡ Some state.new) }
     ensures err { IfErr result (λ e. Refuses e (on_block (λ b. machine.operations.add_inline_text b style (struck (chars text.now))) state.old)) }
@@ -64,12 +63,12 @@ fn add_styled<D: TextDecorator, G: Tagging<D::Annotation>>(
     alloc: Global,
     text: &str,
     style: TextStyle<G::Tag>,
-    state: &mut LayoutState<D, G, G::Tag, Block<G::Tag, usize>>,
+    state: &mut State<D, G>,
 ) -> Result<(), Error>
-    ensures ok { OnOk result (on_block (λ b. machine.operations.add_inline_text b style (written state.old.text.struck_out (chars text.now))) state.old
+    ensures ok { OnOk result (on_block (λ b. machine.operations.add_inline_text b style (if state.old.text.struck_out then struck (chars text.now) else chars text.now)) state.old
         ≡ Some state.new) }
     ensures err { IfErr result (λ e. Refuses e
-        (on_block (λ b. machine.operations.add_inline_text b style (written state.old.text.struck_out (chars text.now))) state.old)) }
+        (on_block (λ b. machine.operations.add_inline_text b style (if state.old.text.struck_out then struck (chars text.now) else chars text.now)) state.old)) }
 {
     if state.text.struck_out {
         add_struck(alloc, text, style, state)
@@ -81,7 +80,7 @@ fn add_styled<D: TextDecorator, G: Tagging<D::Annotation>>(
 /// The style of preformatted texts: one annotation more on top, and another one on continuation lines.
 fn preformatted_style<D: TextDecorator, G: Tagging<D::Annotation>>(
     alloc: Global,
-    state: &mut LayoutState<D, G, G::Tag, Block<G::Tag, usize>>,
+    state: &mut State<D, G>,
 ) -> Result<TextStyle<G::Tag>, Error>
     ensures stacks { OnOk result (state.new ≡ record state.old {
       stacks = (text_style (by_tags D.decoration G.annotated) state.old.decorator state.old.stacks state.old.text true).0;
@@ -109,14 +108,14 @@ fn preformatted_style<D: TextDecorator, G: Tagging<D::Annotation>>(
 fn add_preformatted<D: TextDecorator, G: Tagging<D::Annotation>>(
     alloc: Global,
     text: &str,
-    state: &mut LayoutState<D, G, G::Tag, Block<G::Tag, usize>>,
+    state: &mut State<D, G>,
 ) -> Result<(), Error>
     ensures ok { OnOk result (add_styled (by_tags D.decoration G.annotated)
         (text_style (by_tags D.decoration G.annotated) state.old.decorator state.old.stacks state.old.text true)
-        (written state.old.text.struck_out (chars text.now)) state.old ≡ Some state.new) }
+        (chars text.now) state.old ≡ Some state.new) }
     ensures err { IfErr result (λ e. Refuses e (add_styled (by_tags D.decoration G.annotated)
         (text_style (by_tags D.decoration G.annotated) state.old.decorator state.old.stacks state.old.text true)
-        (written state.old.text.struck_out (chars text.now)) state.old)) }
+        (chars text.now) state.old)) }
 {
     let style = preformatted_style(alloc, state)?;
     add_styled(alloc, text, style, state)
@@ -132,7 +131,7 @@ fn add_preformatted<D: TextDecorator, G: Tagging<D::Annotation>>(
 pub fn add_text<D: TextDecorator, G: Tagging<D::Annotation>>(
     alloc: Global,
     text: &str,
-    state: &mut LayoutState<D, G, G::Tag, Block<G::Tag, usize>>,
+    state: &mut State<D, G>,
 ) -> Result<(), Error>
     ensures ok { OnOk result (write (by_tags D.decoration G.annotated) (chars text.now) state.old ≡ Some state.new) }
     ensures err { IfErr result (λ e. Refuses e (write (by_tags D.decoration G.annotated) (chars text.now) state.old)) }

@@ -58,7 +58,7 @@ impl<T: Tag, M: Copy> Line<T, M> {
         }
     }
 
-    /// An empty line with room for a text of so many bytes.
+    /// An empty line with room for a text of `bytes` bytes.
     ///
     /// # Errors
     ///
@@ -85,7 +85,7 @@ impl<T: Tag, M: Copy> Line<T, M> {
         Line::with_capacity(alloc, self.text.byte_count().saturating_add(16))
     }
 
-    /// Makes room for so many more bytes of text.
+    /// Makes room for `bytes` more bytes of text.
     ///
     /// # Errors
     ///
@@ -96,7 +96,7 @@ impl<T: Tag, M: Copy> Line<T, M> {
         self.text.reserve(bytes)
     }
 
-    /// Makes room for a text of so many bytes on an empty line.
+    /// Makes room for a text of `bytes` bytes on an empty line.
     ///
     /// # Errors
     ///
@@ -149,7 +149,7 @@ impl<T: Tag, M: Copy> Line<T, M> {
         self.count = Some(0);
     }
 
-    /// Puts a text of so many columns at the end.
+    /// Puts a text of `width` columns at the end.
     ///
     /// # Errors
     ///
@@ -166,7 +166,7 @@ impl<T: Tag, M: Copy> Line<T, M> {
         Ok(())
     }
 
-    /// Puts a character of so many columns at the end.
+    /// Puts a character of `width` columns at the end.
     ///
     /// # Errors
     ///
@@ -197,7 +197,7 @@ impl<T: Tag, M: Copy> Line<T, M> {
         Ok(())
     }
 
-    /// Puts a word of so many columns at the end, with the tags of a line that continues another, or of an ordinary line.
+    /// Puts a word of `width` columns at the end, with the tags of a line that continues another, or of an ordinary line.
     ///
     /// # Errors
     ///
@@ -336,7 +336,7 @@ impl<T: Tag, M: Copy> Line<T, M> {
     }
 }
 
-/// A count and so many more; none past a machine word.
+/// A count plus `more`; none past a machine word.
 #[inline]
 pub fn counted_on(count: Option<usize>, more: usize) -> Option<usize>
     ensures { (n : ℕ) → count ≡ counted n → result ≡ counted (n + more) }
@@ -394,7 +394,7 @@ fn put_before<T: Tag, M: Copy>(
     push_reversed(front, text, tag)
 }
 
-/// How many columns elements end past a multiple of 8, which begin so many columns past one.
+/// How many columns elements end past a multiple of 8, which begin `start` columns past one.
 fn past_tab_stop<T, M>(start: usize, elements: &[Element<T, M>]) -> usize
     requires { start < 8 }
     ensures { result ≡ (start + columns elements.now) % 8 }
@@ -406,7 +406,7 @@ fn past_tab_stop<T, M>(start: usize, elements: &[Element<T, M>]) -> usize
     at
 }
 
-/// How many columns a text ends past a multiple of 8, which begins so many columns past one.
+/// How many columns a text ends past a multiple of 8, which begins `start` columns past one.
 fn text_past_tab_stop(start: usize, text: &str) -> usize
     requires { start < 8 }
     ensures { result ≡ (start + text_columns (chars text.now)) % 8 }

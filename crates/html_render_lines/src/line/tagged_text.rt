@@ -23,7 +23,7 @@ const SHORT: usize = 256;
 /// What stands next in a text.
 #[derive(Clone, Copy, Debug)]
 pub enum Run<T, M> {
-    /// So many bytes of the text under one tag.
+    /// A number of bytes of the text under one tag.
     Text(usize, T),
     /// A mark, which takes no byte.
     Mark(M),
@@ -77,7 +77,7 @@ impl<T: Tag, M: Copy> TaggedText<T, M> {
         }
     }
 
-    /// An empty text with room for so many bytes.
+    /// An empty text with room for `bytes` bytes.
     ///
     /// # Errors
     ///
@@ -100,7 +100,7 @@ impl<T: Tag, M: Copy> TaggedText<T, M> {
         self.text.len()
     }
 
-    /// Makes room for so many more bytes.
+    /// Makes room for `bytes` more bytes.
     ///
     /// # Errors
     ///
@@ -111,7 +111,7 @@ impl<T: Tag, M: Copy> TaggedText<T, M> {
         self.text.reserve(bytes)
     }
 
-    /// Makes room for so many bytes at the start of a text.
+    /// Makes room for `bytes` bytes at the start of a text.
     ///
     /// # Errors
     ///

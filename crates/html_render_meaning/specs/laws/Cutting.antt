@@ -1,7 +1,7 @@
 -- A word that begins a line, cut where it is too wide for it.
-use Rattle.std.proofs.Common.{◌≡◌, ◌+◌, ◌≤◌, ◌<◌, Bool, true, false, ◌||◌, leb, List, [], ◌∷◌, ◌++◌, Option, Some, None, sym, ap, ◌∙◌}
+use Rattle.std.proofs.Common.{◌≡◌, ◌+◌, ◌≤◌, ◌<◌, Bool, true, false, ◌||◌, leb, List, [], ◌∷◌, ◌++◌, Option, Some, None, refl, sym, ap, ◌∙◌}
 use Rattle.std.proofs.Common.{arith, subst, option_and_then, append_assoc, append-nil, ◌⊎◌, inl, inr}
-use Rattle.std.proofs.lemmas.Bool.{cases_Bool, leb-true, leb-false, le-leb, lt-leb}
+use Rattle.std.proofs.lemmas.Bool.{cases_Bool, leb-true, leb-false, lt-leb}
 use Rattle.html_render_lines.specs.declared.character.Character.{Character}
 use Rattle.html_render_lines.specs.declared.character.Item.{Item}
 use Rattle.html_render_lines.specs.declared.character.Item.TheVariants as item
@@ -9,10 +9,11 @@ use Rattle.html_render_lines.specs.Character.{width_of}
 use Rattle.html_render_lines.specs.Line.{Line, columns, word_columns}
 use Rattle.html_render_paragraphs.specs.Paragraph.{Page, Setting, put_character, put_items}
 use Rattle.html_render_paragraphs.specs.Word.{line_with_word, marks_behind_word}
-use Rattle.html_render_lines.specs.laws.Cases.{if_true, if_false}
+use Rattle.html_render_lines.specs.laws.Cases.{if_true, if_cases}
 use Rattle.html_render_meaning.specs.Meaning.{Part, Whole, with_whole, with_letter, character_count, IsNotEmpty, StandOn, nothing, whole, alone, cut}
-use Rattle.html_render_meaning.specs.laws.Words.{page_of, page_with_word, word_columns-one, word_columns-cons, word_columns-append, count-append}
-use Rattle.html_render_meaning.specs.laws.Words.{columns-with_letter, columns-with_word, no-characters, page-push, page-push_mark}
+use Rattle.html_render_meaning.specs.laws.Words.{page_of, page_with_word, word_columns-one, count-append}
+use Rattle.html_render_lines.specs.laws.Columns.{word_columns-cons, word_columns-append}
+use Rattle.html_render_meaning.specs.laws.Words.{columns-with_letter, columns-with_word, no-characters, page-append}
 use Rattle.html_render_meaning.specs.laws.Laying.{lay, put_character-next}
 use Rattle.html_render_meaning.specs.laws.Standing.{spaced-start}
 use Rattle.html_render_meaning.specs.laws.Placed.{continued-full}
@@ -39,30 +40,17 @@ stands-alone {T} {M} s b before front ms space word st h =
 first-character : {T M : Type 0} (s : Setting) (lines : List (Line T M)) (b : Bool) (ms : List M) (c : Character T) →
     ((put_character s (page_of lines [] b ms) c ≡ Some (page_of lines (with_letter b [] ms c) b [])) × IsAlone {M = M} s (item.Character c ∷ []))
     ⊎ (put_character s (page_of lines [] b ms) c ≡ None)
-first-character {T} {M} s lines b ms c = by (cases_Bool (leb (width_of c.code) s.width)) (cases_Bool s.overflow)
-  where
-    one : word_columns {M = M} (item.Character c ∷ []) ≡ width_of c.code
-    one = word_columns-one M c
-
-    count : character_count {M = M} (item.Character c ∷ []) ≡ 1
-    count = omega arith
-
-    narrow : leb (width_of c.code) s.width ≡ true → leb (columns {T = T} {M = M} [] + width_of c.code) s.width ≡ true
-    narrow e = let h = leb-true _ _ e in le-leb _ _ (omega (arith, h))
-
-    wide : leb (width_of c.code) s.width ≡ false → leb (columns {T = T} {M = M} [] + width_of c.code) s.width ≡ false
-    wide e = let h = leb-false _ _ e in lt-leb _ _ (omega (arith, h))
-
-    by : ((leb (width_of c.code) s.width ≡ true) ⊎ (leb (width_of c.code) s.width ≡ false)) → ((s.overflow ≡ true) ⊎ (s.overflow ≡ false)) →
-        ((put_character s (page_of lines [] b ms) c ≡ Some (page_of lines (with_letter b [] ms c) b [])) × IsAlone {M = M} s (item.Character c ∷ []))
-        ⊎ (put_character s (page_of lines [] b ms) c ≡ None)
-    by (inl e) o = let h = leb-true _ _ e in inl (if_true _ _ _ (narrow e), inl (omega (arith, h, one)))
-    by (inr e) (inl o) =
-        let over : (leb (width_of c.code) s.width || s.overflow) ≡ true = rw e o in
-        inl (if_false _ _ _ (wide e) ∙ if_true _ _ _ over, inr (count, o))
-    by (inr e) (inr o) =
-        let never : (leb (width_of c.code) s.width || s.overflow) ≡ false = rw e o in
-        inr (if_false _ _ _ (wide e) ∙ if_false _ _ _ never)
+first-character {T} {M} s lines b ms c =
+    let one = word_columns-one M c in
+    let Stands : Option (Page T M) → Type 0 =
+    λ o. ((o ≡ Some (page_of lines (with_letter b [] ms c) b [])) × IsAlone {M = M} s (item.Character c ∷ [])) ⊎ (o ≡ None) in
+    if_cases Stands (leb (columns {T = T} {M = M} [] + width_of c.code) s.width) _ _
+    (λ e. let h = leb-true _ _ e in inl (refl, inl (omega (arith, h, one))))
+    (λ e. if_cases Stands (leb (width_of c.code) s.width || s.overflow) _ _
+    (λ f. let h = leb-false _ _ e in
+    let wide : leb (width_of c.code) s.width ≡ false = lt-leb _ _ (omega (arith, h)) in
+    let over : s.overflow ≡ true = rw wide at f in inl (refl, inr (omega arith, over)))
+    (λ _. inr refl))
 
 alone-mark : {T M : Type 0} (s : Setting) (head : List (Item T M)) (m : M) → IsAlone s head → IsAlone s (head ++ item.Mark m ∷ [])
 alone-mark {T} s head m h =
@@ -113,7 +101,7 @@ module _ {T M : Type 0} (s : Setting) (rest : List (Part T M)) (q : Page T M) wh
       same_word lines b before front space ((head ++ item.Mark m ∷ []) ++ tail) (head ++ item.Mark m ∷ tail)
       (append_assoc head (item.Mark m ∷ []) tail)
       (k lines b before front ms space (head ++ item.Mark m ∷ []) st (alone-mark s head m h)
-      (ap (λ p. then_rest s rest (put_items s p tail)) (page-push_mark lines b ms head m) ∙ e))
+      (ap (λ p. then_rest s rest (put_items s p tail)) (page-append lines [] b ms head (item.Mark m ∷ [])) ∙ e))
 
   -- a character behind part of a word on a line
   module _ (c : Character T) (tail : List (Item T M)) (k : Begins tail) (lines : List (Line T M)) (b : Bool) (before : List M)
@@ -139,7 +127,7 @@ module _ {T M : Type 0} (s : Setting) (rest : List (Part T M)) (q : Page T M) wh
         same_word lines b before front space ((head ++ item.Character c ∷ []) ++ tail) (head ++ item.Character c ∷ tail)
         (append_assoc head (item.Character c ∷ []) tail)
         (k lines b before front ms space (head ++ item.Character c ∷ []) st a
-        (ap (λ p. then_rest s rest (put_items s p tail)) (page-push lines b ms head c) ∙ sym (ap then_tail f) ∙ e))
+        (ap (λ p. then_rest s rest (put_items s p tail)) (page-append lines [] b ms head (item.Character c ∷ [])) ∙ sym (ap then_tail f) ∙ e))
 
     fitting : leb (columns line + width_of c.code) s.width ≡ true → BeginsWith lines b before front space (head ++ item.Character c ∷ tail)
     fitting g =

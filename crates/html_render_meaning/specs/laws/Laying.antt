@@ -1,5 +1,5 @@
 -- The parts of a text, laid one after the other: the same page as that of the text's pieces.
-use Rattle.std.proofs.Common.{◌≡◌, ℕ, ◌+◌, Bool, true, false, cond, List, [], ◌∷◌, Option, Some, None, refl, sym, ap, ◌∙◌, leb, ◌||◌, ◌<◌}
+use Rattle.std.proofs.Common.{◌≡◌, ℕ, ◌+◌, Bool, true, false, cond, List, [], ◌∷◌, ◌++◌, map, fold, Option, Some, None, refl, sym, ap, ◌∙◌, leb, ◌||◌, ◌<◌}
 use Rattle.std.proofs.Common.{option_and_then, arith}
 use Rattle.std.proofs.lemmas.Bool.{lt-leb, leb-false}
 use Rattle.std.specs.Option.{option_or}
@@ -8,11 +8,12 @@ use Rattle.html_render_lines.specs.declared.character.Kind.TheVariants.{Preserve
 use Rattle.html_render_lines.specs.declared.character.Character.{Character}
 use Rattle.html_render_lines.specs.declared.character.Item.TheVariants as item
 use Rattle.html_render_lines.specs.Character.{width_of}
-use Rattle.html_render_lines.specs.Line.{Line, columns, word_columns}
+use Rattle.html_render_lines.specs.Line.{Line, columns, is_empty}
 use Rattle.html_render_paragraphs.specs.Paragraph.{Piece, Word, Gap, Cut, Single, Loose, Page, Setting, with_waiting_mark, with_line_break, tab_spaces}
-use Rattle.html_render_paragraphs.specs.Paragraph.{put_character, put_characters, put_items, put_word, put_single, put_fitting, put_all_fitting}
-use Rattle.html_render_paragraphs.specs.Paragraph.{with_due_space_by, with_fitting_space, page_for_single, place, continued, gap_width_of, page_for_word}
-use Rattle.html_render_lines.specs.laws.Cases.{if_cases}
+use Rattle.html_render_paragraphs.specs.Paragraph.{put_character, put_items, put_word, put_single, put_fitting, page_for_single, place, continued}
+use Rattle.html_render_paragraphs.specs.Paragraph.{page_for_word, fits, with_character}
+use Rattle.html_render_paragraphs.specs.laws.Whole.{then_same}
+use Rattle.html_render_lines.specs.laws.Cases.{if_cases, if_false, is_empty-cons}
 use Rattle.html_render_meaning.specs.laws.Words.{page_of, word_columns-one}
 use Rattle.html_render_meaning.specs.Meaning.{Part, Whole, Between, Soft, Break, Stop, SoftStop, Marked, with_single, with_between, parts}
 
@@ -20,28 +21,23 @@ use Rattle.html_render_meaning.specs.Meaning.{Part, Whole, Between, Soft, Break,
 abbrev pub lay : {T M : Type 0} → Setting → Page T M → List (Part T M) → Option (Page T M)
 lay s page [] = Some page
 lay {T} {M} s page (Whole space word ∷ ps) = option_and_then (λ (p : Page T M). lay s p ps) (put_word s page space word)
-lay s page (Between c ∷ ps) = lay s (with_fitting_space s page (Some c)) ps
+lay s page (Between c ∷ ps) = lay s (page_for_single s page (Some c) Preserved) ps
 lay s page (Soft c ∷ ps) = lay s (put_fitting s page c) ps
 lay s page (Break ∷ ps) = lay s (with_line_break page) ps
-lay {T} {M} s page (Stop c ∷ ps) = option_and_then (λ (p : Page T M). lay s p ps) (put_characters s page (tab_spaces page c))
-lay s page (SoftStop c ∷ ps) = lay s (put_all_fitting s page (tab_spaces page c)) ps
+lay {T} {M} s page (Stop c ∷ ps) = option_and_then (λ (p : Page T M). lay s p ps) (put_items s page (map (λ d. item.Character d) (tab_spaces page c)))
+lay s page (SoftStop c ∷ ps) = lay s (fold (put_fitting s) page (tab_spaces page c)) ps
 lay s page (Marked m ∷ ps) = lay s (with_waiting_mark page m) ps
 
--- ---- no space is due
-
-no_space_by : {T M : Type 0} (b : Bool) (page : Page T M) (line : Line T M) → cond b (with_due_space_by page line None) page ≡ page
-no_space_by true page [] = refl
-no_space_by b page line = refl
-
-no_space : {T M : Type 0} (s : Setting) (page : Page T M) → with_fitting_space s page None ≡ page
-no_space s page = no_space_by _ page page.line
-
 -- ---- the parts of a text
+
+pub same : {X : Type 0} (a : Bool) (x : X) → cond a x x ≡ x
+same true x = refl
+same false x = refl
 
 lay-between : {T M : Type 0} (s : Setting) (page : Page T M) (space : Option (Character T)) (k : Kind) (ps : List (Part T M)) →
     lay s page (with_between space k ps) ≡ lay s (page_for_single s page space k) ps
 lay-between s page None Newline ps = refl
-lay-between s page None k ps = ap (λ p. lay s p ps) (sym (no_space s page))
+lay-between s page None k ps = ap (λ p. lay s p ps) (sym (same (fits s page 0) page))
 lay-between s page (Some c) Newline ps = refl
 lay-between s page (Some c) k ps = refl
 
@@ -64,24 +60,17 @@ pub put_character-next : {T M : Type 0} (s : Setting) (lines : List (Line T M)) 
     (c : Character T) → s.width < columns line + width_of c.code →
     put_character s (page_of lines line continues marks) c ≡ put_character s (continued (page_of lines line continues marks)) c
 put_character-next s lines [] continues marks c e = refl
-put_character-next s lines (x ∷ xs) continues marks c e = rw (lt-leb _ _ e) (next_by s (width_of c.code) _ _ (omega arith))
-
-due-none : {T M : Type 0} (page : Page T M) (line : Line T M) → with_due_space_by page line None ≡ page
-due-none page [] = refl
-due-none page (x ∷ xs) = refl
-
-gap-none : {T M : Type 0} (line : Line T M) → gap_width_of line None ≡ 0
-gap-none [] = refl
-gap-none (x ∷ xs) = refl
+put_character-next {T} {M} s lines (x ∷ xs) continues marks c e =
+    let next : Page T M = page_of (lines ++ (x ∷ xs) ∷ []) [] true marks in
+    let full : continued (page_of lines (x ∷ xs) continues marks) ≡ next = if_false (is_empty (x ∷ xs)) _ _ (is_empty-cons x xs) in
+    if_false _ _ _ (lt-leb _ _ e)
+    ∙ ap (λ (p : Page T M). cond (leb (width_of c.code) s.width || s.overflow) (Some (with_character p c)) None) full
+    ∙ next_by s (width_of c.code) (columns next.line + width_of c.code) (with_character next c) (omega arith)
+    ∙ ap (λ (p : Page T M). put_character s p c) (sym full)
 
 page_for_letter : {T M : Type 0} (s : Setting) (page : Page T M) (c : Character T) →
     page_for_word s page None (item.Character c ∷ []) ≡ cond (leb (columns page.line + width_of c.code) s.width) page (continued page)
-page_for_letter {T} {M} s page c =
-    let none = gap-none page.line in
-    let one = word_columns-one M c in
-    let both : gap_width_of page.line None + word_columns {M = M} (item.Character c ∷ []) ≡ width_of c.code = omega (arith, none, one) in
-    ap (λ n. cond (leb (columns page.line + n) s.width) (with_due_space_by page page.line None) (continued page)) both
-    ∙ ap (λ p. cond (leb (columns page.line + width_of c.code) s.width) p (continued page)) (due-none page page.line)
+page_for_letter {T} {M} s page c = ap (λ n. cond (leb (columns page.line + n) s.width) page (continued page)) (word_columns-one M c)
 
 pub put_letter : {T M : Type 0} (s : Setting) (page : Page T M) (c : Character T) →
     put_word s page None (item.Character c ∷ []) ≡ put_character s page c
@@ -100,21 +89,17 @@ lay-single : {T M : Type 0} (s : Setting) (page : Page T M) (k : Kind) (c : Char
 lay-single {T} {M} s page Preserved c ps = ap (option_and_then (λ (p : Page T M). lay s p ps)) (put_letter s page c)
 lay-single s page k c ps = refl
 
-pub then-same : {A B : Type 0} (f g : A → Option B) (o : Option A) → ((x : A) → f x ≡ g x) → option_and_then f o ≡ option_and_then g o
-then-same f g None e = refl
-then-same f g (Some x) e = e x
-
 -- the parts make the page that the pieces make
 pub lay-parts : {T M : Type 0} (s : Setting) (page : Page T M) (space : Option (Character T)) (ps : List (Piece T M)) →
     place s page space ps ≡ lay s page (parts space ps)
 lay-parts s page space [] = refl
 lay-parts {T} {M} s page space (Word k word ∷ ps) =
-    then-same (λ (p : Page T M). place s p None ps) (λ (p : Page T M). lay s p (parts None ps)) (put_word s page space word)
+    then_same (λ (p : Page T M). place s p None ps) (λ (p : Page T M). lay s p (parts None ps)) (put_word s page space word)
     (λ p. lay-parts s p None ps)
 lay-parts s page space (Gap c ∷ ps) = lay-parts s page (option_or space (Some c)) ps
 lay-parts s page space (Cut ∷ ps) = lay-parts s page space ps
 lay-parts {T} {M} s page space (Single k c ∷ ps) =
-    then-same (λ (p : Page T M). place s p None ps) (λ (p : Page T M). lay s p (parts None ps))
+    then_same (λ (p : Page T M). place s p None ps) (λ (p : Page T M). lay s p (parts None ps))
     (put_single s (page_for_single s page space k) k c) (λ p. lay-parts s p None ps)
     ∙ sym (lay-single s (page_for_single s page space k) k c (parts None ps))
     ∙ sym (lay-between s page space k (with_single k c (parts None ps)))

@@ -1,40 +1,27 @@
 -- The lines of a text's parts are those that are laid.
-use Rattle.std.proofs.Common.{◌≡◌, ◌<◌, Bool, true, List, [], ◌∷◌, ◌++◌, map, Option, Some, None, refl, sym, ap, ◌∙◌}
+use Rattle.std.proofs.Common.{◌≡◌, ◌<◌, Bool, true, cond, List, [], ◌∷◌, ◌++◌, map, fold, Option, Some, None, refl, sym, ap, ◌∙◌}
 use Rattle.std.proofs.Common.{arith, option_and_then, option_map, append_assoc, append-nil}
 use Rattle.std.proofs.lemmas.Option.{same_Some}
 use Rattle.html_render_lines.specs.declared.character.Character.{Character}
 use Rattle.html_render_lines.specs.declared.character.Item.{Item}
 use Rattle.html_render_lines.specs.declared.character.Item.TheVariants as item
-use Rattle.html_render_lines.specs.Line.{Line, columns}
-use Rattle.html_render_paragraphs.specs.Paragraph.{Page, Setting, all_lines, with_line, continued, pieces, paragraph, blank_page}
-use Rattle.html_render_paragraphs.specs.Paragraph.{put_character, put_characters, put_items, put_word, put_fitting, put_all_fitting, with_waiting_mark}
+use Rattle.html_render_lines.specs.Line.{Line, columns, is_empty}
+use Rattle.html_render_paragraphs.specs.Paragraph.{Page, Setting, all_lines, continued, pieces, paragraph, blank_page, put_character, put_items}
+use Rattle.html_render_paragraphs.specs.Paragraph.{put_word, put_fitting}
+use Rattle.html_render_paragraphs.specs.laws.Whole.{then_assoc, then_same, put_items-append}
+use Rattle.html_render_lines.specs.laws.Cases.{is_empty-cons}
 use Rattle.html_render_meaning.specs.Meaning.{Part, Whole, Soft, Break, Stop, SoftStop, letter, with_whole, with_letter, IsNotEmpty}
 use Rattle.html_render_meaning.specs.Meaning.{AreLines, none, last, broken, full, cut, stop, soft_stop, spaces_behind, IsParagraph}
 use Rattle.html_render_meaning.specs.laws.Words.{page_of, columns-with_letter}
-use Rattle.html_render_meaning.specs.laws.Laying.{lay, then-Some, then-same, put_character-next, put_letter, lay-parts}
+use Rattle.html_render_meaning.specs.laws.Laying.{lay, then-Some, put_character-next, put_letter, lay-parts}
 use Rattle.html_render_meaning.specs.laws.Standing.{page_for_word-full, page_for_word-start, standing}
 
 -- ---- words
 
-then-assoc : {A B C : Type 0} (f : A → Option B) (g : B → Option C) (o : Option A) →
-    option_and_then g (option_and_then f o) ≡ option_and_then (λ x. option_and_then g (f x)) o
-then-assoc f g None = refl
-then-assoc f g (Some x) = refl
-
-put_items-append : {T M : Type 0} (s : Setting) (page : Page T M) (v w : List (Item T M)) →
-    put_items s page (v ++ w) ≡ option_and_then (λ (p : Page T M). put_items s p w) (put_items s page v)
-put_items-append s page [] w = refl
-put_items-append {T} {M} s page (item.Character c ∷ v) w =
-    then-same (λ (p : Page T M). put_items s p (v ++ w))
-    (λ (p : Page T M). option_and_then (λ (q : Page T M). put_items s q w) (put_items s p v)) (put_character s page c)
-    (λ p. put_items-append s p v w)
-    ∙ sym (then-assoc (λ (p : Page T M). put_items s p v) (λ (q : Page T M). put_items s q w) (put_character s page c))
-put_items-append s page (item.Mark m ∷ v) w = put_items-append s (with_waiting_mark page m) v w
-
 pub continued-full : {T M : Type 0} (lines : List (Line T M)) (line : Line T M) (b : Bool) (ms : List M) → IsNotEmpty line →
     continued (page_of lines line b ms) ≡ page_of (lines ++ line ∷ []) [] true ms
 continued-full lines [] b ms h = absurd h
-continued-full lines (x ∷ xs) b ms h = refl
+continued-full lines (x ∷ xs) b ms h = rw (is_empty-cons x xs) refl
 
 -- a word that doesn't fit begins the next line
 pub put_word-full : {T M : Type 0} (s : Setting) (lines : List (Line T M)) (line : Line T M) (b : Bool) (ms : List M)
@@ -67,17 +54,17 @@ put_word-cut {T} {M} s lines waiting line b ms space front c back h e f =
 -- ---- tabs
 
 pub lay-letters : {T M : Type 0} (s : Setting) (page : Page T M) (cs : List (Character T)) (rest : List (Part T M)) →
-    lay s page (map letter cs ++ rest) ≡ option_and_then (λ (p : Page T M). lay s p rest) (put_characters s page cs)
+    lay s page (map letter cs ++ rest) ≡ option_and_then (λ (p : Page T M). lay s p rest) (put_items s page (map (λ d. item.Character d) cs))
 lay-letters s page [] rest = refl
 lay-letters {T} {M} s page (c ∷ cs) rest =
     ap (option_and_then (λ (p : Page T M). lay s p (map letter cs ++ rest))) (put_letter s page c)
-    ∙ then-same (λ (p : Page T M). lay s p (map letter cs ++ rest))
-    (λ (p : Page T M). option_and_then (λ (q : Page T M). lay s q rest) (put_characters s p cs)) (put_character s page c)
+    ∙ then_same (λ (p : Page T M). lay s p (map letter cs ++ rest))
+    (λ (p : Page T M). option_and_then (λ (q : Page T M). lay s q rest) (put_items s p (map (λ d. item.Character d) cs))) (put_character s page c)
     (λ p. lay-letters s p cs rest)
-    ∙ sym (then-assoc (λ (p : Page T M). put_characters s p cs) (λ (q : Page T M). lay s q rest) (put_character s page c))
+    ∙ sym (then_assoc (λ (p : Page T M). put_items s p (map (λ d. item.Character d) cs)) (λ (q : Page T M). lay s q rest) (put_character s page c))
 
 pub lay-soft : {T M : Type 0} (s : Setting) (page : Page T M) (cs : List (Character T)) (rest : List (Part T M)) →
-    lay s page (map Soft cs ++ rest) ≡ lay s (put_all_fitting s page cs) rest
+    lay s page (map Soft cs ++ rest) ≡ lay s (fold (put_fitting s) page cs) rest
 lay-soft s page [] rest = refl
 lay-soft s page (c ∷ cs) rest = lay-soft s (put_fitting s page c) cs rest
 
@@ -93,9 +80,10 @@ begun : {T M : Type 0} (lines : List (Line T M)) (line : Line T M) (ls : List (L
 begun lines line ls left o h = h ∙ ap (λ ks. Some (ks, left)) (append_assoc lines (line ∷ []) ls)
 
 -- the last line behind others
-pub last-line : {T M : Type 0} (lines : List (Line T M)) (line : Line T M) → IsNotEmpty line → with_line lines line ≡ lines ++ line ∷ []
+pub last-line : {T M : Type 0} (lines : List (Line T M)) (line : Line T M) → IsNotEmpty line →
+    cond (is_empty line) lines (lines ++ line ∷ []) ≡ lines ++ line ∷ []
 last-line lines [] i = absurd i
-last-line lines (x ∷ xs) i = refl
+last-line lines (x ∷ xs) i = rw (is_empty-cons x xs) refl
 
 -- the lines of the parts are laid behind any lines
 pub laid : {T M : Type 0} {s : Setting} {b : Bool} {before : List M} {ps : List (Part T M)} {ls : List (Line T M)} {left : List M} →

@@ -1,74 +1,51 @@
 -- Parts that stand on a line are laid there.
-use Rattle.std.proofs.Common.{◌≡◌, ◌+◌, ◌≤◌, ◌<◌, Bool, true, false, cond, List, [], ◌∷◌, ◌++◌, Option, Some, None, refl, sym, ap, ◌∙◌}
-use Rattle.std.proofs.Common.{leb, arith, option_and_then, append_assoc}
+use Rattle.std.proofs.Common.{◌≡◌, ◌+◌, ◌≤◌, ◌<◌, Bool, true, cond, List, [], ◌∷◌, ◌++◌, Option, Some, None, refl, sym, ap, ◌∙◌}
+use Rattle.std.proofs.Common.{arith, option_and_then, append_assoc}
 use Rattle.std.proofs.lemmas.Bool.{le-leb, lt-leb}
 use Rattle.html_render_lines.specs.declared.character.Character.{Character}
 use Rattle.html_render_lines.specs.declared.character.Item.{Item}
-use Rattle.html_render_lines.specs.declared.line.Element.TheVariants as element
-use Rattle.html_render_lines.specs.Character.{width_of, tag_on}
+use Rattle.html_render_lines.specs.declared.character.Kind.TheVariants.{Preserved}
+use Rattle.html_render_lines.specs.Character.{width_of}
 use Rattle.html_render_lines.specs.Line.{Line, columns, word_columns}
-use Rattle.html_render_paragraphs.specs.Paragraph.{Page, Setting, with_due_space, continued, page_for_word, gap_width_of, put_word, put_items}
-use Rattle.html_render_paragraphs.specs.Paragraph.{with_fitting_space, put_fitting}
-use Rattle.html_render_lines.specs.laws.Columns.{columns-append, width-space}
-use Rattle.html_render_lines.specs.laws.Cases.{if_true, if_false}
+use Rattle.html_render_paragraphs.specs.Paragraph.{Page, Setting, continued, page_for_word, page_for_single, put_word, put_items, put_fitting}
+use Rattle.html_render_paragraphs.specs.Paragraph.{with_due_space, fits}
+use Rattle.html_render_lines.specs.laws.Cases.{if_true, if_false, is_empty-cons}
 use Rattle.html_render_meaning.specs.Meaning.{Part, Whole, Between, Soft, Marked, spaced, with_whole, with_letter, character_count, StandOn}
 use Rattle.html_render_meaning.specs.Meaning.{nothing, whole, alone, between, no_between, soft, no_soft, marked}
 use Rattle.html_render_meaning.specs.laws.Words.{page_of, page_with_word, columns-with_word, columns-with_letter, put_items-fitting, put_items-alone}
-use Rattle.html_render_meaning.specs.laws.Laying.{lay}
-
-same : {X : Type 0} (a : Bool) (x : X) → cond a x x ≡ x
-same true x = refl
-same false x = refl
+use Rattle.html_render_meaning.specs.laws.Laying.{lay, same}
 
 -- ---- the space before a word
 
 spaced-page : {T M : Type 0} (lines : List (Line T M)) (line : Line T M) (b : Bool) (ms : List M) (space : Option (Character T)) →
     with_due_space (page_of lines line b ms) space ≡ page_of lines (spaced b line space) b ms
-spaced-page lines [] b ms None = refl
+spaced-page lines line b ms None = refl
 spaced-page lines [] b ms (Some c) = refl
-spaced-page lines (x ∷ xs) b ms None = refl
-spaced-page lines (x ∷ xs) b ms (Some c) = refl
-
-columns-spaced : {T M : Type 0} (b : Bool) (line : Line T M) (space : Option (Character T)) →
-    columns (spaced b line space) ≡ columns line + gap_width_of line space
-columns-spaced b [] None = omega arith
-columns-spaced b [] (Some c) = omega arith
-columns-spaced b (x ∷ xs) None = omega arith
-columns-spaced {T} {M} b (x ∷ xs) (Some c) =
-    let one : Line T M = element.Character 32 (tag_on b c) ∷ [] in
-    let e = columns-append (x ∷ xs) one in
-    let f : columns one ≡ 1 = omega (arith, width-space) in
-    omega (arith, e, f)
-
-columns-whole : {T M : Type 0} (b : Bool) (line : Line T M) (ms : List M) (space : Option (Character T)) (word : List (Item T M)) →
-    columns (with_whole b line ms space word) ≡ columns line + (gap_width_of line space + word_columns word)
-columns-whole b line ms space word =
-    let e = columns-with_word b (spaced b line space) ms word in
-    let f = columns-spaced b line space in
-    omega (arith, e, f)
+spaced-page lines (x ∷ xs) b ms (Some c) = rw (is_empty-cons x xs) refl
 
 -- the page for a word that fits
 page_for_word-fitting : {T M : Type 0} (s : Setting) (lines : List (Line T M)) (line : Line T M) (b : Bool) (ms : List M)
     (space : Option (Character T)) (word : List (Item T M)) → columns (with_whole b line ms space word) ≤ s.width →
     page_for_word s (page_of lines line b ms) space word ≡ page_of lines (spaced b line space) b ms
-page_for_word-fitting s lines line b ms space word h =
-    let e = columns-whole b line ms space word in
-    if_true _ _ _ (le-leb (columns line + (gap_width_of line space + word_columns word)) s.width (omega (arith, e, h)))
-    ∙ spaced-page lines line b ms space
+page_for_word-fitting {T} {M} s lines line b ms space word h =
+    let e = columns-with_word b (spaced b line space) ms word in
+    ap (λ (p : Page T M). cond (fits s p (word_columns word)) p (continued (page_of lines line b ms))) (spaced-page lines line b ms space)
+    ∙ if_true _ _ _ (le-leb (columns (spaced b line space) + word_columns word) s.width (omega (arith, e, h)))
 
 -- for one that doesn't
 pub page_for_word-full : {T M : Type 0} (s : Setting) (lines : List (Line T M)) (line : Line T M) (b : Bool) (ms : List M)
     (space : Option (Character T)) (word : List (Item T M)) → s.width < columns (with_whole b line ms space word) →
     page_for_word s (page_of lines line b ms) space word ≡ continued (page_of lines line b ms)
-page_for_word-full s lines line b ms space word h =
-    let e = columns-whole b line ms space word in
-    if_false _ _ _ (lt-leb (columns line + (gap_width_of line space + word_columns word)) s.width (omega (arith, e, h)))
+page_for_word-full {T} {M} s lines line b ms space word h =
+    let e = columns-with_word b (spaced b line space) ms word in
+    ap (λ (p : Page T M). cond (fits s p (word_columns word)) p (continued (page_of lines line b ms))) (spaced-page lines line b ms space)
+    ∙ if_false _ _ _ (lt-leb (columns (spaced b line space) + word_columns word) s.width (omega (arith, e, h)))
 
 -- and for one that begins a line
 pub page_for_word-start : {T M : Type 0} (s : Setting) (lines : List (Line T M)) (b : Bool) (ms : List M)
     (space : Option (Character T)) (word : List (Item T M)) → page_for_word s (page_of lines [] b ms) space word ≡ page_of lines [] b ms
-page_for_word-start {T} {M} s lines b ms space word =
-    same (leb (columns {T = T} {M = M} [] + (gap_width_of {T = T} {M = M} [] space + word_columns word)) s.width) _
+page_for_word-start s lines b ms None word = same (fits s (page_of lines [] b ms) (word_columns word)) _
+page_for_word-start s lines b ms (Some c) word = same (fits s (page_of lines [] b ms) (word_columns word)) _
 
 -- ---- words
 
@@ -95,16 +72,16 @@ put_word-alone {T} {M} s lines b ms space word o h =
 
 pub space-fitting : {T M : Type 0} (s : Setting) (lines : List (Line T M)) (line : Line T M) (b : Bool) (ms : List M) (c : Character T) →
     columns (spaced b line (Some c)) ≤ s.width →
-    with_fitting_space s (page_of lines line b ms) (Some c) ≡ page_of lines (spaced b line (Some c)) b ms
-space-fitting s lines line b ms c h =
-    let e = columns-spaced b line (Some c) in
-    if_true _ _ _ (le-leb (columns line + gap_width_of line (Some c)) s.width (omega (arith, e, h))) ∙ spaced-page lines line b ms (Some c)
+    page_for_single s (page_of lines line b ms) (Some c) Preserved ≡ page_of lines (spaced b line (Some c)) b ms
+space-fitting {T} {M} s lines line b ms c h =
+    ap (λ (p : Page T M). cond (fits s p 0) p (page_of lines line b ms)) (spaced-page lines line b ms (Some c))
+    ∙ if_true _ _ _ (le-leb (columns (spaced b line (Some c)) + 0) s.width (omega (arith, h)))
 
 pub space-full : {T M : Type 0} (s : Setting) (lines : List (Line T M)) (line : Line T M) (b : Bool) (ms : List M) (c : Character T) →
-    s.width < columns (spaced b line (Some c)) → with_fitting_space s (page_of lines line b ms) (Some c) ≡ page_of lines line b ms
-space-full s lines line b ms c h =
-    let e = columns-spaced b line (Some c) in
-    if_false _ _ _ (lt-leb (columns line + gap_width_of line (Some c)) s.width (omega (arith, e, h)))
+    s.width < columns (spaced b line (Some c)) → page_for_single s (page_of lines line b ms) (Some c) Preserved ≡ page_of lines line b ms
+space-full {T} {M} s lines line b ms c h =
+    ap (λ (p : Page T M). cond (fits s p 0) p (page_of lines line b ms)) (spaced-page lines line b ms (Some c))
+    ∙ if_false _ _ _ (lt-leb (columns (spaced b line (Some c)) + 0) s.width (omega (arith, h)))
 
 pub soft-fitting : {T M : Type 0} (s : Setting) (lines : List (Line T M)) (line : Line T M) (b : Bool) (ms : List M) (c : Character T) →
     columns (with_letter b line ms c) ≤ s.width →

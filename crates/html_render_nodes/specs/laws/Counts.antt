@@ -1,4 +1,4 @@
--- The counts of a walk, said of others that visit the same nodes, and where nothing was visited.
+-- The counts of a walk, said of others that visit the same nodes, and where a walk failed.
 use Rattle.std.specs.Prelude.{◌≡◌, ◌≤◌, List, length, Result, Ok, Err, OnOk}
 use Rattle.std.specs.Result.{IsErrAnd}
 use Rattle.std.proofs.Common.{arith, subst, ◌∙◌}
@@ -23,18 +23,25 @@ counts-same {X} {E} {K} r m n t s d old other new same peak probes c = record {
   probes = c.probes ∙ probes;
 }
 
-pub none-counted : {X E K S : Type 0} (r : Result X E) (Q : E → Type 0) → IsErrAnd r Q → (visits : Visits K S)
-    (t : Forest K) (s : S) (old new : Meter) → new.entered ≡ 0 → new.left ≡ 0 → new.frames ≡ 0 →
-    new.probes ≡ old.probes → CountsNodes r visits t s old new
-none-counted (Ok x) Q h visits t s old new entered left frames probes = absurd h
-none-counted (Err e) Q h visits t s old new entered left frames probes = record {
+pub failed-counted : {X E K S : Type 0} (r : Result X E) (Q : E → Type 0) → IsErrAnd r Q → (visits : Visits K S)
+    (t : Forest K) (s : S) (old new : Meter) → new.entered ≤ length (visited visits t s) → new.left ≤ new.entered →
+    new.frames ≤ most_open visits t s → new.probes ≡ old.probes → CountsNodes r visits t s old new
+failed-counted (Ok x) Q h visits t s old new entered left frames probes = absurd h
+failed-counted (Err e) Q h visits t s old new entered left frames probes = record {
   entered = tt;
   left = tt;
-  entered_at_most = omega arith;
-  left_at_most = omega arith;
+  entered_at_most = entered;
+  left_at_most = left;
   visited_at_most = visited-at_most visits t s;
   frames = tt;
-  frames_at_most = omega arith;
+  frames_at_most = frames;
   open_at_most = most_open-at_most visits t s;
   probes = probes;
 }
+
+-- where nothing was visited
+pub none-counted : {X E K S : Type 0} (r : Result X E) (Q : E → Type 0) → IsErrAnd r Q → (visits : Visits K S)
+    (t : Forest K) (s : S) (old new : Meter) → new.entered ≡ 0 → new.left ≡ 0 → new.frames ≡ 0 →
+    new.probes ≡ old.probes → CountsNodes r visits t s old new
+none-counted r Q h visits t s old new entered left frames probes =
+    failed-counted r Q h visits t s old new (omega arith) (omega arith) (omega arith) probes

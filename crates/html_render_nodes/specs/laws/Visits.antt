@@ -3,7 +3,11 @@ use Rattle.std.specs.Prelude.{ℕ, ◌+◌, ◌≤◌, ◌≡◌, true, List, []
 use Rattle.std.specs.Option.{option_map_or}
 use Rattle.std.proofs.Common.{arith, length-append}
 use Rattle.html_render_values.specs.Forest.{Forest, none, node, count, depth}
-use Rattle.html_render_nodes.specs.Pass.{Visits, Places, bare, placed, through_visit, inside, run_at, nodes_at, visited, open_at, most_open}
+use Rattle.html_render_nodes.specs.Pass.{Visit, Leaf, Visits, Places, bare, placed, through_visit, inside, run_at, nodes_at, visited, open_at, most_open}
+
+-- a visit from a state that there may be
+abbrev pub from_state : {S : Type 0} → Option S → (S → Visit S) → Visit S
+from_state o visit = option_map_or visit o (Leaf None)
 
 -- what is visited, and what is counted, from a state on, if there is one
 abbrev pub from : {K S : Type 0} → (S → List K) → Option S → List K
@@ -12,9 +16,9 @@ from nodes o = option_map_or nodes o []
 abbrev pub count_from : {S : Type 0} → (S → ℕ) → Option S → ℕ
 count_from count o = option_map_or count o 0
 
-length-from : {K S : Type 0} (visits : S → List K) (n : ℕ) (o : Option S) → ((s : S) → length (visits s) ≤ n) → length (from visits o) ≤ n
-length-from visits n None h = omega arith
-length-from visits n (Some s) h = h s
+pub length-from : {K S : Type 0} (nodes : S → List K) (o : Option S) → length (from nodes o) ≡ count_from (λ s. length (nodes s)) o
+length-from nodes None = refl
+length-from nodes (Some s) = refl
 
 count_from-at_most : {S : Type 0} (count : S → ℕ) (n : ℕ) (o : Option S) → ((s : S) → count s ≤ n) → count_from count o ≤ n
 count_from-at_most count n None h = omega arith
@@ -31,14 +35,16 @@ module _ {K S : Type 0} (visits : Visits K S) where
   nodes-at_most none places number s = omega arith
   nodes-at_most (node k children beside) places number s =
       let visit = placed (places number s) (visits k children) s in
-      let below = from (λ x. nodes_at true visits x.0 0 children x.1) (inside visit) in
+      let nodes : Places S × S → List K = λ x. nodes_at true visits x.0 0 children x.1 in
       let next : S → List K = λ t. nodes_at true visits places (number + 1) beside t in
       let behind = through_visit visit (λ places q. run_at visits places 0 children q) in
       omega (
         arith,
-        length-append below (from next behind),
-        length-from (λ x. nodes_at true visits x.0 0 children x.1) (count children) (inside visit) (λ x. nodes-at_most children x.0 0 x.1),
-        length-from next (count beside) behind (λ t. nodes-at_most beside places (number + 1) t),
+        length-append (from nodes (inside visit)) (from next behind),
+        length-from nodes (inside visit),
+        length-from next behind,
+        count_from-at_most (λ x. length (nodes x)) (count children) (inside visit) (λ x. nodes-at_most children x.0 0 x.1),
+        count_from-at_most (λ t. length (next t)) (count beside) behind (λ t. nodes-at_most beside places (number + 1) t),
       )
 
   pub visited-at_most : (t : Forest K) (s : S) → length (visited visits t s) ≤ count t

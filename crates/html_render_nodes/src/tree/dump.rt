@@ -7,7 +7,7 @@ ghost use Rattle.html_render_nodes.specs.Dump.{dump, kind_name, line};
 use super::{Emphasis, NodeKind, RenderTree};
 use std::fmt;
 
-/// Writes a name behind so many spaces, and a line feed.
+/// Writes a name behind `depth` spaces, and a line feed.
 fn write_line<W: fmt::Write>(f: &mut fmt::Formatter<W>, depth: usize, name: &str) -> fmt::Result
     ensures { WritesOnOk W.write_str_gives f.old result (line depth name.now) f.new }
 {
@@ -16,7 +16,7 @@ fn write_line<W: fmt::Write>(f: &mut fmt::Formatter<W>, depth: usize, name: &str
     f.write_str("\n")
 }
 
-/// Writes so many spaces.
+/// Writes `depth` spaces.
 fn write_indent<W: fmt::Write>(f: &mut fmt::Formatter<W>, depth: usize) -> fmt::Result
     ensures { WritesOnOk W.write_str_gives f.old result (replicate depth 32) f.new }
 {

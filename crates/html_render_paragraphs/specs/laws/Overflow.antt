@@ -29,8 +29,8 @@ module _ {T M : Type 0} (w : ℕ) where
     line_break = λ p h. tt;
     character = λ p c h. always (leb (columns p.line + width_of c.code) w) (leb (width_of c.code) w) _ _;
     fitting = λ p c h. tt;
-    word = λ p pending x h. tt;
-    space = λ p pending h. tt;
+    due = λ p pending n h e. tt;
+    next = λ p h. tt;
   }
 
   -- THE LAW: where there is a page, it is the same with overflow on
@@ -41,8 +41,8 @@ module _ {T M : Type 0} (w : ℕ) where
     line_break = λ p h. tt;
     character = λ p c h. same o (leb (columns p.line + width_of c.code) w) (leb (width_of c.code) w) _ _;
     fitting = λ p c h. tt;
-    word = λ p pending x h. tt;
-    space = λ p pending h. tt;
+    due = λ p pending n h e. tt;
+    next = λ p h. tt;
   }
 
 -- THE LAWS, of a paragraph

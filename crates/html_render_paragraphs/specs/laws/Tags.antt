@@ -1,7 +1,7 @@
 -- Whatever the tags are, the wrapping is the same: it commutes with a map of them.
-use Rattle.std.proofs.Common.{◌≡◌, ℕ, ◌+◌, ◌-◌, ◌%◌, Bool, true, false, leb, sym, List, [], ◌∷◌, ◌++◌, map, replicate, refl, option_map}
-use Rattle.std.proofs.Common.{Option, None, Some, ap, ◌∙◌, suc, zero}
-use Rattle.std.proofs.lemmas.List.{map-append}
+use Rattle.std.proofs.Common.{◌≡◌, ℕ, ◌+◌, ◌-◌, ◌%◌, Bool, true, false, leb, eqb, sym, List, [], ◌∷◌, ◌++◌, map, fold, replicate, refl, option_map}
+use Rattle.std.proofs.Common.{Option, None, Some, is_some, ap, ◌∙◌, suc, zero}
+use Rattle.std.proofs.lemmas.List.{map-append, length-map}
 use Rattle.std.specs.Option.{option_or}
 use Rattle.html_render_values.specs.WhiteSpace.{preserves}
 use Rattle.html_render_lines.specs.declared.character.Kind.{Kind}
@@ -12,15 +12,14 @@ use Rattle.html_render_lines.specs.declared.character.Item.{Item}
 use Rattle.html_render_lines.specs.declared.character.Item.TheVariants as item
 use Rattle.html_render_lines.specs.declared.line.Element.TheVariants as element
 use Rattle.html_render_lines.specs.Character.{kind, width_of, tag_on}
-use Rattle.html_render_lines.specs.Line.{Line, columns, item_width, word_columns}
-use Rattle.html_render_paragraphs.specs.Paragraph.{Page, Setting, with_waiting_mark, with_character, with_space, with_line, with_line_break}
-use Rattle.html_render_paragraphs.specs.Paragraph.{put_character, put_characters, put_items, put_fitting, put_all_fitting, put_word, put_single}
-use Rattle.html_render_paragraphs.specs.Paragraph.{page_for_word, with_due_space_by, continued, continued_by, with_fitting_space, page_for_single}
-use Rattle.html_render_paragraphs.specs.Paragraph.{gap_width, gap_width_of, tab_spaces, fits, all_lines}
+use Rattle.html_render_lines.specs.Line.{Line, columns, item_width, word_columns, is_empty}
+use Rattle.html_render_paragraphs.specs.Paragraph.{Page, Setting, with_waiting_mark, with_character, with_line_break, put_character, put_items}
+use Rattle.html_render_paragraphs.specs.Paragraph.{put_fitting, put_word, put_single, page_for_word, with_due_space, continued, page_for_single}
+use Rattle.html_render_paragraphs.specs.Paragraph.{tab_spaces, fits, all_lines}
 use Rattle.html_render_lines.specs.Tags.{element_with, line_with, lines_with}
 use Rattle.html_render_lines.specs.laws.Tags.{if_with, then_with, map_with, sum_same, columns-with, marks-with}
-use Rattle.html_render_paragraphs.specs.Stream.{State, end_word_by, end_word, joins, begin_word, letter_step, single_step, then_single, with_pending}
-use Rattle.html_render_paragraphs.specs.Stream.{character_step, mark_step_by, step, after, finished, styled}
+use Rattle.html_render_paragraphs.specs.Stream.{State, end_word, joins, begin_word, letter_step, single_step, then_single, with_pending}
+use Rattle.html_render_paragraphs.specs.Stream.{character_step, mark_step, step, after, finished, styled}
 
 abbrev pub character_with : {T U : Type 0} → (T → U) → Character T → Character U
 character_with f c = record { code = c.code; mode = c.mode; tag = f c.tag; continuation_tag = f c.continuation_tag }
@@ -73,17 +72,12 @@ module _ {T U M : Type 0} (f : T → U) where
       ∙ ap (λ l. line_with f p.line ++ l) (sym (map-append (element_with f) marks (element.Character c.code (tag_on p.continues c) ∷ [])))
       ∙ sym (map-append (element_with f) p.line (marks ++ element.Character c.code (tag_on p.continues c) ∷ [])))
 
-  with_space-with : (p : Page T M) (c : Character T) → with_space (page_with p) (character_with f c) ≡ page_with (with_space p c)
-  with_space-with p c =
-      ap (λ l. record (page_with p) { line = l })
-      (ap (λ t. line_with f p.line ++ element.Character 32 t ∷ []) (tag_on-with f p.continues c)
-      ∙ sym (map-append (element_with f) p.line (element.Character 32 (tag_on p.continues c) ∷ [])))
+  empty-with : (l : Line T M) → is_empty (line_with f l) ≡ is_empty l
+  empty-with l = ap (λ n. eqb n 0) (length-map l (element_with f))
 
-  continued_by-with : (p : Page T M) (l : Line T M) → continued_by (page_with p) (line_with f l) ≡ page_with (continued_by p l)
-  continued_by-with p [] = refl
-  continued_by-with p (e ∷ es) =
-      ap (λ ls. record { lines = ls; line = []; continues = true; waiting = p.waiting })
-      (sym (map-append (line_with f) p.lines ((e ∷ es) ∷ [])))
+  continued-with : (p : Page T M) → continued (page_with p) ≡ page_with (continued p)
+  continued-with p = if_with page_with (is_empty p.line) _ _ _ _ _ (empty-with p.line) refl
+      (ap (λ ls. record { lines = ls; line = []; continues = true; waiting = p.waiting }) (sym (map-append (line_with f) p.lines (p.line ∷ []))))
 
   with_line_break-with : (p : Page T M) → with_line_break (page_with p) ≡ page_with (with_line_break p)
   with_line_break-with p = ap (λ ls. record { lines = ls; line = []; continues = false; waiting = p.waiting })
@@ -99,15 +93,12 @@ module _ {T U M : Type 0} (f : T → U) where
         if_with (option_map page_with) (fits s p (width_of c.code)) (fits s (page_with p) (width_of c.code)) _ _ _ _
         (fits-with p (width_of c.code)) (ap Some (with_character-with p c))
         (if_with (option_map page_with) _ _ _ _ _ _ refl
-        (ap (λ q. Some (with_character q (character_with f c))) (continued_by-with p p.line)
+        (ap (λ q. Some (with_character q (character_with f c))) (continued-with p)
         ∙ ap Some (with_character-with (continued p) c)) refl)
 
-    put_characters-with : (p : Page T M) (cs : List (Character T)) →
-        put_characters s (page_with p) (map (character_with f) cs) ≡ option_map page_with (put_characters s p cs)
-    put_characters-with p [] = refl
-    put_characters-with p (c ∷ cs) =
-        then_with page_with page_with (λ q. put_characters s q cs) (λ q. put_characters s q (map (character_with f) cs))
-        (put_character s p c) _ (put_character-with p c) (λ q. put_characters-with q cs)
+    items-with : (cs : List (Character T)) → map item_with (map (λ d. item.Character d) cs) ≡ map (λ d. item.Character d) (map (character_with f) cs)
+    items-with [] = refl
+    items-with (c ∷ cs) = ap (λ xs. item.Character (character_with f c) ∷ xs) (items-with cs)
 
     pub put_items-with : (p : Page T M) (xs : List (Item T M)) →
         put_items s (page_with p) (map item_with xs) ≡ option_map page_with (put_items s p xs)
@@ -122,56 +113,40 @@ module _ {T U M : Type 0} (f : T → U) where
         (fits-with p (width_of c.code)) (with_character-with p c) refl
 
     put_all_fitting-with : (p : Page T M) (cs : List (Character T)) →
-        put_all_fitting s (page_with p) (map (character_with f) cs) ≡ page_with (put_all_fitting s p cs)
+        fold (put_fitting s) (page_with p) (map (character_with f) cs) ≡ page_with (fold (put_fitting s) p cs)
     put_all_fitting-with p [] = refl
-    put_all_fitting-with p (c ∷ cs) = ap (λ q. put_all_fitting s q (map (character_with f) cs)) (put_fitting-with p c)
+    put_all_fitting-with p (c ∷ cs) = ap (λ q. fold (put_fitting s) q (map (character_with f) cs)) (put_fitting-with p c)
         ∙ put_all_fitting-with (put_fitting s p c) cs
 
-    with_due_space_by-with : (p : Page T M) (l : Line T M) (o : Option (Character T)) →
-        with_due_space_by (page_with p) (line_with f l) (option_map (character_with f) o) ≡ page_with (with_due_space_by p l o)
-    with_due_space_by-with p [] None = refl
-    with_due_space_by-with p [] (Some c) = refl
-    with_due_space_by-with p (e ∷ es) None = refl
-    with_due_space_by-with p (e ∷ es) (Some c) = with_space-with p c
+    with_due_space-with : (p : Page T M) (o : Option (Character T)) →
+        with_due_space (page_with p) (option_map (character_with f) o) ≡ page_with (with_due_space p o)
+    with_due_space-with p None = refl
+    with_due_space-with p (Some c) = if_with page_with (is_empty p.line) _ _ _ _ _ (empty-with p.line) refl
+        (ap (λ l. record (page_with p) { line = l })
+        (ap (λ t. line_with f p.line ++ element.Character 32 t ∷ []) (tag_on-with f p.continues c)
+        ∙ sym (map-append (element_with f) p.line (element.Character 32 (tag_on p.continues c) ∷ []))))
 
-    gap_width_of-with : (l : Line T M) (o : Option (Character T)) →
-        gap_width_of (line_with f l) (option_map (character_with f) o) ≡ gap_width_of l o
-    gap_width_of-with [] None = refl
-    gap_width_of-with [] (Some c) = refl
-    gap_width_of-with (e ∷ es) None = refl
-    gap_width_of-with (e ∷ es) (Some c) = refl
+    due_fits-with : (p : Page T M) (o : Option (Character T)) (n : ℕ) →
+        fits s (with_due_space (page_with p) (option_map (character_with f) o)) n ≡ fits s (with_due_space p o) n
+    due_fits-with p o n = ap (λ q. fits s q n) (with_due_space-with p o) ∙ fits-with (with_due_space p o) n
 
     page_for_word-with : (p : Page T M) (o : Option (Character T)) (w : List (Item T M)) →
         page_for_word s (page_with p) (option_map (character_with f) o) (map item_with w) ≡ page_with (page_for_word s p o w)
     page_for_word-with p o w =
-        if_with page_with (fits s p (gap_width p o + word_columns w)) _ _ _ _ _
-        (ap (λ n. fits s (page_with p) (n + word_columns (map item_with w))) (gap_width_of-with p.line o)
-        ∙ ap (λ n. fits s (page_with p) (gap_width p o + n)) (word_columns-with w)
-        ∙ fits-with p (gap_width p o + word_columns w))
-        (with_due_space_by-with p p.line o) (continued_by-with p p.line)
+        if_with page_with (fits s (with_due_space p o) (word_columns w)) _ _ _ _ _
+        (ap (λ n. fits s (with_due_space (page_with p) (option_map (character_with f) o)) n) (word_columns-with w)
+        ∙ due_fits-with p o (word_columns w))
+        (with_due_space-with p o) (continued-with p)
 
     put_word-with : (p : Page T M) (o : Option (Character T)) (w : List (Item T M)) →
         put_word s (page_with p) (option_map (character_with f) o) (map item_with w) ≡ option_map page_with (put_word s p o w)
     put_word-with p o w = ap (λ q. put_items s q (map item_with w)) (page_for_word-with p o w) ∙ put_items-with (page_for_word s p o w) w
 
-    with_fitting_space-with : (p : Page T M) (o : Option (Character T)) →
-        with_fitting_space s (page_with p) (option_map (character_with f) o) ≡ page_with (with_fitting_space s p o)
-    with_fitting_space-with p o =
-        if_with page_with (fits s p (gap_width p o)) _ _ _ _ _
-        (ap (λ n. fits s (page_with p) n) (gap_width_of-with p.line o) ∙ fits-with p (gap_width p o))
-        (with_due_space_by-with p p.line o) refl
-
     page_for_single-with : (p : Page T M) (o : Option (Character T)) (k : Kind) →
         page_for_single s (page_with p) (option_map (character_with f) o) k ≡ page_with (page_for_single s p o k)
     page_for_single-with p o Newline = refl
-    page_for_single-with p o Letter = with_fitting_space-with p o
-    page_for_single-with p o Space = with_fitting_space-with p o
-    page_for_single-with p o Divider = with_fitting_space-with p o
-    page_for_single-with p o Dropped = with_fitting_space-with p o
-    page_for_single-with p o Preserved = with_fitting_space-with p o
-    page_for_single-with p o Tab = with_fitting_space-with p o
-    page_for_single-with p o SoftSpace = with_fitting_space-with p o
-    page_for_single-with p o SoftTab = with_fitting_space-with p o
+    page_for_single-with p o k =
+        if_with page_with (fits s (with_due_space p o) 0) _ _ _ _ _ (due_fits-with p o 0) (with_due_space-with p o) refl
 
     tab_spaces-with : (p : Page T M) (c : Character T) →
         tab_spaces (page_with p) (character_with f c) ≡ map (character_with f) (tab_spaces p c)
@@ -183,22 +158,16 @@ module _ {T U M : Type 0} (f : T → U) where
     put_single-with p Preserved c = put_character-with p c
     put_single-with p SoftSpace c = ap Some (put_fitting-with p c)
     put_single-with p Newline c = ap Some (with_line_break-with p)
-    put_single-with p Tab c = ap (put_characters s (page_with p)) (tab_spaces-with p c) ∙ put_characters-with p (tab_spaces p c)
-    put_single-with p SoftTab c = ap (λ cs. Some (put_all_fitting s (page_with p) cs)) (tab_spaces-with p c)
+    put_single-with p Tab c = ap (λ cs. put_items s (page_with p) (map (λ d. item.Character d) cs)) (tab_spaces-with p c)
+        ∙ ap (put_items s (page_with p)) (sym (items-with (tab_spaces p c))) ∙ put_items-with p (map (λ d. item.Character d) (tab_spaces p c))
+    put_single-with p SoftTab c = ap (λ cs. Some (fold (put_fitting s) (page_with p) cs)) (tab_spaces-with p c)
         ∙ ap Some (put_all_fitting-with p (tab_spaces p c))
-    put_single-with p Letter c = refl
-    put_single-with p Space c = refl
-    put_single-with p Divider c = refl
-    put_single-with p Dropped c = refl
-
-  end_word_by-with : (o : Option Bool) (st : State T M) → end_word_by o (state_with st) ≡ option_map state_with (end_word_by o st)
-  end_word_by-with None st = refl
-  end_word_by-with (Some k) st =
-      map_with page_with state_with _ _ (put_word st.setting st.page st.pending st.word) _
-      (put_word-with st.setting st.page st.pending st.word) (λ p. refl)
+    put_single-with p k c = refl
 
   end_word-with : (st : State T M) → end_word (state_with st) ≡ option_map state_with (end_word st)
-  end_word-with st = end_word_by-with st.open_word st
+  end_word-with st = if_with (option_map state_with) (is_some st.open_word) _ _ _ _ _ refl
+      (map_with page_with state_with _ _ (put_word st.setting st.page st.pending st.word) _
+      (put_word-with st.setting st.page st.pending st.word) (λ p. refl)) refl
 
   letter_step-with : (st : State T M) (c : Character T) →
       letter_step (state_with st) (character_with f c) ≡ option_map state_with (letter_step st c)
@@ -233,19 +202,15 @@ module _ {T U M : Type 0} (f : T → U) where
       (λ t. pending-with t c t.pending)
   character_step-with Divider st c = end_word-with st
   character_step-with Dropped st c = refl
-  character_step-with Preserved st c = then_single-with st Preserved c
-  character_step-with SoftSpace st c = then_single-with st SoftSpace c
-  character_step-with Newline st c = then_single-with st Newline c
-  character_step-with Tab st c = then_single-with st Tab c
-  character_step-with SoftTab st c = then_single-with st SoftTab c
+  character_step-with k st c = then_single-with st k c
 
-  mark_step_by-with : (o : Option Bool) (st : State T M) (m : M) → mark_step_by o (state_with st) m ≡ state_with (mark_step_by o st m)
-  mark_step_by-with None st m = refl
-  mark_step_by-with (Some k) st m = ap (λ w. record (state_with st) { word = w }) (sym (map-append item_with st.word (item.Mark m ∷ [])))
+  mark_step-with : (st : State T M) (m : M) → mark_step (state_with st) m ≡ state_with (mark_step st m)
+  mark_step-with st m = if_with state_with (is_some st.open_word) _ _ _ _ _ refl
+      (ap (λ w. record (state_with st) { word = w }) (sym (map-append item_with st.word (item.Mark m ∷ [])))) refl
 
   step-with : (st : State T M) (x : Item T M) → step (state_with st) (item_with x) ≡ option_map state_with (step st x)
   step-with st (item.Character c) = character_step-with (kind c.mode c.code) st c
-  step-with st (item.Mark m) = ap Some (mark_step_by-with st.open_word st m)
+  step-with st (item.Mark m) = ap Some (mark_step-with st m)
 
   -- THE LAWS: feeding and finishing commute with the map
   pub after-with : (st : State T M) (xs : List (Item T M)) → after (state_with st) (map item_with xs) ≡ option_map state_with (after st xs)
@@ -262,9 +227,6 @@ module _ {T U M : Type 0} (f : T → U) where
       ap (λ l. item_with (item.Character
       (record { code = c; mode = style.mode; tag = style.tag; continuation_tag = style.continuation_tag })) ∷ l) (styled-with style cs)
 
-  with_line-with : (ls : List (Line T M)) (l : Line T M) → with_line (lines_with f ls) (line_with f l) ≡ lines_with f (with_line ls l)
-  with_line-with ls [] = refl
-  with_line-with ls (e ∷ es) = sym (map-append (line_with f) ls ((e ∷ es) ∷ []))
-
   pub all_lines-with : (p : Page T M) → all_lines (page_with p) ≡ lines_with f (all_lines p)
-  all_lines-with p = with_line-with p.lines p.line
+  all_lines-with p = if_with (lines_with f) (is_empty p.line) _ _ _ _ _ (empty-with p.line) refl
+      (sym (map-append (line_with f) p.lines (p.line ∷ [])))

@@ -1,25 +1,26 @@
 -- What is fed character by character is the paragraph of all of them.
-use Rattle.std.proofs.Common.{◌≡◌, ◌+◌, Bool, true, false, cond, leb, sym, List, [], ◌∷◌, ◌++◌, refl, append_assoc, option_map, Option, None, Some}
+use Rattle.std.proofs.Common.{◌≡◌, Bool, true, false, cond, sym, List, [], ◌∷◌, ◌++◌, refl, append_assoc, option_map, Option, None, Some}
 use Rattle.std.proofs.Common.{ap, ◌∙◌, option_and_then, arith}
-use Rattle.std.proofs.lemmas.List.Sums.{sum_by-append}
+use Rattle.std.specs.Bool.{beq}
 use Rattle.html_render_values.specs.WhiteSpace.{preserves}
 use Rattle.html_render_lines.specs.declared.character.Kind.{Kind}
-use Rattle.html_render_lines.specs.declared.character.Kind.TheVariants.{Letter, Space, Divider, Dropped, Preserved, Newline, Tab, SoftSpace, SoftTab}
+use Rattle.html_render_lines.specs.declared.character.Kind.TheVariants.{Letter, Space, Divider, Dropped}
 use Rattle.html_render_lines.specs.declared.character.Character.{Character}
 use Rattle.html_render_lines.specs.declared.character.Item.{Item}
 use Rattle.html_render_lines.specs.declared.character.Item.TheVariants as item
 use Rattle.html_render_lines.specs.Character.{kind}
-use Rattle.html_render_lines.specs.Line.{Line, columns, word_columns, item_width}
-use Rattle.html_render_paragraphs.specs.Paragraph.{Piece, Word, Gap, Cut, Single, Loose, pieces, with_kind, with_letter, with_mark, Page, Setting}
+use Rattle.html_render_lines.specs.Line.{word_columns, is_empty}
+use Rattle.html_render_lines.specs.laws.Columns.{word_columns-append}
+use Rattle.html_render_paragraphs.specs.Paragraph.{Piece, Word, Gap, Cut, Single, pieces, with_kind, with_mark, Page, Setting, fits}
 use Rattle.html_render_paragraphs.specs.Paragraph.{with_waiting_mark, put_character, put_items, put_word, put_single, page_for_word, with_due_space}
-use Rattle.html_render_paragraphs.specs.Paragraph.{with_due_space_by, continued, continued_by, page_for_single, place, paragraph, is_same, gap_width}
+use Rattle.html_render_paragraphs.specs.Paragraph.{continued, page_for_single, place, paragraph}
 use Rattle.html_render_paragraphs.specs.Stream.{State, start, end_word, begin_word, letter_step, single_step, then_single, with_pending, character_step}
-use Rattle.html_render_paragraphs.specs.Stream.{mark_step_by, step, after, finished}
+use Rattle.html_render_paragraphs.specs.Stream.{mark_step, step, after, finished}
 use Rattle.html_render_lines.specs.laws.Cases.{if_cases}
 
 -- ---- options
 
-then_assoc : {A B C : Type 0} (f : A → Option B) (g : B → Option C) (o : Option A) →
+pub then_assoc : {A B C : Type 0} (f : A → Option B) (g : B → Option C) (o : Option A) →
     option_and_then g (option_and_then f o) ≡ option_and_then (λ x. option_and_then g (f x)) o
 then_assoc f g None = refl
 then_assoc f g (Some x) = refl
@@ -29,7 +30,7 @@ map_and_then : {A B C : Type 0} (f : A → B) (g : B → Option C) (o : Option A
 map_and_then f g None = refl
 map_and_then f g (Some x) = refl
 
-then_same : {A B : Type 0} (f g : A → Option B) (o : Option A) → ((x : A) → f x ≡ g x) → option_and_then f o ≡ option_and_then g o
+pub then_same : {A B : Type 0} (f g : A → Option B) (o : Option A) → ((x : A) → f x ≡ g x) → option_and_then f o ≡ option_and_then g o
 then_same f g None e = refl
 then_same f g (Some x) e = e x
 
@@ -40,40 +41,33 @@ map_is_then f (Some x) = refl
 -- ---- marks and words
 
 -- a mark before a word is the same as a mark in front of it
-with_due_space-with_waiting_mark : {T M : Type 0} (page : Page T M) (m : M) (line : Line T M) (pending : Option (Character T)) →
-    with_due_space_by (with_waiting_mark page m) line pending ≡ with_waiting_mark (with_due_space_by page line pending) m
-with_due_space-with_waiting_mark page m [] pending = refl
-with_due_space-with_waiting_mark page m (e ∷ es) None = refl
-with_due_space-with_waiting_mark page m (e ∷ es) (Some c) = refl
-
-continued-with_waiting_mark : {T M : Type 0} (page : Page T M) (m : M) (line : Line T M) →
-    continued_by (with_waiting_mark page m) line ≡ with_waiting_mark (continued_by page line) m
-continued-with_waiting_mark page m [] = refl
-continued-with_waiting_mark page m (e ∷ es) = refl
-
-word_columns-mark : {T M : Type 0} (m : M) (w : List (Item T M)) → word_columns {T = T} (item.Mark m ∷ w) ≡ word_columns w
-word_columns-mark {T} {M} m w = let e = sum_by-append (λ (x : Item T M). item_width x) (item.Mark m ∷ []) w in omega (arith, e)
-
 word_columns-push_mark : {T M : Type 0} (w : List (Item T M)) (m : M) → word_columns (w ++ item.Mark m ∷ []) ≡ word_columns w
-word_columns-push_mark {T} {M} w m = let e = sum_by-append (λ (x : Item T M). item_width x) w (item.Mark m ∷ []) in omega (arith, e)
+word_columns-push_mark {T} {M} w m = omega (arith, word_columns-append w (item.Mark m ∷ []))
 
 if_with_waiting_mark : {T M : Type 0} (b : Bool) (p q p' q' : Page T M) (m : M) → p ≡ with_waiting_mark p' m → q ≡ with_waiting_mark q' m →
     cond b p q ≡ with_waiting_mark (cond b p' q') m
 if_with_waiting_mark true p q p' q' m e f = e
 if_with_waiting_mark false p q p' q' m e f = f
 
+with_due_space-with_waiting_mark : {T M : Type 0} (page : Page T M) (m : M) (pending : Option (Character T)) →
+    with_due_space (with_waiting_mark page m) pending ≡ with_waiting_mark (with_due_space page pending) m
+with_due_space-with_waiting_mark page m None = refl
+with_due_space-with_waiting_mark page m (Some c) = if_with_waiting_mark (is_empty page.line) _ _ _ _ m refl refl
+
 page_for_word-with_waiting_mark : {T M : Type 0} (s : Setting) (page : Page T M) (pending : Option (Character T)) (m : M)
     (w : List (Item T M)) → page_for_word s (with_waiting_mark page m) pending w
     ≡ with_waiting_mark (page_for_word s page pending (item.Mark m ∷ w)) m
-page_for_word-with_waiting_mark s page pending m w = rw (word_columns-mark m w)
-    (if_with_waiting_mark (leb (columns page.line + (gap_width page pending + word_columns w)) s.width) _ _ _ _ m
-    (with_due_space-with_waiting_mark page m page.line pending) (continued-with_waiting_mark page m page.line))
+page_for_word-with_waiting_mark {T} {M} s page pending m w =
+    ap (λ (p : Page T M). cond (fits s p (word_columns w)) p (continued (with_waiting_mark page m)))
+    (with_due_space-with_waiting_mark page m pending)
+    ∙ if_with_waiting_mark (fits s (with_due_space page pending) (word_columns w)) _ _ _ _ m refl
+    (if_with_waiting_mark (is_empty page.line) _ _ _ _ m refl refl)
 
 put_word-with_waiting_mark : {T M : Type 0} (s : Setting) (page : Page T M) (pending : Option (Character T)) (m : M)
     (w : List (Item T M)) → put_word s (with_waiting_mark page m) pending w ≡ put_word s page pending (item.Mark m ∷ w)
 put_word-with_waiting_mark s page pending m w = ap (λ p. put_items s p w) (page_for_word-with_waiting_mark s page pending m w)
 
-put_items-append : {T M : Type 0} (s : Setting) (page : Page T M) (v w : List (Item T M)) →
+pub put_items-append : {T M : Type 0} (s : Setting) (page : Page T M) (v w : List (Item T M)) →
     put_items s page (v ++ w) ≡ option_and_then (λ p. put_items s p w) (put_items s page v)
 put_items-append s page [] w = refl
 put_items-append {T} {M} s page (item.Character c ∷ v) w =
@@ -88,7 +82,7 @@ put_word-push_mark : {T M : Type 0} (s : Setting) (page : Page T M) (pending : O
     put_word s page pending (w ++ item.Mark m ∷ []) ≡ option_map (λ (p : Page T M). with_waiting_mark p m) (put_word s page pending w)
 put_word-push_mark {T} {M} s page pending w m =
     let e : page_for_word s page pending (w ++ item.Mark m ∷ []) ≡ page_for_word s page pending w =
-    ap (λ n. cond (leb (columns page.line + (gap_width page pending + n)) s.width) (with_due_space page pending) (continued page))
+    ap (λ n. cond (fits s (with_due_space page pending) n) (with_due_space page pending) (continued page))
     (word_columns-push_mark w m) in
     ap (λ p. put_items s p (w ++ item.Mark m ∷ [])) e
     ∙ put_items-append s (page_for_word s page pending w) w (item.Mark m ∷ [])
@@ -96,13 +90,9 @@ put_word-push_mark {T} {M} s page pending w m =
 
 place-mark : {T M : Type 0} (s : Setting) (page : Page T M) (pending : Option (Character T)) (m : M) (ps : List (Piece T M)) →
     place s (with_waiting_mark page m) pending ps ≡ place s page pending (with_mark m ps)
-place-mark s page pending m [] = refl
 place-mark {T} {M} s page pending m (Word k w ∷ ps) =
     ap (λ o. option_and_then (λ (p : Page T M). place s p None ps) o) (put_word-with_waiting_mark s page pending m w)
-place-mark s page pending m (Gap c ∷ ps) = refl
-place-mark s page pending m (Cut ∷ ps) = refl
-place-mark s page pending m (Single k c ∷ ps) = refl
-place-mark s page pending m (Loose n ∷ ps) = refl
+place-mark s page pending m ps = refl
 
 -- a word and then a mark
 place-word_mark : {T M : Type 0} (s : Setting) (page : Page T M) (pending : Option (Character T)) (k : Bool) (w : List (Item T M)) (m : M)
@@ -116,12 +106,8 @@ place-word_mark {T} {M} s page pending k w m ps =
 -- ---- the open word before the pieces
 
 abbrev glue_word : {T M : Type 0} → Bool → List (Item T M) → List (Piece T M) → List (Piece T M)
-glue_word k w [] = Word k w ∷ []
-glue_word k w (Word j v ∷ ps) = cond (is_same k j) (Word k (w ++ v) ∷ ps) (Word k w ∷ Word j v ∷ ps)
-glue_word k w (Gap c ∷ ps) = Word k w ∷ Gap c ∷ ps
-glue_word k w (Cut ∷ ps) = Word k w ∷ Cut ∷ ps
-glue_word k w (Single j c ∷ ps) = Word k w ∷ Single j c ∷ ps
-glue_word k w (Loose m ∷ ps) = Word k w ∷ Loose m ∷ ps
+glue_word k w (Word j v ∷ ps) = cond (beq k j) (Word k (w ++ v) ∷ ps) (Word k w ∷ Word j v ∷ ps)
+glue_word k w ps = Word k w ∷ ps
 
 abbrev glue : {T M : Type 0} → Option Bool → List (Item T M) → List (Piece T M) → List (Piece T M)
 glue None w ps = ps
@@ -162,91 +148,50 @@ after_word g q ps s e ends page pending w None = e page pending w
 after_word g q ps s e ends page pending w (Some k) = end_resumes g (q ∷ ps) s e page pending w k
     ∙ ap (λ x. place s page pending x) (sym (ends k w))
 
+-- a letter as a word of its own
+glue-letter : {T M : Type 0} (c : Character T) (ps : List (Piece T M)) →
+    glue_word (preserves c.mode) (item.Character c ∷ []) ps ≡ with_kind Letter c ps
+glue-letter c (Word j v ∷ ps) = refl
+glue-letter c ps = refl
+
 -- a letter that joins the open word
-abbrev letter_by : {T M : Type 0} → Bool → Character T → List (Piece T M) → List (Piece T M)
-letter_by k c (Word i v ∷ ps) = cond (is_same k i) (Word k (item.Character c ∷ v) ∷ ps) (Word k (item.Character c ∷ []) ∷ Word i v ∷ ps)
-letter_by k c [] = Word k (item.Character c ∷ []) ∷ []
-letter_by k c (Gap d ∷ ps) = Word k (item.Character c ∷ []) ∷ Gap d ∷ ps
-letter_by k c (Cut ∷ ps) = Word k (item.Character c ∷ []) ∷ Cut ∷ ps
-letter_by k c (Single i d ∷ ps) = Word k (item.Character c ∷ []) ∷ Single i d ∷ ps
-letter_by k c (Loose m ∷ ps) = Word k (item.Character c ∷ []) ∷ Loose m ∷ ps
-
-letter_is : {T M : Type 0} (c : Character T) (ps : List (Piece T M)) → letter_by (preserves c.mode) c ps ≡ with_letter c ps
-letter_is c [] = refl
-letter_is c (Word i v ∷ ps) = refl
-letter_is c (Gap d ∷ ps) = refl
-letter_is c (Cut ∷ ps) = refl
-letter_is c (Single i d ∷ ps) = refl
-letter_is c (Loose m ∷ ps) = refl
-
-joined : {T M : Type 0} (k j : Bool) (w : List (Item T M)) (c : Character T) (ps : List (Piece T M)) → is_same k j ≡ true →
-    glue_word j (w ++ item.Character c ∷ []) ps ≡ glue_word j w (letter_by k c ps)
+joined : {T M : Type 0} (k j : Bool) (w : List (Item T M)) (c : Character T) (ps : List (Piece T M)) → beq k j ≡ true →
+    glue_word j (w ++ item.Character c ∷ []) ps ≡ glue_word j w (glue_word k (item.Character c ∷ []) ps)
 joined true false w c ps e = cc
 joined false true w c ps e = cc
-joined true true w c [] e = refl
 joined true true w c (Word true v ∷ ps) e = ap (λ x. Word true x ∷ ps) (append_assoc w (item.Character c ∷ []) v)
-joined true true w c (Word false v ∷ ps) e = refl
-joined true true w c (Gap d ∷ ps) e = refl
-joined true true w c (Cut ∷ ps) e = refl
-joined true true w c (Single i d ∷ ps) e = refl
-joined true true w c (Loose m ∷ ps) e = refl
-joined false false w c [] e = refl
-joined false false w c (Word true v ∷ ps) e = refl
 joined false false w c (Word false v ∷ ps) e = ap (λ x. Word false x ∷ ps) (append_assoc w (item.Character c ∷ []) v)
-joined false false w c (Gap d ∷ ps) e = refl
-joined false false w c (Cut ∷ ps) e = refl
-joined false false w c (Single i d ∷ ps) e = refl
-joined false false w c (Loose m ∷ ps) e = refl
+joined k j w c ps e = refl
 
-apart : {T M : Type 0} (k j : Bool) (w : List (Item T M)) (c : Character T) (ps : List (Piece T M)) → is_same k j ≡ false →
-    Word j w ∷ letter_by k c ps ≡ glue_word j w (letter_by k c ps)
+apart : {T M : Type 0} (k j : Bool) (w : List (Item T M)) (c : Character T) (ps : List (Piece T M)) → beq k j ≡ false →
+    Word j w ∷ glue_word k (item.Character c ∷ []) ps ≡ glue_word j w (glue_word k (item.Character c ∷ []) ps)
 apart true true w c ps e = cc
 apart false false w c ps e = cc
-apart true false w c [] e = refl
-apart true false w c (Word true v ∷ ps) e = refl
-apart true false w c (Word false v ∷ ps) e = refl
-apart true false w c (Gap d ∷ ps) e = refl
-apart true false w c (Cut ∷ ps) e = refl
-apart true false w c (Single i d ∷ ps) e = refl
-apart true false w c (Loose m ∷ ps) e = refl
-apart false true w c [] e = refl
-apart false true w c (Word true v ∷ ps) e = refl
-apart false true w c (Word false v ∷ ps) e = refl
-apart false true w c (Gap d ∷ ps) e = refl
-apart false true w c (Cut ∷ ps) e = refl
-apart false true w c (Single i d ∷ ps) e = refl
-apart false true w c (Loose m ∷ ps) e = refl
-
-glue-began : {T M : Type 0} (c : Character T) (ps : List (Piece T M)) →
-    glue_word (preserves c.mode) (item.Character c ∷ []) ps ≡ with_letter c ps
-glue-began c [] = refl
-glue-began c (Word j v ∷ ps) = refl
-glue-began c (Gap d ∷ ps) = refl
-glue-began c (Cut ∷ ps) = refl
-glue-began c (Single j d ∷ ps) = refl
-glue-began c (Loose m ∷ ps) = refl
+apart k j w c (Word true v ∷ ps) e = refl
+apart k j w c (Word false v ∷ ps) e = refl
+apart k j w c ps e = refl
 
 -- a letter that begins a word
 began : {T M : Type 0} (c : Character T) (xs : List (Item T M)) (ps : List (Piece T M)) → ((t : State T M) → run t xs ≡ resume t ps) →
     (s : Setting) (p : Page T M) (pending : Option (Character T)) (w : List (Item T M)) →
-    run (begin_word (state s p pending w None) c) xs ≡ place s p pending (with_letter c ps)
-began c xs ps ih s p pending w = ih (begin_word (state s p pending w None) c) ∙ ap (λ x. place s p pending x) (glue-began c ps)
+    run (begin_word (state s p pending w None) c) xs ≡ place s p pending (with_kind Letter c ps)
+began c xs ps ih s p pending w = ih (begin_word (state s p pending w None) c) ∙ ap (λ x. place s p pending x) (glue-letter c ps)
 
 letter_resumes : {T M : Type 0} (c : Character T) (xs : List (Item T M)) (ps : List (Piece T M)) →
     ((t : State T M) → run t xs ≡ resume t ps) →
     (s : Setting) (page : Page T M) (pending : Option (Character T)) (w : List (Item T M)) (k : Option Bool) →
-    option_and_then (λ t. run t xs) (letter_step (state s page pending w k) c) ≡ resume (state s page pending w k) (with_letter c ps)
+    option_and_then (λ t. run t xs) (letter_step (state s page pending w k) c) ≡ resume (state s page pending w k) (with_kind Letter c ps)
 letter_resumes c xs ps ih s page pending w None = began c xs ps ih s page pending w
 letter_resumes {T} {M} c xs ps ih s page pending w (Some j) =
-    if_cases (λ o. option_and_then (λ (t : State T M). run t xs) o ≡ place s page pending (glue_word j w (with_letter c ps)))
-    (is_same (preserves c.mode) j) _ _
+    if_cases (λ o. option_and_then (λ (t : State T M). run t xs) o ≡ place s page pending (glue_word j w (with_kind Letter c ps)))
+    (beq (preserves c.mode) j) _ _
     (λ e. ih (state s page pending (w ++ item.Character c ∷ []) (Some j))
-    ∙ ap (λ x. place s page pending x) (joined (preserves c.mode) j w c ps e ∙ ap (λ x. glue_word j w x) (letter_is c ps)))
+    ∙ ap (λ x. place s page pending x) (joined (preserves c.mode) j w c ps e ∙ ap (λ x. glue_word j w x) (glue-letter c ps)))
     (λ e. map_and_then (λ (t : State T M). begin_word t c) (λ (t : State T M). run t xs) (end_word (state s page pending w (Some j)))
-    ∙ end_resumes (λ (t : State T M). run (begin_word t c) xs) (with_letter c ps) s
+    ∙ end_resumes (λ (t : State T M). run (begin_word t c) xs) (with_kind Letter c ps) s
     (λ p pend v. began c xs ps ih s p pend v) page pending w j
-    ∙ ap (λ x. place s page pending x) (ap (λ x. Word j w ∷ x) (sym (letter_is c ps)) ∙ apart (preserves c.mode) j w c ps e
-    ∙ ap (λ x. glue_word j w x) (letter_is c ps)))
+    ∙ ap (λ x. place s page pending x) (ap (λ x. Word j w ∷ x) (sym (glue-letter c ps)) ∙ apart (preserves c.mode) j w c ps e
+    ∙ ap (λ x. glue_word j w x) (glue-letter c ps)))
 
 single_resumes : {T M : Type 0} (k : Kind) (c : Character T) (xs : List (Item T M)) (ps : List (Piece T M)) →
     ((t : State T M) → run t xs ≡ resume t ps) →
@@ -273,30 +218,20 @@ character_resumes {T} {M} Space c xs ps ih s page pending w o =
 character_resumes {T} {M} Divider c xs ps ih s page pending w o =
     after_word (λ (t : State T M). run t xs) Cut ps s (λ p pend v. ih (state s p pend v None)) (λ j v. refl) page pending w o
 character_resumes Dropped c xs ps ih s page pending w o = ih (state s page pending w o)
-character_resumes Preserved c xs ps ih s page pending w o = single_resumes Preserved c xs ps ih s page pending w o
-character_resumes SoftSpace c xs ps ih s page pending w o = single_resumes SoftSpace c xs ps ih s page pending w o
-character_resumes Newline c xs ps ih s page pending w o = single_resumes Newline c xs ps ih s page pending w o
-character_resumes Tab c xs ps ih s page pending w o = single_resumes Tab c xs ps ih s page pending w o
-character_resumes SoftTab c xs ps ih s page pending w o = single_resumes SoftTab c xs ps ih s page pending w o
+character_resumes k c xs ps ih s page pending w o = single_resumes k c xs ps ih s page pending w o
 
 glue-mark : {T M : Type 0} (s : Setting) (page : Page T M) (pending : Option (Character T)) (k : Bool) (w : List (Item T M)) (m : M)
     (ps : List (Piece T M)) → place s page pending (glue_word k (w ++ item.Mark m ∷ []) ps)
     ≡ place s page pending (glue_word k w (with_mark m ps))
-glue-mark s page pending k w m [] = place-word_mark s page pending k w m []
 glue-mark s page pending true w m (Word true v ∷ ps) =
     ap (λ x. place s page pending (Word true x ∷ ps)) (append_assoc w (item.Mark m ∷ []) v)
-glue-mark s page pending true w m (Word false v ∷ ps) = place-word_mark s page pending true w m (Word false v ∷ ps)
-glue-mark s page pending false w m (Word true v ∷ ps) = place-word_mark s page pending false w m (Word true v ∷ ps)
 glue-mark s page pending false w m (Word false v ∷ ps) =
     ap (λ x. place s page pending (Word false x ∷ ps)) (append_assoc w (item.Mark m ∷ []) v)
-glue-mark s page pending k w m (Gap c ∷ ps) = place-word_mark s page pending k w m (Gap c ∷ ps)
-glue-mark s page pending k w m (Cut ∷ ps) = place-word_mark s page pending k w m (Cut ∷ ps)
-glue-mark s page pending k w m (Single j c ∷ ps) = place-word_mark s page pending k w m (Single j c ∷ ps)
-glue-mark s page pending k w m (Loose n ∷ ps) = place-word_mark s page pending k w m (Loose n ∷ ps)
+glue-mark s page pending k w m ps = place-word_mark s page pending k w m ps
 
 mark_resumes : {T M : Type 0} (m : M) (xs : List (Item T M)) (ps : List (Piece T M)) → ((t : State T M) → run t xs ≡ resume t ps) →
     (s : Setting) (page : Page T M) (pending : Option (Character T)) (w : List (Item T M)) (o : Option Bool) →
-    run (mark_step_by o (state s page pending w o) m) xs ≡ resume (state s page pending w o) (with_mark m ps)
+    run (mark_step (state s page pending w o) m) xs ≡ resume (state s page pending w o) (with_mark m ps)
 mark_resumes m xs ps ih s page pending w None = ih (state s (with_waiting_mark page m) pending w None) ∙ place-mark s page pending m ps
 mark_resumes m xs ps ih s page pending w (Some k) = ih (state s page pending (w ++ item.Mark m ∷ []) (Some k))
     ∙ glue-mark s page pending k w m ps

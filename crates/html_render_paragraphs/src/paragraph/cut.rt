@@ -1,9 +1,9 @@
 //! Texts that are cut into lines where a line is full, and nowhere else.
 
-ghost use Rattle.std.specs.Prelude.{◌≡◌, ◌++◌, Some, OnOk, IfErr, option_map};
+ghost use Rattle.std.specs.Prelude.{◌≡◌, [], ◌∷◌, ◌++◌, Some, true, OnOk, IfErr, option_map};
 ghost use Rattle.std.specs.Str.{chars};
 ghost use Rattle.html_render_values.specs.Outcome.{Refuses};
-ghost use Rattle.html_render_paragraphs.specs.CutText.{kept_style, ended_lines, cut_lines};
+ghost use Rattle.html_render_paragraphs.specs.CutText.{kept_style, text_lines};
 ghost use Rattle.html_render_paragraphs.specs.Paragraph.{put_items};
 ghost use Rattle.html_render_paragraphs.specs.Stream.{styled};
 
@@ -29,7 +29,7 @@ fn kept_style<T: Copy>(tag: T) -> TextStyle<T>
 impl<T: Tag, M: Copy> Paragraph<T, M> {
     /// Moves all lines of the page behind the given ones, the open one too.
     fn move_ended_lines(&mut self, lines: &mut Vec<Line<T, M>>) -> Result<(), AllocError>
-        ensures { OnOk result (lines.new.items ≡ lines.old.items ++ ended_lines self.old.page) }
+        ensures { OnOk result (lines.new.items ≡ lines.old.items ++ (self.old.page.lines ++ self.old.page.line ∷ [])) }
     {
         self.break_line()?;
         self.move_lines(lines)
@@ -54,8 +54,8 @@ pub fn push_cut_text<T: Tag, M: Copy>(
     overflow: bool,
 ) -> Result<(), Error>
     ensures ok { OnOk result (option_map (λ cut. lines.old.items ++ cut)
-        (cut_lines (record { width = width; overflow = overflow }) tag (chars text.now)) ≡ Some lines.new.items) }
-    ensures err { IfErr result (λ e. Refuses e (cut_lines {M = M} (record { width = width; overflow = overflow }) tag (chars text.now))) }
+        (text_lines (record { width = width; overflow = overflow }) true tag (chars text.now)) ≡ Some lines.new.items) }
+    ensures err { IfErr result (λ e. Refuses e (text_lines {M = M} (record { width = width; overflow = overflow }) true tag (chars text.now))) }
 {
     let mut paragraph: Paragraph<T, M> = Paragraph::new(alloc, width, overflow);
     paragraph.make_room(text.len())?;

@@ -121,7 +121,7 @@ impl<T: Tag, M: Copy> Paragraph<T, M> {
         self.add_classed(class_of(style.mode, c), c, style)
     }
 
-    /// Takes letters of so many columns that come together.
+    /// Takes letters of `width` columns that come together.
     #[tactic(auto, using(html_render_values::specs::laws::Outcome::refusals))]
     fn add_letters(&mut self, letters: &str, width: usize, style: TextStyle<T>) -> Result<(), Error>
         requires { width ≡ text_columns (chars letters.now) }
@@ -146,7 +146,7 @@ impl<T: Tag, M: Copy> Paragraph<T, M> {
         matches!(self.open_word, OpenWord::Closed) && self.word.is_empty()
     }
 
-    /// Takes a word of so many columns and the space behind it, where no word is open.
+    /// Takes a word of `width` columns and the space behind it, where no word is open.
     #[inline]
     #[tactic(auto, using(html_render_values::specs::laws::Outcome::refusals))]
     fn add_word(

@@ -1,17 +1,17 @@
 //! What is placed on a page: characters with the marks that wait for them, spaces that are due, and ends of lines.
 
-ghost use Rattle.std.specs.Prelude.{IfErr, map, replicate, ◌≡◌, ◌+◌, ◌-◌, ◌%◌, [], ◌∷◌, ◌++◌, Some, None, OnOk, if◌then◌else◌};
+ghost use Rattle.std.specs.Prelude.{IfErr, fold, map, replicate, ◌≡◌, ◌+◌, ◌-◌, ◌%◌, [], ◌∷◌, ◌++◌, Some, None, OnOk, if◌then◌else◌};
 ghost use Rattle.html_render_values.specs.Outcome.{Refuses};
-ghost use Rattle.html_render_lines.specs.Character.{width_of};
+ghost use Rattle.html_render_lines.specs.Character.{width_of, tag_on};
 ghost use Rattle.html_render_lines.specs.Line.{columns};
-ghost use Rattle.html_render_paragraphs.specs.Paragraph.{fits, with_character, with_space, continued, with_line_break, put_character, put_characters};
-ghost use Rattle.html_render_paragraphs.specs.Paragraph.{put_fitting, put_all_fitting, with_due_space, page_for_single, gap_width};
+ghost use Rattle.html_render_paragraphs.specs.Paragraph.{fits, with_character, continued, with_line_break, put_character, put_items};
+ghost use Rattle.html_render_paragraphs.specs.Paragraph.{put_fitting, with_due_space, page_for_single};
 ghost use Rattle.html_render_paragraphs.specs.Paragraph.{with_waiting_mark, put_single, tab_spaces};
 ghost use Rattle.html_render_paragraphs.specs.Stream.{on_page, single_step};
 
 use crate::paragraph::Paragraph;
 use crate::word::tag_on;
-use html_render_lines::character::{Character, Class, Kind, width_of};
+use html_render_lines::character::{Character, Class, Item, Kind, width_of};
 use html_render_lines::line::{Element, Line};
 use html_render_lines::tag::Tag;
 use html_render_values::Error;
@@ -19,7 +19,7 @@ use std::alloc::AllocError;
 use std::mem;
 
 impl<T: Tag, M: Copy> Paragraph<T, M> {
-    /// Whether so many more columns fit on the line.
+    /// Whether `more` columns fit on the line.
     #[inline]
     pub(super) fn fits(&self, more: usize) -> bool
         ensures { result ≡ fits self.now.setting self.now.page more }
@@ -31,10 +31,10 @@ impl<T: Tag, M: Copy> Paragraph<T, M> {
         }
     }
 
-    /// Whether so many columns fit on the line behind the space that is due.
+    /// Whether `more` columns fit on the line behind the space that is due.
     #[inline]
     pub(super) fn fits_behind_gap(&self, more: usize) -> bool
-        ensures { result ≡ fits self.now.setting self.now.page (gap_width self.now.page self.now.pending + more) }
+        ensures { result ≡ fits self.now.setting (with_due_space self.now.page self.now.pending) more }
     {
         let width = self.width;
         let gap = self.gap_width();
@@ -48,8 +48,9 @@ impl<T: Tag, M: Copy> Paragraph<T, M> {
 
     /// The columns of the space that is due: none at the start of a line.
     #[inline]
+    #[tactic(auto, using(crate::proofs::PageColumns::widths))]
     fn gap_width(&self) -> usize
-        ensures { result ≡ gap_width self.now.page self.now.pending }
+        ensures { columns (with_due_space self.now.page self.now.pending).line ≡ columns self.now.page.line + result }
     {
         if self.pending.is_some() && !self.line.is_empty() {
             1
@@ -85,7 +86,9 @@ impl<T: Tag, M: Copy> Paragraph<T, M> {
     /// Puts a separating space.
     #[tactic(auto, using(crate::proofs::PageColumns::widths))]
     fn push_space(&mut self, character: Character<T>) -> Result<(), AllocError>
-        ensures { OnOk result (self.new ≡ record self.old { page = with_space self.old.page character }) }
+        ensures { OnOk result (self.new ≡ record self.old {
+          page = record self.old.page { line = self.old.page.line ++ Element.Character 32 (tag_on self.old.page.continues character) ∷ [] };
+        }) }
     {
         let tag = tag_on(self.continues, &character);
         self.line.push_char(' ', 1, tag)
@@ -108,7 +111,7 @@ impl<T: Tag, M: Copy> Paragraph<T, M> {
     fn settle_for(&mut self, kind: Kind) -> Result<(), AllocError>
         ensures { OnOk result (self.new ≡ record self.old { page = page_for_single self.old.setting self.old.page self.old.pending kind; pending = None }) }
     {
-        if kind != Kind::Newline && self.fits(self.gap_width()) {
+        if kind != Kind::Newline && self.fits_behind_gap(0) {
             self.place_space()
         } else {
             self.pending = None;
@@ -221,11 +224,13 @@ impl<T: Tag, M: Copy> Paragraph<T, M> {
         8 - self.line.past_tab_stop()
     }
 
-    /// Puts so many spaces, each on the line or else on the next one.
+    /// Puts `count` spaces, each on the line or else on the next one.
     #[tactic(auto, using(html_render_values::specs::laws::Outcome::refusals, crate::proofs::Copies::copies_left))]
     fn put_copies(&mut self, character: Character<T>, count: usize) -> Result<(), Error>
-        ensures ok { OnOk result (on_page self.old (put_characters self.old.setting self.old.page (replicate count character)) ≡ Some self.new) }
-        ensures err { IfErr result (λ e. Refuses e (put_characters self.old.setting self.old.page (replicate count character))) }
+        ensures ok { OnOk result (
+            on_page self.old (put_items self.old.setting self.old.page (map (λ d. Item.Character d) (replicate count character))) ≡ Some self.new) }
+        ensures err { IfErr result (λ e.
+            Refuses e (put_items self.old.setting self.old.page (map (λ d. Item.Character d) (replicate count character)))) }
     {
         let width = width_of(character.code);
         for _k in 0..count {
@@ -234,14 +239,14 @@ impl<T: Tag, M: Copy> Paragraph<T, M> {
         Ok(())
     }
 
-    /// Puts as many of so many spaces as fit on the line.
+    /// Puts as many of `count` spaces as fit on the line.
     #[tactic(auto, using(crate::proofs::Copies::copies_left))]
     fn put_fitting_copies(
         &mut self,
         character: Character<T>,
         count: usize,
     ) -> Result<(), AllocError>
-        ensures { OnOk result (self.new ≡ record self.old { page = put_all_fitting self.old.setting self.old.page (replicate count character) }) }
+        ensures { OnOk result (self.new ≡ record self.old { page = fold (put_fitting self.old.setting) self.old.page (replicate count character) }) }
     {
         let width = width_of(character.code);
         for _k in 0..count {
@@ -252,8 +257,10 @@ impl<T: Tag, M: Copy> Paragraph<T, M> {
 
     /// Puts a tab: spaces to the next multiple of 8 columns, on the next line what doesn't fit.
     fn put_tab(&mut self, character: Character<T>) -> Result<(), Error>
-        ensures ok { OnOk result (on_page self.old (put_characters self.old.setting self.old.page (tab_spaces self.old.page character)) ≡ Some self.new) }
-        ensures err { IfErr result (λ e. Refuses e (put_characters self.old.setting self.old.page (tab_spaces self.old.page character))) }
+        ensures ok { OnOk result (
+            on_page self.old (put_items self.old.setting self.old.page (map (λ d. Item.Character d) (tab_spaces self.old.page character))) ≡ Some self.new) }
+        ensures err { IfErr result (λ e.
+            Refuses e (put_items self.old.setting self.old.page (map (λ d. Item.Character d) (tab_spaces self.old.page character)))) }
     {
         let space = Character {
             code: ' ',
@@ -264,7 +271,7 @@ impl<T: Tag, M: Copy> Paragraph<T, M> {
 
     /// Puts a tab: of the spaces to the next multiple of 8 columns those that fit.
     fn put_soft_tab(&mut self, character: Character<T>) -> Result<(), AllocError>
-        ensures { OnOk result (self.new ≡ record self.old { page = put_all_fitting self.old.setting self.old.page (tab_spaces self.old.page character) }) }
+        ensures { OnOk result (self.new ≡ record self.old { page = fold (put_fitting self.old.setting) self.old.page (tab_spaces self.old.page character) }) }
     {
         let space = Character {
             code: ' ',

@@ -6,7 +6,7 @@ ghost use Rattle.std.specs.Str.{chars, IsUtf8};
 ghost use Rattle.html_render_values.specs.Outcome.{Refuses};
 ghost use Rattle.html_render_lines.specs.Character.{width_of, character_of};
 ghost use Rattle.html_render_lines.specs.Line.{columns, word_columns};
-ghost use Rattle.html_render_paragraphs.specs.Paragraph.{fits, gap_width, put_items, put_word};
+ghost use Rattle.html_render_paragraphs.specs.Paragraph.{fits, with_due_space, put_items, put_word};
 ghost use Rattle.html_render_paragraphs.specs.Stream.{on_page, placed_word, end_word, styled};
 ghost use Rattle.html_render_lines.specs.TaggedText.{Cuts, open_elements, items_of, text_columns, style_tag, under};
 ghost use Rattle.html_render_paragraphs.specs.Word.{with_word, EndsInCharacter};
@@ -33,7 +33,7 @@ impl<T: Tag, M: Copy> Paragraph<T, M> {
     /// Whether the space that is due and the open word fit on the line.
     #[inline]
     fn has_room(&self) -> bool
-        ensures { result ≡ fits self.now.setting self.now.page (gap_width self.now.page self.now.pending + word_columns self.now.word) }
+        ensures { result ≡ fits self.now.setting (with_due_space self.now.page self.now.pending) (word_columns self.now.word) }
     {
         let _width = self.width;
         match self.word.columns() {
@@ -249,7 +249,7 @@ impl<T: Tag, M: Copy> Paragraph<T, M> {
         };
     }
 
-    /// Puts a text of so many columns on the line, behind the marks that wait.
+    /// Puts a text of `width` columns on the line, behind the marks that wait.
     #[inline]
     pub(super) fn push_text(
         &mut self,
@@ -271,7 +271,7 @@ impl<T: Tag, M: Copy> Paragraph<T, M> {
             .push_str(text, width, style_tag(style, self.continues))
     }
 
-    /// Puts a text of so many columns, one character or more, where there is place for it.
+    /// Puts a text of `width` columns, one character or more, where there is place for it.
     #[tactic(auto, using(html_render_values::specs::laws::Outcome::refusals, crate::proofs::Words::text_words))]
     fn put_text(&mut self, text: &str, width: usize, style: TextStyle<T>) -> Result<(), Error>
         requires width { width ≡ text_columns (chars text.now) }
@@ -287,7 +287,7 @@ impl<T: Tag, M: Copy> Paragraph<T, M> {
         }
     }
 
-    /// Places a word of so many columns, where none is open.
+    /// Places a word of `width` columns, where none is open.
     #[tactic(auto, using(html_render_values::specs::laws::Outcome::refusals, crate::proofs::WordColumns::texts))]
     pub(super) fn place_text(
         &mut self,
@@ -318,7 +318,7 @@ pub(super) fn character_of<T: Copy>(c: char, style: TextStyle<T>) -> Character<T
     }
 }
 
-/// The printable ASCII characters at the front of a text, at most so many.
+/// The printable ASCII characters at the front of a text, at most `room`.
 #[inline]
 fn plain_front(text: &str, room: usize) -> usize
     ensures front { IsFront text.now result result }
@@ -328,7 +328,7 @@ fn plain_front(text: &str, room: usize) -> usize
     plain_in_front(&bytes[..room.min(bytes.len())])
 }
 
-/// The first character of a text, if it has at most so many columns.
+/// The first character of a text, if it has at most `room` columns.
 fn first_front(text: &str, room: usize) -> Front
     requires { 0 < length text.now }
     ensures front { IsFront text.now result.bytes result.columns }
@@ -348,7 +348,7 @@ fn first_front(text: &str, room: usize) -> Front
     }
 }
 
-/// A front of a text that has at most so many columns: its printable ASCII characters, or else its first character.
+/// A front of a text that has at most `room` columns: its printable ASCII characters, or else its first character.
 fn next_front(text: &str, room: usize) -> Front
     requires { 0 < length text.now }
     ensures front { IsFront text.now result.bytes result.columns }
@@ -364,7 +364,7 @@ fn next_front(text: &str, room: usize) -> Front
     }
 }
 
-/// The longest front of a text that has at most so many columns.
+/// The longest front of a text that has at most `room` columns.
 fn longest_front(text: &str, room: usize) -> Front
     ensures front { IsFront text.now result.bytes result.columns }
     ensures fits { result.columns ≤ room }

@@ -1,10 +1,11 @@
 -- Laws of cuts: how much they hold together, and that there is only one fairest.
 use Rattle.std.proofs.Common.{◌≡◌, ℕ, ◌+◌, ◌-◌, ◌*◌, ◌/◌, ◌<◌, ◌≤◌, ◌⊎◌, List, [], ◌∷◌, length, sum, refl, sym, ◌∙◌, arith, get_or, inl, inr, suc}
 use Rattle.std.proofs.Common.{zero, take, drop}
+use Rattle.std.specs.Prelude.{slice_range}
 use Rattle.std.proofs.lemmas.List.{length-take, length-drop, get_or-take, get_or-drop}
 use Rattle.std.proofs.lemmas.List.Sums.{sum_by-cons}
 use Rattle.std.proofs.lemmas.Bool.{cases_lt, cases_eq}
-use Rattle.html_render_parts.specs.Cuts.{ranges, total_width, CutFits, HoldTogether, IsCut, IsFairestCut}
+use Rattle.html_render_parts.specs.Cuts.{ranges, total_width, CutFits, IsCut, IsFairestCut}
 
 -- ---- ranges
 
@@ -34,6 +35,13 @@ minimums-fit ms ss w h = let e = sum-ranges ms ss h.lengths h.each in let l = h.
 
 -- ---- there is only one fairest cut
 
+pub sum-le : (us vs : List ℕ) → length us ≡ length vs → ((k : ℕ) → k < length us → get_or us k 0 ≤ get_or vs k 0) → sum us ≤ sum vs
+sum-le [] vs e h = omega arith
+sum-le (a ∷ us) [] e h = cc
+sum-le (a ∷ us) (b ∷ vs) e h =
+    let here : a ≤ b = h 0 (omega arith) in
+    omega (arith, here, sum-le us vs (omega arith) (λ k less. h (suc k) (omega arith)), sum_by-cons (λ z. z))
+
 -- two lists of one sum that are in order at each place are equal
 pub same-from_le : (xs ys : List ℕ) → length xs ≡ length ys → sum xs ≡ sum ys → ((k : ℕ) → k < length xs → get_or ys k 0 ≤ get_or xs k 0) →
     xs ≡ ys
@@ -45,13 +53,6 @@ same-from_le (x ∷ xs) (y ∷ ys) e s h =
     let tail : xs ≡ ys = same-from_le xs ys (omega arith)
     (omega (arith, here, rest, s, sum_by-cons (λ z. z) x xs, sum_by-cons (λ z. z) y ys)) (λ k less. h (suc k) (omega arith)) in
     cc
-  where
-    sum-le : (us vs : List ℕ) → length us ≡ length vs → ((k : ℕ) → k < length us → get_or us k 0 ≤ get_or vs k 0) → sum us ≤ sum vs
-    sum-le [] vs e h = omega arith
-    sum-le (a ∷ us) [] e h = cc
-    sum-le (a ∷ us) (b ∷ vs) e h =
-        let here : a ≤ b = h 0 (omega arith) in
-        omega (arith, here, sum-le us vs (omega arith) (λ k less. h (suc k) (omega arith)), sum_by-cons (λ z. z))
 same-from_le xs ys e s h = cc
 
 -- some place of xs is below that of ys, or none is
@@ -76,16 +77,7 @@ crossed ms ss w xs ys i j p q in_i in_j less more =
     let low_yj = q.is_cut.lower j in_j in
     let one = p.last_unit i j in_i in_j (λ e. let t = rw e at less in omega arith) (omega arith) in
     let two = q.last_unit j i in_j in_i (λ e. let t = rw e at more in omega arith) (omega arith) in
-    elim one [
-      | inl a ↦ elim two [ inl b ↦ omega arith | inr b ↦ omega arith ]
-      | inr a ↦ elim two [
-        | inl b ↦ omega arith
-        | inr b ↦ elim a.1 [
-          | inl c ↦ elim b.1 [ inl d ↦ omega arith | inr d ↦ omega arith ]
-          | inr c ↦ elim b.1 [ inl d ↦ omega arith | inr d ↦ omega arith ]
-        ]
-      ]
-    ]
+    grind arith
 
 pub fairest-only : (ms ss : List ℕ) (w : ℕ) (xs ys : List ℕ) → IsFairestCut ms ss w xs → IsFairestCut ms ss w ys → xs ≡ ys
 fairest-only ms ss w xs ys p q =
@@ -124,6 +116,11 @@ neighbours xs m pos h = let t = at-least xs (m / length xs) h in omega arith
     at-least [] q h = omega arith
     at-least (y ∷ ys) q h = let here : q ≤ y = h 0 (omega arith) in let rest = at-least ys q (λ k less. h (suc k) (omega arith)) in
         omega (arith, here, rest, sum_by-cons (λ z. z) y ys)
+
+-- what columns side by side hold together
+abbrev pub HoldTogether : List ℕ → List ℕ → Type 0
+HoldTogether ms ws = (from count size : ℕ) → 0 < count → from + count ≤ length ms →
+    ((k : ℕ) → from ≤ k → k < from + count → size / count ≤ get_or ms k 0) → size ≤ sum (slice_range ws from (from + count)) + (count - 1)
 
 pub neighbours-cut : (ms ss : List ℕ) (w : ℕ) (ws : List ℕ) → IsCut ms ss w ws → HoldTogether ms ws
 neighbours-cut ms ss w ws cut from count m some inside each =

@@ -1,11 +1,12 @@
 -- The loop of single units gives the fairest cut.
-use Rattle.std.proofs.Common.{◌≡◌, ◌≢◌, ℕ, ◌+◌, ◌-◌, ◌<◌, ◌≤◌, ◌⊎◌, List, [], ◌∷◌, length, sum, set, refl, sym, ◌∙◌, arith, get_or, nat_lt, ◌==◌}
+use Rattle.std.proofs.Common.{◌≡◌, ◌≢◌, ℕ, ◌+◌, ◌-◌, ◌<◌, ◌≤◌, List, [], ◌∷◌, length, sum, set, refl, sym, ◌∙◌, arith, get_or, nat_lt, ◌==◌}
 use Rattle.std.proofs.Common.{Bool, true, false, ◌||◌, ◌&&◌, if◌then◌else◌, inl, inr, suc, zero}
-use Rattle.std.proofs.lemmas.List.Sums.{sum_by-cons, sum_by-set}
+use Rattle.std.proofs.lemmas.List.Sums.{sum_by-set}
 use Rattle.std.proofs.lemmas.List.{get_or-set_same, get_or-set_other, length-set}
 use Rattle.std.proofs.lemmas.Bool.{cases_lt, cases_eq}
 use Rattle.std.proofs.lemmas.Bool.Decides.{nat_tests}
-use Rattle.html_render_parts.specs.laws.Cuts.{minimums-fit}
+use Rattle.html_render_parts.specs.laws.Cuts.{minimums-fit, sum-le}
+use Rattle.html_render_parts.specs.laws.GivingOrder.{gives-transitive}
 use Rattle.html_render_parts.specs.Cuts.{GivesBefore, CutFits, IsFairestCut, slack, total_width, giver, without_units, cut_by_units}
 
 -- a cut on its way: the bounds, and that the units were taken from the right columns
@@ -65,16 +66,10 @@ pub best-has : (ms ss ws : List ℕ) (i : ℕ) → IsFairSoFar ms ss ws → i < 
 best-has ms ss ws i h inside best more = elim (cases_lt (get_or ms i 0) (get_or ws i 0)) [
   | inl less ↦ less
   | inr le ↦ absurd (
-      let none = le-sum ws ms h.lengths (λ k less. let len = h.lengths in
+      let none = sum-le ws ms h.lengths (λ k less. let len = h.lengths in
       elim (cases_eq k i) [ inl e ↦ rw e le | inr ne ↦ elim (best k less ne) [ inl a ↦ omega arith | inr a ↦ omega (arith, a.0) ] ]) in
       omega arith)
 ]
-  where
-    le-sum : (us vs : List ℕ) → length us ≡ length vs → ((j : ℕ) → j < length us → get_or us j 0 ≤ get_or vs j 0) → sum us ≤ sum vs
-    le-sum [] [] e h = omega arith
-    le-sum (u ∷ us) (v ∷ vs) e h = let here : u ≤ v = h 0 (omega arith) in
-        omega (arith, here, le-sum us vs (omega arith) (λ j less. h (suc j) (omega arith)), sum_by-cons (λ z. z))
-    le-sum us vs e h = cc
 
 -- ---- the loop
 
@@ -82,23 +77,11 @@ best-has ms ss ws i h inside best more = elim (cases_lt (get_or ms i 0) (get_or 
 abbrev IsGiver : List ℕ → List ℕ → ℕ → ℕ → Type 0
 IsGiver ms ws n b = (b < n) × ((j : ℕ) → j < n → j ≢ b → GivesBefore (slack ms ws b) (get_or ws b 0) b (slack ms ws j) (get_or ws j 0) j)
 
-tested : (s s' w w' : ℕ) → (nat_lt s s' || (s == s' && nat_lt w w')) ≡ true → (s < s') ⊎ ((s ≡ s') × (w < w'))
-tested s s' w w' h = elim (cases_lt s s') [
-  | inl less ↦ inl less
-  | inr le ↦ elim (cases_eq s s') [
-    | inl same ↦ elim (cases_lt w w') [ inl wider ↦ inr (same, wider) | inr not_wider ↦ absurd (grind (arith, nat_tests)) ]
-    | inr other ↦ absurd (grind (arith, nat_tests))
-  ]
-]
+tested : (s s' w w' p p' : ℕ) → (nat_lt s s' || (s == s' && nat_lt w w')) ≡ true → GivesBefore s' w' p' s w p
+tested s s' w w' p p' h = grind (arith, nat_tests)
 
-not-tested : (s s' w w' : ℕ) → (nat_lt s s' || (s == s' && nat_lt w w')) ≡ false → (s' < s) ⊎ ((s ≡ s') × (w' ≤ w))
-not-tested s s' w w' h = elim (cases_lt s' s) [
-  | inl less ↦ inl less
-  | inr le ↦ elim (cases_eq s s') [
-    | inl same ↦ elim (cases_lt w w') [ inl wider ↦ absurd (grind (arith, nat_tests)) | inr not_wider ↦ inr (same, not_wider) ]
-    | inr other ↦ absurd (let less : s < s' = omega arith in grind (arith, nat_tests))
-  ]
-]
+not-tested : (s s' w w' p p' : ℕ) → (nat_lt s s' || (s == s' && nat_lt w w')) ≡ false → p < p' → GivesBefore s w p s' w' p'
+not-tested s s' w w' p p' h left = grind (arith, nat_tests)
 
 one-giver : (ms ws : List ℕ) (t : Bool) → IsGiver ms ws 1 (if t then 0 else 0)
 one-giver ms ws true = (omega arith, λ j less ne. absurd (omega arith))
@@ -108,35 +91,18 @@ more-givers : (ms ws : List ℕ) (n b : ℕ) (t : Bool) → IsGiver ms ws n b �
     t ≡ (nat_lt (slack ms ws b) (slack ms ws n) || (slack ms ws b == slack ms ws n && nat_lt (get_or ws b 0) (get_or ws n 0))) →
     IsGiver ms ws (suc n) (if t then n else b)
 more-givers ms ws n b true h e =
-    let new = tested (slack ms ws b) (slack ms ws n) (get_or ws b 0) (get_or ws n 0) (sym e) in (
+    let new = tested (slack ms ws b) (slack ms ws n) (get_or ws b 0) (get_or ws n 0) b n (sym e) in (
       omega arith,
       λ j less ne. elim (cases_eq j b) [
-        | inl same ↦ rw same (elim new [ inl x ↦ inl x | inr x ↦ inr (x.0, inl x.1) ])
-        | inr other ↦ elim (h.1 j (omega arith) other) [
-          | inl y ↦ elim new [ inl x ↦ inl (omega (arith, x, y)) | inr x ↦ inl (omega (arith, x.0, y)) ]
-          | inr y ↦ elim new [
-            | inl x ↦ inl (omega (arith, x, y.0))
-            | inr x ↦ inr (y.0 ∙ x.0, inl (elim y.1 [ inl z ↦ omega (arith, x.1, z) | inr z ↦ omega (arith, x.1, z.0) ]))
-          ]
-        ]
+        | inl same ↦ rw same new
+        | inr other ↦ gives-transitive (slack ms ws n) (get_or ws n 0) n (slack ms ws b) (get_or ws b 0) b (slack ms ws j) (get_or ws j 0) j
+            new (h.1 j (omega arith) other)
       ],
     )
 more-givers ms ws n b false h e =
-    let old = not-tested (slack ms ws b) (slack ms ws n) (get_or ws b 0) (get_or ws n 0) (sym e) in
-    let inside = h.0 in (
-      omega arith,
-      λ j less ne. elim (cases_eq j n) [
-        | inl same ↦ rw same (elim old [
-          | inl x ↦ inl x
-          | inr x ↦ inr (
-            sym x.0,
-            elim
-                (cases_lt (get_or ws n 0) (get_or ws b 0)) [ inl y ↦ inl y | inr y ↦ inr (omega (arith, x.1), inside) ],
-          )
-        ])
-        | inr other ↦ h.1 j (omega arith) ne
-      ],
-    )
+    let old = not-tested (slack ms ws b) (slack ms ws n) (get_or ws b 0) (get_or ws n 0) b n (sym e) h.0 in
+    let inside = h.0 in
+    (omega arith, λ j less ne. elim (cases_eq j n) [ inl same ↦ rw same old | inr other ↦ h.1 j (omega arith) ne ])
 
 giver-gives : (ms ws : List ℕ) (n : ℕ) → 0 < n → IsGiver ms ws n (giver ms ws n)
 unfolding giver

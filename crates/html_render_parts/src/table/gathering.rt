@@ -7,7 +7,7 @@ use crate::table::numbering::make_rising;
 use std::alloc::{AllocError, Global};
 use std::marker::Model;
 
-/// Before so many positions are gathered, they needn't be put in order.
+/// Fewer positions than this needn't be put in order.
 const FEWEST: usize = 16;
 
 /// Positions that are gathered. They take no more memory than twice as many as are different, and those that came last.

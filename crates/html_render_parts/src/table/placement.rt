@@ -150,7 +150,7 @@ impl RowBuilder {
         Ok(())
     }
 
-    /// Takes so many columns.
+    /// Takes `columns` columns.
     fn put(&mut self, kind: CellKind, columns: u128) -> Result<(), Error>
         ensures ok { OnOk result (put kind columns self.old ≡ Some self.new) }
         ensures err { IfErr result (λ e. Fails e (put kind columns self.old)) }
@@ -193,7 +193,7 @@ impl RowBuilder {
         Ok(())
     }
 
-    /// Takes a cell among the row's own.
+    /// Adds a cell to the row's own.
     fn take_own(&mut self, cell: Standing) -> Result<(), Error>
         ensures ok { OnOk result (self.new ≡ owning cell self.old) }
         ensures err { IfErr result (λ e. e ≡ Error.OutOfMemory) }

@@ -1,7 +1,7 @@
 //! Laws of cuts and of the meter, each the contract of a function that does nothing.
 
-ghost use Rattle.std.specs.Prelude.{◌≡◌, ◌≢◌, ◌==◌, ℕ, ◌+◌, ◌*◌, ◌/◌, ◌≤◌, ◌↔◌, ◌⊎◌, List, All, max, min, sum, if◌then◌else◌, IfSome};
-ghost use Rattle.html_render_parts.specs.Cuts.{cut_by_units, units_taken, CutFits, GivesBefore, IsFairestCut, IsLevelForm};
+ghost use Rattle.std.specs.Prelude.{◌≡◌, ◌≢◌, ◌==◌, ℕ, ◌+◌, ◌-◌, ◌*◌, ◌/◌, ◌≤◌, ◌↔◌, ◌⊎◌, List, All, max, min, sum, if◌then◌else◌, IfSome};
+ghost use Rattle.html_render_parts.specs.Cuts.{cut_by_units, CutFits, GivesBefore, IsFairestCut, IsLevelForm};
 ghost use Rattle.html_render_parts.specs.Needs.{column_needs, table_widths, AreCells, HasRoom};
 ghost use Rattle.html_render_parts.specs.Shares.{least_widths, share, shares};
 
@@ -44,7 +44,7 @@ fn columns_side_by_side()
     ensures share { (width total : ℕ) (need : ColumnNeed) → need.least ≤ need.size
         → share width total need ≡ (if need.size == 0 then 0 else min need.size (max (need.size * width / total) need.least)) }
     ensures taken { (columns : ℕ) (cells : List CellNeed) (width : ℕ)
-        → IfSome (table_widths columns cells width) (λ widths. units_taken (shares width (column_needs columns cells)) widths ≤ width) }
+        → IfSome (table_widths columns cells width) (λ widths. sum (shares width (column_needs columns cells)) - sum widths ≤ width) }
     ensures room { (columns : ℕ) (cells : List CellNeed) (width : ℕ) → AreCells columns cells
         → IfSome (table_widths columns cells width) (λ widths. All (HasRoom widths) cells) }
 {}

@@ -1,7 +1,7 @@
 //! What the columns of a table need for its cells, and how wide they are then side by side.
 
 ghost use Rattle.std.specs.Prelude.{◌≡◌, ◌<◌, ◌↔◌, ℕ, length, map, option_map, slice_index, slice_index_or, IfOk, IfErr, IsTrue};
-ghost use Rattle.html_render_parts.specs.Needs.{no_need, size_part, least_part, column_needs, table_widths, AreSome, AreCells};
+ghost use Rattle.html_render_parts.specs.Needs.{no_need, part, column_needs, table_widths, AreSome, AreCells};
 
 use super::shares::{ColumnNeed, widths_across};
 use super::spans::{Span, greatest_values};
@@ -24,7 +24,7 @@ pub struct CellNeed {
 /// The part of each cell's size that each of its columns has.
 fn size_parts(alloc: Global, cells: &[CellNeed]) -> Result<Vec<Span>, AllocError>
     requires { AreSome cells.now }
-    ensures { IfOk result (λ parts. parts.items ≡ map size_part cells.now) }
+    ensures { IfOk result (λ parts. parts.items ≡ map (λ c. part c c.size) cells.now) }
 {
     let mut parts = Vec::with_capacity(alloc, cells.len())?;
     for cell in cells {
@@ -40,7 +40,7 @@ fn size_parts(alloc: Global, cells: &[CellNeed]) -> Result<Vec<Span>, AllocError
 /// The part of each cell's least width that each of its columns has.
 fn least_parts(alloc: Global, cells: &[CellNeed]) -> Result<Vec<Span>, AllocError>
     requires { AreSome cells.now }
-    ensures { IfOk result (λ parts. parts.items ≡ map least_part cells.now) }
+    ensures { IfOk result (λ parts. parts.items ≡ map (λ c. part c c.least) cells.now) }
 {
     let mut parts = Vec::with_capacity(alloc, cells.len())?;
     for cell in cells {

@@ -2,8 +2,8 @@
 //!
 //! `widths_across(alloc, &[ColumnNeed { size: 9, least: 3 }, ColumnNeed { size: 3, least: 3 }], 8)` is 4 and 3.
 
-ghost use Rattle.std.specs.Prelude.{◌≡◌, ◌≤◌, option_map, IfOk, IfErr};
-ghost use Rattle.html_render_parts.specs.Shares.{least_widths, total_size, share, shares, stand_side_by_side, widths_across};
+ghost use Rattle.std.specs.Prelude.{◌≡◌, ◌≤◌, option_map, sum_by, IfOk, IfErr};
+ghost use Rattle.html_render_parts.specs.Shares.{least_widths, share, shares, stand_side_by_side, widths_across};
 
 use super::cut::column_widths;
 use html_render_values::Error;
@@ -20,7 +20,7 @@ pub struct ColumnNeed {
 
 /// The sizes of columns together.
 fn total_size(needs: &[ColumnNeed]) -> u128
-    ensures { result ≡ total_size needs.now }
+    ensures { result ≡ sum_by (λ n. n.size) needs.now }
 {
     let mut total = 0u128;
     for need in needs {

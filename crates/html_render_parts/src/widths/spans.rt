@@ -18,7 +18,7 @@ pub struct Span {
     pub value: usize,
 }
 
-/// So many zeros.
+/// `count` zeros.
 fn zeros(alloc: Global, count: usize) -> Result<Vec<usize>, AllocError>
     ensures len { IfOk result (λ v. length v.items ≡ count) }
     ensures each { IfOk result (λ v. (k : ℕ) → slice_index v.items k ≡ 0) }
@@ -42,7 +42,7 @@ fn longest(spans: &[Span]) -> usize
     longest
 }
 
-/// Each place gets the greater of its value and the one so many places before it.
+/// Each place gets the greater of its value and the one `offset` places before it.
 fn split(values: &mut Vec<usize>, offset: usize)
     requires { 0 < offset }
     ensures len { length values.new.items ≡ length values.old.items }

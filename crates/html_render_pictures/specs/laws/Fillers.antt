@@ -2,6 +2,7 @@
 use Rattle.std.proofs.Common.{◌≡◌, ℕ, suc, zero, ◌+◌, ◌-◌, ◌*◌, ◌<◌, ◌≤◌, true, false, List, ◌&&◌}
 use Rattle.std.proofs.Common.{[], ◌∷◌, ◌++◌, take, length, replicate, refl, sym, ap, ◌∙◌, subst, arith, append_assoc, length-append}
 use Rattle.std.proofs.Math.Utf8.{encode, encodes, scalar, scalars}
+use Rattle.std.proofs.Math.Nat.{sub-zero}
 use Rattle.std.proofs.lemmas.List.{take_at, replicate-append-replicate}
 use Rattle.std.proofs.lemmas.List.Elements.{All-replicate}
 use Rattle.std.proofs.lemmas.List.Folds.{sum_by-replicate}
@@ -32,13 +33,11 @@ scalars-replicate c (suc n) s = ap (λ b. b && scalars (replicate n c)) s ∙ sc
 
 parted : (c count all : ℕ) → count ≤ all → encodes (replicate all c) ≡ encodes (replicate count c) ++ encodes (replicate (all - count) c)
 parted c count all h =
-    ap (λ n. encodes (replicate n c)) (together count all h) ∙ ap encodes (sym (replicate-append-replicate count (all - count) c))
+    let whole : all ≡ count + (all - count) = omega (arith, h) in
+    ap (λ n. encodes (replicate n c)) whole ∙ ap encodes (sym (replicate-append-replicate count (all - count) c))
     ∙ encodes-append (replicate count c) (replicate (all - count) c)
-  where
-    together : (count all : ℕ) → count ≤ all → all ≡ count + (all - count)
-    together count all h = omega (arith, h)
 
--- as many of a text's first bytes as so many characters have
+-- the bytes of a text's first `count` characters
 module _ (c count all bytes : ℕ) (text : List ℕ) (s : scalar c ≡ true) (is : text ≡ encodes (replicate all c)) (each : bytes ≡ len_utf8 c)
     (h : count ≤ all) where
   first_length : length (encodes (replicate count c)) ≡ count * bytes
@@ -51,13 +50,10 @@ module _ (c count all bytes : ℕ) (text : List ℕ) (s : scalar c ≡ true) (is
 
   pub first_chars : chars (slice_range text 0 (count * bytes)) ≡ replicate count c
   first_chars =
-      ap (λ n. chars (take n text)) (same (count * bytes))
+      ap (λ n. chars (take n text)) (sub-zero (count * bytes))
       ∙ ap (λ bs. chars (take (count * bytes) bs)) (is ∙ parted c count all h)
       ∙ ap chars (take_at (encodes (replicate count c)) (encodes (replicate (all - count) c)) (count * bytes) first_length)
       ∙ chars-encodes (replicate count c) (scalars-replicate c count s)
-    where
-      same : (n : ℕ) → n - 0 ≡ n
-      same n = omega arith
 
 -- spaces are the bytes that they are spelt with
 pub chars-spaces : (count : ℕ) → chars (replicate count 0x20) ≡ replicate count 0x20
@@ -85,13 +81,11 @@ pub fillers_parted : {T M : Type 0} (filler : Filler) (tag : T) (line : Line T M
     ≡ line ++ repeated tag (character_of filler) left
 fillers_parted {T} {M} filler tag line next left h =
     let c = character_of filler in
+    let whole : next + (left - next) ≡ left = omega (arith, h) in
     ap (λ l. (line ++ l) ++ repeated tag c (left - next)) (under-replicate M tag c next)
     ∙ append_assoc line (repeated tag c next) (repeated tag c (left - next))
     ∙ ap (λ l. line ++ l) (replicate-append-replicate next (left - next) (Character c tag))
-    ∙ ap (λ n. line ++ repeated tag c n) (together next left h)
-  where
-    together : (next left : ℕ) → next ≤ left → next + (left - next) ≡ left
-    together next left h = omega (arith, h)
+    ∙ ap (λ n. line ++ repeated tag c n) whole
 
 -- one more
 pub filler_more : {T M : Type 0} (filler : Filler) (tag : T) (count : ℕ) →
@@ -100,7 +94,4 @@ filler_more filler tag count = replicate-append-replicate count 1 (Character (ch
 
 -- an empty line is filled with spaces alone
 pub blank_filled : {T M : Type 0} (tag : T) (width : ℕ) → filled_line {M = M} tag width [] ≡ repeated tag (character_of Space) width
-blank_filled {T} {M} tag width = ap (λ n. repeated {M = M} tag 0x20 n) (same width)
-  where
-    same : (n : ℕ) → n - 0 ≡ n
-    same n = omega arith
+blank_filled {T} {M} tag width = ap (λ n. repeated {M = M} tag 0x20 n) (sub-zero width)

@@ -3,8 +3,7 @@ use Rattle.std.proofs.Common.{◌≡◌, Bool, true, false, cond}
 use Rattle.html_render_glyphs.specs.declared.borders.TheConstants.{BORDERS}
 use Rattle.html_render_glyphs.specs.laws.Widths.{width_at}
 use Rattle.html_render_lines.specs.Character.{width_of}
-use Rattle.html_render_pictures.specs.declared.picture.Frame.{Frame}
-use Rattle.html_render_pictures.specs.Picture.{joint, separator}
+use Rattle.html_render_pictures.specs.Picture.{joint}
 
 pub space_width : width_of 0x20 ≡ 1
 unfolding width_of
@@ -17,13 +16,10 @@ joint_width true false = width_at 2
 joint_width false true = width_at 3
 joint_width false false = width_at 4
 
-pub separator_width : {T : Type 0} (frame : Frame T) → width_of (separator frame) ≡ 1
+pub separator_width : (borders : Bool) → width_of (cond borders BORDERS.separator 0x20) ≡ 1
 unfolding width_of
-separator_width frame = by frame.borders
-  where
-    by : (b : Bool) → width_of (cond b BORDERS.separator 0x20) ≡ 1
-    by true = width_at 5
-    by false = width_at 0
+separator_width true = width_at 5
+separator_width false = width_at 0
 
 pub slash_width : width_of BORDERS.slash ≡ 1
 unfolding width_of

@@ -4,8 +4,8 @@ use Rattle.std.proofs.lemmas.List.{append-nil, append_assoc}
 use Rattle.html_render_lines.specs.Line.{Line}
 use Rattle.html_render_pictures.specs.Marked.{marked_before}
 use Rattle.html_render_pictures.specs.declared.picture.Frame.{Frame}
-use Rattle.html_render_pictures.specs.Picture.{TableRow, DrawnRow, is_drawn, waiting_in, separators_of, next_separators, drawn_rows}
-use Rattle.html_render_pictures.specs.Picture.{left_waiting, border, row_lines, rows_lines, has_top, topped_lines, picture}
+use Rattle.html_render_pictures.specs.Picture.{TableRow, is_drawn, waiting_in, separators_of, next_separators, left_waiting, border, row_lines}
+use Rattle.html_render_pictures.specs.Picture.{rows_lines, has_top, picture}
 use Rattle.html_render_pictures.specs.Drawing.{Drawing, due_lines, due_below, with_cells, with_rows, begun, finished}
 
 module _ {T M : Type 0} where
@@ -18,32 +18,28 @@ module _ {T M : Type 0} where
       by true = refl
       by false = refl
 
-  -- where the drawing leads, and what it leads to
-  abbrev Leads : Frame T → Drawing T M → List (TableRow T M) → List (Line T M) → List (DrawnRow T M) → List M → Type 0
-  Leads frame d rows lines ds left = finished (with_rows d rows) ≡ (lines ++ rows_lines frame ds, left)
-
   -- the rows that are left lead to the lines so far, the border that is due, and their own lines
-  leads : (d : Drawing T M) (rows : List (TableRow T M)) →
-      Leads d.frame d rows (d.lines ++ due_lines d.frame d.due (next_separators (drawn_rows d.waiting rows))) (drawn_rows d.waiting rows)
-      (left_waiting d.waiting rows)
+  leads : (d : Drawing T M) (rows : List (TableRow T M)) → finished (with_rows d rows)
+      ≡ ((d.lines ++ due_lines d.frame d.due (next_separators rows)) ++ rows_lines d.frame d.waiting rows, left_waiting d.waiting rows)
   leads d [] = ap (λ ls. (ls, d.waiting)) (sym (append-nil (d.lines ++ due_lines d.frame d.due [])))
   leads d (r ∷ rs) =
       let waiting = d.waiting ++ waiting_in r.cells in
-      let ds = drawn_rows [] rs in
-      let first : DrawnRow T M = record { marks = waiting; cells = r.cells } in
       let undrawn : Drawing T M = record d { waiting = waiting } in
       let done = d.lines ++ due_lines d.frame d.due (separators_of r.cells) in
       let row = marked_before waiting (row_lines d.frame r.cells) in
-      let below : List (Line T M) = cond d.frame.borders (border d.frame (separators_of r.cells) (next_separators ds) ∷ []) [] in
-      elim (is_drawn r) as (λ b. Leads d.frame (cond b (with_cells d r.cells) undrawn) rs
-      (d.lines ++ due_lines d.frame d.due (next_separators (cond b (first ∷ ds) (drawn_rows waiting rs))))
-      (cond b (first ∷ ds) (drawn_rows waiting rs)) (left_waiting (cond b [] waiting) rs)) [
+      let below : List (Line T M) = cond d.frame.borders (border d.frame (separators_of r.cells) (next_separators rs) ∷ []) [] in
+      elim (is_drawn r) as (λ b. finished (with_rows (cond b (with_cells d r.cells) undrawn) rs)
+      ≡ (
+        (d.lines ++ due_lines d.frame d.due (cond b (separators_of r.cells) (next_separators rs)))
+            ++ cond b (row ++ below ++ rows_lines d.frame [] rs) (rows_lines d.frame waiting rs),
+        left_waiting (cond b [] waiting) rs,
+      )) [
         | true ↦
             leads (with_cells d r.cells) rs
             ∙ ap (λ ls. (ls, left_waiting [] rs))
-            (ap (λ b. ((done ++ row) ++ b) ++ rows_lines d.frame ds) (due_is d.frame (separators_of r.cells) (next_separators ds))
-            ∙ ap (λ ls. ls ++ rows_lines d.frame ds) (append_assoc done row below)
-            ∙ append_assoc done (row ++ below) (rows_lines d.frame ds))
+            (ap (λ b. ((done ++ row) ++ b) ++ rows_lines d.frame [] rs) (due_is d.frame (separators_of r.cells) (next_separators rs))
+            ∙ ap (λ ls. ls ++ rows_lines d.frame [] rs) (append_assoc done row below)
+            ∙ append_assoc done (row ++ below) (rows_lines d.frame [] rs))
         | false ↦ leads undrawn rs
       ]
 
@@ -60,7 +56,8 @@ drawn_is {T} {M} frame waiting rows = by (has_top frame)
 
     by : (b : Bool) → finished (with_rows (cond b top bare) rows)
         ≡ (
-          cond b (marked_before waiting (topped_lines frame (drawn_rows [] rows))) (rows_lines frame (drawn_rows waiting rows)),
+          cond b (marked_before waiting (border frame (replicate frame.width false) (next_separators rows) ∷ rows_lines frame [] rows))
+              (rows_lines frame waiting rows),
           left_waiting (cond b [] waiting) rows,
         )
     by true = leads top rows

@@ -1,9 +1,10 @@
 -- A map of tags commutes with the picture, row by row.
 use Rattle.std.proofs.Common.{◌≡◌, ℕ, ◌-◌, ◌++◌, Bool, true, false, cond, max, not, ◌||◌, ◌&&◌, ◌==◌, List, [], ◌∷◌, length, map, replicate, get_or}
 use Rattle.std.proofs.Common.{Option, Some, None, fold, zero, suc, refl, sym, ap, ◌∙◌}
-use Rattle.std.specs.List.{flat_map, range_with_len}
+use Rattle.std.specs.List.{flat_map, list_any, range_with_len}
 use Rattle.std.proofs.lemmas.List.{map-append, length-map}
-use Rattle.html_render_lines.specs.Line.{Line, marks_line}
+use Rattle.html_render_lines.specs.declared.line.Element.TheVariants.{Character}
+use Rattle.html_render_lines.specs.Line.{Line, marks_line, is_empty}
 use Rattle.html_render_lines.specs.Tags.{element_with, line_with, lines_with}
 use Rattle.html_render_lines.specs.laws.Tags.{if_with, marks-with}
 use Rattle.html_render_pictures.specs.Marked.{marked_before, marked_behind}
@@ -11,9 +12,8 @@ use Rattle.html_render_pictures.specs.Padding.{filled}
 use Rattle.html_render_pictures.specs.laws.Lines.{marked_behind-with}
 use Rattle.html_render_pictures.specs.laws.Padding.{filled-with}
 use Rattle.html_render_pictures.specs.declared.picture.Frame.{Frame}
-use Rattle.html_render_pictures.specs.Picture.{KeptCell, TableRow, is_empty, has_lines, is_drawn, waiting_in}
-use Rattle.html_render_pictures.specs.Picture.{separators_of, joint, height, separator, has_top, drawn, border}
-use Rattle.html_render_pictures.specs.Picture.{cell_lines, beside, row_lines, picture}
+use Rattle.html_render_pictures.specs.Picture.{KeptCell, TableRow, is_drawn, waiting_in}
+use Rattle.html_render_pictures.specs.Picture.{separators_of, joint, height, separator, has_top, border, cell_lines, beside, row_lines, picture}
 use Rattle.html_render_pictures.specs.Drawing.{Drawing, DueBorder, due_lines, due_below, with_cells, with_row, with_rows, begun, finished}
 use Rattle.html_render_pictures.specs.Tags.{cell_with, row_with, frame_with, drawing_with, drawn_with}
 use Rattle.html_render_pictures.specs.laws.Rows.{drawn_is}
@@ -48,8 +48,8 @@ module _ {T U M : Type 0} (f : T → U) where
     beside-with [] rs = refl
     beside-with (l ∷ ls) [] = refl
     beside-with (l ∷ ls) (r ∷ rs) =
-        ap (λ x. x ∷ beside (frame_with f frame) (lines_with f ls) (lines_with f rs)) (sym (map-append (element_with f) l (drawn frame (separator frame) ∷ r)))
-        ∙ ap (λ xs. line_with f (l ++ drawn frame (separator frame) ∷ r) ∷ xs) (beside-with ls rs)
+        ap (λ x. x ∷ beside (frame_with f frame) (lines_with f ls) (lines_with f rs)) (sym (map-append (element_with f) l (separator frame ∷ r)))
+        ∙ ap (λ xs. line_with f (l ++ separator frame ∷ r) ∷ xs) (beside-with ls rs)
 
     joined-with : (h : ℕ) (ls : List (Line T M)) (cs : List (KeptCell T M)) →
         fold (beside (frame_with f frame)) (lines_with f ls) (map (cell_lines (frame_with f frame) h) (map (cell_with f) cs))
@@ -81,9 +81,9 @@ module _ {T U M : Type 0} (f : T → U) where
     -- ---- borders
 
     shown-with : (shown : ℕ → ℕ) (xs : List ℕ) →
-        map (λ x. drawn {M = M} (frame_with f frame) (shown x)) xs ≡ line_with f (map (λ x. drawn {M = M} frame (shown x)) xs)
+        map (λ x. Character (shown x) (f frame.tag)) xs ≡ line_with {M = M} f (map (λ x. Character (shown x) frame.tag) xs)
     shown-with shown [] = refl
-    shown-with shown (x ∷ xs) = ap (λ l. drawn (frame_with f frame) (shown x) ∷ l) (shown-with shown xs)
+    shown-with shown (x ∷ xs) = ap (λ l. Character (shown x) (f frame.tag) ∷ l) (shown-with shown xs)
 
     border-with : (above below : List Bool) → border {M = M} (frame_with f frame) above below ≡ line_with f (border {M = M} frame above below)
     border-with above below =
@@ -100,16 +100,17 @@ module _ {T U M : Type 0} (f : T → U) where
 
   -- ---- which rows are drawn, and which marks wait
 
-  has_lines-with : (cs : List (KeptCell T M)) → has_lines (map (cell_with f) cs) ≡ has_lines cs
-  has_lines-with [] = refl
-  has_lines-with (c ∷ cs) =
-      ap (λ n. not (n == 0) || has_lines (map (cell_with f) cs)) (length-map c.lines (line_with f))
-      ∙ ap (λ b. not (is_empty c.lines) || b) (has_lines-with cs)
+  some_lines-with : (cs : List (KeptCell T M)) → list_any (λ (c : KeptCell U M). not (is_empty c.lines)) (map (cell_with f) cs)
+      ≡ list_any (λ (c : KeptCell T M). not (is_empty c.lines)) cs
+  some_lines-with [] = refl
+  some_lines-with (c ∷ cs) =
+      ap (λ n. not (n == 0) || list_any (λ (c : KeptCell U M). not (is_empty c.lines)) (map (cell_with f) cs)) (length-map c.lines (line_with f))
+      ∙ ap (λ b. not (is_empty c.lines) || b) (some_lines-with cs)
 
   is_drawn-with : (r : TableRow T M) → is_drawn (row_with f r) ≡ is_drawn r
   is_drawn-with r =
-      ap (λ b. b || (r.has_placeholder && not (is_empty (map (cell_with f) r.cells)))) (has_lines-with r.cells)
-      ∙ ap (λ n. has_lines r.cells || (r.has_placeholder && not (n == 0))) (length-map r.cells (cell_with f))
+      ap (λ b. b || (r.has_placeholder && not (is_empty (map (cell_with f) r.cells)))) (some_lines-with r.cells)
+      ∙ ap (λ n. list_any (λ (c : KeptCell T M). not (is_empty c.lines)) r.cells || (r.has_placeholder && not (n == 0))) (length-map r.cells (cell_with f))
 
   waiting-with : (cs : List (KeptCell T M)) → waiting_in (map (cell_with f) cs) ≡ waiting_in cs
   waiting-with [] = refl

@@ -1,21 +1,22 @@
 -- No visible character of a cell's lines is lost.
-use Rattle.std.proofs.Common.{◌≡◌, ℕ, zero, suc, ◌+◌, ◌-◌, ◌≤◌, ◌++◌, Bool, true, false, not, ◌||◌, ◌&&◌, List, [], ◌∷◌, All, length, map}
+use Rattle.std.proofs.Common.{◌≡◌, ℕ, zero, suc, ◌+◌, ◌-◌, ◌≤◌, ◌++◌, Bool, true, false, not, ◌||◌, ◌&&◌, cond, List, [], ◌∷◌, All, length, map}
 use Rattle.std.proofs.Common.{replicate, fold, Some, refl, sym, ap, ◌∙◌, arith, append-nil}
+use Rattle.std.specs.List.{list_any}
 use Rattle.std.proofs.lemmas.Bool.{eqb-true}
 use Rattle.std.proofs.lemmas.List.Elements.{All-head, All-tail}
-use Rattle.html_render_lines.specs.Line.{Line, marks_line}
+use Rattle.html_render_glyphs.specs.declared.borders.TheConstants.{BORDERS}
+use Rattle.html_render_lines.specs.Line.{Line, marks_line, is_empty}
 use Rattle.html_render_lines.specs.Visible.{visible_in_line, visible_in_lines, if_visible}
 use Rattle.html_render_lines.specs.laws.Cases.{if_cases}
 use Rattle.html_render_lines.specs.laws.Visible.{visible_in_line-append, visible_in_line-marks}
 use Rattle.html_render_pictures.specs.Marked.{marked_before, marked_behind}
-use Rattle.html_render_pictures.specs.Visible.{count}
+use Rattle.html_render_pictures.specs.Visible.{count, visible_in_cells, visible_in_rows}
 use Rattle.html_render_pictures.specs.laws.Lines.{lines-append, marked_behind_same, count-append}
 use Rattle.html_render_pictures.specs.laws.Padding.{filled-visible}
 use Rattle.html_render_pictures.specs.declared.picture.Frame.{Frame}
-use Rattle.html_render_pictures.specs.Picture.{KeptCell, TableRow, is_empty, has_lines, is_drawn, waiting_in, separators_of, height, separator}
-use Rattle.html_render_pictures.specs.Picture.{drawn, cell_lines, beside, row_lines, picture_lines}
+use Rattle.html_render_pictures.specs.Picture.{KeptCell, TableRow, is_drawn, waiting_in, separators_of, height, separator}
+use Rattle.html_render_pictures.specs.Picture.{cell_lines, beside, row_lines, picture_lines}
 use Rattle.html_render_pictures.specs.Drawing.{Drawing, due_lines, with_cells, with_row, with_rows, begun}
-use Rattle.html_render_pictures.specs.Visible.{visible_in_cells, visible_in_rows}
 use Rattle.html_render_pictures.specs.laws.Heights.{IsNoHigher, row_highest, cell-height, beside-height}
 use Rattle.html_render_pictures.specs.laws.Rows.{drawn_is}
 
@@ -56,9 +57,9 @@ module _ {T M : Type 0} where
       ∙ marked_behind_same c.marks c.lines
 
   -- a row without lines has no character
-  none-visible : (cells : List (KeptCell T M)) → has_lines cells ≡ false → visible_in_cells cells ≡ []
+  none-visible : (cells : List (KeptCell T M)) → list_any (λ (c : KeptCell T M). not (is_empty c.lines)) cells ≡ false → visible_in_cells cells ≡ []
   none-visible [] e = refl
-  none-visible (c ∷ cs) e = none_before c.lines (has_lines cs) (visible_in_cells cs) e (λ k. none-visible cs k)
+  none-visible (c ∷ cs) e = none_before c.lines (list_any (λ (d : KeptCell T M). not (is_empty d.lines)) cs) (visible_in_cells cs) e (λ k. none-visible cs k)
 
   -- ---- how often a character is visible
 
@@ -70,14 +71,15 @@ module _ {T M : Type 0} where
     times-append ls ks = ap (count ch) (lines-append ls ks) ∙ count-append ch (visible_in_lines ls) (visible_in_lines ks)
 
     line_times : (l r : Line T M) → count ch (visible_in_line l) + count ch (visible_in_line r)
-        ≤ count ch (visible_in_line (l ++ drawn frame (separator frame) ∷ r))
+        ≤ count ch (visible_in_line (l ++ separator frame ∷ r))
     line_times l r =
-        let e = ap (count ch) (visible_in_line-append l (drawn frame (separator frame) ∷ r)) in
+        let between = cond frame.borders BORDERS.separator 0x20 in
+        let e = ap (count ch) (visible_in_line-append l (separator frame ∷ r)) in
         omega (
           arith,
           e,
-          count-append ch (visible_in_line l) (if_visible (separator frame) ++ visible_in_line r),
-          count-append ch (if_visible (separator frame)) (visible_in_line r),
+          count-append ch (visible_in_line l) (if_visible between ++ visible_in_line r),
+          count-append ch (if_visible between) (visible_in_line r),
         )
 
     beside_times : (ls rs : List (Line T M)) → length ls ≡ length rs → times ls + times rs ≤ times (beside frame ls rs)
@@ -85,7 +87,7 @@ module _ {T M : Type 0} where
     beside_times [] (r ∷ rs) e = absurd (omega (arith, e))
     beside_times (l ∷ ls) [] e = absurd (omega (arith, e))
     beside_times (l ∷ ls) (r ∷ rs) e =
-        let both : Line T M = l ++ drawn frame (separator frame) ∷ r in
+        let both : Line T M = l ++ separator frame ∷ r in
         omega (
           arith,
           line_times l r,
@@ -141,7 +143,7 @@ module _ {T M : Type 0} where
         times-append ch d.frame d.lines due,
       ))
       (λ e.
-      let none = ap (count ch) (none-visible r.cells (undrawn_lines (has_lines r.cells) r.has_placeholder (not (is_empty r.cells)) e)) in
+      let none = ap (count ch) (none-visible r.cells (undrawn_lines _ r.has_placeholder (not (is_empty r.cells)) e)) in
       omega (arith, none))
 
   with_rows_times : (ch : ℕ) (d : Drawing T M) (rows : List (TableRow T M)) →

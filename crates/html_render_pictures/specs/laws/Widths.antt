@@ -6,15 +6,15 @@ use Rattle.std.proofs.lemmas.List.{length-append, length-replicate}
 use Rattle.std.proofs.lemmas.List.FromFn.{length-range_with_len}
 use Rattle.std.proofs.lemmas.List.Sums.{sum_by-cons}
 use Rattle.std.proofs.lemmas.List.Elements.{All-nil, All-cons, All-head, All-tail, All-append, All-map, All-replicate, All-weaker}
+use Rattle.html_render_lines.specs.declared.line.Element.TheVariants.{Character}
 use Rattle.html_render_lines.specs.Character.{width_of}
 use Rattle.html_render_lines.specs.Line.{Line, columns, marks_line, AllWithinWidth}
 use Rattle.html_render_lines.specs.laws.Columns.{columns-append, columns-cons, columns-marks, width-space}
 use Rattle.html_render_pictures.specs.Marked.{marked_before, marked_behind}
 use Rattle.html_render_pictures.specs.Padding.{repeated, filled_line}
 use Rattle.html_render_pictures.specs.declared.picture.Frame.{Frame}
-use Rattle.html_render_pictures.specs.Picture.{KeptCell, TableRow, DrawnRow, is_drawn, waiting_in, drawn_rows, separators_of, next_separators}
-use Rattle.html_render_pictures.specs.Picture.{joint, height, separator, has_top, drawn, border, cell_lines, beside, row_lines, rows_lines}
-use Rattle.html_render_pictures.specs.Picture.{topped_lines, picture_lines}
+use Rattle.html_render_pictures.specs.Picture.{KeptCell, TableRow, is_drawn, waiting_in, separators_of, next_separators}
+use Rattle.html_render_pictures.specs.Picture.{joint, height, separator, has_top, border, cell_lines, beside, row_lines, rows_lines, picture_lines}
 use Rattle.html_render_pictures.specs.Widths.{row_width, KeepsToWidth, RowWithin, AllAsWide}
 use Rattle.html_render_pictures.specs.laws.Glyphs.{joint_width, separator_width}
 use Rattle.html_render_pictures.specs.laws.Padding.{repeated-columns}
@@ -69,10 +69,10 @@ module _ {T M : Type 0} where
       )
 
 module _ {T : Type 0} (M : Type 0) (frame : Frame T) where
-  shown-columns : (f : ℕ → ℕ) → ((x : ℕ) → width_of (f x) ≡ 1) → (xs : List ℕ) → columns (map (λ x. drawn {M = M} frame (f x)) xs) ≡ length xs
+  shown-columns : (f : ℕ → ℕ) → ((x : ℕ) → width_of (f x) ≡ 1) → (xs : List ℕ) → columns {M = M} (map (λ x. Character (f x) frame.tag) xs) ≡ length xs
   shown-columns f one [] = refl
   shown-columns f one (x ∷ xs) =
-      let e = columns-cons (drawn {M = M} frame (f x)) (map (λ x. drawn {M = M} frame (f x)) xs) in
+      let e = columns-cons {M = M} (Character (f x) frame.tag) (map (λ x. Character (f x) frame.tag) xs) in
       let ih = shown-columns f one xs in
       let o = one x in
       omega (arith, e, ih, o)
@@ -109,10 +109,10 @@ module _ {T M : Type 0} (frame : Frame T) where
   beside-width a b [] rs e h k = All-nil (IsAsWide (a + (1 + b)))
   beside-width a b (l ∷ ls) [] e h k = absurd (omega (arith, e))
   beside-width a b (l ∷ ls) (r ∷ rs) e h k =
-      All-cons (IsAsWide (a + (1 + b))) (l ++ drawn frame (separator frame) ∷ r) (beside frame ls rs)
-      (let m = columns-append l (drawn frame (separator frame) ∷ r) in
-      let n = columns-cons (drawn frame (separator frame)) r in
-      let one = separator_width frame in
+      All-cons (IsAsWide (a + (1 + b))) (l ++ separator frame ∷ r) (beside frame ls rs)
+      (let m = columns-append l (separator frame ∷ r) in
+      let n = columns-cons (separator frame) r in
+      let one = separator_width frame.borders in
       let left : columns l ≡ a = All-head (IsAsWide a) l ls h in
       let right : columns r ≡ b = All-head (IsAsWide b) r rs k in
       omega (arith, m, n, one, left, right))
@@ -146,62 +146,50 @@ module _ {T M : Type 0} (frame : Frame T) where
 
   -- ---- the whole
 
-  abbrev DrawnWithin : ℕ → DrawnRow T M → Type 0
-  DrawnWithin w d = All KeepsToWidth d.cells × (row_width d.cells ≤ w)
+  next-within : (w : ℕ) (rows : List (TableRow T M)) → All (RowWithin w) rows → length (next_separators rows) ≤ w
+  next-within w [] h = omega arith
+  next-within w (r ∷ rs) h = elim (is_drawn r) as (λ b. length (cond b (separators_of r.cells) (next_separators rs)) ≤ w) [
+    | true ↦ let k = (All-head (RowWithin w) r rs h).1 in omega (arith, k, separators-length r.cells)
+    | false ↦ next-within w rs (All-tail (RowWithin w) r rs h)
+  ]
 
-  drawn-within : (w : ℕ) (waiting : List M) (rows : List (TableRow T M)) → All (RowWithin w) rows → All (DrawnWithin w) (drawn_rows waiting rows)
-  drawn-within w waiting [] h = All-nil (DrawnWithin w)
-  drawn-within w waiting (r ∷ rs) h =
+  rows-within : (w : ℕ) (waiting : List M) (rows : List (TableRow T M)) → All (RowWithin w) rows → AllWithinWidth w (rows_lines frame waiting rows)
+  rows-within w waiting [] h = All-nil (IsWithin w)
+  rows-within w waiting (r ∷ rs) h =
       let here = All-head (RowWithin w) r rs h in
       let rest = All-tail (RowWithin w) r rs h in
-      let first : DrawnRow T M = record { marks = waiting ++ waiting_in r.cells; cells = r.cells } in
-      elim (is_drawn r) as (λ b. All (DrawnWithin w) (cond b (first ∷ drawn_rows [] rs) (drawn_rows (waiting ++ waiting_in r.cells) rs))) [
-        | true ↦ All-cons (DrawnWithin w) first (drawn_rows [] rs) here (drawn-within w [] rs rest)
-        | false ↦ drawn-within w (waiting ++ waiting_in r.cells) rs rest
+      let above = separators_of r.cells in
+      let marks = waiting ++ waiting_in r.cells in
+      let row : List (Line T M) = marked_before marks (row_lines frame r.cells) in
+      let wide : row_width r.cells ≤ w = here.1 in
+      let below : IsWithin w (border frame above (next_separators rs)) =
+      border-within M frame w above (next_separators rs) (omega (arith, wide, separators-length r.cells)) (next-within w rs rest) in
+      let borders : List (Line T M) = cond frame.borders (border frame above (next_separators rs) ∷ []) [] in
+      elim (is_drawn r) as (λ b. AllWithinWidth w (cond b (row ++ borders ++ rows_lines frame [] rs) (rows_lines frame marks rs))) [
+        | true ↦
+            All-append (IsWithin w) (row ++ borders) (rows_lines frame [] rs)
+            (All-append (IsWithin w) row borders
+            (marked_before-within w marks (row_lines frame r.cells)
+            (All-weaker (IsAsWide (row_width r.cells)) (IsWithin w) (λ l e. omega (arith, e, wide)) (row_lines frame r.cells) (row-width r.cells here.0)))
+            (elim frame.borders as (λ b. AllWithinWidth {T = T} {M = M} w (cond b (border frame above (next_separators rs) ∷ []) [])) [
+              | true ↦ All-cons (IsWithin w) (border frame above (next_separators rs)) [] below (All-nil (IsWithin w))
+              | false ↦ All-nil (IsWithin w)
+            ]))
+            (rows-within w [] rs rest)
+        | false ↦ rows-within w marks rs rest
       ]
-
-  next-within : (w : ℕ) (ds : List (DrawnRow T M)) → All (DrawnWithin w) ds → length (next_separators ds) ≤ w
-  next-within w [] h = omega arith
-  next-within w (d ∷ ds) h =
-      let here = All-head (DrawnWithin w) d ds h in
-      let k = here.1 in
-      omega (arith, k, separators-length d.cells)
-
-  rows-within : (w : ℕ) (ds : List (DrawnRow T M)) → All (DrawnWithin w) ds → AllWithinWidth w (rows_lines frame ds)
-  rows-within w [] h = All-nil (IsWithin w)
-  rows-within w (d ∷ ds) h =
-      let here = All-head (DrawnWithin w) d ds h in
-      let rest = All-tail (DrawnWithin w) d ds h in
-      let above = separators_of d.cells in
-      let row : List (Line T M) = marked_before d.marks (row_lines frame d.cells) in
-      let wide : row_width d.cells ≤ w = here.1 in
-      let below : IsWithin w (border frame above (next_separators ds)) =
-      border-within M frame w above (next_separators ds) (omega (arith, wide, separators-length d.cells)) (next-within w ds rest) in
-      let borders : List (Line T M) = cond frame.borders (border frame above (next_separators ds) ∷ []) [] in
-      All-append (IsWithin w) (row ++ borders) (rows_lines frame ds)
-      (All-append (IsWithin w) row borders
-      (marked_before-within w d.marks (row_lines frame d.cells)
-      (All-weaker (IsAsWide (row_width d.cells)) (IsWithin w) (λ l e. omega (arith, e, wide)) (row_lines frame d.cells) (row-width d.cells here.0)))
-      (elim frame.borders as (λ b. AllWithinWidth {T = T} {M = M} w (cond b (border frame above (next_separators ds) ∷ []) [])) [
-        | true ↦ All-cons (IsWithin w) (border frame above (next_separators ds)) [] below (All-nil (IsWithin w))
-        | false ↦ All-nil (IsWithin w)
-      ]))
-      (rows-within w ds rest)
 
   -- no line is wider than the table and its rows
   pub picture_within : (w : ℕ) (waiting : List M) (rows : List (TableRow T M)) → frame.width ≤ w → All (RowWithin w) rows →
       AllWithinWidth w (picture_lines frame waiting rows)
   picture_within w waiting rows h k =
-      let ds = drawn_rows [] rows in
-      let within = drawn-within w [] rows k in
       let above = replicate frame.width false in
-      let border_above = border {M = M} frame above (next_separators ds) in
-      let top : IsWithin w border_above =
-      border-within M frame w above (next_separators ds) (omega (arith, h, length-replicate frame.width false)) (next-within w ds within) in
-      elim (has_top frame) as (λ b. AllWithinWidth w
-      (cond b (marked_before waiting (topped_lines frame ds)) (rows_lines frame (drawn_rows waiting rows)))) [
+      let top : Line T M = border frame above (next_separators rows) in
+      let within : IsWithin w top =
+      border-within M frame w above (next_separators rows) (omega (arith, h, length-replicate frame.width false)) (next-within w rows k) in
+      elim (has_top frame) as (λ b. AllWithinWidth w (cond b (marked_before waiting (top ∷ rows_lines frame [] rows)) (rows_lines frame waiting rows))) [
         | true ↦
-            marked_before-within w waiting (topped_lines frame ds)
-            (All-cons (IsWithin w) border_above (rows_lines frame ds) top (rows-within w ds within))
-        | false ↦ rows-within w (drawn_rows waiting rows) (drawn-within w waiting rows k)
+            marked_before-within w waiting (top ∷ rows_lines frame [] rows)
+            (All-cons (IsWithin w) top (rows_lines frame [] rows) within (rows-within w [] rows k))
+        | false ↦ rows-within w waiting rows k
       ]

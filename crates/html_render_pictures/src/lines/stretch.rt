@@ -1,4 +1,4 @@
-//! A stretch of lines, of which each has at least so many columns.
+//! A stretch of lines, each of at least a given width.
 
 ghost use Rattle.std.specs.Prelude.{◌≡◌, ◌<◌, false, List, ◌++◌, length, reverse, Some, OnOk, IfOk};
 ghost use Rattle.html_render_lines.specs.Line.{Line};
@@ -11,7 +11,7 @@ use html_render_lines::tag::Tag;
 use std::alloc::AllocError;
 use std::marker::Model;
 
-/// Lines, at least one, each of at least so many columns. At either end another is put without moving these.
+/// Lines, at least one, each of at least `least` columns. At either end another is put without moving these.
 #[derive(Drop)]
 pub(super) struct Stretch<T, M> {
     /// The first lines, the last of them first.
@@ -34,7 +34,7 @@ impl<T, M> Model for Stretch<T, M> {
     ghost invariant = { λ s. IsStretch s.least (reverse s.before.items ++ s.behind.items) };
 }
 
-/// Fills each line with spaces up to so many columns, under a tag. Those of the first list stand in reverse.
+/// Fills each line with spaces up to `width` columns, under a tag. Those of the first list stand in reverse.
 #[tactic(auto, using(crate::proofs::Stretches::filled_both))]
 fn fill_both<T: Tag, M: Copy>(
     before: &mut Vec<Line<T, M>>,
@@ -243,7 +243,7 @@ impl<T: Tag, M: Copy> Stretch<T, M> {
         })
     }
 
-    /// Fills each line with spaces up to so many columns, under a tag. Where each has as many, none is touched.
+    /// Fills each line with spaces up to `width` columns, under a tag. Where each has as many, none is touched.
     ///
     /// # Errors
     ///

@@ -1,6 +1,6 @@
 -- A grouped line keeps the columns and the characters, and its strings are the longest.
-use Rattle.std.proofs.Common.{◌≡◌, ℕ, ◌+◌, ◌<◌, ◌≤◌, Bool, true, false, cond, List, [], ◌∷◌, ◌++◌, length, map, sum_by, Vec, refl, sym, ap, ◌∙◌, subst}
-use Rattle.std.proofs.Common.{add_assoc, add-zero, append_assoc, get_or, arith}
+use Rattle.std.proofs.Common.{◌≡◌, ℕ, ◌+◌, ◌≤◌, Bool, true, List, [], ◌∷◌, ◌++◌, map, Vec, refl, sym, ap, ◌∙◌, subst, append_assoc, get_or, arith}
+use Rattle.std.proofs.lemmas.Bool.{cond_both}
 use Rattle.std.proofs.lemmas.List.Elements.{All-nil, All-cons, All-head, All-tail}
 use Rattle.std.proofs.lemmas.List.Sums.{sum_by-append, sum_by-cons}
 use Rattle.std.specs.Cmp.{IsEquivalence}
@@ -16,17 +16,10 @@ use Rattle.html_render_tagged.specs.TaggedLine.{line_columns, element_columns, A
 use Rattle.html_render_tagged.specs.Grouping.{Piece, Str, FragmentStart, in_front, grouped, grouped_lines, piece_of, pieces_of, lines_of}
 use Rattle.html_render_tagged.specs.Grouping.{piece_columns, pieces_columns, ComesOther, AreLongest, strings_characters, line_characters}
 
-either : {X : Type 0} (P : X → Type 0) (b : Bool) (x y : X) → (b ≡ true → P x) → (b ≡ false → P y) → P (cond b x y)
-either P true x y f g = f refl
-either P false x y f g = g refl
-
 -- ---- columns
 
 pieces-cons : {T : Type 0} (p : Piece T) (ps : List (Piece T)) → pieces_columns (p ∷ ps) ≡ piece_columns p + pieces_columns ps
 pieces-cons {T} p ps = sum_by-cons (λ (x : Piece T). piece_columns x) p ps
-
-columns-cons : {T : Type 0} (e : Element T ℕ) (es : Line T ℕ) → columns (e ∷ es) ≡ element_width e + columns es
-columns-cons {T} e es = sum_by-cons (λ (x : Element T ℕ). element_width x) e es
 
 module _ {T : Type 0} (equal : T → T → Bool) where
   columns-in_front : (text : List ℕ) (tag : T) (ps : List (Piece T)) →
@@ -34,24 +27,18 @@ module _ {T : Type 0} (equal : T → T → Bool) where
   columns-in_front text tag [] = pieces-cons (Str text tag) []
   columns-in_front text tag (FragmentStart name ∷ ps) = pieces-cons (Str text tag) (FragmentStart name ∷ ps)
   columns-in_front text tag (Str next other ∷ ps) =
-      either (λ (x : List (Piece T)). pieces_columns x ≡ text_columns text + pieces_columns (Str next other ∷ ps)) (equal tag other) _ _
-      (λ e. pieces-cons (Str (text ++ next) tag) ps
-      ∙ ap (λ n. n + pieces_columns ps) (sum_by-append width_of text next)
-      ∙ add_assoc (text_columns text) (text_columns next) (pieces_columns ps)
-      ∙ ap (λ n. text_columns text + n) (sym (pieces-cons (Str next other) ps)))
+      cond_both (equal tag other) _ _ (λ (x : List (Piece T)). pieces_columns x ≡ text_columns text + pieces_columns (Str next other ∷ ps))
+      (λ e. omega (arith, pieces-cons (Str (text ++ next) tag) ps, sum_by-append width_of text next, pieces-cons (Str next other) ps))
       (λ e. pieces-cons (Str text tag) (Str next other ∷ ps))
 
   pub columns-grouped : (names : List (List ℕ)) (line : Line T ℕ) → pieces_columns (grouped equal names line) ≡ columns line
   columns-grouped names [] = refl
   columns-grouped names (element.Mark m ∷ es) =
-      pieces-cons (FragmentStart (get_or names m [])) (grouped equal names es)
-      ∙ ap (λ n. 0 + n) (columns-grouped names es)
-      ∙ sym (columns-cons (element.Mark m) es)
+      let line = sum_by-cons (λ (x : Element T ℕ). element_width x) (element.Mark m) es in
+      omega (arith, pieces-cons (FragmentStart (get_or names m [])) (grouped equal names es), columns-grouped names es)
   columns-grouped names (element.Character c tag ∷ es) =
-      columns-in_front (c ∷ []) tag (grouped equal names es)
-      ∙ ap (λ n. n + pieces_columns (grouped equal names es)) (sum_by-cons width_of c [] ∙ add-zero (width_of c))
-      ∙ ap (λ n. width_of c + n) (columns-grouped names es)
-      ∙ sym (columns-cons (element.Character c tag) es)
+      let line = sum_by-cons (λ (x : Element T ℕ). element_width x) (element.Character c tag) es in
+      omega (arith, columns-in_front (c ∷ []) tag (grouped equal names es), sum_by-cons width_of c [], columns-grouped names es)
 
   -- ---- the longest strings
 
@@ -66,7 +53,7 @@ module _ {T : Type 0} (equal : T → T → Bool) where
   longest-in_front laws c text tag [] h = (omega arith, tt, tt)
   longest-in_front laws c text tag (FragmentStart name ∷ ps) h = (omega arith, tt, h)
   longest-in_front laws c text tag (Str next other ∷ ps) h =
-      either (λ (x : List (Piece T)). AreLongest equal x) (equal tag other) _ _
+      cond_both (equal tag other) _ _ (λ (x : List (Piece T)). AreLongest equal x)
       (λ e. (omega arith, other-equal laws tag other ps e h.1, h.2))
       (λ e. (omega arith, e, h))
 
@@ -83,7 +70,7 @@ module _ {T : Type 0} (equal : T → T → Bool) where
   characters-in_front text tag [] = refl
   characters-in_front text tag (FragmentStart name ∷ ps) = refl
   characters-in_front text tag (Str next other ∷ ps) =
-      either (λ (x : List (Piece T)). strings_characters x ≡ text ++ strings_characters (Str next other ∷ ps)) (equal tag other) _ _
+      cond_both (equal tag other) _ _ (λ (x : List (Piece T)). strings_characters x ≡ text ++ strings_characters (Str next other ∷ ps))
       (λ e. append_assoc text next (strings_characters ps))
       (λ e. refl)
 
@@ -96,19 +83,14 @@ module _ {T : Type 0} (equal : T → T → Bool) where
 
 -- ---- the columns of tagged lines
 
-line-cons : {T : Type 0} (e : TaggedLineElement T) (es : List (TaggedLineElement T)) → line_columns (e ∷ es) ≡ element_columns e + line_columns es
-line-cons {T} e es = sum_by-cons (λ (x : TaggedLineElement T). element_columns x) e es
-
 columns-pieces : {A : Type 0} (line : List (TaggedLineElement (Vec A Global))) → line_columns line ≡ pieces_columns (pieces_of line)
 columns-pieces [] = refl
-columns-pieces (made.Str s ∷ es) =
-    line-cons (made.Str s) es
-    ∙ ap (λ n. element_columns (made.Str s) + n) (columns-pieces es)
-    ∙ sym (pieces-cons (piece_of (made.Str s)) (pieces_of es))
-columns-pieces (made.FragmentStart name ∷ es) =
-    line-cons (made.FragmentStart name) es
-    ∙ ap (λ n. 0 + n) (columns-pieces es)
-    ∙ sym (pieces-cons (piece_of (made.FragmentStart name)) (pieces_of es))
+columns-pieces {A} (made.Str s ∷ es) =
+    let line = sum_by-cons (λ (x : TaggedLineElement (Vec A Global)). element_columns x) (made.Str s) es in
+    omega (arith, columns-pieces es, pieces-cons (piece_of (made.Str s)) (pieces_of es))
+columns-pieces {A} (made.FragmentStart name ∷ es) =
+    let line = sum_by-cons (λ (x : TaggedLineElement (Vec A Global)). element_columns x) (made.FragmentStart name) es in
+    omega (arith, columns-pieces es, pieces-cons (piece_of (made.FragmentStart name)) (pieces_of es))
 
 all-pieces : {A : Type 0} (lines : List (List (TaggedLineElement (Vec A Global)))) →
     map line_columns lines ≡ map pieces_columns (lines_of lines)
@@ -132,14 +114,8 @@ pub within-lines : {T U : Type 0} (width : ℕ) (made : List (List (TaggedLineEl
 within-lines {T} width [] lines e h = All-nil (λ (l : List (TaggedLineElement T)). line_columns l ≤ width)
 within-lines width (m ∷ ms) [] e h = cc
 within-lines {T} {U} width (m ∷ ms) (l ∷ ls) e h =
+    let first : line_columns m ≡ columns l = cc in
+    let rest : map line_columns ms ≡ map columns ls = cc in
     All-cons (λ (l : List (TaggedLineElement T)). line_columns l ≤ width) m ms
-    (subst (λ n. n ≤ width) (sym (same-first (line_columns m) (columns l) (map line_columns ms) (map columns ls) e))
-    (All-head (λ (l : Line U ℕ). columns l ≤ width) l ls h))
-    (within-lines width ms ls (same-rest (line_columns m) (columns l) (map line_columns ms) (map columns ls) e)
-    (All-tail (λ (l : Line U ℕ). columns l ≤ width) l ls h))
-  where
-    same-first : (a b : ℕ) (xs ys : List ℕ) → ◌≡◌ {A = List ℕ} (a ∷ xs) (b ∷ ys) → a ≡ b
-    same-first a b xs ys e = cc
-
-    same-rest : (a b : ℕ) (xs ys : List ℕ) → ◌≡◌ {A = List ℕ} (a ∷ xs) (b ∷ ys) → xs ≡ ys
-    same-rest a b xs ys e = cc
+    (subst (λ n. n ≤ width) (sym first) (All-head (λ (l : Line U ℕ). columns l ≤ width) l ls h))
+    (within-lines width ms ls rest (All-tail (λ (l : Line U ℕ). columns l ≤ width) l ls h))

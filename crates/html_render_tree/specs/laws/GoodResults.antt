@@ -1,24 +1,25 @@
 -- What is below a result is good where the result stands, and stays so with what is inserted.
-use Rattle.std.proofs.Common.{◌≡◌, ℕ, Bool, true, false, ◌||◌, if◌then◌else◌, List, [], ◌∷◌, ◌++◌, cond, filter, flat_map}
-use Rattle.std.proofs.Common.{Option, Some, None, option_map, refl, sym, ap, ◌∙◌}
-use Rattle.std.specs.List.{list_all}
+use Rattle.std.proofs.Common.{◌≡◌, ℕ, Bool, true, false, ◌||◌, List, [], ◌∷◌, ◌++◌, filter, flat_map}
+use Rattle.std.proofs.Common.{Option, Some, None, option_map, IfSome, refl, sym, ap, ◌∙◌}
+use Rattle.std.specs.Prelude.{option_and_then, is_some, if◌then◌else◌}
+use Rattle.std.specs.List.{list_all, AllByRecursion}
+use Rattle.std.proofs.lemmas.Bool.{cond_both}
+use Rattle.std.proofs.lemmas.Option.{IfSome_then}
 use Rattle.html_render_values.specs.Forest.{none, node, followed_by}
 use Rattle.html_render_values.specs.Outcome.{◌>>=◌}
 use Rattle.html_render_nodes.specs.declared.tree.Estimate.{Estimate}
 use Rattle.html_render_nodes.specs.declared.tree.NodeKind.{NodeKind}
-use Rattle.html_render_nodes.specs.declared.tree.NodeKind.TheVariants.{Container, Block, Div, BlockQuote, ListItem, Dl, Dt, Dd, Table}
+use Rattle.html_render_nodes.specs.declared.tree.NodeKind.TheVariants.{Container, FragmentStart, Table, TableCell, TableRow, Text}
 use Rattle.html_render_nodes.specs.declared.tree.NodeStyle.{NodeStyle}
 use Rattle.html_render_nodes.specs.declared.tree.RenderNode.{RenderNode}
-use Rattle.html_render_conversion.specs.Insertion.{are_any, fragment_start, text_node}
-use Rattle.html_render_conversion.specs.Results.{Nodes, Result, Role, Contents, Caption, Rows, Row, Cell, beside, joined, stands_alone, is_cell, is_row}
-use Rattle.html_render_conversion.specs.Results.{of_role, trees_of, over, cell_spans, row_spans, spans_of}
-use Rattle.html_render_conversion.specs.Results.{into_kind, into_role, inserted, with_inserted}
-use Rattle.html_render_conversion.specs.Results.{in_first_cell, in_first_row, leaf, completed}
+use Rattle.html_render_nodes.specs.RenderNodes.{without_style}
+use Rattle.html_render_conversion.specs.Results.{Nodes, Result, Role, Contents, Caption, Rows, Row, Cell, beside, stands_alone, holds_insertions}
+use Rattle.html_render_conversion.specs.Results.{level_in, in_first, of_role, trees_of, over, spans_of, inserted, leaf, completed}
+use Rattle.html_render_building.specs.laws.Roles.{cell_spans, in_style, is_cell, is_row, joined, row_spans}
 use Rattle.html_render_conversion.specs.Tables.{greatest_width, spanned_in}
 use Rattle.html_render_tree.specs.GoodTrees.{Place, Anywhere, InTable, InRow, around, is_over, are_good_below, are_good}
-use Rattle.html_render_tree.specs.laws.GoodPlaces.{and-left, and-right, and-both, some_cell, cells_like, rows_like, spanned_in-alike}
-use Rattle.html_render_tree.specs.laws.GoodPlaces.{at-row, at-table, first-anywhere, first-cell, first-row, followed-anywhere, followed-rows, rows-good-alike}
-use Rattle.html_render_tree.specs.laws.GoodPlaces.{between-good, in_first_cell-good, in_first_row-good}
+use Rattle.html_render_tree.specs.laws.GoodPlaces.{and-left, and-right, and-both, some_cell, cells_like, rows_like, spanned_in-alike, first-cell}
+use Rattle.html_render_tree.specs.laws.GoodPlaces.{followed-anywhere, followed-rows, into_cell-good, into_row-good, between-good}
 
 -- ---- results
 
@@ -41,60 +42,65 @@ IsGood (Row cells) n t = are_good (InTable (cells_like cells ∷ [])) (node n t 
 IsGood (Cell span) n t = are_good (InRow (cells_like (span ∷ []))) (node n t none) ≡ true
 
 abbrev pub IsGoodIn : Role → RenderNode → Option Nodes → Type 0
-IsGoodIn role n None = Unit {0}
-IsGoodIn role n (Some t) = IsGood role n t
+IsGoodIn role n o = IfSome o (IsGood role n)
 
 abbrev pub IsGoodResult : Result → Type 0
 IsGoodResult r = IsGoodIn r.role r.node r.below
 
 abbrev pub AllGood : List Result → Type 0
-AllGood [] = Unit {0}
-AllGood (r ∷ rs) = IsGoodResult r × AllGood rs
+AllGood = AllByRecursion IsGoodResult
 
 -- and all of these roles
 abbrev pub AllGoodOf : (Role → Bool) → List Result → Type 0
-AllGoodOf is [] = Unit {0}
-AllGoodOf is (r ∷ rs) = IsGoodResult r × (is r.role ≡ true) × AllGoodOf is rs
+AllGoodOf is = AllByRecursion (λ r. IsGoodResult r × (is r.role ≡ true))
 
 -- trees, if there are any, that are good where they stand
 abbrev pub AreGoodIn : Place → Option Nodes → Type 0
-AreGoodIn place None = Unit {0}
-AreGoodIn place (Some t) = are_good place t ≡ true
+AreGoodIn place o = IfSome o (λ t. are_good place t ≡ true)
 
 -- results that are picked
-pub filter-good : (test : Result → Bool) (rs : List Result) → AllGood rs → AllGood (filter test rs)
-filter-good test [] g = tt
-filter-good test (r ∷ rs) g = by (test r) (filter-good test rs g.1)
-  where
-    by : (b : Bool) → AllGood (filter test rs) → AllGood (cond b (r ∷ filter test rs) (filter test rs))
-    by true k = (g.0, k)
-    by false k = k
+picked-good : (test : Result → Bool) (rs : List Result) → AllGood rs → AllByRecursion (λ r. IsGoodResult r × (test r ≡ true)) (filter test rs)
+picked-good test [] g = tt
+picked-good test (r ∷ rs) g =
+    cond_both (test r) (r ∷ filter test rs) (filter test rs) (AllByRecursion (λ r. IsGoodResult r × (test r ≡ true)))
+    (λ e. ((g.0, e), picked-good test rs g.1)) (λ e. picked-good test rs g.1)
 
 pub of_role-good : (is : Role → Bool) (rs : List Result) → AllGood rs → AllGoodOf is (of_role is rs)
-of_role-good is [] g = tt
-of_role-good is (r ∷ rs) g = by (is r.role) refl (of_role-good is rs g.1)
-  where
-    by : (b : Bool) → is r.role ≡ b → AllGoodOf is (of_role is rs) → AllGoodOf is (cond b (r ∷ of_role is rs) (of_role is rs))
-    by true e k = (g.0, e, k)
-    by false e k = k
+of_role-good is = picked-good (λ r. is r.role)
 
-pub AllGood-append : (rs others : List Result) → AllGood rs → AllGood others → AllGood (rs ++ others)
-AllGood-append [] others g h = h
-AllGood-append (r ∷ rs) others g h = (g.0, AllGood-append rs others g.1 h)
+all-weaker : {P Q : Result → Type 0} → ((r : Result) → P r → Q r) → (rs : List Result) → AllByRecursion P rs → AllByRecursion Q rs
+all-weaker so [] g = tt
+all-weaker so (r ∷ rs) g = (so r g.0, all-weaker so rs g.1)
 
-pub AllGoodOf-append : (is : Role → Bool) (rs others : List Result) → AllGoodOf is rs → AllGoodOf is others → AllGoodOf is (rs ++ others)
-AllGoodOf-append is [] others g h = h
-AllGoodOf-append is (r ∷ rs) others g h = (g.0, g.1, AllGoodOf-append is rs others g.2 h)
+pub filter-good : (test : Result → Bool) (rs : List Result) → AllGood rs → AllGood (filter test rs)
+filter-good test rs g =
+    all-weaker {P = λ r. IsGoodResult r × (test r ≡ true)} {Q = IsGoodResult} (λ r h. h.0) (filter test rs) (picked-good test rs g)
 
 pub AllGoodOf-more : (is are : Role → Bool) → ((role : Role) → is role ≡ true → are role ≡ true) → (rs : List Result) →
     AllGoodOf is rs → AllGoodOf are rs
-AllGoodOf-more is are more [] g = tt
-AllGoodOf-more is are more (r ∷ rs) g = (g.0, more r.role g.1, AllGoodOf-more is are more rs g.2)
+AllGoodOf-more is are more =
+    all-weaker {P = λ r. IsGoodResult r × (is r.role ≡ true)} {Q = λ r. IsGoodResult r × (are r.role ≡ true)} (λ r h. (h.0, more r.role h.1))
+
+pub AllGoodOf-append : (is : Role → Bool) (rs others : List Result) → AllGoodOf is rs → AllGoodOf is others → AllGoodOf is (rs ++ others)
+AllGoodOf-append is [] others g h = h
+AllGoodOf-append is (r ∷ rs) others g h = (g.0, AllGoodOf-append is rs others g.1 h)
 
 all-good : (is : Role → Bool) (rs : List Result) → AllGood rs → list_all (λ r. is r.role) rs ≡ true → AllGoodOf is rs
 all-good is [] g h = tt
 all-good is (r ∷ rs) g h =
-    (g.0, and-left (is r.role) (list_all (λ r. is r.role) rs) h, all-good is rs g.1 (and-right (is r.role) (list_all (λ r. is r.role) rs) h))
+    let others = list_all (λ r. is r.role) rs in
+    ((g.0, and-left (is r.role) others h), all-good is rs g.1 (and-right (is r.role) others h))
+
+-- what is there is good, and so is what follows from it
+pub good-then : {X Y : Type 0} (P : X → Type 0) (Q : Y → Type 0) (f : X → Option Y) → ((x : X) → P x → IfSome (f x) Q) → (o : Option X) →
+    IfSome o P → IfSome (option_and_then f o) Q
+good-then P Q f is None h = tt
+good-then P Q f is (Some x) h = is x h
+
+pub good-map : {X Y : Type 0} (P : X → Type 0) (Q : Y → Type 0) (f : X → Y) → ((x : X) → P x → Q (f x)) → (o : Option X) → IfSome o P →
+    IfSome (option_map f o) Q
+good-map P Q f is None h = tt
+good-map P Q f is (Some x) h = is x h
 
 -- ---- results beside each other
 
@@ -102,22 +108,16 @@ beside-good : (is : Role → Bool) (place : List Result → Place) → is_over (
     ((r : Result) (rs : List Result) (t u : Nodes) → is r.role ≡ true → IsGood r.role r.node t → are_good (place rs) u ≡ true →
     are_good (place (r ∷ rs)) (node r.node t u) ≡ true) → (rs : List Result) → AllGoodOf is rs → AreGoodIn (place rs) (beside rs)
 beside-good is place last first [] g = last
-beside-good is place last first (r ∷ rs) g = by r.below (beside rs) g.0 (beside-good is place last first rs g.2)
-  where
-    by : (o p : Option Nodes) → IsGoodIn r.role r.node o → AreGoodIn (place rs) p →
-        AreGoodIn (place (r ∷ rs)) (do
-          below ← o
-          others ← p
-          Some (node r.node below others))
-    by None p h k = tt
-    by (Some t) None h k = tt
-    by (Some t) (Some u) h k = first r rs t u g.1 h k
+beside-good is place last first (r ∷ rs) g =
+    good-then (IsGood r.role r.node) (λ t. are_good (place (r ∷ rs)) t ≡ true) _
+    (λ t h. good-then (λ u. are_good (place rs) u ≡ true) (λ u. are_good (place (r ∷ rs)) u ≡ true) _ (λ u k. first r rs t u g.0.1 h k)
+    (beside rs) (beside-good is place last first rs g.1)) r.below g.0.0
 
 -- a plain node
 pub plain-good : (n : RenderNode) (t u : Nodes) → IsPlain n.kind → are_good Anywhere t ≡ true → are_good Anywhere u ≡ true →
     are_good Anywhere (node n t u) ≡ true
 plain-good n t u plain h k =
-    ap (are_good_below (λ p. are_good p t) (λ p. are_good p u)) plain ∙ and-both (are_good Anywhere t) (are_good Anywhere u) h k
+    ap (are_good_below (λ p. are_good p t) (λ p. are_good p u)) plain ∙ and-both h k
 
 -- those that stand in no table
 pub alone-good : (rs : List Result) → AllGoodOf stands_alone rs → AreGoodIn Anywhere (beside rs)
@@ -125,16 +125,14 @@ alone-good = beside-good stands_alone (λ rs. Anywhere) refl (λ r rs t u alone 
   where
     by : (role : Role) (n : RenderNode) (t u : Nodes) → stands_alone role ≡ true → IsGood role n t → are_good Anywhere u ≡ true →
         are_good Anywhere (node n t u) ≡ true
-    by Contents n t u alone h k = first-anywhere n t u h k
+    by Contents n t u alone h k = followed-anywhere (node n t none) u h k
     by Caption n t u alone h k = plain-good n t u h.0 h.1 k
     by role n t u alone h k = cc
 
 pub trees_of-good : (rs : List Result) → AllGood rs → AreGoodIn Anywhere (trees_of rs)
-trees_of-good rs g = by (list_all (λ r. stands_alone r.role) rs) refl
-  where
-    by : (b : Bool) → list_all (λ r. stands_alone r.role) rs ≡ b → AreGoodIn Anywhere (if b then beside rs else None)
-    by true e = alone-good rs (all-good stands_alone rs g e)
-    by false e = tt
+trees_of-good rs g =
+    cond_both (list_all (λ r. stands_alone r.role) rs) (beside rs) None (AreGoodIn Anywhere)
+    (λ e. alone-good rs (all-good stands_alone rs g e)) (λ e. tt)
 
 -- cells, and rows
 abbrev cells_place : List Result → Place
@@ -159,7 +157,7 @@ rows-good = beside-good is_row rows_place refl (λ r rs t u row h k. by r.role r
     by : (role : Role) (n : RenderNode) (rs : List Result) (t u : Nodes) → is_row role ≡ true → IsGood role n t →
         are_good (rows_place rs) u ≡ true →
         are_good (InTable (rows_like (row_spans role ++ flat_map (λ r. row_spans r.role) rs))) (node n t u) ≡ true
-    by (Row cells) n rs t u row h k = first-row n (cells_like cells) (rows_like (flat_map (λ r. row_spans r.role) rs)) t u h k
+    by (Row cells) n rs t u row h k = followed-rows (cells ∷ []) (flat_map (λ r. row_spans r.role) rs) (node n t none) u h k
     by role n rs t u row h k = cc
 
 -- the rows of a table's parts
@@ -170,7 +168,7 @@ holds_rows _ = false
 pub joined-good : (parts : List Result) → AllGoodOf holds_rows parts →
     AreGoodIn (InTable (rows_like (flat_map (λ r. spans_of r.role) parts))) (joined parts)
 joined-good [] g = refl
-joined-good (r ∷ rs) g = by r.role r.below (joined rs) g.1 g.0 (joined-good rs g.2)
+joined-good (r ∷ rs) g = by r.role r.below (joined rs) g.0.1 g.0.0 (joined-good rs g.1)
   where
     by : (role : Role) (o p : Option Nodes) → holds_rows role ≡ true → IsGoodIn role r.node o →
         AreGoodIn (InTable (rows_like (flat_map (λ r. spans_of r.role) rs))) p →
@@ -183,7 +181,7 @@ joined-good (r ∷ rs) g = by r.role r.below (joined rs) g.1 g.0 (joined-good rs
     by (Rows behind rows) (Some t) (Some u) part h k =
         let spans = spanned_in (greatest_width rows) rows in
         followed-rows spans (flat_map (λ r. spans_of r.role) rs) t u
-        (rows-good-alike (rows_like rows) (rows_like spans) t (spanned_in-alike (greatest_width rows) rows) h) k
+        (ap (λ all. are_good (InTable all) t) (spanned_in-alike (greatest_width rows) rows) ∙ h) k
     by role o p part h k = cc
 
 -- ---- what is inserted
@@ -191,103 +189,89 @@ joined-good (r ∷ rs) g = by r.role r.below (joined rs) g.1 g.0 (joined-good rs
 -- what is good at a place is good below a result, where trees are
 pub below-good : (place : Place) (role : Role) (n : RenderNode) → ((t : Nodes) → are_good place t ≡ true → IsGood role n t) →
     (o : Option Nodes) → AreGoodIn place o → IsGoodIn role n o
-below-good place role n is None h = tt
-below-good place role n is (Some t) h = is t h
+below-good place role n is o h = IfSome_then o h is
 
-pub over-good : (n : RenderNode) (rs : List Result) → IsPlain n.kind → AllGood rs → IsGoodResult (over n rs)
-over-good n rs plain g = below-good Anywhere Contents n (λ t h. plain-good n t none plain h refl) (trees_of rs) (trees_of-good rs g)
+pub over-good : (style : NodeStyle) (kind : NodeKind) (rs : List Result) → IsPlain kind → AllGood rs → IsGoodResult (over style kind rs)
+over-good style kind rs plain g =
+    let n = in_style style kind in
+    below-good Anywhere Contents n (λ t h. plain-good n t none plain h refl) (trees_of rs) (trees_of-good rs g)
+
+plain-holds : (kind : NodeKind) → holds_insertions kind ≡ true → IsPlain kind
+plain-holds (Table grid) h = cc
+plain-holds TableRow h = cc
+plain-holds TableCell h = cc
+plain-holds kind h = refl
 
 module _ (front back : Nodes) (f : are_good Anywhere front ≡ true) (b : are_good Anywhere back ≡ true) where
-  changed-good : (role : Role) (n : RenderNode) (change : Nodes → Nodes) → ((t : Nodes) → IsGood role n t → IsGood role n (change t)) →
-      (o : Option Nodes) → IsGoodIn role n o → IsGoodIn role n (option_map change o)
-  changed-good role n change is None h = tt
-  changed-good role n change is (Some t) h = is t h
+  changed-good : (role role' : Role) (n n' : RenderNode) (change : Nodes → Nodes) → ((t : Nodes) → IsGood role n t → IsGood role' n' (change t)) →
+      (o : Option Nodes) → IsGoodIn role n o → IsGoodIn role' n' (option_map change o)
+  changed-good role role' n n' change is None h = tt
+  changed-good role role' n n' change is (Some t) h = is t h
 
-  inside-good : (kind : NodeKind) (style : NodeStyle) (estimate : Estimate) → IsPlain kind → (t : Nodes) →
-      are_good Anywhere (node (a_node kind style estimate) t none) ≡ true →
-      are_good Anywhere (node (a_node kind style estimate) (followed_by front (followed_by t back)) none) ≡ true
-  inside-good kind style estimate plain t h =
-      plain-good (a_node kind style estimate) (followed_by front (followed_by t back)) none plain
+  inside-good : (kind : NodeKind) (style : NodeStyle) (estimate : Estimate) → IsPlain kind → (o : Option Nodes) →
+      IsGoodIn Contents (a_node kind style estimate) o →
+      IsGoodIn Contents (a_node kind style estimate) (option_map (λ t. followed_by front (followed_by t back)) o)
+  inside-good kind style estimate plain =
+      let n = a_node kind style estimate in
+      changed-good Contents Contents n n (λ t. followed_by front (followed_by t back))
+      (λ t h. plain-good n (followed_by front (followed_by t back)) none plain
       (between-good front back f b t
-      (and-left (are_good Anywhere t) true (ap (are_good_below (λ p. are_good p t) (λ p. are_good p none)) (sym plain) ∙ h))) refl
+      (and-left (are_good Anywhere t) true (ap (are_good_below (λ p. are_good p t) (λ p. are_good p none)) (sym plain) ∙ h))) refl)
 
   into_contents-good : (kind : NodeKind) (style : NodeStyle) (estimate : Estimate) (has : Bool) (o : Option Nodes) →
       IsGoodIn Contents (a_node kind style estimate) o →
-      IsGoodResult (inserted (into_kind kind) front back (a_result Contents (a_node kind style estimate) has o))
-  into_contents-good kind style estimate has None h = by kind
-    where
-      by : (kind : NodeKind) → IsGoodResult (inserted (into_kind kind) front back (a_result Contents (a_node kind style estimate) has None))
-      by Container = tt
-      by Block = tt
-      by Div = tt
-      by BlockQuote = tt
-      by ListItem = tt
-      by Dl = tt
-      by Dt = tt
-      by Dd = tt
-      by (Table grid) = tt
-      by kind = tt
-  into_contents-good Container style estimate has (Some t) h = inside-good Container style estimate refl t h
-  into_contents-good Block style estimate has (Some t) h = inside-good Block style estimate refl t h
-  into_contents-good Div style estimate has (Some t) h = inside-good Div style estimate refl t h
-  into_contents-good BlockQuote style estimate has (Some t) h = inside-good BlockQuote style estimate refl t h
-  into_contents-good ListItem style estimate has (Some t) h = inside-good ListItem style estimate refl t h
-  into_contents-good Dl style estimate has (Some t) h = inside-good Dl style estimate refl t h
-  into_contents-good Dt style estimate has (Some t) h = inside-good Dt style estimate refl t h
-  into_contents-good Dd style estimate has (Some t) h = inside-good Dd style estimate refl t h
-  into_contents-good (Table grid) style estimate has (Some t) h =
+      IsGoodResult (inserted (level_in Contents kind) front back (a_result Contents (a_node kind style estimate) has o))
+  into_contents-good (Table grid) style estimate has o h =
+      let n = a_node (Table grid) style estimate in
       let rows = grid.cells.rows in
-      and-both (are_good (InTable rows) (in_first_row front back t)) true
-      (in_first_row-good front back f b rows t (and-left (are_good (InTable rows) t) true h)) refl
-  into_contents-good kind style estimate has (Some t) h =
-      let n = a_node kind style estimate in
-      and-both (are_good Anywhere (followed_by front (node n t back))) true
-      (followed-anywhere front (node n t back) f (first-anywhere n t back h b)) refl
+      changed-good Contents Contents n n (in_first 2 front back)
+      (λ t k. and-both (into_row-good front back f b rows t (and-left (are_good (InTable rows) t) true k)) refl) o h
+  into_contents-good kind style estimate has o h = by (holds_insertions kind) refl
+    where
+      n : RenderNode
+      n = a_node kind style estimate
+
+      by : (inside : Bool) → holds_insertions kind ≡ inside →
+          IsGoodResult (inserted (if inside then Some 0 else None) front back (a_result Contents n has o))
+      by true e = inside-good kind style estimate (plain-holds kind e) o h
+      by false e =
+          changed-good Contents Contents n (without_style Container) (λ t. followed_by front (node n t back))
+          (λ t k. and-both (followed-anywhere front (node n t back) f (followed-anywhere (node n t none) back k b)) refl) o h
 
   inserted-good : (role : Role) (n : RenderNode) (has : Bool) (o : Option Nodes) → IsGoodIn role n o →
-      IsGoodResult (inserted (into_role role n.kind) front back (a_result role n has o))
+      IsGoodResult (inserted (level_in role n.kind) front back (a_result role n has o))
   inserted-good Contents n has o h = into_contents-good n.kind n.style n.estimate has o h
   inserted-good Caption n has o h =
-      changed-good Caption n (λ t. followed_by front (followed_by t back)) (λ t h. (h.0, between-good front back f b t h.1)) o h
+      changed-good Caption Caption n n (λ t. followed_by front (followed_by t back)) (λ t k. (k.0, between-good front back f b t k.1)) o h
   inserted-good (Rows behind rows) n has o h =
-      changed-good (Rows behind rows) n (in_first_row front back) (λ t h. in_first_row-good front back f b (rows_like rows) t h) o h
+      changed-good (Rows behind rows) (Rows behind rows) n n (in_first 2 front back) (into_row-good front back f b (rows_like rows)) o h
   inserted-good (Row cells) n has o h =
-      changed-good (Row cells) n (in_first_cell front back)
-      (λ t h. at-table n.kind (cells_like cells) (cells_like cells) [] [] (λ p. are_good p t) (λ p. are_good p none)
-      (λ p. are_good p (in_first_cell front back t)) (λ p. are_good p none)
-      (λ e. in_first_cell-good front back f b (cells_like cells) t e) (λ e. e) h) o h
+      changed-good (Row cells) (Row cells) n n (in_first 1 front back)
+      (λ t k. into_row-good front back f b (cells_like cells ∷ []) (node n t none) k) o h
   inserted-good (Cell span) n has o h =
-      changed-good (Cell span) n (λ t. followed_by front (followed_by t back))
-      (λ t h. at-row n.kind some_cell some_cell [] [] (λ p. are_good p t) (λ p. are_good p none)
-      (λ p. are_good p (followed_by front (followed_by t back))) (λ p. are_good p none)
-      (λ e. between-good front back f b t e) (λ e. e) h) o h
-
-  with_inserted-good : (r : Result) → IsGoodResult r → IsGoodResult (with_inserted front back r)
-  with_inserted-good r h = by (are_any front || are_any back)
-    where
-      by : (some : Bool) → IsGoodResult (if some then inserted (into_role r.role r.node.kind) front back r else r)
-      by true = inserted-good r.role r.node r.has_children r.below h
-      by false = h
+      changed-good (Cell span) (Cell span) n n (λ t. followed_by front (followed_by t back))
+      (λ t k. into_cell-good front back f b (some_cell ∷ []) (node n t none) k) o h
 
 -- an element's mark and its contents
 abbrev pub IsGoodIfAny : Option Result → Type 0
-IsGoodIfAny None = Unit {0}
-IsGoodIfAny (Some r) = IsGoodResult r
+IsGoodIfAny o = IfSome o IsGoodResult
 
-front-good : (mark before : Option (List ℕ)) →
-    are_good Anywhere (followed_by (leaf (option_map fragment_start mark)) (leaf (option_map text_node before))) ≡ true
-front-good None None = refl
-front-good None (Some content) = refl
-front-good (Some name) None = refl
-front-good (Some name) (Some content) = refl
-
-back-good : (after : Option (List ℕ)) → are_good Anywhere (leaf (option_map text_node after)) ≡ true
+back-good : (after : Option (List ℕ)) → are_good Anywhere (leaf Text after) ≡ true
 back-good None = refl
 back-good (Some content) = refl
+
+front-good : (mark before : Option (List ℕ)) → are_good Anywhere (followed_by (leaf FragmentStart mark) (leaf Text before)) ≡ true
+front-good None before = back-good before
+front-good (Some name) before = back-good before
 
 pub completed-good : (mark before after : Option (List ℕ)) (o : Option Result) → IsGoodIfAny o → IsGoodIfAny (completed mark before after o)
 completed-good None before after None h = tt
 completed-good (Some name) before after None h = refl
-completed-good mark before after (Some r) h =
-    with_inserted-good (followed_by (leaf (option_map fragment_start mark)) (leaf (option_map text_node before)))
-    (leaf (option_map text_node after)) (front-good mark before) (back-good after) r h
+completed-good mark before after (Some r) h = by (is_some mark || (is_some before || is_some after))
+  where
+    front : Nodes
+    front = followed_by (leaf FragmentStart mark) (leaf Text before)
+
+    by : (some : Bool) → IsGoodResult (if some then inserted (level_in r.role r.node.kind) front (leaf Text after) r else r)
+    by true = inserted-good front (leaf Text after) (front-good mark before) (back-good after) r.role r.node r.has_children r.below h
+    by false = h

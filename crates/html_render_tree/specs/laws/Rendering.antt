@@ -1,30 +1,21 @@
 -- What follows for the lines of a configuration, their strings and their texts.
-use Rattle.std.proofs.Common.{◌≡◌, ℕ, Bool, true, false, List, [], ◌∷◌, ◌++◌, Option, Some, None, Vec, Result, Ok, Err}
-use Rattle.std.proofs.Common.{◌≤◌, ◌==◌, ◌↔◌, cond, IfOk, IfSome, IsSome, option_map, option_and_then}
-use Rattle.std.proofs.Common.{refl, sym, ap, ◌∙◌, subst, arith}
-use Rattle.std.proofs.lemmas.Option.{same_Some}
+use Rattle.std.proofs.Common.{◌≡◌, ℕ, Bool, true, false, List, [], ◌∷◌, ◌++◌, Option, Some, None, ◌==◌, ◌↔◌, cond, option_map, option_and_then, refl}
+use Rattle.std.proofs.Common.{sym, ap, ◌∙◌}
 use Rattle.std.specs.Prelude.{encode_utf8}
 use Rattle.std.specs.Cmp.Lexicographic.{pointwise}
-use Rattle.std.specs.declared.alloc.Global.{Global}
 use Rattle.html_render_values.specs.Forest.{Forest}
 use Rattle.html_render_parts.specs.Decoration.{Decoration}
 use Rattle.html_render_lines.specs.declared.line.Element.TheVariants.{Character, Mark}
-use Rattle.html_render_lines.specs.Line.{Line, text_bytes, AllWithinWidth}
+use Rattle.html_render_lines.specs.Line.{Line, text_bytes}
 use Rattle.html_render_lines.specs.Tags.{line_with, lines_with}
 use Rattle.html_render_nodes.specs.declared.tree.RenderNode.{RenderNode}
-use Rattle.html_render_layout.specs.declared.layout.LaidOut.{LaidOut}
 use Rattle.html_render_layout.specs.declared.settings.LayoutSettings.{LayoutSettings}
-use Rattle.html_render_layout.specs.Kept.{visited_nodes, KeepsTexts}
 use Rattle.html_render_nodes.specs.Pass.{run}
 use Rattle.html_render_layout.specs.Layout.{layout_lines, mark_names, Defined, defined, estimated, empty_state, unannotated}
-use Rattle.html_render_layout.specs.Settings.{default_settings}
-use Rattle.html_render_layout.specs.Working.{laid_out}
 use Rattle.html_render_layout.specs.Promises.{AreLines}
 use Rattle.html_render_layout.specs.laws.Promises.{same-names}
-use Rattle.html_render_tagged.specs.declared.line.TaggedLineElement.{TaggedLineElement}
-use Rattle.html_render_tagged.specs.Grouping.{Piece, grouped_lines, lines_of}
-use Rattle.html_render_tree.specs.Rendering.{Options, rendered_lines, rendered_names, rendered_strings}
-use Rattle.html_render_tree.specs.Rendering.{Rendered, AreStrings}
+use Rattle.html_render_tagged.specs.Grouping.{Piece, grouped_lines}
+use Rattle.html_render_tree.specs.Rendering.{Options, rendered_lines, rendered_names, rendered_strings, Rendered, AreStrings}
 use Rattle.html_render_tree.specs.Texts.{line_bytes, text_of}
 
 -- ---- texts
@@ -40,14 +31,6 @@ module _ {T U : Type 0} (f : T → U) where
   text-with [] = refl
   text-with (l ∷ ls) =
       ap (λ bs. (bs ++ 10 ∷ []) ++ text_of (lines_with f ls)) (bytes-with l) ∙ ap (λ bs. line_bytes l ++ bs) (text-with ls)
-
--- ---- both of two answers
-
--- both are there, or none is asked for
-both-there : {X Y Z : Type 0} (h : X → Y → Z) (p : Option X) (q : Option Y) (x : X) (y : Y) → p ≡ Some x → q ≡ Some y →
-    option_and_then (λ a. option_and_then (λ b. Some (h a b)) q) p ≡ Some (h x y)
-both-there h p q x y e f =
-    ap (option_and_then (λ a. option_and_then (λ b. Some (h a b)) q)) e ∙ ap (option_and_then (λ b. Some (h x b))) f
 
 -- ---- lines and names
 
@@ -83,13 +66,12 @@ text-rendered {S} {A} d options tree width bare bytes h b =
 pub text-answered : {S A : Type 0} (d : Decoration S A) (options : Options S) (tree : Forest RenderNode) (width : ℕ) (bytes : List ℕ) →
     Rendered d options tree width (λ lines. bytes ≡ text_of lines) → option_map text_of (rendered_lines d options tree width) ≡ Some bytes
 text-answered d options tree width bytes h =
-    let are = h.1.are in
-    ap (option_map text_of) are ∙ ap Some (sym h.2)
+    ap (option_map text_of) h.1.are ∙ ap Some (sym h.2)
 
 -- the strings of lines with the names of their marks
 pub strings-rendered : {S A : Type 0} (d : Decoration S A) (options : Options S) (tree : Forest RenderNode) (width : ℕ) (eq : A → A → Bool)
     (strings : List (List (Piece (List A)))) (lines : List (Line (List A) ℕ)) (names : List (List ℕ)) →
-    AreLines d options.nodes tree options.decorator width options.overflow lines → rendered_names d options tree width ≡ Some names →
+    AreLines d options.settings tree options.decorator width options.overflow lines → rendered_names d options tree width ≡ Some names →
     strings ≡ grouped_lines (pointwise eq) names lines → Rendered d options tree width (AreStrings d options tree width eq strings)
 strings-rendered d options tree width eq strings lines names are there grouped = (
   lines,
@@ -97,7 +79,7 @@ strings-rendered d options tree width eq strings lines names are there grouped =
   record {
     names = names;
     are_names = there;
-    same_names = same-names d options.nodes tree options.decorator width options.overflow names there;
+    same_names = same-names d options.settings tree options.decorator width options.overflow names there;
     are = grouped;
   },
 )
@@ -107,8 +89,5 @@ pub strings-answered : {S A : Type 0} (d : Decoration S A) (options : Options S)
     (strings : List (List (Piece (List A)))) → Rendered d options tree width (AreStrings d options tree width eq strings) →
     rendered_strings d options tree width eq ≡ Some strings
 strings-answered d options tree width eq strings h =
-    let are = h.1.are in
-    let told = h.2 in
-    both-there (λ ls ns. grouped_lines (pointwise eq) ns ls) (rendered_lines d options tree width) (rendered_names d options tree width)
-    h.0 told.names are told.are_names
-    ∙ ap Some (sym told.are)
+    ap (option_and_then (λ ls. option_and_then (λ ns. Some (grouped_lines (pointwise eq) ns ls)) (rendered_names d options tree width))) h.1.are
+    ∙ ap (option_and_then (λ ns. Some (grouped_lines (pointwise eq) ns h.0))) h.2.are_names ∙ ap Some (sym h.2.are)

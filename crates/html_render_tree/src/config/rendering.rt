@@ -48,7 +48,7 @@ impl<D: TextDecorator> Config<D> {
 
         // with overflow on nothing is too narrow but width 0; and a tree that is laid out leaves the texts that follow as they were
         ensures wide { self.now.overflow ≡ true → 1 ≤ width → result ≢ Err Error.TooNarrow }
-        ensures there { HasLines D.decoration self.now.nodes tree self.now.decorator width self.now.overflow }
+        ensures there { HasLines D.decoration self.now.settings tree self.now.decorator width self.now.overflow }
         ensures stacks { LeavesTexts D.decoration }
     {
         let lines = lay_out_untagged(
@@ -57,7 +57,7 @@ impl<D: TextDecorator> Config<D> {
             tree,
             width,
             self.overflow,
-            &self.nodes,
+            &self.settings,
         )?;
         Ok(string_of(alloc, &lines)?)
     }
@@ -84,10 +84,10 @@ impl<D: TextDecorator> Config<D> {
         // as for a text
         ensures lines { IfOk result (λ answer. Rendered D.decoration self.now tree width
             (AreStrings D.decoration self.now tree width D.Annotation.eq (lines_of answer.items))) }
-        ensures within { self.now.overflow ≡ false → self.now.nodes.wrap_links ≡ true
+        ensures within { self.now.overflow ≡ false → self.now.settings.wrap_links ≡ true
             → IfOk result (λ lines. AllTaggedWithinWidth width lines.items) }
         ensures wide { self.now.overflow ≡ true → 1 ≤ width → result ≢ Err Error.TooNarrow }
-        ensures there { HasLines D.decoration self.now.nodes tree self.now.decorator width self.now.overflow }
+        ensures there { HasLines D.decoration self.now.settings tree self.now.decorator width self.now.overflow }
         ensures stacks { LeavesTexts D.decoration }
     {
         let mut meter = Meter::default();
@@ -115,16 +115,16 @@ impl<D: TextDecorator> Config<D> {
         ensures no_width { width ≡ 0 → result ≡ Err Error.TooNarrow }
         ensures lines { IfOk result (λ answer. Rendered D.decoration self.now tree width
             (AreStrings D.decoration self.now tree width D.Annotation.eq (lines_of answer.items))) }
-        ensures within { self.now.overflow ≡ false → self.now.nodes.wrap_links ≡ true
+        ensures within { self.now.overflow ≡ false → self.now.settings.wrap_links ≡ true
             → IfOk result (λ lines. AllTaggedWithinWidth width lines.items) }
         ensures wide { self.now.overflow ≡ true → 1 ≤ width → result ≢ Err Error.TooNarrow }
-        ensures there { HasLines D.decoration self.now.nodes tree self.now.decorator width self.now.overflow }
+        ensures there { HasLines D.decoration self.now.settings tree self.now.decorator width self.now.overflow }
         ensures stacks { LeavesTexts D.decoration }
 
         // what was counted, where there are lines, and where there are none
         ensures counts { CountsNodes result (defined D.decoration)
-            (estimated D.decoration self.now.nodes self.now.decorator tree)
-            (empty_state D.decoration self.now.nodes self.now.decorator width self.now.overflow) meter.old meter.new }
+            (estimated D.decoration self.now.settings self.now.decorator tree)
+            (empty_state D.decoration self.now.settings self.now.decorator width self.now.overflow) meter.old meter.new }
     {
         let laid_out = lay_out(
             alloc,
@@ -132,7 +132,7 @@ impl<D: TextDecorator> Config<D> {
             tree,
             width,
             self.overflow,
-            &self.nodes,
+            &self.settings,
             meter,
         )?;
         tagged_lines(alloc, laid_out)
@@ -170,7 +170,7 @@ impl<D: TextDecorator> Config<D> {
             × Rendered D.decoration self.now tree width (AreStrings D.decoration self.now tree width D.Annotation.eq strings)
             × IsColoured (F.post colour_map) strings (string_bytes text)) }
         ensures wide { self.now.overflow ≡ true → 1 ≤ width → result ≢ Err Error.TooNarrow }
-        ensures there { HasLines D.decoration self.now.nodes tree self.now.decorator width self.now.overflow }
+        ensures there { HasLines D.decoration self.now.settings tree self.now.decorator width self.now.overflow }
         ensures stacks { LeavesTexts D.decoration }
     {
         let lines = self.render_to_lines(alloc, tree, width)?;

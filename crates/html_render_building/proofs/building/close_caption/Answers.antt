@@ -1,7 +1,7 @@
 use Rattle.std.proofs.Common.{subst, ◌∙◌}
 use Rattle.std.proofs.lemmas.Result.{on_ok_weaker}
 use Rattle.html_render_insertions.specs.Drafts.{draft}
-use Rattle.html_render_building.specs.declared.elements.Role.TheVariants as role
+use Rattle.html_render_conversion.specs.Results as role
 use Rattle.html_render_building.specs.Building.{arrive, caption_kind, with_insertions}
 use Rattle.html_render_building.specs.Opened.{IsAfter}
 use Rattle.html_render_building.proofs.building.close_caption.Goals as goal

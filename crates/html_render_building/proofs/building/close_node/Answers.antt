@@ -1,6 +1,6 @@
 use Rattle.std.proofs.Common.{sym, ap, ◌∙◌, if◌then◌else◌}
 use Rattle.std.proofs.lemmas.Result.{on_ok_weaker}
-use Rattle.html_render_building.specs.declared.elements.Role.TheVariants as role
+use Rattle.html_render_conversion.specs.Results as role
 use Rattle.html_render_building.specs.Building.{arrive, beside_insertions, with_insertions}
 use Rattle.html_render_building.proofs.Arriving.{Comes-same}
 use Rattle.html_render_building.proofs.building.close_node.Goals as goal

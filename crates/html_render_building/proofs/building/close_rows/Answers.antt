@@ -2,7 +2,7 @@ use Rattle.std.proofs.Common.{ap}
 use Rattle.std.proofs.lemmas.Result.{on_ok_weaker}
 use Rattle.html_render_nodes.specs.declared.tree.NodeKind.TheVariants.{Container}
 use Rattle.html_render_insertions.specs.Drafts.{insert_first}
-use Rattle.html_render_building.specs.declared.elements.Role.TheVariants as role
+use Rattle.html_render_conversion.specs.Results as role
 use Rattle.html_render_building.specs.Building.{arrive, kept_arrival, rows_made}
 use Rattle.html_render_building.proofs.Arriving.{Comes-same, Comes-through, split_changed}
 use Rattle.html_render_building.proofs.building.close_rows.Goals as goal

@@ -1,6 +1,7 @@
 use Rattle.std.proofs.Common.{rules, ◌≡◌, ◌≢◌, ◌∙◌}
 use Rattle.html_render_values.specs.Forest.{count}
-use Rattle.html_render_building.proofs.Keeping.{first_of_kept, none_kept, none_of_all, none-weaker, some-weaker}
+use Rattle.html_render_building.proofs.Keeping.{first_of_kept, none_kept, none_of_all, none-weaker}
+use Rattle.std.proofs.lemmas.Option.{IfSome_then}
 use Rattle.html_render_building.proofs.building.first_kept.Goals as goal
 
 pub returns-then-len-start-clause-over : goal.returns-then-len-start-clause-over
@@ -14,5 +15,4 @@ returns-clause-over c = none-weaker c.first_kind.result _ _ (λ e. λ s. none_of
 pub returns-clause-first : goal.returns-clause-first
 returns-clause-first c =
     let e : count c.args.drafts.now ≢ c.args.start = search rules in
-    some-weaker c.first_kind.result _ _
-    (λ k is. λ s. first_of_kept c.args.start c.args.drafts.now s e ∙ is) c.first_kind.ensures.first
+    IfSome_then c.first_kind.result c.first_kind.ensures.first (λ k is. λ s. first_of_kept c.args.start c.args.drafts.now s e ∙ is)

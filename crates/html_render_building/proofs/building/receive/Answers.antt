@@ -1,7 +1,7 @@
 use Rattle.std.proofs.Common.{rules, ◌≡◌, ◌+◌, ◌-◌, ◌<◌, refl, length, arith, ap, ◌∙◌, vec_len, List, [], ◌∷◌, ◌++◌}
 use Rattle.std.proofs.lemmas.Result.{on_ok_weaker, IfOk-weaker}
 use Rattle.html_render_building.specs.declared.building.Open.{Open}
-use Rattle.html_render_building.specs.Elements.{keeps, received}
+use Rattle.html_render_building.specs.Elements.{keeps, meant, received}
 use Rattle.html_render_building.specs.Opened.{IsLast}
 use Rattle.html_render_building.proofs.Lasts.{last-set, last-get}
 use Rattle.html_render_building.proofs.building.receive.Goals as goal
@@ -26,7 +26,7 @@ returns-in-Some-clause-ok c =
     ∙ ap (λ (o : Open). below ++ record o { element = c.receive.new.self } ∷ []) (is_last at below p is)
     ∙ ap (λ x. below ++ record p { element = x } ∷ []) e
     ∙ ap (λ (o : Open). below ++ record p {
-      element = received c.args.role c.args.kind.now c.args.has_children c.args.is_stray o.element;
+      element = received (meant c.args.role) c.args.kind.now c.args.has_children c.args.is_stray o.element;
     } ∷ []) (is_last at below p is))
     c.receive.ensures.ok
 
@@ -34,5 +34,5 @@ pub returns-in-Some-clause-kept : goal.returns-in-Some-clause-kept
 returns-in-Some-clause-kept c =
     let at = (goal.at.returns-in-Some-clause-kept c).In-Some in
     IfOk-weaker c.receive.result _ _
-    (λ kept e. λ below p is. e ∙ ap (λ (o : Open). keeps o.element.kind c.args.role c.args.kind.now) (is_last at below p is))
+    (λ kept e. λ below p is. e ∙ ap (λ (o : Open). keeps o.element.kind (meant c.args.role) c.args.kind.now) (is_last at below p is))
     c.receive.ensures.kept

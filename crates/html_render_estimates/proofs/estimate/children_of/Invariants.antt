@@ -1,10 +1,15 @@
-use Rattle.std.proofs.Common.{◌-◌, length}
-use Rattle.html_render_nodes.specs.Preorder.{forest_of}
-use Rattle.html_render_estimates.proofs.Measuring.{Counting}
+use Rattle.std.proofs.Common.{◌≡◌, ◌+◌, ◌≤◌, max, length}
+use Rattle.html_render_nodes.specs.Preorder.{flatten, forest_of}
+use Rattle.html_render_estimates.specs.Estimates.{trees, greatest_least}
 use Rattle.html_render_estimates.proofs.estimate.children_of.Given as goal
 
-abbrev pub invariant-loop-at : goal.invariant-loop-at
-invariant-loop-at l = Counting l.nodes (forest_of l.nodes) l.at l.count l.least
+abbrev pub invariant-loop-first : goal.invariant-loop-first
+invariant-loop-first l = record {
+  kept : flatten (forest_of l.rest) ≡ l.rest;
+  count : l.count + trees (forest_of l.rest) ≡ trees (forest_of l.nodes);
+  least : max l.least (greatest_least (forest_of l.rest)) ≡ greatest_least (forest_of l.nodes);
+  few : l.count + length l.rest ≤ length l.nodes;
+}
 
-abbrev pub decreases-loop-at : goal.decreases-loop-at
-decreases-loop-at l = length l.nodes - l.at
+abbrev pub decreases-loop-first : goal.decreases-loop-first
+decreases-loop-first l = length l.rest

@@ -1,6 +1,6 @@
 use Rattle.std.proofs.Common.{sym, ap, ◌∙◌, arith}
 use Rattle.html_render_nodes.specs.Preorder.{flatten, forest_of}
-use Rattle.html_render_estimates.specs.Estimates.{with_needs}
+use Rattle.html_render_estimates.specs.Passes.{with_needs}
 use Rattle.html_render_estimates.proofs.Again.{sized, noted, after_sized}
 use Rattle.html_render_estimates.proofs.Measuring.{Measuring-start, Measuring-at, Measuring-done, Found-part, Found-next}
 use Rattle.html_render_estimates.proofs.estimate.measure_with_sizes.Goals as goal

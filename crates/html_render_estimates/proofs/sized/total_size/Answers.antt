@@ -1,5 +1,6 @@
-use Rattle.html_render_estimates.proofs.Totals.{total-done}
+use Rattle.std.proofs.Common.{ap, arith}
+use Rattle.html_render_estimates.specs.Estimates.{total_size}
 use Rattle.html_render_estimates.proofs.sized.total_size.Goals as goal
 
 pub returns : goal.returns
-returns c = total-done _ _ _ c.in_default.ensures.cases c.loop-first.invariant.small c.loop-first.invariant.sum
+returns c = omega (arith, ap total_size c.in_default.ensures.cases, c.loop-first.invariant.small, c.loop-first.invariant.sum)

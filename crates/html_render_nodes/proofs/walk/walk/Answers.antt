@@ -1,5 +1,4 @@
-use Rattle.std.proofs.Common.{◌≡◌, ℕ, List, ◌+◌, ◌-◌, ◌++◌, ◌∷◌, [], Some, length, max, refl, sym, ap, ◌∙◌, subst, arith}
-use Rattle.std.proofs.Common.{length-append, rules}
+use Rattle.std.proofs.Common.{◌≡◌, ℕ, List, ◌+◌, ◌-◌, ◌++◌, ◌∷◌, [], Some, length, max, refl, sym, ap, ◌∙◌, subst, arith, length-append, rules}
 use Rattle.html_render_nodes.specs.declared.walk.Frame.{Frame}
 use Rattle.html_render_nodes.specs.Pass.{run, way}
 use Rattle.html_render_nodes.specs.Preorder.{flatten}

@@ -1,6 +1,7 @@
 use Rattle.std.proofs.Common.{◌∙◌, reverse}
 use Rattle.html_render_lines.specs.TaggedText.{elements_of, open_elements}
-use Rattle.html_render_tagged.proofs.Taking.{whole-line, IfOk-map}
+use Rattle.std.proofs.lemmas.Result.{IfOk-weaker}
+use Rattle.html_render_tagged.proofs.Taking.{whole-line}
 use Rattle.html_render_tagged.proofs.grouping.tagged_line.Goals as goal
 
 pub returns-clause-ok : goal.returns-clause-ok
@@ -11,4 +12,4 @@ returns-clause-ok g c =
     (open_elements parts.text.tag parts.text.open_text.now) c.args.line.now c.new-progress.ensures.done c.new-progress.ensures.last
     c.in_ok-push_reversed.ensures.ok c.in_ok-push_runs.ensures.ok (c.in_ok-push_open.ensures.ok c.args.names.now)
     c.parts-parts.ensures.elements in
-    IfOk-map c.finish.result _ _ (λ line h. h ∙ whole) c.finish.ensures.ok
+    IfOk-weaker c.finish.result _ _ (λ line h. h ∙ whole) c.finish.ensures.ok

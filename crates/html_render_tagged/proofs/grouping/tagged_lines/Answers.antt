@@ -3,7 +3,7 @@ use Rattle.std.specs.Cmp.Lexicographic.{pointwise}
 use Rattle.html_render_layout.specs.Working.{laid_out}
 use Rattle.html_render_tagged.specs.Grouping.{grouped_lines, lines_of}
 use Rattle.html_render_tagged.specs.laws.Grouping.{columns-lines}
-use Rattle.html_render_tagged.proofs.Taking.{IfOk-map}
+use Rattle.std.proofs.lemmas.Result.{IfOk-weaker}
 use Rattle.html_render_tagged.proofs.grouping.tagged_lines.Goals as goal
 use Rattle.html_render_tagged.proofs.grouping.tagged_lines.Given.{Over}
 
@@ -17,6 +17,6 @@ returns-clause-ok g c = answered g c
 
 pub returns-clause-columns : goal.returns-clause-columns
 returns-clause-columns g c =
-    IfOk-map c.all_tagged.result _ _
+    IfOk-weaker c.all_tagged.result _ _
     (λ made. columns-lines (pointwise g.A.PartialEq.eq) c.args.layout.names made.items (laid_out c.args.layout))
     (answered g c)

@@ -1,11 +1,12 @@
-use Rattle.std.proofs.Common.{◌≡◌, ◌++◌, length, reverse}
-use Rattle.html_render_blocks.specs.OpenRows.{before_cell, behind_cell, empty_cells}
+use Rattle.std.proofs.Common.{◌≡◌, ◌++◌, suc, drop, length, reverse}
+use Rattle.html_render_blocks.specs.OpenRows.{before_cell, empty_cells}
 use Rattle.html_render_blocks.proofs.block.rows.pass_cell.Given as goal
 
 -- what is wanted is what the places that are left give from here
 abbrev pub invariant-loop-place : goal.invariant-loop-place
 invariant-loop-place g l = record {
-  ahead : behind_cell (reverse l.initial.ahead.items) ≡ behind_cell (reverse l.ahead.items);
+  ahead : drop (suc (length (before_cell (reverse l.initial.ahead.items)))) (reverse l.initial.ahead.items)
+      ≡ drop (suc (length (before_cell (reverse l.ahead.items)))) (reverse l.ahead.items);
   cells : l.initial.cells.items ++ empty_cells (before_cell (reverse l.initial.ahead.items))
       ≡ l.cells.items ++ empty_cells (before_cell (reverse l.ahead.items));
 }

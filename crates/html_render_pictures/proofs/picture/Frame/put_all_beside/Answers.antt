@@ -3,7 +3,7 @@ use Rattle.std.proofs.lemmas.List.{drop_more, drop-set-lt, nil_from_length}
 use Rattle.std.specs.Vec.Iter.{into_iter_items, into_iter_steps}
 use Rattle.html_render_pictures.specs.Drawing.{as_many, line_or_empty}
 use Rattle.html_render_pictures.specs.Padding.{filled, filled_line}
-use Rattle.html_render_pictures.specs.Picture.{beside, drawn, separator}
+use Rattle.html_render_pictures.specs.Picture.{beside, separator}
 use Rattle.html_render_pictures.proofs.Beside.{beside-more, next-as-many}
 use Rattle.html_render_pictures.proofs.picture.Frame.put_all_beside.Goals as goal
 
@@ -26,6 +26,6 @@ loop-line-preserved g c =
     ap (λ ls. take (i + 1) (set xs i new) ++ beside frame (drop (i + 1) (set xs i new)) (filled (Some frame.tag) width (as_many ls rs)))
     (drop-set-lt (i + 1) xs i new (omega arith))
     ∙ beside-more frame xs i old new right (filled (Some frame.tag) width (as_many (drop (i + 1) xs) rs)) (omega arith) c.line-item.is
-    (c.in_ok-put_beside.ensures ∙ ap (λ o. o ++ drawn frame (separator frame) ∷ right) (sym c.line-item.is))
+    (c.in_ok-put_beside.ensures ∙ ap (λ o. o ++ separator frame ∷ right) (sym c.line-item.is))
     ∙ ap (λ ls. take i xs ++ beside frame (drop i xs) (filled (Some frame.tag) width ls)) (sym rest)
     ∙ c.loop-line.invariant

@@ -8,13 +8,11 @@ range-requires-text-s g c κs = IsUtf8-runs c.loop-run.left.now c.loop-run.text.
 
 pub range-requires-clause-end_boundary : goal.range-requires-clause-end_boundary
 range-requires-clause-end_boundary g c =
-    run-boundary c.loop-run.left.now c.in-Some.others.now c.in-Text.len c.in-Text.tag c.in-Some.run'.now c.loop-run.text.now
-    c.in-Some.ensures.cases.0 c.in-Text.is c.loop-run.invariant.cuts
+    run-boundary c.loop-run.text.now c.in-Some.ensures.cases.0 c.in-Text.is c.loop-run.invariant.cuts
 
 pub range_from-text-requires : goal.range_from-text-requires
 range_from-text-requires g c = λ _.
-    run-boundary c.loop-run.left.now c.in-Some.others.now c.in-Text.len c.in-Text.tag c.in-Some.run'.now c.loop-run.text.now
-    c.in-Some.ensures.cases.0 c.in-Text.is c.loop-run.invariant.cuts
+    run-boundary c.loop-run.text.now c.in-Some.ensures.cases.0 c.in-Text.is c.loop-run.invariant.cuts
 
 pub range_from-text-requires-text-s : goal.range_from-text-requires-text-s
 range_from-text-requires-text-s g c κs = IsUtf8-runs c.loop-run.left.now c.loop-run.text.now c.loop-run.invariant.cuts
@@ -24,21 +22,16 @@ loop-run-preserved-in_ok-push_text-in-Text g c =
     let this : c.range.result.now ≡ take c.in-Text.len c.loop-run.text.now = grind (arith, common_steps) in
     let behind : c.range_from-text.result.now ≡ drop c.in-Text.len c.loop-run.text.now = grind (arith, common_steps) in
     record {
-      cuts = Cuts-run c.loop-run.left.now c.in-Some.others.now c.in-Some.run'.now c.in-Text.len c.in-Text.tag c.loop-run.text.now
-          c.range_from-text.result.now c.in-Some.ensures.cases.0 c.in-Text.is behind c.loop-run.invariant.cuts;
+      cuts = Cuts-run c.loop-run.text.now c.in-Some.ensures.cases.0 c.in-Text.is behind c.loop-run.invariant.cuts;
       same = λ now rest. c.loop-run.invariant.same now
-          (Takes-run g.A.PartialEq.eq c.args.stacks.now c.args.names.now c.loop-run.self c.push_text.new.self now c.loop-run.left.now
-          c.in-Some.others.now c.in-Some.run'.now c.in-Text.len c.in-Text.tag c.loop-run.text.now c.range.result.now
-          c.range_from-text.result.now c.in-Some.ensures.cases.0 c.in-Text.is this behind
-          (c.in_ok-push_text-in-Text.ensures.ok c.args.names.now) rest);
+          (Takes-run g.A.PartialEq.eq c.args.stacks.now c.args.names.now c.loop-run.self c.push_text.new.self now c.loop-run.text.now
+          c.in-Some.ensures.cases.0 c.in-Text.is this behind (c.in_ok-push_text-in-Text.ensures.ok c.args.names.now) rest);
     }
 
 pub loop-run-preserved : goal.loop-run-preserved
 loop-run-preserved g c = record {
-  cuts = Cuts-mark c.loop-run.left.now c.in-Some.others.now c.in-Some.run'.now c.in-Mark.mark c.loop-run.text.now
-      c.in-Some.ensures.cases.0 c.in-Mark.is c.loop-run.invariant.cuts;
+  cuts = Cuts-mark c.loop-run.text.now c.in-Some.ensures.cases.0 c.in-Mark.is c.loop-run.invariant.cuts;
   same = λ now rest. c.loop-run.invariant.same now
-      (Takes-mark g.A.PartialEq.eq c.args.stacks.now c.args.names.now c.loop-run.self c.push_mark.new.self now c.loop-run.left.now
-      c.in-Some.others.now c.in-Some.run'.now c.in-Mark.mark c.loop-run.text.now c.in-Some.ensures.cases.0 c.in-Mark.is
-      c.in_ok-push_mark-in-Mark.ensures.ok rest);
+      (Takes-mark g.A.PartialEq.eq c.args.stacks.now c.args.names.now c.loop-run.self c.push_mark.new.self now c.loop-run.text.now
+      c.in-Some.ensures.cases.0 c.in-Mark.is c.in_ok-push_mark-in-Mark.ensures.ok rest);
 }

@@ -1,6 +1,7 @@
 use Rattle.std.proofs.Common.{◌≡◌, ◌<◌, length, arith}
 use Rattle.std.proofs.lemmas.Grind.{common_steps}
-use Rattle.html_render_tagged.proofs.Taking.{Takes-empty, Takes-text, OnOk-map}
+use Rattle.std.proofs.lemmas.Result.{on_ok_weaker}
+use Rattle.html_render_tagged.proofs.Taking.{Takes-empty, Takes-text}
 use Rattle.html_render_tagged.proofs.grouping.Progress.push_text.Goals as goal
 
 pub returns-then-is_empty-clause-ok : goal.returns-then-is_empty-clause-ok
@@ -11,7 +12,7 @@ returns-then-is_empty-clause-ok g c =
 pub returns-clause-ok : goal.returns-clause-ok
 returns-clause-ok g c =
     let some : 0 < length c.args.text.now = grind (arith, common_steps) in
-    OnOk-map c.push_str.result _ _
+    on_ok_weaker c.push_str.result
     (λ h names. Takes-text g.A.PartialEq.eq c.args.stacks.now names g.met.A.Eq.laws c.args.self.now c.push_str.new.self c.args.text.now
     c.args.tag c.utf8.text some h)
     c.push_str.ensures.ok

@@ -1,13 +1,13 @@
 -- Each turn of the loop takes one declaration more.
-use Rattle.std.proofs.Common.{sym, ap, ◌∙◌, arith}
+use Rattle.std.proofs.Common.{ap, ◌∙◌, arith}
 use Rattle.std.specs.List.{flat_map}
 use Rattle.std.proofs.lemmas.List.{take_all}
 use Rattle.html_render_dom.specs.ElementStyle.{style_of, with_declarations}
-use Rattle.html_render_dom.proofs.Applies.{said_by, said_by-all, with_declarations-more, with_declarations-none}
+use Rattle.html_render_dom.proofs.Applies.{said_by, said_by-all, still, with_declarations-more}
 use Rattle.html_render_dom.proofs.style.computed.ComputedStyle.update_all.Goals as goal
 
 pub loop-declaration-init : goal.loop-declaration-init
-loop-declaration-init c = sym (with_declarations-none (style_of c.args.self.now))
+loop-declaration-init c = still (style_of c.args.self.now)
 
 pub loop-declaration-preserved : goal.loop-declaration-preserved
 loop-declaration-preserved c =

@@ -1,5 +1,4 @@
-use Rattle.std.proofs.Common.{◌≡◌, ◌+◌, ◌<◌, ◌++◌, ◌∷◌, [], drop, length, sym, ap, ◌∙◌, arith, rules}
-use Rattle.std.proofs.Common.{append_assoc, drop-cons, suc}
+use Rattle.std.proofs.Common.{◌≡◌, ◌+◌, ◌<◌, ◌++◌, ◌∷◌, [], drop, length, sym, ap, ◌∙◌, arith, rules, append_assoc, drop-cons, suc}
 use Rattle.std.proofs.Output.{has_written_append}
 use Rattle.html_render_nodes.specs.Dump.{dump, kind_name, line}
 use Rattle.html_render_nodes.specs.Preorder.{flatten}
