@@ -26,8 +26,7 @@ moved_behind width overflow waiting first later front done lines =
 
 -- a paragraph's lines behind others, with what stands before these
 pub padded_flush : {T M : Type 0} (b c : MachineBlock T M) (p : Option (State T M)) (q r : State T M) (front last new : List (Line T M)) →
-    record c { lines = front ++ last; paragraph = p } ≡ b → p ≡ Some q →
-    option_map {U = List (Line T M) × State T M}
+    record c { lines = front ++ last; paragraph = p } ≡ b → p ≡ Some q → option_map {U = List (Line T M) × State T M}
     (λ (g : Page T M). (last ++ filled c.padding c.setting.width (all_lines g), start q.setting g.waiting)) (finished q) ≡ Some (new, r) →
     flush machine b ≡ Some (record c { lines = front ++ new; paragraph = Some r })
 padded_flush {T} {M} b c p q r front last new same is_some h =

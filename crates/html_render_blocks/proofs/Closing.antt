@@ -8,9 +8,10 @@ use Rattle.std.specs.Str.{chars, IsUtf8}
 use lib.Utf8.{encode, encodes, scalar, scalars}
 use Rattle.html_render_paragraphs.specs.CutText.{text_lines}
 use Rattle.html_render_lines.specs.Line.{Line}
-use Rattle.html_render_paragraphs.specs.Paragraph.{Setting}
+use Rattle.html_render_blocks.specs.declared.block.BlockSetting.{BlockSetting}
 use Rattle.html_render_lines.specs.laws.Cases.{if_cases}
 use Rattle.html_render_blocks.specs.Closing.{on_one_line, closing_lines}
+use Rattle.html_render_blocks.specs.laws.Related.{line_setting}
 
 pub ruleset ends = (append-nil)
 
@@ -38,10 +39,10 @@ chars-unbroken bs u =
 
 -- ---- text by text
 
-pub closing-step : {T M : Type 0} (s : Setting) (cut : Bool) (tag : T) (t : List ℕ) (ts : List (List ℕ)) (old new : List (Line T M)) →
-    option_map (λ more. old ++ more) (text_lines s cut tag (on_one_line t)) ≡ Some new →
+pub closing-step : {T M : Type 0} (s : BlockSetting) (cut : Bool) (tag : T) (t : List ℕ) (ts : List (List ℕ)) (old new : List (Line T M)) →
+    option_map (λ more. old ++ more) (text_lines (line_setting s) cut tag (on_one_line t)) ≡ Some new →
     option_map (λ ls. old ++ ls) (closing_lines s cut tag (t ∷ ts)) ≡ option_map (λ ls. new ++ ls) (closing_lines s cut tag ts)
-closing-step {T} {M} s cut tag t ts old new = by (text_lines s cut tag (on_one_line t)) (closing_lines s cut tag ts)
+closing-step {T} {M} s cut tag t ts old new = by (text_lines (line_setting s) cut tag (on_one_line t)) (closing_lines s cut tag ts)
   where
     by : (o p : Option (List (Line T M))) → option_map (λ more. old ++ more) o ≡ Some new →
         option_map (λ ls. old ++ ls) (option_and_then (λ first. option_and_then (λ later. Some (first ++ later)) p) o)

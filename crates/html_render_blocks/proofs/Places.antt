@@ -52,8 +52,7 @@ before-reversed xs before p stands e is =
 
 -- ---- the places of cells
 
-pub places-more : (widths : List ℕ) (cells : List PlacedCell) (i : ℕ) (d : PlacedCell) → i < length cells →
-    places widths (drop i cells)
+pub places-more : (widths : List ℕ) (cells : List PlacedCell) (i : ℕ) (d : PlacedCell) → i < length cells → places widths (drop i cells)
     ≡ record { is_cell = is_cell (get_or cells i d).kind; width = cell_width (take (get_or cells i d).columns widths) }
     ∷ places (drop (get_or cells i d).columns widths) (drop (i + 1) cells)
 places-more widths cells i d h = at_drop_more (places widths) cells i d h

@@ -23,7 +23,7 @@ use Rattle.html_render_pictures.specs.Picture.{KeptCell}
 use Rattle.html_render_blocks.specs.declared.block.BlockSetting.{BlockSetting}
 use Rattle.html_render_blocks.specs.declared.block.tables.OpenTable.{OpenTable}
 use Rattle.html_render_blocks.specs.declared.block.tables.OpenTable.TheVariants.{Across, Stacked}
-use Rattle.html_render_blocks.specs.Closing.{line_setting, closing_lines}
+use Rattle.html_render_blocks.specs.Closing.{closing_lines}
 use Rattle.html_render_blocks.specs.Joined.{prefixed, fitting}
 use Rattle.html_render_blocks.specs.OpenRows.{past_cell}
 use Rattle.html_render_blocks.specs.Operations.{Operations, DocumentEnd}
@@ -143,8 +143,7 @@ module _ {P R T M : Type 0} (parts : Parts P R T M) where
 
   -- the row that is open is over: below a row of cells one below another that have lines, there is a border
   abbrev pub row_ended : Block P R T M → Option (OpenTable R T M) → Option (Block P R T M)
-  row_ended b (Some (Across picture widths ahead row)) =
-      Some (record b { table = Some (Across (with_open parts picture row) widths ahead None) })
+  row_ended b (Some (Across picture widths ahead row)) = Some (record b { table = Some (Across (with_open parts picture row) widths ahead None) })
   row_ended b (Some (Stacked border true)) = option_map (λ (e : Block P R T M). stacked_begun e border) (flush b)
   row_ended b _ = Some b
 
@@ -171,7 +170,7 @@ module _ {P R T M : Type 0} (parts : Parts P R T M) where
   add_closing_lines b cut tag [] = Some b
   add_closing_lines b cut tag (t ∷ ts) = do
     e ← start_block b
-    ls ← closing_lines (line_setting e.setting) cut tag (t ∷ ts)
+    ls ← closing_lines e.setting cut tag (t ∷ ts)
     Some (add_lines e ls)
 
   -- ---- the operations that a layout is made of

@@ -3,21 +3,16 @@ use Rattle.std.specs.Prelude.{ℕ, Bool, List, [], ◌∷◌, ◌++◌, Option, 
 use Rattle.html_render_values.specs.Outcome.{◌>>=◌}
 use Rattle.html_render_paragraphs.specs.CutText.{text_lines}
 use Rattle.html_render_lines.specs.Line.{Line}
-use Rattle.html_render_paragraphs.specs.Paragraph.{Setting}
 use Rattle.html_render_blocks.specs.declared.block.BlockSetting.{BlockSetting}
-
--- the setting of lines that aren't a paragraph's: the block's own width
-abbrev pub line_setting : BlockSetting → Setting
-line_setting s = record { width = s.width; overflow = s.overflow }
 
 -- a text with a space for each newline
 abbrev pub on_one_line : List ℕ → List ℕ
 on_one_line cs = map (λ c. if c == 10 then 32 else c) cs
 
--- the lines of texts, cut where they are full or left whole
-abbrev pub closing_lines : {T M : Type 0} → Setting → (cut : Bool) → T → List (List ℕ) → Option (List (Line T M))
+-- the lines of texts, cut at the width of the block or left whole
+abbrev pub closing_lines : {T M : Type 0} → BlockSetting → (cut : Bool) → T → List (List ℕ) → Option (List (Line T M))
 closing_lines setting cut tag [] = Some []
 closing_lines setting cut tag (t ∷ ts) = do
-  first ← text_lines setting cut tag (on_one_line t)
+  first ← text_lines (record { width = setting.width; overflow = setting.overflow }) cut tag (on_one_line t)
   later ← closing_lines setting cut tag ts
   Some (first ++ later)

@@ -10,8 +10,7 @@ prefixed first later (l ∷ ls) = (first ++ l) ∷ map (◌++◌ later) ls
 
 -- the lines, unless one passes the width with overflow off
 abbrev pub fitting : {T M : Type 0} → ℕ → Bool → List (Line T M) → Option (List (Line T M))
-fitting {T} {M} width overflow lines =
-    if overflow || list_all (λ (l : Line T M). nat_le (columns l) width) lines then Some lines else None
+fitting {T} {M} width overflow lines = if overflow || list_all (λ (l : Line T M). nat_le (columns l) width) lines then Some lines else None
 
 -- these lines, and others behind them that stand behind prefixes; marks stand before the first prefix
 abbrev pub moved : {T M : Type 0} → ℕ → Bool → List M → Line T M → Line T M → List (Line T M) → List (Line T M) → Option (List (Line T M))

@@ -24,8 +24,7 @@ is_placeholder _ = false
 -- the places of a row over columns of these widths
 abbrev pub places : (widths : List ℕ) → List PlacedCell → List RowPlace
 places widths [] = []
-places widths (s ∷ ss) =
-    record { is_cell = is_cell s.kind; width = cell_width (take s.columns widths) } ∷ places (drop s.columns widths) ss
+places widths (s ∷ ss) = record { is_cell = is_cell s.kind; width = cell_width (take s.columns widths) } ∷ places (drop s.columns widths) ss
 
 -- the columns of the next cell of a row, unless it is skipped
 abbrev pub next_width : List RowPlace → Option ℕ

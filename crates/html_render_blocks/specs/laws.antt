@@ -1,5 +1,3 @@
--- facts on values that may be missing
-pub mod Cases
 -- THE THEOREM: two blocks whose paragraphs, pictures and lines are related stay so under each operation
 pub mod Related
 -- so what is seen of a machine's block is what is seen of the definition's

@@ -68,8 +68,7 @@ Comes-through start es ds ds_changed es_now ds_now change f changed c = λ below
 
 abbrev pub split_changed : (start : ℕ) (ds ds_changed : Forest Draft) (change : Forest Draft → Forest Draft) →
     ((s : SplitAt ds start) → ds_changed ≡ followed_by (change s.children) s.beside) → SplitAt ds start → SplitAt ds_changed start
-split_changed start ds ds_changed change changed s =
-    record { children = change s.children; beside = s.beside; is = changed s; mark_is = s.mark_is }
+split_changed start ds ds_changed change changed s = record { children = change s.children; beside = s.beside; is = changed s; mark_is = s.mark_is }
 
 -- a table of this kind that came, kept or taken back
 module _ (start : ℕ) (es : List Open) (ds : Forest Draft) (es_now : List Open) (ds_now : Forest Draft) (is_stray : Bool) (k : NodeKind)

@@ -82,8 +82,7 @@ module _ (rules : List StyleRule) (dom : Dom) where
 
   -- what was kept of the element
   pub Ending-split : (elements : List Open) (o : Open) (drafts : Forest Draft) → Ending rules dom elements o drafts → SplitAt drafts o.start
-  Ending-split elements o drafts e =
-      record { children = e.kept; beside = made_of_path e.path; is = e.drafts_are; mark_is = e.start_is }
+  Ending-split elements o drafts e = record { children = e.kept; beside = made_of_path e.path; is = e.drafts_are; mark_is = e.start_is }
 
   -- ---- an element that stands in another
 
@@ -166,5 +165,4 @@ module _ (rules : List StyleRule) (dom : Dom) where
 
   pub Converting-top : (elements : List Open) (o : Open) (drafts : Forest Draft) → Converting rules dom (elements ++ o ∷ []) drafts →
       IsNode dom o.children.element × (o.ahead ≤ length (children_in dom o.children))
-  Converting-top elements o drafts c =
-      let own = (innermost rules dom elements o drafts c).sound.0 in (own.is_node, own.ahead_within)
+  Converting-top elements o drafts c = let own = (innermost rules dom elements o drafts c).sound.0 in (own.is_node, own.ahead_within)

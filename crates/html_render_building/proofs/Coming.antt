@@ -1,5 +1,6 @@
 -- What comes of trees beside each other, of some that are picked, and to an element beside which others stand.
-use Rattle.std.proofs.Common.{◌≡◌, ℕ, Bool, true, false, List, [], ◌∷◌, ◌++◌, Option, Some, None, refl, sym, ap, ◌∙◌, if◌then◌else◌}
+use Rattle.std.proofs.lemmas.Bool.{cases_Bool}
+use Rattle.std.proofs.Common.{◌≡◌, ℕ, Bool, true, false, List, [], ◌∷◌, ◌++◌, Option, Some, None, refl, sym, ap, ◌∙◌, if◌then◌else◌, inl, inr}
 use Rattle.html_render_values.specs.Forest.{Forest, none, node, followed_by}
 use Rattle.html_render_values.specs.Outcome.{◌>>=◌}
 use Rattle.html_render_dom.specs.Content.{Content}
@@ -47,8 +48,7 @@ chain (Some a) f g k l r = chain-second (f a) g k l r
 module _ (rules : List StyleRule) where
   -- what comes of a node that is picked, or isn't
   abbrev pub step : Pick → Content → (children : Forest Content) → Holding → Option Holding
-  step pick c children q =
-      if picks pick c then come (outline_of rules c children) (λ k h. arrivals rules children k h) q else Some q
+  step pick c children q = if picks pick c then come (outline_of rules c children) (λ k h. arrivals rules children k h) q else Some q
 
   -- the trees behind come first
   pub arrivals-followed_by : (pick : Pick) (t u : Forest Content) (p : Holding) →
@@ -62,19 +62,13 @@ module _ (rules : List StyleRule) where
   pub arrivals-picked : (dom : Dom) (pick : Pick) (hs : List ℕ) (p : Holding) →
       arrivals rules (trees_of dom (picked pick dom hs)) All p ≡ arrivals rules (trees_of dom hs) pick p
   arrivals-picked dom pick [] p = refl
-  arrivals-picked dom pick (h ∷ hs) p = by (picks pick (content_at dom h)) (arrivals-picked dom pick hs p)
-    where
-      children : Forest Content
-      children = below (node_count dom) dom h
-
-      came : Holding → Option Holding
-      came q = come (outline_of rules (content_at dom h) children) (λ k x. arrivals rules children k x) q
-
-      by : (b : Bool) → arrivals rules (trees_of dom (picked pick dom hs)) All p ≡ arrivals rules (trees_of dom hs) pick p →
-          arrivals rules (trees_of dom (if b then h ∷ picked pick dom hs else picked pick dom hs)) All p
-          ≡ (arrivals rules (trees_of dom hs) pick p >>= (λ q. if b then came q else Some q))
-      by true e = ap (λ o. o >>= came) e
-      by false e = e ∙ sym (bind-some (arrivals rules (trees_of dom hs) pick p))
+  arrivals-picked dom pick (h ∷ hs) p =
+      let children = below (node_count dom) dom h in
+      let came = λ (q : Holding). come (outline_of rules (content_at dom h) children) (λ k x. arrivals rules children k x) q in
+      elim (cases_Bool (picks pick (content_at dom h))) [
+        | inl e ↦ rw e (ap (λ o. o >>= came) (arrivals-picked dom pick hs p))
+        | inr e ↦ rw e (arrivals-picked dom pick hs p ∙ sym (bind-some (arrivals rules (trees_of dom hs) pick p)))
+      ]
 
 pub trees_of-append : (dom : Dom) (xs ys : List ℕ) → trees_of dom (xs ++ ys) ≡ followed_by (trees_of dom xs) (trees_of dom ys)
 trees_of-append dom [] ys = refl

@@ -21,8 +21,7 @@ module _ (depth : ℕ) (change : Draft → Draft) where
       let empty : count s.children ≡ 0 = omega (arith, e, ap count s.is, count-followed_by s.children s.beside, s.mark_is) in
       s.is ∙ at_none s.children s.beside empty
 
-  at_some : (c beside : Forest Draft) → count c ≢ 0 →
-      at_first depth change (followed_by c beside) ≡ followed_by (at_first depth change c) beside
+  at_some : (c beside : Forest Draft) → count c ≢ 0 → at_first depth change (followed_by c beside) ≡ followed_by (at_first depth change c) beside
   at_some none beside e = absurd (e refl)
   at_some (node d children others) beside e = at_first-followed_by depth change d children others beside
 
@@ -39,8 +38,7 @@ no_drafts (node d children others) e = absurd (omega (arith, e))
 
 -- nothing was kept
 pub none_kept : (start : ℕ) (t : Forest Draft) (s : SplitAt t start) → count t ≡ start → s.children ≡ none
-none_kept start t s e =
-    no_drafts s.children (omega (arith, e, ap count s.is, count-followed_by s.children s.beside, s.mark_is))
+none_kept start t s e = no_drafts s.children (omega (arith, e, ap count s.is, count-followed_by s.children s.beside, s.mark_is))
 
 -- the first of the drafts that were kept is the first of all
 first_at : (c beside : Forest Draft) → count c ≢ 0 → first_kind (followed_by c beside) ≡ first_kind c

@@ -18,5 +18,4 @@ pub last_of : {X : Type 0} (xs : List X) (n : ℕ) (d : X) → length xs ≡ n +
 last_of xs n d e = sym (take_all (n + 1) xs (omega arith)) ∙ take_more xs n d (omega arith)
 
 pub last_set : {X : Type 0} (xs : List X) (n : ℕ) (y : X) → length xs ≡ n + 1 → set xs n y ≡ take n xs ++ y ∷ []
-last_set xs n y e =
-    sym (take_all (n + 1) (set xs n y) (omega (arith, length-set xs n y))) ∙ take_more_set xs n y (omega arith)
+last_set xs n y e = sym (take_all (n + 1) (set xs n y) (omega (arith, length-set xs n y))) ∙ take_more_set xs n y (omega arith)

@@ -42,8 +42,7 @@ module _ (dom : Dom) where
   one_more h hs others feet captions false false e ih = (ap (λ l. h ∷ l) (ih e).0, (ih e).1, (ih e).2)
   one_more h hs others feet captions caption foot e ih = cc
 
-  in_order : (hs : List ℕ) → has_own_order dom hs ≡ false →
-      (picked Others dom hs ≡ hs) × (picked Feet dom hs ≡ []) × (picked Captions dom hs ≡ [])
+  in_order : (hs : List ℕ) → has_own_order dom hs ≡ false → (picked Others dom hs ≡ hs) × (picked Feet dom hs ≡ []) × (picked Captions dom hs ≡ [])
   in_order [] e = (refl, refl, refl)
   in_order (h ∷ hs) e =
       let c = content_at dom h in
@@ -84,10 +83,8 @@ module _ (rules : List StyleRule) (dom : Dom) (f : IsForest dom) (h : ℕ) (at :
   captions_told : (b : Bool) → has_own_order dom children ≡ b → (p : Holding) →
       let order : Option (List ℕ) = if b then Some (picked Captions dom children) else None in
       all_of (take (own_count order) (listed_in dom h order)) p ≡ inside Captions p
-  captions_told true e p =
-      ap (λ hs. all_of hs p) (take-length (picked Captions dom children)) ∙ arrivals-picked rules dom Captions children p
-  captions_told false e p =
-      sym (sym (arrivals-picked rules dom Captions children p) ∙ ap (λ hs. all_of hs p) (in_order dom children e).2)
+  captions_told true e p = ap (λ hs. all_of hs p) (take-length (picked Captions dom children)) ∙ arrivals-picked rules dom Captions children p
+  captions_told false e p = sym (sym (arrivals-picked rules dom Captions children p) ∙ ap (λ hs. all_of hs p) (in_order dom children e).2)
 
   -- each of them is a node
   children_are : All (IsNode dom) children
@@ -196,13 +193,11 @@ module _ (rules : List StyleRule) (dom : Dom) (f : IsForest dom) (h : ℕ) (at :
         (come_of k style if_empty hc inserted inside (holding top) >>= rest) ≡ document_drafts rules dom → Converting rules dom es_now ds_now
     opened_over Captioned style if_empty hc inserted es_is ds_is result =
         opened_table (fresh Captioned style if_empty inserted).element es_is ds_is result
-    opened_over k style if_empty hc inserted es_is ds_is result =
-        opened_other hc (fresh k style if_empty inserted).element es_is ds_is result
+    opened_over k style if_empty hc inserted es_is ds_is result = opened_other hc (fresh k style if_empty inserted).element es_is ds_is result
 
     opened : (o : Outline) → IsOpened dom h o es ds es_now ds_now → (come o inside (holding top) >>= rest) ≡ document_drafts rules dom →
         Converting rules dom es_now ds_now
-    opened Nothing i result =
-        record { path = top ∷ path; elements_are = i.0 ∙ e_is; drafts_are = i.1 ∙ d_is; result = result; sound = sound }
+    opened Nothing i result = record { path = top ∷ path; elements_are = i.0 ∙ e_is; drafts_are = i.1 ∙ d_is; result = result; sound = sound }
     opened (Alone n) i result =
         let a = leaf_arrival (draft_of n) in
         let same : arrive a (record { element = top.opened.element; drafts = ds }) ≡ before (made_of_path path) (arrive a (holding top)) =

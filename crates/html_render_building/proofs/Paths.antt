@@ -62,8 +62,7 @@ resumed rules dom (x ∷ path) = do
 pub record IsSound (dom : Dom) (x : Step) (path : Path) : Type 0 where
   pub is_node : IsNode dom x.opened.children.element
   pub ahead_within : x.opened.ahead ≤ length (children_in dom x.opened.children)
-  pub are_nodes : (n d : ℕ) → n < length (children_in dom x.opened.children) →
-      IsNode dom (get_or (children_in dom x.opened.children) n d)
+  pub are_nodes : (n d : ℕ) → n < length (children_in dom x.opened.children) → IsNode dom (get_or (children_in dom x.opened.children) n d)
   pub start_is : x.opened.start ≡ count (made_of_path path)
 
 abbrev pub AreSound : Dom → Path → Type 0
@@ -146,8 +145,7 @@ module _ (rules : List StyleRule) (dom : Dom) (f : IsForest dom) where
   pub come_at : (h : ℕ) → IsNode dom h → (p : Holding) →
       arrivals rules (tree_of dom h) All p
       ≡ come (outline_at rules dom h) (λ k q. arrivals rules (trees_of dom (children_at dom h)) k q) p
-  come_at h at p =
-      ap (λ t. come (outline_of rules (content_at dom h) t) (λ k q. arrivals rules t k q) p) (below-children dom f h at)
+  come_at h at p = ap (λ t. come (outline_of rules (content_at dom h) t) (λ k q. arrivals rules t k q) p) (below-children dom f h at)
 
   -- the last of the children ahead comes first
   ahead-last : (o : Open) (n h : ℕ) (p : Holding) → o.ahead ≡ suc n → n < length (children_in dom o.children) →

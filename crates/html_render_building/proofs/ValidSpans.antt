@@ -29,11 +29,8 @@ valid_part widest rows =
     All-map IsValid (λ cells. map (spanned (widest - width_of cells)) cells) rows
     (λ k d _. valid_row (widest - width_of (get_or rows k d)) (get_or rows k d))
 
-valid_none : AreValid []
-valid_none k d h = absurd (omega (arith, h))
-
 pub parts-valid : (parts : List (List (List CellSpan))) → AreValid (spans_of_parts parts)
-parts-valid [] = valid_none
+parts-valid [] = λ k d h. absurd (omega (arith, h))
 parts-valid (rows ∷ parts) =
     All-append IsValid (spanned_in (greatest_width rows) rows) (spans_of_parts parts) (valid_part (greatest_width rows) rows)
     (parts-valid parts)

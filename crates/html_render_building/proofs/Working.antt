@@ -31,9 +31,6 @@ work-append : (dom : Dom) (xs ys : List Open) → work dom (xs ++ ys) ≡ work d
 work-append dom [] ys = omega arith
 work-append dom (x ∷ xs) ys = omega (arith, work-append dom xs ys)
 
-work-close : (dom : Dom) (elements : List Open) (o : Open) → work dom elements < work dom (elements ++ o ∷ [])
-work-close dom elements o = omega (arith, work-append dom elements (o ∷ []))
-
 -- an element that changes has as much ahead
 work-same : (dom : Dom) (below : List Open) (p : Open) (e : Element) → work dom (below ++ record p { element = e } ∷ []) ≡ work dom (below ++ p ∷ [])
 work-same dom below p e = work-append dom below (record p { element = e } ∷ []) ∙ sym (work-append dom below (p ∷ []))
@@ -42,7 +39,7 @@ work-same dom below p e = work-append dom below (record p { element = e } ∷ []
 pub work-closed : (dom : Dom) (es es_now below old : List Open) (p o : Open) (e : Element) → es_now ≡ below ++ record p { element = e } ∷ [] →
     es ≡ below ++ p ∷ [] → old ≡ es ++ o ∷ [] → work dom es_now < work dom old
 work-closed dom es es_now below old p o e now_is es_is old_is =
-    omega (arith, ap (work dom) now_is, work-same dom below p e, ap (work dom) es_is, work-close dom es o, ap (work dom) old_is)
+    omega (arith, ap (work dom) now_is, work-same dom below p e, ap (work dom) es_is, work-append dom es (o ∷ []), ap (work dom) old_is)
 
 module _ (dom : Dom) where
   abbrev pub all_under : List ℕ → ℕ

@@ -11,6 +11,7 @@ use Rattle.html_render_nodes.specs.declared.tree.NodeKind.{NodeKind}
 use Rattle.html_render_nodes.specs.declared.tree.NodeKind.TheVariants.{Container, Block, TableRow, TableCell, FragmentStart}
 use Rattle.html_render_nodes.specs.declared.tree.NodeKind.TheVariants as kind
 use Rattle.html_render_nodes.specs.declared.tree.NodeStyle.{NodeStyle}
+use Rattle.html_render_nodes.specs.Kinds.{holds_insertions}
 use Rattle.html_render_nodes.specs.RenderNodes.{no_style}
 use Rattle.html_render_nodes.specs.Tables.{TableParts, unmeasured_table}
 use Rattle.html_render_insertions.specs.declared.drafts.Draft.{Draft}
@@ -25,7 +26,7 @@ use Rattle.html_render_conversion.specs.Outlines.{outline_of}
 use Rattle.html_render_building.specs.declared.elements.Element.{Element}
 use Rattle.html_render_building.specs.declared.elements.OpenKind.{OpenKind}
 use Rattle.html_render_building.specs.declared.elements.OpenKind.TheVariants.{Node, Captioned, Table, Rows, Row, Cell, Caption}
-use Rattle.html_render_conversion.specs.Results.{Role, holds_insertions}
+use Rattle.html_render_conversion.specs.Results.{Role}
 use Rattle.html_render_conversion.specs.Results as role
 use Rattle.html_render_building.specs.declared.order.Pick.{Pick}
 use Rattle.html_render_building.specs.declared.order.Pick.TheVariants.{All, Captions, Feet, Others}
@@ -139,14 +140,11 @@ caption_kind in_table = if in_table then Block else Container
 -- what an element becomes that stands, in a table or elsewhere
 abbrev pub made_of : (in_table : Bool) → OpenKind → NodeStyle → List Insertions → (has_children is_stray : Bool) → (kept : Forest Draft) →
     Option Arrival
-made_of in_table (Node k) style inserted has_children is_stray kept =
-    Some (node_made (draft k style inserted) has_children is_stray kept)
+made_of in_table (Node k) style inserted has_children is_stray kept = Some (node_made (draft k style inserted) has_children is_stray kept)
 made_of in_table Captioned style inserted has_children is_stray kept = captioned_made style inserted has_children is_stray kept
 made_of in_table (Table parts) style inserted has_children is_stray kept = None
-made_of in_table (Rows behind rows) style inserted has_children is_stray kept =
-    Some (rows_made behind rows inserted has_children is_stray kept)
-made_of in_table (Row cells) style inserted has_children is_stray kept =
-    Some (row_made cells style inserted has_children is_stray kept)
+made_of in_table (Rows behind rows) style inserted has_children is_stray kept = Some (rows_made behind rows inserted has_children is_stray kept)
+made_of in_table (Row cells) style inserted has_children is_stray kept = Some (row_made cells style inserted has_children is_stray kept)
 made_of in_table (Cell span) style inserted has_children is_stray kept =
     Some (with_insertions (role.Cell span) (draft TableCell style inserted) has_children is_stray kept)
 made_of in_table Caption style inserted has_children is_stray kept =

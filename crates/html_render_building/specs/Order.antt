@@ -33,8 +33,7 @@ abbrev pub caption_order : Dom → List ℕ → Option (List ℕ)
 caption_order dom children = if has_own_order dom children then Some (picked Captions dom children) else None
 
 abbrev pub part_order : Dom → List ℕ → Option (List ℕ)
-part_order dom children =
-    if has_own_order dom children then Some (picked Others dom children ++ picked Feet dom children) else None
+part_order dom children = if has_own_order dom children then Some (picked Others dom children ++ picked Feet dom children) else None
 
 -- the children of an element in an order of their own, or, without one, as in the document
 abbrev pub listed_in : Dom → (handle : ℕ) → Option (List ℕ) → List ℕ

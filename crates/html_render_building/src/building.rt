@@ -22,7 +22,6 @@ ghost use Rattle.html_render_building.specs.declared.building.Open.{Open};
 ghost use Rattle.html_render_conversion.specs.Results as role;
 
 use crate::elements::{Element, OpenKind, Role};
-use crate::kinds::holds_insertions;
 use crate::order::{Children, table_orders};
 use crate::spans::{Gathered, PartRows, RowCells, grid_over};
 use html_render_conversion::mapping::{IfEmpty, Outline, outline_of};
@@ -118,7 +117,7 @@ fn has_insertions(draft: &Draft) -> bool
 fn goes_beside(draft: &Draft) -> bool
     ensures { result ≡ goes_beside draft.now }
 {
-    has_insertions(draft) && !holds_insertions(&draft.kind)
+    has_insertions(draft) && !draft.kind.holds_insertions()
 }
 
 /// An element's node comes to the innermost open element, in a Container of it and of what is inserted.

@@ -1,28 +1,10 @@
-//! What the kind of a node says of its children: what is kept, what counts, and where something is inserted.
+//! What the kind of a node says of its children: which are kept, and which count.
 
 ghost use Rattle.std.specs.Prelude.{◌≡◌};
 ghost use Rattle.html_render_conversion.specs.Conversion.{is_blank};
 ghost use Rattle.html_render_conversion.specs.Results.{keeps as keeps_kind, shows_nothing};
-ghost use Rattle.html_render_conversion.specs.Results.{holds_insertions};
 
 use html_render_nodes::tree::NodeKind;
-
-/// Whether a node takes what is inserted among its own children.
-pub fn holds_insertions(kind: &NodeKind) -> bool
-    ensures { result ≡ holds_insertions kind.now }
-{
-    matches!(
-        kind,
-        NodeKind::Container
-            | NodeKind::Block
-            | NodeKind::Div
-            | NodeKind::BlockQuote
-            | NodeKind::ListItem
-            | NodeKind::Dl
-            | NodeKind::Dt
-            | NodeKind::Dd
-    )
-}
 
 /// Whether a node keeps a child of this kind.
 pub fn keeps_kind(parent: &NodeKind, child: &NodeKind) -> bool

@@ -2,7 +2,7 @@
 use Rattle.std.proofs.Common.{◌≡◌, ℕ, Bool, true, false, if◌then◌else◌, List, [], ◌∷◌, ◌++◌, map, Option, is_some, option_to_list, sym, ap, ◌∙◌}
 use Rattle.html_render_dom.specs.Content.{Name, Property}
 use Rattle.html_render_dom.specs.Cascade.{value_of, winner}
-use Rattle.html_render_dom.specs.ElementStyle.{ElementStyle, element_style, is_selected, style_by, subject_of}
+use Rattle.html_render_dom.specs.ElementStyle.{ElementStyle, element_style, is_selected, style_by}
 use Rattle.html_render_dom.specs.Rules.{rule_of}
 use Rattle.html_render_dom.specs.Specificities.{no_specificity}
 use Rattle.html_render_values.specs.declared.white_space.WhiteSpace.{WhiteSpace}
@@ -26,7 +26,7 @@ use Rattle.std.specs.Str.{bytes_eq}
 use Rattle.html_render_conversion.specs.Outlines.{mark_alone, displayed_outline, styled_outline}
 
 pub unselected : (rules : List StyleRule) (name : Name) (properties : List Property) →
-    is_selected (map rule_of rules) (subject_of name.local properties) ≡ false →
+    is_selected (map rule_of rules) name.local properties ≡ false →
     (is_html name.space && bytes_eq name.local (codes "pre")) ≡ false → own_style (map rule_of rules) name properties ≡ style_by []
 unselected rules name properties e other =
     let style = element_style (map rule_of rules) name.local properties in

@@ -1,9 +1,10 @@
 -- What becomes of each element, by its name and its attributes, and which style its node has.
-use Rattle.std.specs.Prelude.{ℕ, ◌^◌, nat_lt, ℤ, pos, negsuc, Bool, true, false, not, ◌&&◌, List, [], ◌∷◌, length, codes, Option, Some, None}
+use Rattle.std.specs.Prelude.{ℕ, ◌+◌, ◌^◌, nat_lt, ℤ, pos, negsuc, Bool, true, false, not, ◌&&◌, List, [], ◌∷◌, codes, Option}
 use Rattle.std.specs.Prelude.{◌++◌, option_and_then, option_to_list, unwrap_or, if◌then◌else◌}
-use Rattle.std.specs.Str.{bytes_eq, all_ascii_digits, trim}
+use Rattle.std.specs.Option.{option_map_or}
+use Rattle.std.specs.Str.{bytes_eq, trim}
 use Rattle.std.specs.Str.Parse.{without_leading_sign, signed_digits_value}
-use Rattle.std.specs.List.{list_any}
+use Rattle.std.specs.List.{list_any, position_or_len}
 use Rattle.html_render_values.specs.declared.white_space.WhiteSpace.{WhiteSpace}
 use Rattle.html_render_values.specs.declared.white_space.WhiteSpace.TheVariants.{Normal, Pre}
 use Rattle.html_render_dom.specs.declared.style.origins.StyleOrigin.TheVariants.{Agent}
@@ -27,7 +28,7 @@ use Rattle.html_render_conversion.specs.declared.mapping.Mapping.TheVariants.{No
 use Rattle.html_render_conversion.specs.declared.tables.Part.TheVariants as part
 use Rattle.html_render_conversion.specs.Images.{image_parts, drawing_title}
 use Rattle.html_render_conversion.specs.Marks.{is_html}
-use Rattle.html_render_conversion.specs.Tables.{span_of}
+use Rattle.html_render_conversion.specs.Tables.{numeral_of, span_of}
 
 abbrev pub is_one_of : List ℕ → List (List ℕ) → Bool
 is_one_of name names = list_any (bytes_eq name) names
@@ -39,14 +40,15 @@ fits_i64 (negsuc n) = nat_lt n (2 ^ 63)
 
 -- the number that a text is: a sign or none, and then digits alone, one or more
 abbrev pub number_of : List ℕ → Option ℤ
-number_of written =
-    let digits = without_leading_sign written in
-    let number = signed_digits_value 10 written in
-    if nat_lt 0 (length digits) && all_ascii_digits digits && fits_i64 number then Some number else None
+number_of written = let number = signed_digits_value 10 written in numeral_of (without_leading_sign written) number (fits_i64 number)
 
 -- the number of an ordered list's first item: that of its first attribute `start`, and 1 without such a number
 abbrev pub start_of : List Property → ℤ
 start_of properties = unwrap_or (option_and_then number_of (first_value (codes "start") properties)) (pos 1)
+
+-- the names of headings, by their levels
+abbrev pub headings : List (List ℕ)
+headings = codes "h1" ∷ codes "h2" ∷ codes "h3" ∷ codes "h4" ∷ codes "h5" ∷ codes "h6" ∷ []
 
 -- what becomes of an element of HTML whose node holds no text, by its name and its attributes
 abbrev pub html_mapping : (name : List ℕ) → List Property → Mapping
@@ -61,12 +63,7 @@ html_mapping name properties =
     else if bytes_eq name (codes "div") then Parent (Node Div) Vanishes
     else if bytes_eq name (codes "ul") then Parent (Node Ul) Vanishes
     else if bytes_eq name (codes "ol") then Parent (Node (Ol (start_of properties))) Vanishes
-    else if bytes_eq name (codes "h1") then Parent (Node (Header 1)) Stands
-    else if bytes_eq name (codes "h2") then Parent (Node (Header 2)) Stands
-    else if bytes_eq name (codes "h3") then Parent (Node (Header 3)) Stands
-    else if bytes_eq name (codes "h4") then Parent (Node (Header 4)) Stands
-    else if bytes_eq name (codes "h5") then Parent (Node (Header 5)) Stands
-    else if bytes_eq name (codes "h6") then Parent (Node (Header 6)) Stands
+    else if is_one_of name headings then Parent (Node (Header (position_or_len (bytes_eq name) headings + 1))) Stands
     else if bytes_eq name (codes "blockquote") then Parent (Node BlockQuote) Vanishes
     else if is_one_of name (codes "s" ∷ codes "del" ∷ []) then Parent (Node Strikeout) Stands
     else if bytes_eq name (codes "sup") then Parent (Node Superscript) Stands
@@ -85,26 +82,21 @@ html_mapping name properties =
 
 -- an `a` with a target is a link
 abbrev pub link_mapping : (target : Option (List ℕ)) → Mapping
-link_mapping None = Parent (Node Container) Stands
-link_mapping (Some target) = Parent (Node (Link target)) Vanishes
+link_mapping target = option_map_or (λ t. Parent (Node (Link t)) Vanishes) target (Parent (Node Container) Stands)
 
--- U+200B, which takes no columns and between whose neighbours a line may end, in UTF-8
-abbrev pub zero_width_space : List ℕ
-zero_width_space = 226 ∷ 128 ∷ 139 ∷ []
-
--- what becomes of an element of HTML: its link goes to its first attribute `href`, and an `img` without a source is nothing
+-- what becomes of an element of HTML: its link goes to its first attribute `href`, an `img` without a source is nothing, and a `wbr` is
+-- U+200B in UTF-8, which takes no columns and between whose neighbours a line may end
 abbrev pub html_element_mapping : (name : List ℕ) → List Property → Mapping
 html_element_mapping name properties =
     if bytes_eq name (codes "a") then link_mapping (first_value (codes "href") properties)
     else if bytes_eq name (codes "img") then (let image = image_parts properties in if is_filled image.source then Leaf (Image image) else Nothing)
-    else if bytes_eq name (codes "wbr") then Leaf (Text zero_width_space)
+    else if bytes_eq name (codes "wbr") then Leaf (Text (226 ∷ 128 ∷ 139 ∷ []))
     else html_mapping name properties
 
 -- what becomes of an element of a namespace, over what stands below it: outside HTML no name but `svg` is special
 abbrev pub element_mapping : Space → (name : List ℕ) → List Property → (below : Forest Content) → Mapping
 element_mapping html name properties below = html_element_mapping name properties
-element_mapping svg name properties below =
-    if bytes_eq name (codes "svg") then Leaf (Svg (drawing_title below)) else Parent (Node Container) Vanishes
+element_mapping svg name properties below = if bytes_eq name (codes "svg") then Leaf (Svg (drawing_title below)) else Parent (Node Container) Vanishes
 element_mapping _ name properties below = Parent (Node Container) Vanishes
 
 -- the update of white space that stands behind those of all rules where an element is preformatted

@@ -44,8 +44,7 @@ is_svg _ = false
 
 -- whether a node is a `title` of SVG
 abbrev pub is_title : Content → Bool
-is_title (element name properties template_contents integration_point) =
-    is_svg name.space && bytes_eq name.local (codes "title")
+is_title (element name properties template_contents integration_point) = is_svg name.space && bytes_eq name.local (codes "title")
 is_title _ = false
 
 -- what stands in the last of the titles in front of any other element, and in the title found before where there is none

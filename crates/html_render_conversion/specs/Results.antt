@@ -2,6 +2,7 @@
 use Rattle.std.specs.Prelude.{ℕ, zero, suc, ◌==◌, Bool, true, false, not, ◌&&◌, ◌||◌, List, [], ◌∷◌, ◌++◌, filter, flat_map, map, Option, Some, None, is_some}
 use Rattle.std.specs.Prelude.{option_map, option_to_list, if◌then◌else◌}
 use Rattle.std.specs.List.{list_all, list_any}
+use Rattle.std.specs.Option.{option_map_or}
 use Rattle.html_render_values.specs.Forest.{Forest, none, node, followed_by}
 use Rattle.html_render_values.specs.Outcome.{◌>>=◌}
 use Rattle.html_render_dom.specs.Cascade.{value_of}
@@ -14,11 +15,12 @@ use Rattle.html_render_parts.specs.TableCells.{cell_grid_of}
 use Rattle.html_render_parts.specs.declared.table.Span.{Span}
 use Rattle.html_render_conversion.specs.declared.tables.CellSpan.{CellSpan}
 use Rattle.html_render_nodes.specs.declared.tree.NodeKind.{NodeKind}
-use Rattle.html_render_nodes.specs.declared.tree.NodeKind.TheVariants.{Text, Container, Break, Block, Div, BlockQuote, Ol, ListItem, Dl, Dt, Dd, Link}
+use Rattle.html_render_nodes.specs.declared.tree.NodeKind.TheVariants.{Text, Container, Break, Block, Ol, ListItem, Dl, Dt, Dd, Link}
 use Rattle.html_render_nodes.specs.declared.tree.NodeKind.TheVariants.{Image, Svg, FragmentStart, Table, TableRow, TableCell}
 use Rattle.html_render_nodes.specs.declared.tree.NodeStyle.{NodeStyle}
 use Rattle.html_render_conversion.specs.declared.tables.Part.TheVariants as part
 use Rattle.html_render_nodes.specs.declared.tree.RenderNode.{RenderNode}
+use Rattle.html_render_nodes.specs.Kinds.{holds_insertions}
 use Rattle.html_render_nodes.specs.RenderNodes.{unmeasured, no_style, without_style}
 use Rattle.html_render_nodes.specs.Tables.{TableParts, unmeasured_table}
 use Rattle.html_render_conversion.specs.declared.mapping.ElementKind.{ElementKind}
@@ -102,8 +104,7 @@ over style kind results =
 
 -- a row over its cells
 abbrev pub row_over : NodeStyle → (cells : List Result) → Result
-row_over style cells =
-    record (over style TableRow cells) { role = Row (flat_map (λ r. option_to_list (cell_of r.role)) cells); below = beside cells }
+row_over style cells = record (over style TableRow cells) { role = Row (flat_map (λ r. option_to_list (cell_of r.role)) cells); below = beside cells }
 
 -- rows beside each other
 abbrev pub rows_over : (behind : Bool) → (rows : List Result) → Result
@@ -185,18 +186,6 @@ mapped (Parent kind if_empty) style inside = do
 
 -- ---- what is inserted
 
--- whether a node takes what is inserted among its own children
-abbrev pub holds_insertions : NodeKind → Bool
-holds_insertions Container = true
-holds_insertions Block = true
-holds_insertions Div = true
-holds_insertions BlockQuote = true
-holds_insertions ListItem = true
-holds_insertions Dl = true
-holds_insertions Dt = true
-holds_insertions Dd = true
-holds_insertions _ = false
-
 -- how many levels down something is inserted, at the first of each: inside a result, in its first cell, in the first cell of its
 -- first row; none where it is inserted beside its node
 abbrev pub level_in : Role → NodeKind → Option ℕ
@@ -219,16 +208,14 @@ inserted None front back r =
 
 -- a text as a node of a kind, where there is one
 abbrev pub leaf : (kind : List ℕ → NodeKind) → Option (List ℕ) → Nodes
-leaf kind None = none
-leaf kind (Some contents) = node (without_style (kind contents)) none none
+leaf kind contents = option_map_or (λ c. node (without_style (kind c)) none none) contents none
 
 -- a result with its mark and its contents; of nothing the mark alone is left
 abbrev pub completed : (mark before after : Option (List ℕ)) → Option Result → Option Result
 completed mark before after None = option_map (λ name. over no_style (FragmentStart name) []) mark
 completed mark before after (Some r) =
     let front = followed_by (leaf FragmentStart mark) (leaf Text before) in
-    let is_any = is_some mark || (is_some before || is_some after) in
-    Some (if is_any then inserted (level_in r.role r.node.kind) front (leaf Text after) r else r)
+    Some (if is_some mark || (is_some before || is_some after) then inserted (level_in r.role r.node.kind) front (leaf Text after) r else r)
 
 -- ---- documents
 

@@ -18,8 +18,8 @@ use Rattle.html_render_dom.specs.declared.style.rules.Style.TheVariants.{Colour 
 use Rattle.html_render_dom.specs.declared.style.rules.Style.TheVariants.{WhiteSpace as WhiteSpaceSet, Content}
 use Rattle.html_render_dom.specs.declared.style.rules.Declaration.{Declaration}
 use Rattle.html_render_dom.specs.declared.style.rules.StyleRule.{StyleRule}
-use Rattle.html_render_dom.specs.Selectors.{Subject, selects, specificity_of}
-use Rattle.html_render_dom.specs.Rules.{StyleValue, declared_of, rule_of, style_value_of}
+use Rattle.html_render_dom.specs.Selectors.{specificity_of}
+use Rattle.html_render_dom.specs.Rules.{Rule, StyleValue, declared_of, rule_of, style_value_of}
 use Rattle.html_render_dom.specs.ElementStyle.{Applied, applied, ElementStyle, updates, with_more, with_declarations, colour_in, bg_colour_in}
 use Rattle.html_render_dom.specs.ElementStyle.{display_in, white_space_in, content_in}
 use Rattle.html_render_dom.specs.TextUpdates.{text_update}
@@ -131,8 +131,7 @@ with_declarations-more f s xs i x lt e =
 
 -- what a rule says of one of its declarations
 abbrev pub said_by : StyleOrigin → Specificity → Option PseudoElement → Declaration → List Applied
-said_by origin specificity pseudo d =
-    record { origin = origin; specificity = specificity; pseudo = pseudo; declared = declared_of d } ∷ []
+said_by origin specificity pseudo d = record { origin = origin; specificity = specificity; pseudo = pseudo; declared = declared_of d } ∷ []
 
 pub said_by-all : (rule : StyleRule) →
     flat_map (said_by rule.origin (specificity_of (rule_of rule)) rule.pseudo) rule.declarations.items ≡ applied (rule_of rule)
@@ -146,24 +145,22 @@ said_by-all rule = each rule.declarations.items
     each (d ∷ ds) = rw (each ds) refl
 
 -- the declarations of a rule, if it selects the element
-abbrev pub said_to : Subject → StyleRule → List Applied
-said_to subject rule = cond (selects (rule_of rule) subject) (applied (rule_of rule)) []
+abbrev pub said_to : (selects : Rule → Bool) → StyleRule → List Applied
+said_to selects rule = cond (selects (rule_of rule)) (applied (rule_of rule)) []
 
-pub said_to-all : (subject : Subject) (rules : List StyleRule) →
-    flat_map (said_to subject) rules ≡ flat_map applied (filter (λ rule. selects rule subject) (map rule_of rules))
-said_to-all subject [] = refl
-said_to-all subject (r ∷ rules) =
-    elim (cases_Bool (selects (rule_of r) subject)) [
-      | inl e ↦ rw e (ap (λ more. applied (rule_of r) ++ more) (said_to-all subject rules))
-      | inr e ↦ rw e (said_to-all subject rules)
-    ]
+pub said_to-all : (selects : Rule → Bool) (rules : List StyleRule) →
+    flat_map (said_to selects) rules ≡ flat_map applied (filter selects (map rule_of rules))
+said_to-all selects [] = refl
+said_to-all selects (r ∷ rules) = let more = said_to-all selects rules in elim (cases_Bool (selects (rule_of r))) [
+  | inl e ↦ rw e (ap (λ ds. applied (rule_of r) ++ ds) more)
+  | inr e ↦ rw e more
+]
 
-pub said_to-selected : (subject : Subject) (rule : StyleRule) → selects (rule_of rule) subject ≡ true →
-    applied (rule_of rule) ≡ said_to subject rule
-said_to-selected subject rule e = rw e refl
+pub said_to-selected : (selects : Rule → Bool) (rule : StyleRule) → selects (rule_of rule) ≡ true → applied (rule_of rule) ≡ said_to selects rule
+said_to-selected selects rule e = rw e refl
 
-pub said_to-other : (subject : Subject) (rule : StyleRule) (s : ElementStyle) → selects (rule_of rule) subject ≡ false →
-    s ≡ with_declarations s (said_to subject rule)
-said_to-other subject rule s e = rw e (still s)
+pub said_to-other : (selects : Rule → Bool) (rule : StyleRule) (s : ElementStyle) → selects (rule_of rule) ≡ false →
+    s ≡ with_declarations s (said_to selects rule)
+said_to-other selects rule s e = rw e (still s)
 
 pub ruleset contents = (content-taken, content-left)

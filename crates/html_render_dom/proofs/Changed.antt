@@ -125,8 +125,7 @@ pub record Relists (old : Dom) (p : ℕ) (xs : List ℕ) (c : ℕ) (q : Option �
   pub once : IsDistinct nat_eq xs
 
 module _ {old new : Dom} {p c : ℕ} {xs : List ℕ} {q : Option ℕ} (f : IsForest old) (a : Rewrites old new p xs c q) (b : Relists old p xs c q) where
-  listed : (r x : ℕ) → Contains (children_at new r) x →
-      (Contains (children_at old r) x × (x ≢ c)) ⊎ ((r ≡ p) × (c ≡ x) × (q ≡ Some p))
+  listed : (r x : ℕ) → Contains (children_at new r) x → (Contains (children_at old r) x × (x ≢ c)) ⊎ ((r ≡ p) × (c ≡ x) × (q ≡ Some p))
   listed r x l =
       elim (eqb_tells r p) [
         | inl e ↦ elim (b.from x (rw (e.1, a.list_there) at l)) [ inl o ↦ inl (rw e.1 o.0, o.1) | inr n ↦ inr (e.1, n.0, n.1) ]

@@ -33,8 +33,7 @@ steps-push dom fs f = let e = sum_by-append (steps_of dom) fs (f ∷ []) in omeg
 abbrev pub after_child : Frame → Frame
 after_child f = record { node = f.node; passed = f.passed + 1; indent = f.indent }
 
-pub tree-node : (dom : Dom) → IsForest dom → (h : ℕ) → IsNode dom h →
-    tree_of dom h ≡ node (content_at dom h) (trees_of dom (children_at dom h)) none
+pub tree-node : (dom : Dom) → IsForest dom → (h : ℕ) → IsNode dom h → tree_of dom h ≡ node (content_at dom h) (trees_of dom (children_at dom h)) none
 tree-node dom f h at = trees_of-cons dom f h [] at
 
 pub left-child : (dom : Dom) → IsForest dom → (f : Frame) (x : ℕ) → f.passed < length (children_at dom f.node) →

@@ -1,12 +1,13 @@
 -- The edits keep the forest.
-use Rattle.std.proofs.Common.{◌≡◌, ℕ, zero, suc, ◌<◌, ◌+◌, ◌-◌, Bool, true, false, if◌then◌else◌, List, [], ◌∷◌, ◌++◌, length, slice_set}
+use Rattle.std.proofs.Common.{◌≡◌, ℕ, zero, suc, ◌<◌, ◌+◌, ◌-◌, List, [], ◌∷◌, ◌++◌, length, slice_set}
 use Rattle.std.proofs.Common.{Option, Some, None, IfSome, ◌⊎◌, inl, inr, refl, sym, ap, ◌∙◌, subst, arith, length-append}
+use Rattle.std.proofs.lemmas.Bool.{cond_both}
 use Rattle.std.proofs.lemmas.Bool.Decides.{eqb_tells}
 use Rattle.std.proofs.lemmas.Cmp.{nat_eq_equiv}
 use Rattle.std.proofs.lemmas.List.{length-set, get_or-append_right}
 use Rattle.std.proofs.lemmas.List.Elements.{Contains-push, Contains-push_cases, Contains-append_left}
 use Rattle.std.proofs.lemmas.Map.Keys.{IsDistinct-push}
-use Rattle.html_render_dom.specs.Content.{Content, Name, Property, document, text, element}
+use Rattle.html_render_dom.specs.Content.{Content, Name, Property, document, text}
 use Rattle.html_render_dom.specs.Elements.{completed, contents_in}
 use Rattle.html_render_dom.specs.declared.dom.settings.ElementFlags.{ElementFlags}
 use Rattle.html_render_dom.specs.Dom.{Node, Dom, lone, node_in, node_count, IsNode, content_at, children_at, parent_at, IsInclusiveAncestor, IsForest}
@@ -22,8 +23,7 @@ some_same a b e = cc
 -- ---- the edits, one by one
 
 pub document-created : (dom : Dom) (c : Content) → IsForest dom → content_at (record dom { nodes = created dom.nodes c }) 0 ≡ document
-document-created dom c f =
-    ap (λ n. n.content) (older dom.nodes c 0 f.has_document) ∙ f.document_content
+document-created dom c f = ap (λ n. n.content) (older dom.nodes c 0 f.has_document) ∙ f.document_content
 
 -- a template's contents in more nodes: those of an old one, or of the new one
 created-contents : (nodes : List Node) (c : Content) (h k : ℕ) → contents_in (node_in (created nodes c) h).content ≡ Some k →
@@ -39,8 +39,7 @@ created-contents nodes c h k e =
     one zero q = q
     one (suc i) q = absurd (let none : None ≡ Some k = q in cc)
 
-pub IsForest-created : (dom : Dom) (c : Content) → contents_in c ≡ None → IsForest dom →
-    IsForest (record dom { nodes = created dom.nodes c })
+pub IsForest-created : (dom : Dom) (c : Content) → contents_in c ≡ None → IsForest dom → IsForest (record dom { nodes = created dom.nodes c })
 IsForest-created dom c no_contents f =
     let shape = created-shape dom c in
     IsForest-same_shape shape (document-created dom c f) (λ h k e. elim (created-contents dom.nodes c h k e) [
@@ -163,14 +162,8 @@ grown-two dom c next f =
 
 grown-element : (dom : Dom) → IsForest dom → (name : Name) (properties : List Property) (flags : ElementFlags) (nodes : List Node) →
     nodes ≡ element_created dom.nodes name properties flags → Grown dom nodes
-grown-element dom f name properties flags nodes e = subst (Grown dom) (sym e) (by flags.template)
-  where
-    by : (t : Bool) → Grown dom
-        (if t then created (created dom.nodes
-        (element name properties (Some (length dom.nodes + 1)) flags.mathml_annotation_xml_integration_point)) document
-        else created dom.nodes (element name properties None flags.mathml_annotation_xml_integration_point))
-    by true = grown-two dom _ refl f
-    by false = grown-one dom _ refl f
+grown-element dom f name properties flags nodes e =
+    subst (Grown dom) (sym e) (cond_both flags.template _ _ (Grown dom) (λ _. grown-two dom _ refl f) (λ _. grown-one dom _ refl f))
 
 pub IsForest-create_element : (dom : Dom) → IsForest dom →
     (name : Name) (properties : List Property) (flags : ElementFlags) (nodes : List Node) →
@@ -187,8 +180,7 @@ IsFresh-create_element dom now same f name properties flags nodes e h next =
 
 pub IsForest-create : (dom : Dom) → IsForest dom → (c : Content) → contents_in c ≡ None → (nodes : List Node) →
     nodes ≡ created dom.nodes c → IsForest (record dom { nodes = nodes })
-IsForest-create dom f c no_contents nodes e =
-    subst (λ ns. IsForest (record dom { nodes = ns })) (sym e) (IsForest-created dom c no_contents f)
+IsForest-create dom f c no_contents nodes e = subst (λ ns. IsForest (record dom { nodes = ns })) (sym e) (IsForest-created dom c no_contents f)
 
 pub IsFresh-create : (dom now : Dom) → dom ≡ now → IsForest dom → (c : Content) (nodes : List Node) → nodes ≡ created dom.nodes c →
     (h : ℕ) → h ≡ node_count dom → IsFresh now (record dom { nodes = nodes }) h

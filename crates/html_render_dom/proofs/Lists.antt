@@ -1,11 +1,10 @@
 -- Lists of children, after the calls that change them.
-use Rattle.std.proofs.Common.{◌≡◌, ◌≢◌, ◌==◌, ℕ, zero, suc, ◌+◌, ◌-◌, ◌<◌, ◌≤◌, false, not, cond, nat_eq, ltb, List, [], ◌∷◌, ◌++◌}
+use Rattle.std.proofs.Common.{◌≡◌, ◌≢◌, ◌==◌, ℕ, zero, suc, ◌+◌, ◌<◌, ◌≤◌, false, not, cond, nat_eq, ltb, List, [], ◌∷◌, ◌++◌}
 use Rattle.std.proofs.Common.{length, slice_get, slice_index_or, Option, Some, None, Contains, Result, Ok, Err, IsOk, OnOk, ◌⊎◌, inl, inr, refl, sym, ap}
 use Rattle.std.proofs.Common.{◌∙◌, subst, arith}
 use Rattle.std.specs.List.{insert, remove, position_or_len, IsDistinct, AllByRecursion}
 use Rattle.std.proofs.lemmas.Bool.{false≢true}
 use Rattle.std.proofs.lemmas.Bool.Decides.{eqb_tells, nat_tests}
-use Rattle.std.proofs.lemmas.List.Edits.{insert-append_right, remove-append_right}
 use Rattle.std.proofs.lemmas.List.Elements.{Contains-get_or, All-filter, All-from_recursion, recursion_from_All, Contains-append_cases}
 use Rattle.std.proofs.lemmas.Map.Keys.{IsDistinct-head, IsDistinct-tail, IsDistinct-cons}
 use Rattle.html_render_dom.specs.laws.Forests.{IsDistinct-nil}
@@ -30,15 +29,13 @@ place_absent r n len e f = grind (arith, nat_tests)
 
 pub insert-before : (s c : ℕ) (xs : List ℕ) → place_of s xs < length xs → insert xs (place_of s xs) c ≡ before s c xs
 insert-before s c [] lt = absurd (omega arith)
-insert-before s c (x ∷ xs) lt =
-    elim (eqb_tells x s) [
-      | inl e ↦ rw e.0 refl
-      | inr d ↦ (let lt' : 1 + place_of s xs < length (x ∷ xs) = rw d.0 at lt in
-          let less : 1 + place_of s xs - 1 ≡ place_of s xs = omega arith in
-          let moved : insert ((x ∷ []) ++ xs) (1 + place_of s xs) c ≡ (x ∷ []) ++ insert xs (1 + place_of s xs - 1) c =
-          insert-append_right (x ∷ []) xs 1 (1 + place_of s xs) c refl (omega arith) in
-          rw d.0 (moved ∙ ap (λ i. x ∷ insert xs i c) less ∙ ap (λ ys. x ∷ ys) (insert-before s c xs (omega arith))))
-    ]
+insert-before s c (x ∷ xs) lt = elim (eqb_tells x s) [
+  | inl e ↦ rw e.0 refl
+  | inr d ↦
+      let lt' : 1 + place_of s xs < length (x ∷ xs) = rw d.0 at lt in
+      let next : 1 + place_of s xs ≡ suc (place_of s xs) = omega arith in
+      rw d.0 (ap (λ i. insert (x ∷ xs) i c) next ∙ ap (λ ys. x ∷ ys) (insert-before s c xs (omega arith)))
+]
 
 pub before-absent : (s c : ℕ) (xs : List ℕ) → length xs ≤ place_of s xs → before s c xs ≡ xs
 before-absent s c [] le = refl
@@ -49,19 +46,14 @@ kept s x xs d = rw d refl
 
 pub without-removed : (s : ℕ) (xs : List ℕ) → place_of s xs < length xs → without s (remove xs (place_of s xs)) ≡ without s xs
 without-removed s [] lt = absurd (omega arith)
-without-removed s (x ∷ xs) lt =
-    elim (eqb_tells x s) [
-      | inl e ↦ rw e.0 refl
-      | inr d ↦ (let lt' : 1 + place_of s xs < length (x ∷ xs) = rw d.0 at lt in
-          let less : 1 + place_of s xs - 1 ≡ place_of s xs = omega arith in
-          let moved : remove ((x ∷ []) ++ xs) (1 + place_of s xs) ≡ (x ∷ []) ++ remove xs (1 + place_of s xs - 1) =
-          remove-append_right (x ∷ []) xs 1 (1 + place_of s xs) refl (omega arith) in
-          let shifted : remove (x ∷ xs) (1 + place_of s xs) ≡ x ∷ remove xs (place_of s xs) =
-          moved ∙ ap (λ i. x ∷ remove xs i) less in
-          let rest : without s (x ∷ remove xs (place_of s xs)) ≡ x ∷ without s xs =
-          kept s x (remove xs (place_of s xs)) d.0 ∙ ap (λ ys. x ∷ ys) (without-removed s xs (omega arith)) in
-          rw d.0 (ap (without s) shifted ∙ rest))
-    ]
+without-removed s (x ∷ xs) lt = elim (eqb_tells x s) [
+  | inl e ↦ rw e.0 refl
+  | inr d ↦
+      let lt' : 1 + place_of s xs < length (x ∷ xs) = rw d.0 at lt in
+      let next : 1 + place_of s xs ≡ suc (place_of s xs) = omega arith in
+      rw d.0 (ap (λ i. without s (remove (x ∷ xs) i)) next ∙ kept s x (remove xs (place_of s xs)) d.0
+      ∙ ap (λ ys. x ∷ ys) (without-removed s xs (omega arith)))
+]
 
 pub without-absent : (s : ℕ) (xs : List ℕ) → length xs ≤ place_of s xs → without s xs ≡ xs
 without-absent s [] le = refl
@@ -161,14 +153,10 @@ Contains-placed s c (y ∷ xs) m =
 
 -- the first of a list is none of the others
 apart_from : (x : ℕ) (xs : List ℕ) → ((y : ℕ) → Contains xs y → y ≢ x) → AllByRecursion (λ y. nat_eq x y ≡ false) xs
-apart_from x xs other = recursion_from_All (λ y. nat_eq x y ≡ false) xs (λ k d lt. one k d lt)
-  where
-    one : (k : ℕ) (d : ℕ) → k < length xs → nat_eq x (slice_index_or xs k d) ≡ false
-    one k d lt =
-        elim (eqb_tells x (slice_index_or xs k d)) [
-          | inl e ↦ absurd (other (slice_index_or xs k d) (Contains-get_or xs k d lt) (sym e.1))
-          | inr n ↦ n.0
-        ]
+apart_from x xs other = recursion_from_All (λ y. nat_eq x y ≡ false) xs (λ k d lt. elim (eqb_tells x (slice_index_or xs k d)) [
+  | inl e ↦ absurd (other (slice_index_or xs k d) (Contains-get_or xs k d lt) (sym e.1))
+  | inr n ↦ n.0
+])
 
 pub first_apart : (x : ℕ) (xs : List ℕ) → IsDistinct nat_eq (x ∷ xs) → (y : ℕ) → Contains xs y → y ≢ x
 first_apart x xs d y m e =

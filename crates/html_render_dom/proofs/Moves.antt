@@ -127,8 +127,7 @@ module _ {old new : Dom} {u v : ℕ} (f : IsForest old) (apart : u ≢ v) (a : R
   not_moved : (q x : ℕ) → q ≢ u → Contains (children_at old q) x → Contains (children_at old u) x → ⊥
   not_moved q x other l m = other (same_value q u (sym (f.child_names_parent q x l) ∙ f.child_names_parent u x m))
 
-  joined-listed : (q x : ℕ) → Contains (children_at new q) x →
-      ((q ≢ u) × Contains (children_at old q) x) ⊎ ((q ≡ v) × Contains (children_at old u) x)
+  joined-listed : (q x : ℕ) → Contains (children_at new q) x → ((q ≢ u) × Contains (children_at old q) x) ⊎ ((q ≡ v) × Contains (children_at old u) x)
   joined-listed q x l =
       elim (eqb_tells q u) [
         | inl e ↦ absurd (Contains-nil x (rw (e.1, a.list_from) at l))

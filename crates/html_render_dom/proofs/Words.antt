@@ -1,10 +1,11 @@
 -- The parts of a text between its white space, one after another; and the first attribute of a name.
 use Rattle.std.proofs.Common.{◌≡◌, ℕ, suc, ◌+◌, ◌-◌, ◌<◌, ◌≤◌, inl, inr, Bool, true, false, ◌||◌, ◌==◌, List, [], ◌∷◌, length, map, take, drop, Some}
-use Rattle.std.proofs.Common.{None, option_map, refl, ap, ◌∙◌, arith, filter, find, position, nat_lt}
+use Rattle.std.proofs.Common.{None, option_map, refl, ap, ◌∙◌, arith, filter, find, position}
 use Rattle.std.proofs.lemmas.Bool.{cases_Bool}
 use Rattle.std.proofs.lemmas.List.Folds.{list_all-map}
 use Rattle.std.proofs.lemmas.Grind.{common_steps}
-use borrow.Author.Tests.{eqb-true, ltb-true, ltb-false}
+use Rattle.std.proofs.lemmas.Bool.Decides.{nat_tests}
+use borrow.Author.Tests.{eqb-true}
 use Rattle.std.specs.Char.{is_ascii_whitespace}
 use Rattle.std.specs.Str.{bytes_eq}
 use Rattle.html_render_dom.specs.Selectors.{is_filled, words}
@@ -34,31 +35,15 @@ slice_split-first p (x ∷ xs) h =
 -- none passes
 pub slice_split-none : {X : Type 0} (p : X → Bool) (xs : List X) → length xs ≤ position_or_len p xs → slice_split p xs ≡ xs ∷ []
 slice_split-none p [] h = refl
-slice_split-none p (x ∷ xs) h =
-    elim (cases_Bool (p x)) [
-      | inl e ↦ (let none : suc (length xs) ≤ 0 = rw e at h in absurd (omega arith))
-      | inr e ↦ (
-          let past : suc (length xs) ≤ 1 + position_or_len p xs = rw e at h in
-          rw e (ap (onto_first x) (slice_split-none p xs (omega arith)))
-          )
-    ]
+slice_split-none p (x ∷ xs) h = let ih = slice_split-none p xs in grind (arith, nat_tests)
 
 -- what `position` answers tells the first part
 pub slice_split-Some : {X : Type 0} (p : X → Bool) (xs : List X) (k : ℕ) → position p xs ≡ Some k →
     slice_split p xs ≡ take k xs ∷ slice_split p (drop (k + 1) xs)
-slice_split-Some p xs k e =
-    elim (cases_Bool (nat_lt (position_or_len p xs) (length xs))) [
-      | inl t ↦ (let same : Some (position_or_len p xs) ≡ Some k = rw t at e in let at : position_or_len p xs ≡ k = cc in
-          rw (← at) (slice_split-first p xs (ltb-true _ _ t)))
-      | inr t ↦ (let same : None ≡ Some k = rw t at e in cc)
-    ]
+slice_split-Some p xs k e = let first = slice_split-first p xs in grind (arith, nat_tests)
 
 pub slice_split-None : {X : Type 0} (p : X → Bool) (xs : List X) → position p xs ≡ None → slice_split p xs ≡ xs ∷ []
-slice_split-None p xs e =
-    elim (cases_Bool (nat_lt (position_or_len p xs) (length xs))) [
-      | inl t ↦ (let same : Some (position_or_len p xs) ≡ None = rw t at e in cc)
-      | inr t ↦ slice_split-none p xs (ltb-false _ _ t)
-    ]
+slice_split-None p xs e = let none = slice_split-none p xs in grind (arith, nat_tests)
 
 -- what is found in the first part, and what is left to look at
 pub found_first : (part rest : List ℕ) (k : ℕ) → position is_ascii_whitespace rest ≡ Some k → bytes_eq part (take k rest) ≡ true →
@@ -83,8 +68,7 @@ found_last part rest e = rw (slice_split-None is_ascii_whitespace rest e) (or_fa
 
 pub find-map : {X Y : Type 0} (f : X → Y) (test : Y → Bool) (xs : List X) → find test (map f xs) ≡ option_map f (find (λ x. test (f x)) xs)
 find-map f test [] = refl
-find-map f test (x ∷ xs) =
-    elim (cases_Bool (test (f x))) [ inl e ↦ rw e refl | inr e ↦ rw e (find-map f test xs) ]
+find-map f test (x ∷ xs) = elim (cases_Bool (test (f x))) [ inl e ↦ rw e refl | inr e ↦ rw e (find-map f test xs) ]
 
 -- an empty text is no word
 no_word : (parts : List (List ℕ)) → list_any (bytes_eq []) (filter is_filled parts) ≡ false

@@ -9,16 +9,14 @@ use Rattle.html_render_dom.specs.Nodes.{node_of}
 use Rattle.html_render_dom.specs.Edits.{attached, created, with_children, with_parent}
 
 -- what was read is the node
-pub node_in-map : (items : List Node) (i : ℕ) (n : Node) → i < length items → n ≡ slice_index_or items i n →
-    node_in (map node_of items) i ≡ node_of n
+pub node_in-map : (items : List Node) (i : ℕ) (n : Node) → i < length items → n ≡ slice_index_or items i n → node_in (map node_of items) i ≡ node_of n
 node_in-map items i n h e = get_or-map node_of items i n (lone document) h ∙ ap node_of (sym e)
 
 -- the node m in the place of n
 pub written : (items : List Node) (i : ℕ) (n m : Node) → i < length items → n ≡ slice_index_or items i n → (change : dom.Node → dom.Node) →
     node_of m ≡ change (node_of n) →
     map node_of (slice_set items i m) ≡ slice_set (map node_of items) i (change (node_in (map node_of items) i))
-written items i n m h e change q =
-    map-set node_of items i m ∙ ap (slice_set (map node_of items) i) (q ∙ ap change (sym (node_in-map items i n h e)))
+written items i n m h e change q = map-set node_of items i m ∙ ap (slice_set (map node_of items) i) (q ∙ ap change (sym (node_in-map items i n h e)))
 
 -- a node that stands for the same as before
 pub written-same : (items : List Node) (i : ℕ) (n m : Node) → i < length items → n ≡ slice_index_or items i n → node_of m ≡ node_of n →

@@ -31,9 +31,7 @@ abbrev pub key_of : {T : Type 0} → Update T → Key
 key_of u = record { important = u.important; origin_rank = rank_of u.important u.origin; specificity = u.specificity }
 
 abbrev pub key_cmp : Key → Key → Ordering
-key_cmp =
-    then_cmp (on (λ k. k.important) bool_cmp)
-    (then_cmp (on (λ k. k.origin_rank) nat_cmp) (on (λ k. k.specificity) specificity_cmp))
+key_cmp = then_cmp (on (λ k. k.important) bool_cmp) (then_cmp (on (λ k. k.origin_rank) nat_cmp) (on (λ k. k.specificity) specificity_cmp))
 
 -- the last update whose key is greatest, so that none of the list has a greater one; the empty list has none
 abbrev pub winner : {T : Type 0} → List (Update T) → Option (Update T)

@@ -64,8 +64,7 @@ abbrev pub HaveTrees : Dom → List ℕ → Forest Content → Type 0
 HaveTrees dom [] none = Unit {0}
 HaveTrees dom [] (node c kids beside) = ⊥
 HaveTrees dom (h ∷ hs) none = ⊥
-HaveTrees dom (h ∷ hs) (node c kids beside) =
-    IsNode dom h × (content_at dom h ≡ c) × HaveTrees dom (children_at dom h) kids × HaveTrees dom hs beside
+HaveTrees dom (h ∷ hs) (node c kids beside) = IsNode dom h × (content_at dom h ≡ c) × HaveTrees dom (children_at dom h) kids × HaveTrees dom hs beside
 
 -- node 0 is the document; children and parents agree, and a child stands in its parent's list once; a template's
 -- contents are a node; each node stands for a finite tree
@@ -95,4 +94,4 @@ trees_of dom hs = beside_each dom (below (node_count dom) dom) hs
 
 -- the tree that a node stands for
 abbrev pub tree_of : Dom → ℕ → Forest Content
-tree_of dom h = trees_of dom (h ∷ [])
+tree_of dom h = node (content_at dom h) (below (node_count dom) dom h) none

@@ -18,8 +18,7 @@ with_parent nodes h p = slice_set nodes h (record (node_in nodes h) { parent = p
 
 -- the child stands last in the parent's list, and names it
 abbrev pub attached : List Node → (parent child : ℕ) → List Node
-attached nodes parent child =
-    with_parent (with_children nodes parent ((node_in nodes parent).children ++ child ∷ [])) child (Some parent)
+attached nodes parent child = with_parent (with_children nodes parent ((node_in nodes parent).children ++ child ∷ [])) child (Some parent)
 
 -- a node more, of the next number, which hangs nowhere and has no children
 abbrev pub created : List Node → Content → List Node
@@ -64,8 +63,7 @@ text_put nodes parent None more = attached_new nodes (text more) parent
 
 abbrev pub appended : Dom → (parent : ℕ) → NodeOrText → Dom
 appended dom parent (AppendNode child) = record dom { nodes = attached dom.nodes parent child }
-appended dom parent (AppendText more) =
-    record dom { nodes = text_put dom.nodes parent (last_text dom.nodes parent) (string_bytes more) }
+appended dom parent (AppendText more) = record dom { nodes = text_put dom.nodes parent (last_text dom.nodes parent) (string_bytes more) }
 
 -- an element of the next number; a template's contents, a document, have the number after it
 abbrev pub element_created : List Node → Name → List Property → ElementFlags → List Node

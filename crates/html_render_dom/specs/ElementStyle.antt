@@ -13,7 +13,7 @@ use Rattle.html_render_dom.specs.declared.style.computed.ComputedStyle.{Computed
 use Rattle.html_render_dom.specs.Cascade.{winner}
 use Rattle.html_render_dom.specs.Content.{Property}
 use Rattle.html_render_dom.specs.Rules.{StyleValue, colour, bg_colour, display, white_space, content, Declared, Rule}
-use Rattle.html_render_dom.specs.Selectors.{Subject, first_value, selects, specificity_of}
+use Rattle.html_render_dom.specs.Selectors.{first_value, selects, specificity_of}
 use Rattle.html_render_dom.specs.TextUpdates.{text_update}
 
 -- a declaration with what its rule says of it
@@ -25,8 +25,7 @@ pub record Applied : Type 0 where
 
 -- the declarations of a rule, in order
 abbrev pub applied : Rule → List Applied
-applied rule =
-    map (λ d. record { origin = rule.origin; specificity = specificity_of rule; pseudo = rule.pseudo; declared = d }) rule.declarations
+applied rule = map (λ d. record { origin = rule.origin; specificity = specificity_of rule; pseudo = rule.pseudo; declared = d }) rule.declarations
 
 -- what is declared of each property: with a pseudo-element only content counts
 abbrev pub colour_in : Option PseudoElement → StyleValue → Option Colour
@@ -69,14 +68,9 @@ pub record ElementStyle : Type 0 where
   pub content_after : Option (Update (List ℕ))
   pub internal_pre : Bool
 
--- an element of this local name and these attributes, as rules see it
-abbrev pub subject_of : (name : List ℕ) → List Property → Subject
-subject_of name properties =
-    record { name = name; id = first_value (codes "id") properties; classes = first_value (codes "class") properties }
-
--- whether one of these rules selects an element
-abbrev pub is_selected : List Rule → Subject → Bool
-is_selected rules subject = list_any (λ rule. selects rule subject) rules
+-- whether one of these rules selects an element of this local name and these attributes
+abbrev pub is_selected : List Rule → (name : List ℕ) → List Property → Bool
+is_selected rules name properties = list_any (selects name (first_value (codes "id") properties) (first_value (codes "class") properties)) rules
 
 -- the style that declarations give
 abbrev pub style_by : List Applied → ElementStyle
@@ -94,7 +88,8 @@ style_by declarations = record {
 -- the style of an element of this local name and these attributes: that which the rules that select it give, in the order in
 -- which they were added
 abbrev pub element_style : List Rule → (name : List ℕ) → List Property → ElementStyle
-element_style rules name properties = style_by (flat_map applied (filter (λ rule. selects rule (subject_of name properties)) rules))
+element_style rules name properties =
+    style_by (flat_map applied (filter (selects name (first_value (codes "id") properties) (first_value (codes "class") properties)) rules))
 
 -- the style that a `ComputedStyle` holds
 abbrev pub style_of : ComputedStyle → ElementStyle

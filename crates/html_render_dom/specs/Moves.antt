@@ -23,8 +23,7 @@ previous sibling last (x ∷ xs) = if x == sibling then last else previous sibli
 -- the child isn't in its parent's list, and names none
 abbrev pub taken_out : List Node → (parent : Option ℕ) → (child : ℕ) → List Node
 taken_out nodes None child = nodes
-taken_out nodes (Some parent) child =
-    with_parent (with_children nodes parent (without child (node_in nodes parent).children)) child None
+taken_out nodes (Some parent) child = with_parent (with_children nodes parent (without child (node_in nodes parent).children)) child None
 
 -- the child stands in the parent's list directly before the sibling, and names the parent
 abbrev pub placed : List Node → (parent sibling child : ℕ) → List Node

@@ -1,8 +1,8 @@
 -- Which elements a rule selects, and how specific it is: CSS Selectors Level 3, sections 6.1, 6.2, 6.4, 6.5 and 9.
-use Rattle.std.specs.Prelude.{ℕ, ◌+◌, min, Bool, true, false, ◌&&◌, List, [], ◌∷◌, length, Option, Some, None, option_map, filter, find}
+use Rattle.std.specs.Prelude.{ℕ, ◌+◌, min, Bool, true, false, ◌&&◌, List, [], ◌∷◌, length, Option, Some, option_map, filter, find}
 use Rattle.std.specs.List.{list_any, list_all, slice_split}
 use Rattle.std.specs.Char.{is_ascii_whitespace}
-use Rattle.std.specs.Option.{option_len, unwrap_or}
+use Rattle.std.specs.Option.{option_len, option_map_or, unwrap_or}
 use Rattle.std.specs.Str.{bytes_eq}
 use Rattle.html_render_dom.specs.declared.style.specificities.Specificity.{Specificity}
 use Rattle.html_render_dom.specs.Content.{Property}
@@ -23,24 +23,15 @@ words text = filter is_filled (slice_split is_ascii_whitespace text)
 
 -- a part of a rule that is stated equals what the element has; one that isn't stated asks for nothing
 abbrev pub matches_part : (stated : Option (List ℕ)) → (has : Option (List ℕ)) → Bool
-matches_part None has = true
-matches_part (Some part) None = false
-matches_part (Some part) (Some value) = bytes_eq part value
+matches_part stated has = option_map_or (λ part. option_map_or (bytes_eq part) has false) stated true
 
 -- whether a class is a word of the element's classes; an empty one never is
 abbrev pub has_class : (classes : Option (List ℕ)) → (class : List ℕ) → Bool
 has_class classes class = list_any (bytes_eq class) (words (unwrap_or classes []))
 
--- what rules select an element by: its local name, its id and the text of its classes
-pub record Subject : Type 0 where
-  pub name : List ℕ
-  pub id : Option (List ℕ)
-  pub classes : Option (List ℕ)
-
--- whether the rule selects the element
-abbrev pub selects : Rule → Subject → Bool
-selects rule subject =
-    matches_part rule.element (Some subject.name) && matches_part rule.id subject.id && list_all (has_class subject.classes) rule.classes
+-- whether a rule selects an element of this local name, this id and this text of its classes
+abbrev pub selects : (name : List ℕ) → (id classes : Option (List ℕ)) → Rule → Bool
+selects name id classes rule = matches_part rule.element (Some name) && matches_part rule.id id && list_all (has_class classes) rule.classes
 
 -- 1 for each id, each class, and each element name and pseudo-element
 abbrev pub specificity_of : Rule → Specificity

@@ -55,8 +55,7 @@ module _ {D A : Type 0} (decoration : Decoration D A) (decorator : D) (min_wrap_
 
   -- a node that keeps what was found out of it
   pub noted : (n : RenderNode) (needs : List ColumnNeed) (e : Estimate) (f : Forest RenderNode) → with_needs needs n.kind ≡ measured_kind n.kind f →
-      e ≡ estimate_of decoration decorator min_wrap_width n.kind f →
-      record n { kind = with_needs needs n.kind; estimate = e } ≡ sized n f
+      e ≡ estimate_of decoration decorator min_wrap_width n.kind f → record n { kind = with_needs needs n.kind; estimate = e } ≡ sized n f
   noted n needs e f is_needs is_estimate =
       ap (λ x. record n { kind = x; estimate = e }) is_needs ∙ ap (λ x. record n { kind = measured_kind n.kind f; estimate = x }) is_estimate
 

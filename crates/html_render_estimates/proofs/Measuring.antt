@@ -59,8 +59,7 @@ module _ (measured_by : RenderNode → (children : Forest RenderNode) → Render
 
   pub length-after : (t : Forest RenderNode) → length (flatten (after t)) ≡ length (flatten t)
   length-after none = refl
-  length-after (node n children beside) =
-      omega (arith, length-append {A = Entry RenderNode}, length-after children, length-after beside)
+  length-after (node n children beside) = omega (arith, length-append {A = Entry RenderNode}, length-after children, length-after beside)
 
   -- the nodes from one place on are measured, those before are as they were
   pub record Measuring (t : Forest RenderNode) (now : List (Entry RenderNode)) (at : ℕ) : Type 0 where

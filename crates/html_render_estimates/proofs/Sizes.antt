@@ -40,34 +40,19 @@ pub size_on-some : (k : ℕ) (spaced : Bool) (cs : List ℕ) → 1 ≤ k → siz
 size_on-some zero spaced cs h = absurd (omega (arith, h))
 size_on-some (suc k) spaced cs h = refl
 
-pub columns_of-space : (c : ℕ) (cs : List ℕ) (spaced : Bool) → is_collapsible c ≡ true → columns_of spaced (c ∷ cs) ≡ columns_of true cs
-columns_of-space c cs spaced e = rw e refl
-
-pub columns_of-other : (c : ℕ) (cs : List ℕ) (spaced : Bool) → is_collapsible c ≡ false →
+columns_of-other : (c : ℕ) (cs : List ℕ) (spaced : Bool) → is_collapsible c ≡ false →
     columns_of spaced (c ∷ cs) ≡ cond spaced 1 0 + width_of c + columns_of false cs
 columns_of-other c cs spaced e = rw e refl
 
-pub inner_columns-space : (c : ℕ) (cs : List ℕ) → is_collapsible c ≡ true → inner_columns (c ∷ cs) ≡ inner_columns cs
-inner_columns-space c cs e = rw e refl
-
-pub inner_columns-other : (c : ℕ) (cs : List ℕ) → is_collapsible c ≡ false → inner_columns (c ∷ cs) ≡ columns_of false (c ∷ cs)
-inner_columns-other c cs e = rw e refl
-
-pub size_of-space : (c : ℕ) (cs : List ℕ) → is_collapsible c ≡ true → size_of (c ∷ cs) ≡ inner_columns cs + min (inner_columns cs) 1
-size_of-space c cs e = rw e refl
-
-pub size_of-other : (c : ℕ) (cs : List ℕ) → is_collapsible c ≡ false → size_of (c ∷ cs) ≡ columns_of false (c ∷ cs)
-size_of-other c cs e = rw e refl
-
 pub size_on-space : (k c : ℕ) (cs : List ℕ) (spaced : Bool) → is_collapsible c ≡ true → size_on k spaced (c ∷ cs) ≡ size_on k true cs
-size_on-space zero c cs false e = size_of-space c cs e
-size_on-space zero c cs true e = ap (λ n. n + min n 1) (inner_columns-space c cs e)
-size_on-space (suc k) c cs spaced e = ap (λ n. suc k + n) (columns_of-space c cs spaced e)
+size_on-space zero c cs false e = rw e refl
+size_on-space zero c cs true e = rw e refl
+size_on-space (suc k) c cs spaced e = rw e refl
 
 pub size_on-letter : (k c : ℕ) (cs : List ℕ) (spaced : Bool) → is_collapsible c ≡ false → width_of c ≡ 1 →
     size_on k spaced (c ∷ cs) ≡ size_on (k + cond spaced 2 1) false cs
-size_on-letter zero c cs false e w = size_of-other c cs e ∙ columns_of-other c cs false e ∙ omega (arith, w)
-size_on-letter zero c cs true e w = omega (arith, inner_columns-other c cs e, columns_of-other c cs false e, w)
+size_on-letter zero c cs false e w = rw e (omega (arith, w, columns_of-other c cs false e))
+size_on-letter zero c cs true e w = rw e (omega (arith, w, columns_of-other c cs false e))
 size_on-letter (suc k) c cs false e w = omega (arith, columns_of-other c cs false e, w, size_on-some (suc k + 1) false cs (omega arith))
 size_on-letter (suc k) c cs true e w = omega (arith, columns_of-other c cs true e, w, size_on-some (suc k + 2) false cs (omega arith))
 

@@ -41,8 +41,7 @@ table_estimate columns cells children =
 
 -- WHAT THE COLUMNS of a table NEED for its measured cells is kept in its node, for the layout
 abbrev pub measured_kind : NodeKind → (children : Forest RenderNode) → NodeKind
-measured_kind (Table grid) children =
-    Table (record grid { needs = column_needs (columns_of grid.cells) (cell_needs grid.cells.rows children) })
+measured_kind (Table grid) children = Table (record grid { needs = column_needs (columns_of grid.cells) (cell_needs grid.cells.rows children) })
 measured_kind kind children = kind
 
 -- the size of a text, and the columns of a prefix, in UTF-8

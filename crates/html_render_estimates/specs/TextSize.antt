@@ -10,9 +10,7 @@ saturated n = min n (2 ^ 64 - 1)
 -- that one stands in front
 abbrev pub columns_of : (spaced : Bool) → List ℕ → ℕ
 columns_of spaced [] = 0
-columns_of spaced (c ∷ cs) =
-    if is_collapsible c then columns_of true cs
-    else (if spaced then 1 else 0) + width_of c + columns_of false cs
+columns_of spaced (c ∷ cs) = if is_collapsible c then columns_of true cs else (if spaced then 1 else 0) + width_of c + columns_of false cs
 
 -- the columns without white space in front
 abbrev pub inner_columns : List ℕ → ℕ

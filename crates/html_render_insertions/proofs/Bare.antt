@@ -23,8 +23,7 @@ module _ {X : Type 0} (P : X → Type 0) where
 
   all_reversed : (xs : List X) → All P xs → All P (reverse xs)
   all_reversed [] h = h
-  all_reversed (x ∷ xs) h =
-      rw (reverse-append (x ∷ []) xs) (All-push P (reverse xs) x (all_reversed xs (All-tail P x xs h)) (All-head P x xs h))
+  all_reversed (x ∷ xs) h = rw (reverse-append (x ∷ []) xs) (All-push P (reverse xs) x (all_reversed xs (All-tail P x xs h)) (All-head P x xs h))
 
 flatten-bare : (t : Forest Draft) → All IsBare (flatten t) → flatten (expanded t) ≡ map bare (flatten t)
 flatten-bare none h = refl

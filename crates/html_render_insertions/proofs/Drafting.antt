@@ -14,13 +14,10 @@ module _ {K : Type 0} where
   pub length-entries : (es : List (Entry K)) (t : Forest K) → flatten t ≡ reverse es → length es ≡ count t
   length-entries es t e = sym (length-reverse es) ∙ ap length (sym e) ∙ length-flatten t
 
-  count-split : (t : Forest K) (mark : ℕ) (s : SplitAt t mark) → count t ≡ count s.children + mark
-  count-split t mark s = ap count s.is ∙ count-followed_by s.children s.beside ∙ ap (λ n. count s.children + n) (sym s.mark_is)
-
   -- the mark is within the nodes
-  pub SplitAt-le : (es : List (Entry K)) (t : Forest K) (mark : ℕ) (s : SplitAt t mark) → flatten t ≡ reverse es →
-      length es ≡ count s.children + mark
-  SplitAt-le es t mark s e = length-entries es t e ∙ count-split t mark s
+  pub SplitAt-le : (es : List (Entry K)) (t : Forest K) (mark : ℕ) (s : SplitAt t mark) → flatten t ≡ reverse es → length es ≡ count s.children + mark
+  SplitAt-le es t mark s e =
+      length-entries es t e ∙ ap count s.is ∙ count-followed_by s.children s.beside ∙ ap (λ n. count s.children + n) (sym s.mark_is)
 
   -- a node over what came since
   pub enclosed : (es : List (Entry K)) (t : Forest K) (k : K) (mark many : ℕ) (s : SplitAt t mark) → flatten t ≡ reverse es →

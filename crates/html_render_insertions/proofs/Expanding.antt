@@ -43,8 +43,7 @@ waits : (i : Insertions) (outer : List Insertions) (behind : List (List ℕ)) (a
 waits i outer behind (Some text) e h =
     ap leaves (reverse-append behind (text ∷ [])) ∙ ap (λ t. node (text_node text) none t) h
     ∙ ap (λ o. followed_by (leaf_of text_node o) (back outer)) e
-waits i outer behind None e h =
-    ap (λ l. leaves (reverse l)) (append-nil behind) ∙ h ∙ ap (λ o. followed_by (leaf_of text_node o) (back outer)) e
+waits i outer behind None e h = ap (λ l. leaves (reverse l)) (append-nil behind) ∙ h ∙ ap (λ o. followed_by (leaf_of text_node o) (back outer)) e
 
 pub pushed : (inserted rounds left : List Insertions) (i : Insertions) (old nodes more : List (Entry RenderNode)) (behind later : List (List ℕ)) →
     PushedFronts inserted rounds old nodes behind → rounds ≡ left ++ i ∷ [] → more ≡ nodes ++ flatten (front_of i) →

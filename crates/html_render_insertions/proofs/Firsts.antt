@@ -64,8 +64,7 @@ standing (node d children others) (suc depth) some =
     }
 
 turned : (a b : List (Entry Draft)) (e : Entry Draft) → reverse (a ++ e ∷ b) ≡ reverse b ++ e ∷ reverse a
-turned a b e =
-    reverse-append a (e ∷ b) ∙ ap (λ l. l ++ reverse a) (reverse-append (e ∷ []) b) ∙ append_assoc (reverse b) (e ∷ []) (reverse a)
+turned a b e = reverse-append a (e ∷ b) ∙ ap (λ l. l ++ reverse a) (reverse-append (e ∷ []) b) ∙ append_assoc (reverse b) (e ∷ []) (reverse a)
 
 -- the same from the last to the first
 pub found : (t : Forest Draft) (entries : List (Entry Draft)) (depth place : ℕ) → entries ≡ reverse (flatten t) →
@@ -84,8 +83,7 @@ found t entries depth place is at some =
 -- its entry is the one at that place
 there_is : {t : Forest Draft} {entries : List (Entry Draft)} {depth place : ℕ} (f : FirstAt t depth entries place) (e : Entry Draft) →
     e ≡ get_or entries place e → e ≡ f.there
-there_is {t} {entries} {depth} {place} f e at =
-    at ∙ ap (λ l. get_or l place e) f.is ∙ get_or_at f.before f.there f.behind e place (sym f.place_is)
+there_is {t} {entries} {depth} {place} f e at = at ∙ ap (λ l. get_or l place e) f.is ∙ get_or_at f.before f.there f.behind e place (sym f.place_is)
 
 size_there : (t : Forest Draft) (entries : List (Entry Draft)) (depth place : ℕ) (e : Entry Draft) → entries ≡ reverse (flatten t) →
     place + depth + 1 ≡ length entries → 1 ≤ size_at t depth → e ≡ get_or entries place e → e.size ≡ size_at t depth
@@ -121,8 +119,7 @@ nowhere zero change = refl
 nowhere (suc depth) change = refl
 
 -- no draft is further down below one without children
-lost_under : (t : Forest Draft) (steps depth : ℕ) (change : Draft → Draft) → size_at t steps ≡ 1 → steps < depth →
-    at_first depth change t ≡ t
+lost_under : (t : Forest Draft) (steps depth : ℕ) (change : Draft → Draft) → size_at t steps ≡ 1 → steps < depth → at_first depth change t ≡ t
 lost_under t steps zero change single further = absurd (omega arith)
 lost_under none steps (suc depth) change single further = refl
 lost_under (node d none others) zero (suc depth) change single further = ap (λ u. node d u others) (nowhere depth change)
@@ -154,8 +151,7 @@ on_none (Some x) P p = tt
 
 abbrev pub reversed : {slice items : List (Entry Draft)} {t : Forest Draft} → forest_of (reverse items) ≡ t →
     flatten (forest_of (reverse items)) ≡ reverse items → slice ≡ items → Reversed slice
-reversed {slice} {items} {t} view kept same =
-    record { trees = t; is = same ∙ sym (reverse-reverse items) ∙ ap reverse (sym kept ∙ ap flatten view) }
+reversed {slice} {items} {t} view kept same = record { trees = t; is = same ∙ sym (reverse-reverse items) ∙ ap reverse (sym kept ∙ ap flatten view) }
 
 -- the draft there is changed
 pub changed_in : {t : Forest Draft} {slice items : List (Entry Draft)} {depth place : ℕ} → slice ≡ items → FirstAt t depth slice place →

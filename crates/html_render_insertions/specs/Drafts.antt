@@ -2,6 +2,7 @@
 -- become.
 use Rattle.std.specs.Prelude.{◌||◌, is_some, if◌then◌else◌, ◌≡◌, ℕ, length, reverse, List, [], ◌∷◌, ◌++◌, Option, Some, None}
 use Rattle.std.proofs.Common.{suc, zero}
+use Rattle.std.specs.Option.{option_map_or}
 use Rattle.html_render_values.specs.Forest.{Forest, none, node, followed_by}
 use Rattle.html_render_nodes.specs.declared.tree.NodeKind.{NodeKind}
 use Rattle.html_render_nodes.specs.declared.tree.NodeStyle.{NodeStyle}
@@ -17,8 +18,7 @@ use Rattle.html_render_insertions.specs.Insertion.{text_node, fragment_start}
 
 -- a node without children that is made of a text, where there is one
 abbrev pub leaf_of : (make : List ℕ → RenderNode) → Option (List ℕ) → Forest RenderNode
-leaf_of make None = none
-leaf_of make (Some text) = node (make text) none none
+leaf_of make text = option_map_or (λ t. node (make t) none none) text none
 
 -- what one element inserts at the front: its mark, and behind that the content before its children
 abbrev pub front_of : Insertions → Forest RenderNode

@@ -1,5 +1,3 @@
--- a list that is left out
-pub mod Listed
 pub mod Insertion
 -- trees of drafts, and the nodes that they become
 pub mod Drafts

@@ -36,13 +36,12 @@ pub struct Inserted {
 }
 
 impl Model for Inserted {
-    ghost use Rattle.std.specs.Prelude.{List, [], option_map};
+    ghost use Rattle.std.specs.Prelude.{List, [], option_map, unwrap_or};
     ghost use Rattle.html_render_insertions.specs.declared.drafts.Insertions.{Insertions};
-    ghost use Rattle.html_render_insertions.specs.Listed.{listed};
 
     ghost Value = { List Insertions };
 
-    ghost view = { λ i. listed (option_map (λ b. b.value.items) i.rounds) };
+    ghost view = { λ i. unwrap_or (option_map (λ b. b.value.items) i.rounds) [] };
 }
 
 impl Inserted {

@@ -14,8 +14,7 @@ without-slash [] h = refl
 without-slash (b ∷ bs) h = ap (λ t. cond t (file_name bs) (b ∷ bs)) h
 
 with_slash : (b : ℕ) (bs : List ℕ) (at : ℕ) → at < length (b ∷ bs) → get_or (b ∷ bs) at 0 ≡ 47 → file_name (b ∷ bs) ≡ file_name bs
-with_slash b bs at low e =
-    ap (λ t. cond t (file_name bs) (b ∷ bs)) (list_any_at (λ x. x == 47) (b ∷ bs) at 0 low (ap (λ x. x == 47) e))
+with_slash b bs at low e = ap (λ t. cond t (file_name bs) (b ∷ bs)) (list_any_at (λ x. x == 47) (b ∷ bs) at 0 low (ap (λ x. x == 47) e))
 
 -- what stands behind the last slash
 behind-slash : (bs : List ℕ) (at : ℕ) → at < length bs → get_or bs at 0 ≡ 47 → has_slash (drop (suc at) bs) ≡ false →

@@ -26,5 +26,4 @@ node_characters _ = []
 
 -- each visible character stands in the lines as often as in the texts among these nodes, or more often
 abbrev pub KeepsTexts : {T M : Type 0} → List RenderNode → List (Line T M) → Type 0
-KeepsTexts nodes lines =
-    (c : ℕ) → count c (visible_in_text (flat_map (λ n. node_characters n.kind) nodes)) ≤ count c (visible_in_lines lines)
+KeepsTexts nodes lines = (c : ℕ) → count c (visible_in_text (flat_map (λ n. node_characters n.kind) nodes)) ≤ count c (visible_in_lines lines)

@@ -226,15 +226,12 @@ module _ {S A K T B : Type 0} (m : Means S A K T B) where
       (on_block (λ b. m.operations.begin_table b s.blank s.settings.table_borders s.settings.raw_mode grid needs) s)
   perform before EndTable s = Some (record s { block = m.operations.end_table s.block; in_table = before.in_table })
   perform before (AddTarget target) s = Some (record s { targets = s.targets ++ target ∷ [] })
-  perform before (AddMark name) s =
-      Some (record s { block = m.operations.add_mark s.block (length s.names); names = s.names ++ name ∷ [] })
+  perform before (AddMark name) s = Some (record s { block = m.operations.add_mark s.block (length s.names); names = s.names ++ name ∷ [] })
 
   abbrev pub perform_all : (before : State) → List (Step S A) → State → Option State
   perform_all before [] s = Some s
   perform_all before (x ∷ []) s = perform before x s
-  perform_all before (x ∷ (y ∷ xs)) s = do
-    q ← perform before x s
-    perform_all before (y ∷ xs) q
+  perform_all before (x ∷ (y ∷ xs)) s = perform before x s >>= λ q. perform_all before (y ∷ xs) q
 
   -- ---- BLOCKS IN BLOCKS
 
@@ -256,9 +253,8 @@ module _ {S A K T B : Type 0} (m : Means S A K T B) where
 
   -- and all of them behind it, as one of the blocks of s
   abbrev pub appended_block : T → (prefix : List ℕ) → B → B → Option B
-  appended_block tag prefix b c = do
-    e ← m.operations.start_block b
-    option_map m.operations.end_block (m.operations.append e c tag (chars prefix) (chars prefix))
+  appended_block tag prefix b c =
+      m.operations.start_block b >>= λ e. option_map m.operations.end_block (m.operations.append e c tag (chars prefix) (chars prefix))
 
   -- the place of an item of a list
   abbrev pub item_place : (prefix : List ℕ) → (columns least : ℕ) → State → Place State
@@ -277,8 +273,7 @@ module _ {S A K T B : Type 0} (m : Means S A K T B) where
   shape_layout (Prefixed prefix least) s =
       Inner (nested (prefix_columns (prefix s.decorator)) least s) bare (joined (appended_block s.text.tag (prefix s.decorator)) s)
   shape_layout (Indented columns least) s = Inner (nested columns least s) bare (appended s (spaces columns) columns)
-  shape_layout (Items prefix columns least) s =
-      Inner (Some s) (λ n r. item_place (prefix r.decorator n) (columns s.decorator) least r) (λ r. Some r)
+  shape_layout (Items prefix columns least) s = Inner (Some s) (λ n r. item_place (prefix r.decorator n) (columns s.decorator) least r) (λ r. Some r)
   shape_layout Cells s =
       Inner (Some (record s { block = m.operations.begin_row s.block })) (λ n r. cell_place (m.operations.cell_block r.block) r)
       (on_block m.operations.end_row)
@@ -291,9 +286,8 @@ module _ {S A K T B : Type 0} (m : Means S A K T B) where
 
   -- what the state shows once all trees are laid out and the document is closed, under the tag that its texts began with
   abbrev pub shown_after : {L : Type 0} → DocumentEnd B T → (State → L) → Forest RenderNode → State → Option L
-  shown_after ending shown t s = do
-    r ← run layout_of t s
-    option_map shown (ended m.decoration ending s.settings.link_footnotes s.settings.wrap_links s.text.tag r)
+  shown_after ending shown t s =
+      run layout_of t s >>= λ r. option_map shown (ended m.decoration ending s.settings.link_footnotes s.settings.wrap_links s.text.tag r)
 
 -- the state of a layout by stacks, on lists of all that was fed; marks are numbers
 abbrev pub Defined : Type 0 → Type 0 → Type 0
@@ -337,8 +331,7 @@ module _ {S A : Type 0} (d : Decoration S A) (settings : LayoutSettings) where
   -- THE LAYOUT of a render tree: what is shown of the state behind it; none where it is too narrow
   abbrev pub layout : {L : Type 0} → (Defined S A → L) → Forest RenderNode → S → (width : ℕ) → (overflow : Bool) → Option L
   layout shown t decorator width overflow =
-      if width == 0 then None
-      else shown_after (by_stacks d) definition.ending shown (estimated decorator t) (empty_state decorator width overflow)
+      if width == 0 then None else shown_after (by_stacks d) definition.ending shown (estimated decorator t) (empty_state decorator width overflow)
 
   -- its lines, each character with its stack of annotations
   abbrev pub layout_lines : Forest RenderNode → S → (width : ℕ) → (overflow : Bool) → Option (List (Line (List A) ℕ))

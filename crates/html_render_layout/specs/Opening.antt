@@ -8,8 +8,7 @@ use Rattle.html_render_estimates.specs.Estimates.{prefix_columns, prefix_of}
 use Rattle.html_render_nodes.specs.declared.tree.Emphasis.TheVariants.{Em}
 use Rattle.html_render_nodes.specs.declared.tree.Estimate.{Estimate}
 use Rattle.html_render_nodes.specs.declared.tree.NodeKind.{NodeKind}
-use Rattle.html_render_nodes.specs.declared.tree.NodeKind.TheVariants.{Block, Div, Emphasis, Header, BlockQuote, Ul, Ol, ListItem, Dt, Dd}
-use Rattle.html_render_nodes.specs.declared.tree.NodeKind.TheVariants.{Strikeout, Superscript, Link, Table, TableRow}
+use Rattle.html_render_nodes.specs.declared.tree.NodeKind.TheVariants.{Block, Div, Emphasis, Ul, Ol, ListItem, Dt, Strikeout, Superscript, Link, Table}
 use Rattle.html_render_nodes.specs.declared.tree.RenderNode.{RenderNode}
 use Rattle.html_render_nodes.specs.Pass.{Places, bare, Way, Into, Past, past, opened_with}
 use Rattle.html_render_layout.specs.declared.layout.items.Item.{Item}
@@ -23,8 +22,9 @@ use Rattle.html_render_layout.specs.declared.layout.state.KindClosing.TheVariant
 use Rattle.html_render_layout.specs.declared.layout.state.Outer.{Outer}
 use Rattle.html_render_layout.specs.declared.layout.state.OuterTable.{OuterTable}
 use Rattle.html_render_layout.specs.declared.layout.state.TextContext.{TextContext}
-use Rattle.html_render_layout.specs.Layout.{Means, State, write_number, spaces, padded, emphasis_decoration, shape_of, style_steps}
+use Rattle.html_render_layout.specs.Layout.{Means, Shape, State, write_number, spaces, padded, emphasis_decoration, shape_of, style_steps}
 use Rattle.html_render_layout.specs.Layout.{on_block, write, within, nested, appended_block, item_place, cell_place, Fence, perform, shape_layout, perform_all}
+use Rattle.html_render_layout.specs.Layout as layout
 
 -- the number of an item; numbers stop at the ends of their type
 abbrev pub number_from : (first : ℤ) → ℕ → ℤ
@@ -65,29 +65,28 @@ module _ {S A K T B : Type 0} (m : Means S A K T B) where
 
   -- ---- each kind
 
-  -- what is kept of each kind of node until its children are laid out
-  abbrev pub kind_kept : NodeKind → Estimate → State m → KindClosing S T B
-  kind_kept Block e s = EndBlock
-  kind_kept ListItem e s = EndBlock
-  kind_kept Div e s = NewLine
-  kind_kept (Emphasis x) e s = EndEmphasis x
-  kind_kept (Header level) e s =
-      let prefix = m.decoration.header_prefix s.decorator level in EndQuote (interrupted s prefix (prefix_columns prefix))
-  kind_kept BlockQuote e s = let prefix = m.decoration.quote_prefix s.decorator in EndQuote (interrupted s prefix (prefix_columns prefix))
-  kind_kept Ul e s = Bullets (prefix_columns (m.decoration.unordered_item_prefix s.decorator)) (e.least - e.prefix)
-  kind_kept (Ol first) e s = Numbers first (prefix_of m.decoration s.decorator (Ol first) e.children) (e.least - e.prefix)
-  kind_kept Dt e s = EndEmphasis Em
-  kind_kept Dd e s = EndIndent (interrupted s (spaces 2) 2)
-  kind_kept Strikeout e s = EndStrikeout s.text.struck_out
-  kind_kept Superscript e s = EndSuperscript
-  kind_kept (Link target) e s = EndLink s.text (length s.targets + 1)
-  kind_kept (Table grid) e s = EndTable s.in_table
-  kind_kept TableRow e s = EndRow
-  kind_kept _ e s = Nothing
+  -- what is kept of a node until its children are laid out: by the shape of its layout where that says it, else by its kind
+  abbrev pub kind_kept : Shape S A → NodeKind → Estimate → State m → KindClosing S T B
+  kind_kept (layout.Prefixed prefix least) k e s = EndQuote (interrupted s (prefix s.decorator) (prefix_columns (prefix s.decorator)))
+  kind_kept (layout.Indented columns least) k e s = EndIndent (interrupted s (spaces columns) columns)
+  kind_kept layout.Cells k e s = EndRow
+  kind_kept _ Block e s = EndBlock
+  kind_kept _ ListItem e s = EndBlock
+  kind_kept _ Div e s = NewLine
+  kind_kept _ (Emphasis x) e s = EndEmphasis x
+  kind_kept _ Ul e s = Bullets (prefix_columns (m.decoration.unordered_item_prefix s.decorator)) (e.least - e.prefix)
+  kind_kept _ (Ol first) e s = Numbers first (prefix_of m.decoration s.decorator (Ol first) e.children) (e.least - e.prefix)
+  kind_kept _ Dt e s = EndEmphasis Em
+  kind_kept _ Strikeout e s = EndStrikeout s.text.struck_out
+  kind_kept _ Superscript e s = EndSuperscript
+  kind_kept _ (Link target) e s = EndLink s.text (length s.targets + 1)
+  kind_kept _ (Table grid) e s = EndTable s.in_table
+  kind_kept _ _ e s = Nothing
 
   -- how each kind of node is opened
   abbrev pub kind_opened : NodeKind → Estimate → (trees : Forest RenderNode) → State m → Option (Way (State m) (KindClosing S T B))
-  kind_opened k e trees s = opened_with (shape_layout m (shape_of m.decoration s.settings k e trees) s) (kind_kept k e s)
+  kind_opened k e trees s =
+      let shape = shape_of m.decoration s.settings k e trees in opened_with (shape_layout m shape s) (kind_kept shape k e s)
 
   -- what each does once its children are laid out
   abbrev pub kind_closed : KindClosing S T B → State m → Option (State m)

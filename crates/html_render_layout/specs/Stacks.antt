@@ -25,8 +25,7 @@ pub record IsPushed {A : Type 0} (stacks : List (List A)) (tag : ℕ) (p : Pushe
 -- each stack that was pushed is one
 abbrev pub ArePushed : {A : Type 0} → List (List A) → List (Pushed A) → Type 0
 ArePushed stacks [] = Unit {0}
-ArePushed stacks (p ∷ ps) =
-    IsPushed stacks (length stacks) p × ArePushed (stacks ++ (stack_at stacks p.below ++ p.annotation ∷ []) ∷ []) ps
+ArePushed stacks (p ∷ ps) = IsPushed stacks (length stacks) p × ArePushed (stacks ++ (stack_at stacks p.below ++ p.annotation ∷ []) ∷ []) ps
 
 -- the stack of a tag is the one that was pushed there
 pub record IsStack {A : Type 0} (stacks : List (List A)) (tag : ℕ) (p : Pushed A) : Type 0 where

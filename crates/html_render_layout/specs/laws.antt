@@ -1,11 +1,8 @@
 pub mod Stacks
 pub mod Opening
 pub mod Sizes
-pub mod Ending
-pub mod Answers
 pub mod Related
 pub mod Representation
-pub mod LayoutReturns
 pub mod LayoutLaws
 pub mod LayoutWorks
 pub mod LayoutVisible

@@ -8,6 +8,4 @@ use Rattle.html_render_nodes.specs.laws.Preorder.{forest_of-flatten}
 -- equal nodes in pre-order are equal trees, and those of trees
 pub copied : {K : Type 0} (t : Forest K) (nodes : List (Entry K)) → nodes ≡ flatten t →
     (forest_of nodes ≡ t) × (flatten (forest_of nodes) ≡ nodes)
-copied t nodes e =
-    let v = ap forest_of e ∙ forest_of-flatten t in
-    (v, ap flatten v ∙ sym e)
+copied t nodes e = let v = ap forest_of e ∙ forest_of-flatten t in (v, ap flatten v ∙ sym e)

@@ -8,7 +8,8 @@ use Rattle.html_render_values.specs.declared.errors.Error.TheVariants.{TooNarrow
 use Rattle.html_render_nodes.specs.declared.tree.Entry.{Entry}
 use Rattle.html_render_nodes.specs.declared.tree.RenderNode.{RenderNode}
 use Rattle.html_render_nodes.specs.Depths.{Noting, depths_of, noted_at, noting}
-use Rattle.html_render_nodes.specs.Dump.{dump, kind_name, line}
+use Rattle.html_render_nodes.specs.Dump.{dump, line}
+use Rattle.html_render_nodes.specs.Kinds.{kind_name}
 use Rattle.html_render_nodes.specs.Pass.{run, run_at, bare}
 use Rattle.html_render_nodes.specs.Preorder.{flatten}
 use Rattle.html_render_nodes.specs.laws.Preorder.{length-flatten}

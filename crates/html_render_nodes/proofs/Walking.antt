@@ -359,8 +359,7 @@ module _ {K S T : Type 0} (d : How K S T) where
     -- where the node can't be closed, nothing comes out
     pub Closing-refuses : (fs : List (Frame T)) (l : T) (entered most next number : ℕ) (s : S) (why : Error) →
         Closing d nodes wanted all peak fs entered most next number s l → Refuses why (d.closed l s) → Refuses why wanted
-    Closing-refuses fs l entered most next number s why w h =
-        Refuses-same why wanted _ (sym w.result) (Refuses-then why (d.closed l s) _ h)
+    Closing-refuses fs l entered most next number s why w h = Refuses-same why wanted _ (sym w.result) (Refuses-then why (d.closed l s) _ h)
 
     done_at : (frames : List (Frame T)) (entered most next number : ℕ) (s : S) (rest : Forest K) (path : Path K T) →
         frames ≡ frames_of path → NotOver frames next → next ≡ length nodes → drop next nodes ≡ flatten rest ++ tails path →

@@ -5,7 +5,8 @@ pub mod Tables
 pub mod RenderNodes
 pub mod Preorder
 pub mod Splits
--- its dump
+-- what is said of each kind of node, and the dump of a tree
+pub mod Kinds
 pub mod Dump
 -- the walk: what a pass computes, and what the walk counts
 pub mod Pass

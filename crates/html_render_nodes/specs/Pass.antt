@@ -33,10 +33,7 @@ Visits K S = K → Forest K → S → Visit S
 -- the state behind the node, where this is what the nodes below it do to one
 abbrev pub through_visit : {S : Type 0} → Visit S → (children : Places S → S → Option S) → Option S
 through_visit (Leaf behind) children = behind
-through_visit (Inner before places after) children = do
-  q ← before
-  r ← children places q
-  after r
+through_visit (Inner before places after) children = before >>= λ q. children places q >>= λ r. after r
 
 -- the state from which they are visited, with their places; none where it can't be, or where they aren't
 abbrev pub inside : {S : Type 0} → Visit S → Option (Places S × S)
@@ -126,9 +123,7 @@ places_in below (Some kept) = below kept
 -- the state behind a node that was opened so
 abbrev pub through : {S T : Type 0} → (below : T → Places S) → (closed : T → S → Option S) → (children : Places S → S → Option S) →
     Way S T → Option S
-through below closed children (Into q kept) = do
-  r ← children (below kept) q
-  closed kept r
+through below closed children (Into q kept) = children (below kept) q >>= λ r. closed kept r
 through below closed children (Past t) = Some t
 
 -- the state for the children of a node that was opened so, with their places

@@ -13,8 +13,7 @@ flatten (node k children beside) = record { node = k; size = length (flatten chi
 abbrev pub forest_within : {K : Type 0} → ℕ → List (Entry K) → Forest K
 forest_within zero es = none
 forest_within (suc n) [] = none
-forest_within (suc n) (e ∷ es) =
-    node e.node (forest_within n (take (e.size - 1) es)) (forest_within n (drop (e.size - 1) es))
+forest_within (suc n) (e ∷ es) = node e.node (forest_within n (take (e.size - 1) es)) (forest_within n (drop (e.size - 1) es))
 
 -- the forest of some nodes in pre-order
 abbrev pub forest_of : {K : Type 0} → List (Entry K) → Forest K

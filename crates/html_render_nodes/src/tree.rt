@@ -344,3 +344,4 @@ impl RenderTree {
 mod copies;
 mod depths;
 mod dump;
+mod kinds;

@@ -67,8 +67,7 @@ next-front bs rest n w c v u front e behind f =
 
 -- a front that fits is put as a whole, and then the rest
 pub put_items-front : {T M : Type 0} (s : Setting) (page : Page T M) (style : TextStyle T) (bs : List ℕ) (n w : ℕ) → IsUtf8 bs →
-    IsFront bs n w → fits s page w ≡ true → 0 < length (chars (take n bs)) →
-    put_items s page (styled style (chars bs))
+    IsFront bs n w → fits s page w ≡ true → 0 < length (chars (take n bs)) → put_items s page (styled style (chars bs))
     ≡ put_items s (record page {
       line =
           (page.line ++ map (λ (m : M). element.Mark m) page.waiting)

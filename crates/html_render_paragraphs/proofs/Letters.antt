@@ -103,8 +103,7 @@ no-letters mode bs u = record {
 }
 
 pub plain-letters : (mode : WhiteSpace) (bs : List ℕ) (n : ℕ) → wraps mode ≡ true → IsUtf8 bs → list_all is_plain (take n bs) ≡ true →
-    n ≤ length bs →
-    AreLetters mode bs n n
+    n ≤ length bs → AreLetters mode bs n n
 plain-letters mode bs n w u e high =
     let same = chars-plain (take n bs) e in
     record {
@@ -125,8 +124,7 @@ first-character bs rest c u v e =
     (boundary, ap chars front ∙ chars-one c (subst IsUtf8 front (IsUtf8-take bs (length (encode_utf8 c)) u boundary)))
 
 pub first-letter : (mode : WhiteSpace) (bs rest : List ℕ) (c w : ℕ) → IsUtf8 bs → IsUtf8 rest → bs ≡ encode_utf8 c ++ rest →
-    kind mode c ≡ Letter →
-    w ≡ width_of c → AreLetters mode bs (length bs - length rest) w
+    kind mode c ≡ Letter → w ≡ width_of c → AreLetters mode bs (length bs - length rest) w
 first-letter mode bs rest c w u v e k f =
     let one = first-character bs rest c u v e in
     let count : length bs - length rest ≡ length (encode_utf8 c) = omega (arith, ap length e, length-append (encode_utf8 c) rest) in
@@ -190,9 +188,7 @@ letters_join {T} {M} st style (c ∷ cs) e j =
     ∙ ap (λ x. Some (record st { word = x })) (append_assoc st.word (item.Character (character_of style c) ∷ []) (styled style cs))
 
 letters_begin : {T M : Type 0} (st : State T M) (style : TextStyle T) (c : ℕ) (cs : List ℕ) →
-    list_all (is_letter style.mode) (c ∷ cs) ≡ true →
-    joins st.open_word (preserves style.mode) ≡ false →
-    after st (styled style (c ∷ cs))
+    list_all (is_letter style.mode) (c ∷ cs) ≡ true → joins st.open_word (preserves style.mode) ≡ false → after st (styled style (c ∷ cs))
     ≡ option_map (λ (t : State T M). record t { word = styled style (c ∷ cs); open_word = Some (preserves style.mode) }) (end_word st)
 letters_begin {T} {M} st style c cs e j =
     let parts = and_parts (is_letter style.mode c) (list_all (is_letter style.mode) cs) e in
@@ -213,8 +209,7 @@ pub after-letters : {T M : Type 0} (st : State T M) (style : TextStyle T) (cs : 
 after-letters st style [] e h = absurd (omega arith)
 after-letters {T} {M} st style (c ∷ cs) e h = by (joins st.open_word (preserves style.mode)) refl
   where
-    by : (b : Bool) → joins st.open_word (preserves style.mode) ≡ b →
-        after st (styled style (c ∷ cs))
+    by : (b : Bool) → joins st.open_word (preserves style.mode) ≡ b → after st (styled style (c ∷ cs))
         ≡ cond b (Some (record st { word = st.word ++ styled style (c ∷ cs) }))
         (option_map (λ (t : State T M). record t { word = styled style (c ∷ cs); open_word = Some (preserves style.mode) }) (end_word st))
     by true j = letters_join st style (c ∷ cs) e j
@@ -235,8 +230,7 @@ cut bs n u = ap chars (sym (take-append-drop n bs)) ∙ chars-append (take n bs)
 
 -- letters in front, and then the rest
 pub after-front : {T M : Type 0} (st : State T M) (style : TextStyle T) (bs : List ℕ) (n w : ℕ) → IsUtf8 bs →
-    AreLetters style.mode bs n w → 0 < n →
-    after st (styled style (chars bs))
+    AreLetters style.mode bs n w → 0 < n → after st (styled style (chars bs))
     ≡ option_and_then (λ t. after t (styled style (chars (drop n bs)))) (letters_step st style (chars (take n bs)))
 after-front {T} {M} st style bs n w u are low =
     let front : IsUtf8 (take n bs) = IsUtf8-take bs n u are.boundary in
@@ -262,8 +256,7 @@ fresh_word : {T M : Type 0} (st : State T M) (style : TextStyle T) (cs : List �
     letters_step st style cs ≡ Some (open_state st style cs)
 fresh_word {T} {M} st style cs none = by st.open_word none
   where
-    by : (o : Option Bool) → o ≡ None →
-        cond (joins o (preserves style.mode)) (Some (record st { word = st.word ++ styled style cs }))
+    by : (o : Option Bool) → o ≡ None → cond (joins o (preserves style.mode)) (Some (record st { word = st.word ++ styled style cs }))
         (option_map (λ (t : State T M). record t { word = styled style cs; open_word = Some (preserves style.mode) })
         (cond (is_some o) (placed_word st) (Some st)))
         ≡ Some (open_state st style cs)
@@ -272,8 +265,7 @@ fresh_word {T} {M} st style cs none = by st.open_word none
 
 -- letters where no word is open, and then a space
 word_space : {T M : Type 0} (st : State T M) (style : TextStyle T) (cs : List ℕ) (b : ℕ) → st.open_word ≡ None → st.word ≡ [] →
-    style.mode ≡ Normal →
-    kind Normal b ≡ Space →
+    style.mode ≡ Normal → kind Normal b ≡ Space →
     option_and_then (λ t. step t (item.Character (character_of style b))) (letters_step st style cs) ≡ placed_text_and_space st style cs b
 word_space {T} {M} st style cs b none empty mode space =
     let fresh : letters_step st style cs ≡ Some (open_state st style cs) = fresh_word st style cs none in
@@ -298,8 +290,7 @@ after_first style b cs (Some t) = refl
 
 pub after-word : {T M : Type 0} (st : State T M) (style : TextStyle T) (bs : List ℕ) (n w : ℕ) → IsUtf8 bs → style.mode ≡ Normal →
     AreLetters style.mode bs n w → 0 < n → n < length bs → get_or bs n 0 < 128 → kind Normal (get_or bs n 0) ≡ Space →
-    st.open_word ≡ None → st.word ≡ [] →
-    after st (styled style (chars bs))
+    st.open_word ≡ None → st.word ≡ [] → after st (styled style (chars bs))
     ≡ option_and_then (λ t. after t (styled style (chars (drop (n + 1) bs))))
     (placed_text_and_space st style (chars (take n bs)) (get_or bs n 0))
 after-word {T} {M} st style bs n w u mode are low high byte space none empty =

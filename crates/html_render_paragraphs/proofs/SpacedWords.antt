@@ -30,8 +30,7 @@ use Rattle.html_render_paragraphs.proofs.Words.{put_items-text}
 
 -- a word behind a space, where both fit on a line that isn't empty
 put_word-here : {T M : Type 0} (s : Setting) (lines : List (Line T M)) (line : Line T M) (k : Bool) (style : TextStyle T)
-    (a : ℕ) (cs : List ℕ) →
-    0 < length line → columns line + (1 + text_columns cs) ≤ s.width → 0 < length cs →
+    (a : ℕ) (cs : List ℕ) → 0 < length line → columns line + (1 + text_columns cs) ≤ s.width → 0 < length cs →
     put_word s (record { lines = lines; line = line; continues = k; waiting = [] }) (Some (character_of style a)) (styled style cs)
     ≡ Some (record {
       lines = lines;
@@ -68,8 +67,7 @@ fitting_word : {T M : Type 0} (st : State T M) (style : TextStyle T) (a b : ℕ)
 fitting_word {T} {M} st style a b cs some none due room low = by st.page.line st.page.waiting st.pending some none due room
   where
     by : (line : Line T M) (ms : List M) (pending : Option (Character T)) → 0 < length line → ms ≡ [] →
-        pending ≡ Some (character_of style a) →
-        columns line + (1 + text_columns cs) ≤ st.setting.width →
+        pending ≡ Some (character_of style a) → columns line + (1 + text_columns cs) ≤ st.setting.width →
         option_map (λ (t : State T M). with_pending t (character_of style b))
         (option_map (λ (p : Page T M). record st { page = p; pending = None })
         (put_word st.setting (record { lines = st.page.lines; line = line; continues = st.page.continues; waiting = ms }) pending
@@ -123,8 +121,7 @@ next-words mode bs n w k v u front high space are =
 
 -- the state with one word more on the line
 one_more : {T M : Type 0} (st : State T M) (style : TextStyle T) (bs : List ℕ) (n k : ℕ) → IsUtf8 (take n bs) → n < length bs →
-    get_or bs n 0 ≡ 32 →
-    record (with_words st style bs n) {
+    get_or bs n 0 ≡ 32 → record (with_words st style bs n) {
       page = record (with_words st style bs n).page {
         line =
             (with_words st style bs n).page.line
@@ -152,10 +149,8 @@ one_more {T} {M} st style bs n k u high space =
 pub next-fed : {T M : Type 0} (st : State T M) (style : TextStyle T) (bs : List ℕ) (n w k v : ℕ) → IsUtf8 bs → style.mode ≡ Normal →
     IsFront bs n w → n < length bs → get_or bs n 0 ≡ 32 →
     AreLetters style.mode (drop (n + 1) bs) k v → 0 < k → n + 1 + k < length bs → get_or bs (n + 1 + k) 0 < 128 →
-    kind Normal (get_or bs (n + 1 + k) 0) ≡ Space →
-    st.open_word ≡ None → st.word ≡ [] → 0 < length st.page.line → st.page.waiting ≡ [] →
-    columns st.page.line + (w + (1 + v)) ≤ st.setting.width →
-    after (with_words st style bs n) (styled style (chars (drop (n + 1) bs)))
+    kind Normal (get_or bs (n + 1 + k) 0) ≡ Space → st.open_word ≡ None → st.word ≡ [] → 0 < length st.page.line → st.page.waiting ≡ [] →
+    columns st.page.line + (w + (1 + v)) ≤ st.setting.width → after (with_words st style bs n) (styled style (chars (drop (n + 1) bs)))
     ≡ after (with_words st style bs (n + 1 + k)) (styled style (chars (drop (n + 1 + k + 1) bs)))
 next-fed {T} {M} st style bs n w k v u mode front high space are low more byte behind closed empty some none room =
     let rest : List ℕ = drop (n + 1) bs in
@@ -193,29 +188,27 @@ no-words {T} {M} st style bs due =
     ap (λ (l : Line T M). record st { page = record st.page { line = l }; pending = Some (character_of style (get_or bs 0 0)) }) line
     ∙ ap (λ (p : Option (Character T)). record st { pending = p }) (sym due)
 
-pub put-words : {T M : Type 0} (st : State T M) (style : TextStyle T) (bs : List ℕ) (n : ℕ) → st.page.waiting ≡ [] →
-    record st {
+pub put-words : {T M : Type 0} (st : State T M) (style : TextStyle T) (bs : List ℕ) (n : ℕ) → st.page.waiting ≡ [] → record st {
+  page = record st.page {
+    line =
+        (st.page.line ++ map (λ (m : M). element.Mark m) st.page.waiting)
+        ++ under (style_tag st.page.continues style) (chars (take n bs));
+    waiting = [];
+  };
+  pending = Some (character_of style (get_or bs n 0));
+}
+    ≡ with_words st style bs n
+put-words {T} {M} st style bs n none = by st.page.waiting none
+  where
+    by : (ms : List M) → ms ≡ [] → record st {
       page = record st.page {
         line =
-            (st.page.line ++ map (λ (m : M). element.Mark m) st.page.waiting)
+            (st.page.line ++ map (λ (m : M). element.Mark m) ms)
             ++ under (style_tag st.page.continues style) (chars (take n bs));
         waiting = [];
       };
       pending = Some (character_of style (get_or bs n 0));
     }
-    ≡ with_words st style bs n
-put-words {T} {M} st style bs n none = by st.page.waiting none
-  where
-    by : (ms : List M) → ms ≡ [] →
-        record st {
-          page = record st.page {
-            line =
-                (st.page.line ++ map (λ (m : M). element.Mark m) ms)
-                ++ under (style_tag st.page.continues style) (chars (take n bs));
-            waiting = [];
-          };
-          pending = Some (character_of style (get_or bs n 0));
-        }
         ≡ record st {
           page = record st.page {
             line = st.page.line ++ under (style_tag st.page.continues style) (chars (take n bs));
@@ -238,11 +231,9 @@ pub after-placed : {T M : Type 0} (st t : State T M) (style : TextStyle T) (cs :
     (t.open_word ≡ st.open_word) × (t.word ≡ st.word) × (t.pending ≡ Some (character_of style b))
 after-placed {T} {M} st t style cs b e = by (put_word st.setting st.page st.pending (styled style cs)) e
   where
-    by : (o : Option (Page T M)) →
-        option_map (λ (t : State T M). with_pending t (character_of style b))
+    by : (o : Option (Page T M)) → option_map (λ (t : State T M). with_pending t (character_of style b))
         (option_map (λ (p : Page T M). record st { page = p; pending = None }) o)
-        ≡ Some t →
-        (t.open_word ≡ st.open_word) × (t.word ≡ st.word) × (t.pending ≡ Some (character_of style b))
+        ≡ Some t → (t.open_word ≡ st.open_word) × (t.word ≡ st.word) × (t.pending ≡ Some (character_of style b))
     by None e = cc
     by (Some p) e =
         let same : record st { page = p; pending = Some (character_of style b) } ≡ t = cc in

@@ -94,8 +94,7 @@ placed_text : {T : Type 0} (M : Type 0) (b : Bool) (style : TextStyle T) (cs : L
 placed_text M b style [] = refl
 placed_text {T} M b style (c ∷ cs) = ap (λ (es : Line T M). element.Character c (style_tag b style) ∷ es) (placed_text M b style cs)
 
-pub with_text : {T M : Type 0} (page : Page T M) (style : TextStyle T) (cs : List ℕ) → 0 < length cs →
-    with_word page (styled style cs)
+pub with_text : {T M : Type 0} (page : Page T M) (style : TextStyle T) (cs : List ℕ) → 0 < length cs → with_word page (styled style cs)
     ≡ record page {
       line = (page.line ++ map (λ (m : M). element.Mark m) page.waiting) ++ under (style_tag page.continues style) cs;
       waiting = [];

@@ -80,13 +80,11 @@ put_runs-items {T} {M} s page (run.Text n style ∷ rs) bs =
     items-append (under style cs) (elements_of rs (drop n bs))
     ∙ ap (λ (xs : List (Item T M)). xs ++ items_of (elements_of rs (drop n bs))) (items-under M style cs) in
     ap (put_items s page) whole ∙ put_items-append s page (styled style cs) (items_of (elements_of rs (drop n bs)))
-    ∙ then_same (λ (p : Page T M). put_items s p (items_of (elements_of rs (drop n bs)))) (λ (p : Page T M). put_runs s p rs (drop n bs))
-    (put_items s page (styled style cs)) (λ p. put_runs-items s p rs (drop n bs))
+    ∙ then_same _ _ (put_items s page (styled style cs)) (λ p. put_runs-items s p rs (drop n bs))
 
 -- a word by its parts
 pub put_items-parts : {T M : Type 0} (s : Setting) (page : Page T M) (rs : List (Run (TextStyle T) M)) (tag : Option (TextStyle T))
-    (closed behind : List ℕ) →
-    put_items s page (items_of (elements_of rs closed ++ open_elements tag behind))
+    (closed behind : List ℕ) → put_items s page (items_of (elements_of rs closed ++ open_elements tag behind))
     ≡ option_and_then (λ (p : Page T M). put_items s p (items_of (open_elements tag behind))) (put_runs s page rs closed)
 put_items-parts {T} {M} s page rs tag closed behind =
     ap (put_items s page) (items-append (elements_of rs closed) (open_elements tag behind))

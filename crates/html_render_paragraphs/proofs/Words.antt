@@ -20,12 +20,9 @@ pub put_items-here : {T M : Type 0} (s : Setting) (page : Page T M) (word : List
 put_items-here s page word e = put_items-whole s page word (leb-true _ _ e)
 
 pub put_items-text : {T M : Type 0} (s : Setting) (page : Page T M) (style : TextStyle T) (cs : List ℕ) →
-    fits s page (text_columns cs) ≡ true →
-    0 < length cs →
-    put_items s page (styled style cs)
+    fits s page (text_columns cs) ≡ true → 0 < length cs → put_items s page (styled style cs)
     ≡ Some (record page {
-      line =
-          (page.line ++ map (λ (m : M). element.Mark m) page.waiting) ++ under (style_tag page.continues style) cs;
+      line = (page.line ++ map (λ (m : M). element.Mark m) page.waiting) ++ under (style_tag page.continues style) cs;
       waiting = [];
     })
 put_items-text {T} {M} s page style cs e some =

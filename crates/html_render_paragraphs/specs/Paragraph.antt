@@ -13,7 +13,7 @@ use Rattle.html_render_lines.specs.declared.character.Item.{Item}
 use Rattle.html_render_lines.specs.declared.character.Item.TheVariants as item
 use Rattle.html_render_lines.specs.declared.line.Element.TheVariants as element
 use Rattle.html_render_lines.specs.Character.{kind, width_of, tag_on}
-use Rattle.html_render_lines.specs.Line.{Line, columns, word_columns, is_empty}
+use Rattle.html_render_lines.specs.Line.{Line, columns, word_columns, is_empty, marks_line}
 
 -- ---- 1. The pieces
 
@@ -82,11 +82,8 @@ with_waiting_mark page m = record page { waiting = page.waiting ++ m ∷ [] }
 
 -- a character at the end of the open line: the marks that wait stand directly before it
 abbrev pub with_character : {T M : Type 0} → Page T M → Character T → Page T M
-with_character {T} {M} page c =
-    record page {
-      line = page.line ++ (map (λ (m : M). element.Mark m) page.waiting ++ element.Character c.code (tag_on page.continues c) ∷ []);
-      waiting = [];
-    }
+with_character page c =
+    record page { line = page.line ++ (marks_line page.waiting ++ element.Character c.code (tag_on page.continues c) ∷ []); waiting = [] }
 
 -- the line ends, empty or not, and the next one continues nothing
 abbrev pub with_line_break : {T M : Type 0} → Page T M → Page T M
@@ -94,8 +91,7 @@ with_line_break page = record page { lines = page.lines ++ page.line ∷ []; lin
 
 -- the line ends if it isn't empty, and the next one continues it
 abbrev pub continued : {T M : Type 0} → Page T M → Page T M
-continued page =
-    if is_empty page.line then page else record page { lines = page.lines ++ page.line ∷ []; line = []; continues = true }
+continued page = if is_empty page.line then page else record page { lines = page.lines ++ page.line ∷ []; line = []; continues = true }
 
 -- the lines of a page: the open one counts if it has a character
 abbrev pub all_lines : {T M : Type 0} → Page T M → List (Line T M)
@@ -148,8 +144,7 @@ put_word setting page pending word = put_items setting (page_for_word setting pa
 -- the page before such a character: the space that is due is placed if it fits, but is dropped before a newline
 abbrev pub page_for_single : {T M : Type 0} → Setting → Page T M → Option (Character T) → Kind → Page T M
 page_for_single setting page pending Newline = page
-page_for_single setting page pending k =
-    if fits setting (with_due_space page pending) 0 then with_due_space page pending else page
+page_for_single setting page pending k = if fits setting (with_due_space page pending) 0 then with_due_space page pending else page
 
 -- spaces to the next multiple of 8 columns
 abbrev pub tab_spaces : {T M : Type 0} → Page T M → Character T → List (Character T)

@@ -117,9 +117,6 @@ cells_of rows =
     let edges = edges_of (placed_rows rows) in
     record { edges = edges; rows = map (map (on_columns edges)) (own_rows_from 0 [] rows) }
 
-cells-made : (rows : List (List Span)) → positions_fit (placed_rows rows) ≡ true → cell_grid_of rows ≡ Some (cells_of rows)
-cells-made rows e = rw e refl
-
 pub cells-are : (rows : List (List Span)) (g : CellGrid) → cell_grid_of rows ≡ Some g →
     (positions_fit (placed_rows rows) ≡ true) × (cells_of rows ≡ g)
 cells-are rows g e = elim (cases_Bool (positions_fit (placed_rows rows))) [
@@ -136,7 +133,7 @@ spans-back rows =
 pub cells-valid : (rows : List (List Span)) → AreValid rows → positions_fit (placed_rows rows) ≡ true → IsCellGrid (cells_of rows)
 cells-valid rows valid fits = record {
   valid = subst AreValid (sym (spans-back rows)) valid;
-  own = subst (λ r. cell_grid_of r ≡ Some (cells_of rows)) (sym (spans-back rows)) (cells-made rows fits);
+  own = subst (λ r. cell_grid_of r ≡ Some (cells_of rows)) (sym (spans-back rows)) (rw fits refl);
 }
 
 -- ---- what is known of each table's cells

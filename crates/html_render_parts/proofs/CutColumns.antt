@@ -9,7 +9,7 @@ use Rattle.std.proofs.lemmas.Bool.Decides.{nat_tests}
 use Rattle.std.specs.List.Sorted.{IsPermutation}
 use Rattle.std.specs.Ordering.{nat_cmp, ordering_then, is_lt}
 use Rattle.std.specs.Prelude.{false}
-use Rattle.html_render_parts.specs.Cuts.{capped_sum, ranges, full_width, IsAtLevel}
+use Rattle.html_render_parts.specs.Cuts.{capped_sum, ranges, full_width, slack}
 use Rattle.html_render_parts.specs.CutSteps.{AreAtLevel, AreInOrder, AreLowered, LoweredBefore}
 use Rattle.html_render_parts.specs.declared.widths.lowering.AtLevel.{AtLevel}
 use Rattle.html_render_parts.specs.laws.Cuts.{length-ranges, ranges-at}
@@ -31,7 +31,7 @@ one-width : (ms : List ℕ) (level n : ℕ) (c : AtLevel) → c.place ≡ n → 
 one-width ms level n c place width = λ k d h. let e : k ≡ 0 = omega arith in rw e (rw place width)
 
 pub column-pushed : (ms ss : List ℕ) (level n : ℕ) (cs ds : List AtLevel) (c : AtLevel) → length ms ≡ length ss → n < length ms →
-    ColumnsSoFar ms ss level n cs → IsAtLevel ms ss level n
+    ColumnsSoFar ms ss level n cs → level ≤ slack ms ss n
     → c.place ≡ n → c.width.0 ≡ get_or ms n 0 + level → ds ≡ cs ++ c ∷ [] → ColumnsSoFar ms ss level (n + 1) ds
 column-pushed ms ss level n cs ds c e h so_far at place width is = rw is (record {
   places = rw (map-append (λ (x : AtLevel). x.place) cs (c ∷ []), place) (one-more ms ss level n (map (λ x. x.place) cs) so_far.places at);

@@ -30,8 +30,7 @@ capped_sum-greatest (m ∷ ms) (s ∷ ss) l h =
 capped_sum-greatest ms ss l h = refl
 
 -- what is above the wanted sum is less than a unit a column, and only there at a level above 0
-pub excess-some : (level : ℕ) (xs : List ℕ) (w : ℕ) → IsLevel level xs w → 0 < capped_sum level xs - w →
-    (0 < level) × (capped_sum (level - 1) xs < w)
+pub excess-some : (level : ℕ) (xs : List ℕ) (w : ℕ) → IsLevel level xs w → 0 < capped_sum level xs - w → (0 < level) × (capped_sum (level - 1) xs < w)
 excess-some zero xs w h some = absurd (let e = capped_sum-zero xs in omega arith)
 excess-some (suc l) xs w h some = (omega arith, let t = h.least (suc l - 1) (omega arith) in t)
 

@@ -10,12 +10,12 @@ use Rattle.std.proofs.lemmas.List.Sorted.{IsPermutation-keeps, IsPermutation-swa
 use Rattle.std.proofs.lemmas.List.Sums.{sum_by-set}
 use Rattle.std.proofs.lemmas.List.{get_or-set_same, get_or-set_other, length-set}
 use Rattle.std.proofs.lemmas.Bool.{cases_lt, cases_eq}
-use Rattle.html_render_parts.specs.Cuts.{full_width, IsAtLevel}
+use Rattle.html_render_parts.specs.Cuts.{full_width, slack}
 use Rattle.html_render_parts.specs.CutSteps.{LoweredBefore, AreAtLevel, AreInOrder, AreLowered}
 
 -- ---- which columns are at the level
 
-pub one-more : (ms ss : List ℕ) (level n : ℕ) (ps : List ℕ) → AreAtLevel ms ss level n ps → IsAtLevel ms ss level n →
+pub one-more : (ms ss : List ℕ) (level n : ℕ) (ps : List ℕ) → AreAtLevel ms ss level n ps → level ≤ slack ms ss n →
     AreAtLevel ms ss level (n + 1) (ps ++ n ∷ [])
 one-more ms ss level n ps h at =
     let len : length (ps ++ n ∷ []) ≡ length ps + 1 = omega (arith, length-append ps (n ∷ [])) in
@@ -74,13 +74,10 @@ moved ps i j p in_i in_j in_p =
       ]
     ]
 
-length-swap : (ps : List ℕ) (i j : ℕ) → i < length ps → j < length ps → length (lists.swap ps i j) ≡ length ps
-length-swap ps i j in_i in_j = length_permutation ps (lists.swap ps i j) (IsPermutation-swap ps (lists.swap ps i j) i j in_i in_j refl)
-
 swapped : (ms ss : List ℕ) (level n : ℕ) (ps : List ℕ) (i j : ℕ) → i < length ps → j < length ps → AreAtLevel ms ss level n ps →
     AreAtLevel ms ss level n (lists.swap ps i j)
 swapped ms ss level n ps i j in_i in_j h =
-    let len = length-swap ps i j in_i in_j in
+    let len = length_permutation ps (lists.swap ps i j) (IsPermutation-swap ps (lists.swap ps i j) i j in_i in_j refl) in
     record {
       inside = λ p less. let m = moved ps i j p in_i in_j (omega arith) in rw (m.2) (h.inside m.0 m.1);
       at_level = λ p less. let m = moved ps i j p in_i in_j (omega arith) in rw (m.2) (h.at_level m.0 m.1);
@@ -95,8 +92,7 @@ swapped ms ss level n ps i j in_i in_j h =
           ];
     }
 
-pub reordered : (ms ss : List ℕ) (level n : ℕ) (ps qs : List ℕ) → AreAtLevel ms ss level n ps → IsPermutation ps qs →
-    AreAtLevel ms ss level n qs
+pub reordered : (ms ss : List ℕ) (level n : ℕ) (ps qs : List ℕ) → AreAtLevel ms ss level n ps → IsPermutation ps qs → AreAtLevel ms ss level n qs
 reordered ms ss level n ps qs h moves =
     IsPermutation-keeps ps (λ l. AreAtLevel ms ss level n l) h (λ l i j in_i in_j k. swapped ms ss level n l i j in_i in_j k) qs moves
 
@@ -136,7 +132,7 @@ none-lowered ms ss ps level old = record {
 
 -- a column at the level has its minimum and the level
 pub full-at-level : (ms ss old : List ℕ) (level k : ℕ) → ((j : ℕ) → j < length ms → get_or old j 0 ≡ full_width ms ss level j) →
-    k < length ms → IsAtLevel ms ss level k → get_or old k 0 ≡ get_or ms k 0 + level
+    k < length ms → level ≤ slack ms ss k → get_or old k 0 ≡ get_or ms k 0 + level
 full-at-level ms ss old level k full inside at = let f = full k inside in omega arith
 
 pub next-lowered : (ms ss ps : List ℕ) (level d : ℕ) (old ws : List ℕ) → AreInOrder ms ss level ps → length old ≡ length ms →
@@ -146,7 +142,7 @@ pub next-lowered : (ms ss ps : List ℕ) (level d : ℕ) (old ws : List ℕ) →
 next-lowered ms ss ps level d old ws order len_old full pos in_d h =
     let i : ℕ = get_or ps d 0 in
     let inside : get_or ps d 0 < length ms = order.are_at_level.inside d in_d in
-    let at : IsAtLevel ms ss level (get_or ps d 0) = order.are_at_level.at_level d in_d in
+    let at : level ≤ slack ms ss (get_or ps d 0) = order.are_at_level.at_level d in_d in
     let len_ws = h.are_lowered.lengths in
     let in_ws : get_or ps d 0 < length ws = omega arith in
     let was : get_or ws (get_or ps d 0) 0 ≡ get_or old (get_or ps d 0) 0 = h.left d (omega arith) in_d in
@@ -156,7 +152,7 @@ next-lowered ms ss ps level d old ws order len_old full pos in_d h =
   where
     lowered-at : (ms ss ps : List ℕ) (level d i : ℕ) (old ws : List ℕ) → AreInOrder ms ss level ps → length old ≡ length ms →
         ((j : ℕ) → j < length ms → get_or old j 0 ≡ full_width ms ss level j)
-        → 0 < level → d < length ps → get_or ps d 0 ≡ i → i < length ms → IsAtLevel ms ss level i → i < length ws →
+        → 0 < level → d < length ps → get_or ps d 0 ≡ i → i < length ms → level ≤ slack ms ss i → i < length ws →
         get_or ws i 0 ≡ get_or old i 0 → get_or old i 0 ≡ get_or ms i 0 + level
         → AreLoweredSoFar ms ss ps level d old ws → AreLoweredSoFar ms ss ps level (d + 1) old (set ws i (get_or ws i 0 - 1))
     lowered-at ms ss ps level d i old ws order len_old full pos in_d is_i inside at in_ws was high h =

@@ -93,8 +93,7 @@ Contains-from_rising k (n ∷ ns) h = elim (Contains-from_with n k (rising ns) h
 
 -- ---- two lists that rise and have the same elements are one
 
-same-rise : (xs ys : List ℕ) → Rise xs → Rise ys → ((n : ℕ) → Contains xs n → Contains ys n) → ((n : ℕ) → Contains ys n → Contains xs n) →
-    xs ≡ ys
+same-rise : (xs ys : List ℕ) → Rise xs → Rise ys → ((n : ℕ) → Contains xs n → Contains ys n) → ((n : ℕ) → Contains ys n → Contains xs n) → xs ≡ ys
 same-rise [] [] p q f g = refl
 same-rise [] (y ∷ ys) p q f g = absurd (Contains-nil y (g y (Contains-here y ys)))
 same-rise (x ∷ xs) [] p q f g = absurd (Contains-nil x (f x (Contains-here x xs)))
@@ -128,8 +127,7 @@ rising-only xs ns h f g =
     (λ n a. g n (Contains-from_rising n ns a))
 
 -- lists with the same numbers are one in rising order
-pub rising-same : (ms ns : List ℕ) → ((n : ℕ) → Contains ms n → Contains ns n) → ((n : ℕ) → Contains ns n → Contains ms n) →
-    rising ms ≡ rising ns
+pub rising-same : (ms ns : List ℕ) → ((n : ℕ) → Contains ms n → Contains ns n) → ((n : ℕ) → Contains ns n → Contains ms n) → rising ms ≡ rising ns
 rising-same ms ns f g =
     same-rise (rising ms) (rising ns) (Rise-rising ms) (Rise-rising ns)
     (λ n a. Contains-rising n ns (f n (Contains-from_rising n ms a)))
@@ -176,9 +174,6 @@ rank-less (x ∷ xs) a b h less = rw (rank-cons x xs a, rank-cons x xs b) (elim 
   | inl e ↦ let mono = rank-mono xs a b (omega arith) in grind (arith, nat_tests)
   | inr g ↦ let ih = rank-less xs a b g less in grind (arith, nat_tests)
 ])
-
-pub rank-numbering : (xs : List ℕ) → IsNumbering xs (rank xs)
-rank-numbering xs = λ a b in_a in_b less. rank-less xs a b in_a less
 
 rank-none : (xs : List ℕ) (t : ℕ) → All (λ y. t < y) xs → rank xs t ≡ 0
 rank-none [] t h = refl

@@ -27,8 +27,7 @@ fairest ms ss w ws level lowered fits form = record {
 
 -- ---- no other has a smaller largest slack
 
-pub slack-le-largest : (ms ws : List ℕ) (k : ℕ) → length ws ≡ length ms → k < length ms →
-    get_or ws k 0 - get_or ms k 0 ≤ largest_slack ms ws
+pub slack-le-largest : (ms ws : List ℕ) (k : ℕ) → length ws ≡ length ms → k < length ms → get_or ws k 0 - get_or ms k 0 ≤ largest_slack ms ws
 slack-le-largest [] ws k e h = absurd (omega arith)
 slack-le-largest (m ∷ ms) [] k e h = cc
 slack-le-largest (m ∷ ms) (w ∷ ws) zero e h = let here : get_or (w ∷ ws) 0 0 - get_or (m ∷ ms) 0 0 ≡ w - m = refl in omega arith
@@ -82,13 +81,10 @@ form-lowered ms ss w old ws level lowered fits is rest len each low =
       is_level = is;
       rest = rest;
       lengths = low.lengths ∙ len;
-      each = λ k h. let f = each k h in elim (low.each k (omega arith)) [ inl e ↦ inl (e ∙ f) | inr e ↦ inr (e.0, e.1, e.2 ∙ f) ];
+      each = λ k h. let f = each k h in let l = low.each k (omega arith) in grind arith;
       count = low.total ∙ all;
       first = λ i j in_i in_j down at same. let f = each i in_i in let g = each j in_j in
-          elim (low.first i j (omega arith) (omega arith) (down.2 ∙ sym f) at (same ∙ sym g)) [
-            | inl e ↦ inl (omega arith)
-            | inr e ↦ inr (omega arith, e.1)
-          ];
+          let t = low.first i j (omega arith) (omega arith) (down.2 ∙ sym f) at (same ∙ sym g) in grind arith;
     }
 
 -- ---- there is only one level form

@@ -19,8 +19,7 @@ use Rattle.html_render_parts.proofs.RowAfterRow.{IsNext, fits-bottom}
 
 All-parts : {X : Type 0} (P : X → Type 0) (xs ys : List X) → All P (xs ++ ys) → All P xs × All P ys
 All-parts P [] ys h = (All-nil P, h)
-All-parts P (x ∷ xs) ys h =
-    let rest = All-parts P xs ys (All-tail P x (xs ++ ys) h) in (All-cons P x xs (All-head P x (xs ++ ys) h) rest.0, rest.1)
+All-parts P (x ∷ xs) ys h = let rest = All-parts P xs ys (All-tail P x (xs ++ ys) h) in (All-cons P x xs (All-head P x (xs ++ ys) h) rest.0, rest.1)
 
 -- a cell between two positions of a kind
 abbrev pub Between : (ℕ → Type 0) → Standing → Type 0

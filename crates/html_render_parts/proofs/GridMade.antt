@@ -1,21 +1,22 @@
 -- Placed rows, or their refusal, are the grid's.
-use Rattle.std.proofs.Common.{◌≡◌, ◌≤◌, List, Some, map, All, refl, sym, ap, inl, inr}
+use Rattle.std.proofs.Common.{◌≡◌, ℕ, ◌≤◌, List, Some, map, All, refl, sym, ap, inl, inr}
 use Rattle.std.specs.Global.{Vec}
 use Rattle.std.proofs.lemmas.Bool.{cases_Bool}
 use Rattle.std.proofs.lemmas.List.Elements.{All-map}
 use Rattle.html_render_values.specs.declared.errors.Error.{Error}
 use Rattle.html_render_values.specs.declared.errors.Error.TheVariants.{TooNarrow, Fail, OutOfMemory}
 use Rattle.html_render_parts.specs.declared.table.Span.{Span}
+use Rattle.html_render_parts.specs.declared.table.PlacedCell.{PlacedCell}
 use Rattle.html_render_parts.specs.declared.table.placement.Place.{Place}
 use Rattle.html_render_parts.specs.Placement.{lists, placed_rows}
 use Rattle.html_render_parts.specs.PlacementSteps.{fitting}
-use Rattle.html_render_parts.specs.Grid.{AreValid, Grid, edges_of, grid_of, numbered, positions_fit}
+use Rattle.html_render_parts.specs.Grid.{AreValid, edges_of, grid_of, numbered, positions_fit}
 use Rattle.html_render_parts.specs.Refusal.{Fails}
 use Rattle.html_render_parts.proofs.Vectors.{All-unmap}
 
 -- the grid of rows that are placed
-abbrev grid_on : List (List Place) → Grid
-grid_on placed = record { edges = edges_of placed; rows = map (map (numbered (edges_of placed))) placed }
+abbrev grid_on : List (List Place) → List ℕ × List (List PlacedCell)
+grid_on placed = (edges_of placed, map (map (numbered (edges_of placed))) placed)
 
 -- rows that were placed are the definition's, and the table has a grid
 pub made : (rows : List (List Span)) (placed : List (List Place)) → fitting (placed_rows rows) ≡ Some placed →
@@ -32,12 +33,12 @@ refused OutOfMemory rows h = tt
 refused Fail rows h = elim (cases_Bool (positions_fit (placed_rows rows))) [ inl t ↦ let f = rw t at h in cc | inr t ↦ rw t refl ]
 
 -- the parts of a table's grid
-pub grid-parts : (rows : List (List Span)) (g : Grid) → grid_of rows ≡ Some g →
-    (g.edges ≡ edges_of (placed_rows rows)) × (g.rows ≡ map (map (numbered (edges_of (placed_rows rows)))) (placed_rows rows))
+pub grid-parts : (rows : List (List Span)) (g : List ℕ × List (List PlacedCell)) → grid_of rows ≡ Some g →
+    (g.0 ≡ edges_of (placed_rows rows)) × (g.1 ≡ map (map (numbered (edges_of (placed_rows rows)))) (placed_rows rows))
 grid-parts rows g e = elim (cases_Bool (positions_fit (placed_rows rows))) [
   | inl t ↦
       let same : grid_on (placed_rows rows) ≡ g = let f = rw t at e in cc in
-      (ap (λ x. x.edges) (sym same), ap (λ x. x.rows) (sym same))
+      (ap (λ x. x.0) (sym same), ap (λ x. x.1) (sym same))
   | inr t ↦ let f = rw t at e in cc
 ]
 

@@ -63,10 +63,11 @@ AllFrom-with n a (c ∷ cs) le h = let more = AllFrom-with n a cs le h.1 in grin
 
 IsByColumn-with : (a : Standing) (cs : List Standing) → IsByColumn cs → IsByColumn (by_column_with a cs)
 IsByColumn-with a [] h = (tt, tt)
-IsByColumn-with a (c ∷ cs) h = elim (leb_tells a.column c.column) [
-  | inl t ↦ rw t.0 ((t.1, AllFrom-less a.column c.column cs t.1 h.0), h)
-  | inr t ↦ rw t.0 (AllFrom-with c.column a cs (omega arith) h.0, IsByColumn-with a cs h.1)
-]
+IsByColumn-with a (c ∷ cs) h =
+    let more = IsByColumn-with a cs h.1 in
+    let from = AllFrom-with c.column a cs in
+    let less = AllFrom-less a.column c.column cs in
+    grind (arith, nat_tests)
 
 IsByColumn-by_column : (xs : List Standing) → IsByColumn (by_column xs)
 IsByColumn-by_column [] = tt

@@ -44,8 +44,7 @@ then a b = record {
 
 -- a step adds this, where its places fit, and else has no result
 abbrev Gives : ℕ → RowSoFar → RowSoFar → Option RowSoFar → Type 0
-Gives row built added o =
-    MatchOption o (row_fits added.places ≡ false) (λ l. (l ≡ with_added row built added) × (row_fits added.places ≡ true))
+Gives row built added o = MatchOption o (row_fits added.places ≡ false) (λ l. (l ≡ with_added row built added) × (row_fits added.places ≡ true))
 
 -- a step behind another begins where that one ends
 Gives-then : (row : ℕ) (built a : RowSoFar) (b : ℕ → RowSoFar) (o : Option RowSoFar) (f : RowSoFar → Option RowSoFar) →
@@ -68,8 +67,7 @@ one_place kind start end = record (none_at end) { places = (record { kind = kind
 Gives-same : (row : ℕ) (built : RowSoFar) → Gives row built (none_at built.cursor) (Some built)
 Gives-same row built = (simp append-nil, refl)
 
-put_to-gives : (row : ℕ) (kind : CellKind) (end : ℕ) (built : RowSoFar) →
-    Gives row built (one_place kind built.cursor end) (put_to kind end built)
+put_to-gives : (row : ℕ) (kind : CellKind) (end : ℕ) (built : RowSoFar) → Gives row built (one_place kind built.cursor end) (put_to kind end built)
 put_to-gives row kind end built = elim (cases_Bool (nat_lt end (2 ^ 128))) [
   | inl e ↦ rw e (simp append-nil, refl)
   | inr e ↦ rw e refl
@@ -191,8 +189,7 @@ pub next-made : (row : ℕ) (ss : List Span) (done : Placing) (hung : List Stand
     IsByColumn hung
     → with_row row ss hung empty_row ≡ Some l →
     with_next row ss done ≡ Some (record { places = l.places; own = l.own; told = l.told; hanging = l.kept })
-next-made row ss done hung l same ordered e =
-    let h = row-gives row ss hung (Some l) e in rw (same, h.1, h.0, hanging-next row hung ss ordered) refl
+next-made row ss done hung l same ordered e = let h = row-gives row ss hung (Some l) e in rw (same, h.1, h.0, hanging-next row hung ss ordered) refl
 
 -- the cells that it keeps are in order
 pub kept-ordered : (row : ℕ) (ss : List Span) (hung : List Standing) (l : RowSoFar) → IsByColumn hung →
@@ -214,8 +211,7 @@ bottom-gives hung o e = subst (Gives 0 empty_row (rest hung 0)) e (with_rest-giv
 
 pub bottom-made : (hung : List Standing) (l : RowSoFar) → with_rest hung empty_row ≡ Some l →
     (l.places ≡ rest_from 0 hung) × (l.told ≡ rest_told 0 hung) × (row_fits l.places ≡ true)
-bottom-made hung l e =
-    let h = bottom-gives hung (Some l) e in (ap (λ r. r.places) h.0, ap (λ r. r.told) h.0, rw h.0 h.1)
+bottom-made hung l e = let h = bottom-gives hung (Some l) e in (ap (λ r. r.places) h.0, ap (λ r. r.told) h.0, rw h.0 h.1)
 
 pub bottom-past : (hung : List Standing) → with_rest hung empty_row ≡ None → row_fits (rest_from 0 hung) ≡ false
 bottom-past hung e = bottom-gives hung None e

@@ -24,8 +24,7 @@ reaching n cells = filter (λ c. nat_le n (end_of c)) cells
 
 filter-all : (p : Standing → Bool) (cs : List Standing) → All (λ c. p c ≡ true) cs → filter p cs ≡ cs
 filter-all p [] h = refl
-filter-all p (c ∷ cs) h =
-    rw (All-head (λ d. p d ≡ true) c cs h) (ap (λ r. c ∷ r) (filter-all p cs (All-tail (λ d. p d ≡ true) c cs h)))
+filter-all p (c ∷ cs) h = rw (All-head (λ d. p d ≡ true) c cs h) (ap (λ r. c ∷ r) (filter-all p cs (All-tail (λ d. p d ≡ true) c cs h)))
 
 later-all : (n : ℕ) (cs : List Standing) → All (λ c. n < end_of c) cs → later n cs ≡ cs
 later-all n cs h = filter-all (λ c. nat_lt n (end_of c)) cs
@@ -52,10 +51,7 @@ rising_with-front n (m ∷ ms) h =
 -- what holds of a number put among others, by where it comes
 pub rising-step : (P : List ℕ → Type 0) (n m : ℕ) (ms : List ℕ) → (n < m → P (n ∷ m ∷ ms)) → (m < n → P (m ∷ rising_with n ms)) →
     (m ≡ n → P (m ∷ ms)) → P (rising_with n (m ∷ ms))
-rising-step P n m ms first later same = elim (ltb-tells n m) [
-  | inl t ↦ rw t.0 (first t.1)
-  | inr t ↦ elim (ltb-tells m n) [ inl u ↦ rw (t.0, u.0) (later u.1) | inr u ↦ rw (t.0, u.0) (same (omega arith)) ]
-]
+rising-step P n m ms first later same = grind (arith, nat_tests)
 
 pub All-rising_with : (P : ℕ → Type 0) (n : ℕ) (ms : List ℕ) → P n → All P ms → All P (rising_with n ms)
 All-rising_with P n [] p h = All-cons P n [] p (All-nil P)

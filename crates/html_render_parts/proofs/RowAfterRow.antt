@@ -36,8 +36,7 @@ next-is row cells done next e = elim (cases_Bool (row_fits (row_from 0 done.hang
   | inr t ↦ let f = rw t at e in cc
 ]
 
-pub next-past : (row : ℕ) (cells : List Span) (done : Placing) → with_next row cells done ≡ None →
-    row_fits (row_from 0 done.hanging cells) ≡ false
+pub next-past : (row : ℕ) (cells : List Span) (done : Placing) → with_next row cells done ≡ None → row_fits (row_from 0 done.hanging cells) ≡ false
 next-past row cells done e = elim (cases_Bool (row_fits (row_from 0 done.hanging cells))) [ inl t ↦ let f = rw t at e in cc | inr t ↦ t ]
 
 -- ---- whether all rows fit, by those ahead
@@ -47,8 +46,7 @@ pub fits-next : (row : ℕ) (cells : List Span) (more : List (List Span)) (done 
     positions_fit (rows_from row done.hanging (cells ∷ more)) ≡ positions_fit (rows_from (row + 1) next.hanging more)
 fits-next row cells more done next is = rw (is.hangs_on, is.fits) refl
 
-pub fits-bottom : (done next : Placing) → IsNextBottom done next →
-    positions_fit (bottom_rows done.hanging) ≡ positions_fit (bottom_rows next.hanging)
+pub fits-bottom : (done next : Placing) → IsNextBottom done next → positions_fit (bottom_rows done.hanging) ≡ positions_fit (bottom_rows next.hanging)
 fits-bottom done next is = rw (is.rows, is.fits) refl
 
 -- the own cells of the rows, by those that are placed and those ahead

@@ -51,8 +51,7 @@ own-found g rows row cells same inside is =
     )
 
 pub none-found : (g : CellGrid) (rows : List (Vec GridCell)) (row : ℕ) → lists rows ≡ g.rows → length rows ≤ row → length g.rows ≤ row
-none-found g rows row same past =
-    subst (λ r. length r ≤ row) same (subst (λ n. n ≤ row) (sym (length-map rows (λ (v : Vec GridCell). v.items))) past)
+none-found g rows row same past = subst (λ r. length r ≤ row) same (subst (λ n. n ≤ row) (sym (length-map rows (λ (v : Vec GridCell). v.items))) past)
 
 -- its cells stand below the last edge
 pub own-on_edges : (g : CellGrid) (rows : List (Vec GridCell)) (row : ℕ) (cells : Vec GridCell) → lists rows ≡ g.rows →

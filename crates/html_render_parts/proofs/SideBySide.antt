@@ -1,7 +1,7 @@
 -- The places of a row stand side by side from 0 on, so that each one's start is an edge.
 use Rattle.std.proofs.Common.{◌≡◌, ℕ, ◌+◌, ◌<◌, ◌≤◌, List, [], ◌∷◌, ◌++◌, length, get_or, max, map, filter, All, Contains, nat_le, refl, sym, ap, subst}
-use Rattle.std.proofs.Common.{arith, inl, inr, suc, sum_by, zero}
-use Rattle.std.proofs.lemmas.Bool.Decides.{leb_tells}
+use Rattle.std.proofs.Common.{arith, suc, sum_by, zero}
+use Rattle.std.proofs.lemmas.Bool.Decides.{nat_tests}
 use Rattle.std.proofs.lemmas.List.Sums.{sum_by-cons}
 use Rattle.std.proofs.lemmas.List.Elements.{All-nil, All-cons, All-head, All-tail, All-append, All-weaker, All-filter, All-map, Contains-append_left}
 use Rattle.std.proofs.lemmas.List.Elements.{Contains-append_right}
@@ -15,7 +15,6 @@ use Rattle.html_render_parts.specs.Placement.{rest_from, row_from, own_from, ris
 use Rattle.html_render_parts.specs.Grid.{AreSideBySide, AreValid, ends, edges_of, rank, numbered}
 use Rattle.html_render_parts.proofs.EdgeRanks.{Contains-here, Contains-rising, Contains-there, rank-below, rank-less, rank-mono}
 use Rattle.html_render_parts.proofs.HangingOrder.{All-hanging, All-not_due}
-use Rattle.html_render_parts.proofs.NumberTests.{ltb-tells}
 
 -- places side by side from one position to another
 abbrev Between : ℕ → ℕ → List Place → Type 0
@@ -46,21 +45,13 @@ Wide-own_from row cursor hs (s ∷ ss) v =
 
 Between-due : (cursor : ℕ) (hs : List Standing) → All Wide hs → Between cursor (due_end cursor hs) (due_places cursor hs)
 Between-due cursor [] w = refl
-Between-due cursor (h ∷ hs) w = elim (leb_tells h.column cursor) [
-  | inl t ↦ rw t.0 (
-    refl,
+Between-due cursor (h ∷ hs) w =
     let wide : 1 ≤ h.span.colspan = All-head Wide h hs w in
-        omega arith,
-    Between-due (cursor + h.span.colspan) hs (All-tail Wide h hs w),
-  )
-  | inr t ↦ rw t.0 refl
-]
+    let more = Between-due (cursor + h.span.colspan) hs (All-tail Wide h hs w) in
+    grind (arith, nat_tests)
 
 Between-gap : (cursor column : ℕ) → Between cursor (max cursor column) (gap_to cursor column)
-Between-gap cursor column = elim (ltb-tells cursor column) [
-  | inl t ↦ rw t.0 (refl, t.1, omega arith)
-  | inr t ↦ rw t.0 (omega arith)
-]
+Between-gap cursor column = grind (arith, nat_tests)
 
 -- where a row ends
 abbrev Ends : ℕ → List Place → Type 0
@@ -98,8 +89,7 @@ Ends-bottoms hung w (n ∷ ns) =
     All-cons (Ends 0) (rest_from 0 (filter (λ c. nat_le n (end_of c)) hung)) (map (λ m. rest_from 0 (filter (λ c. nat_le m (end_of c)) hung)) ns)
     (Ends-rest 0 (filter (λ c. nat_le n (end_of c)) hung) (All-filter (λ c. nat_le n (end_of c)) Wide hung w)) (Ends-bottoms hung w ns)
 
-Ends-rows : (row : ℕ) (hung : List Standing) (rows : List (List Span)) → All Wide hung → AreValid rows →
-    All (Ends 0) (rows_from row hung rows)
+Ends-rows : (row : ℕ) (hung : List Standing) (rows : List (List Span)) → All Wide hung → AreValid rows → All (Ends 0) (rows_from row hung rows)
 Ends-rows row hung [] w v = Ends-bottoms hung w (rising (map end_of hung))
 Ends-rows row hung (ss ∷ rows) w v =
     let own = own_from row 0 hung ss in
@@ -196,8 +186,7 @@ side-by-side es c d (p ∷ ps) h = (h.0, h.1, side-by-side es p.end d ps h.2)
 -- a row's cells stand side by side
 pub stand-side_by_side : (rows : List (List Span)) → AreValid rows →
     All (AreSideBySide 0) (map (map (numbered (edges_of (placed_rows rows)))) (placed_rows rows))
-stand-side_by_side rows v =
-    rows-numbered (AreSideBySide 0) rows v (λ ps h. side-by-side (edges_of (placed_rows rows)) 0 h.behind ps h.between)
+stand-side_by_side rows v = rows-numbered (AreSideBySide 0) rows v (λ ps h. side-by-side (edges_of (placed_rows rows)) 0 h.behind ps h.between)
 
 total-columns : (es : List ℕ) (c d : ℕ) (ps : List Place) → Between c d ps →
     sum_by (λ (q : PlacedCell). q.columns) (map (numbered es) ps) + rank es c ≡ rank es d

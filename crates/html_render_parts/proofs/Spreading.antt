@@ -23,16 +23,14 @@ given-greatest [] k j h = absurd (omega (arith, h))
 given-greatest (s ∷ ss) zero j h = omega arith
 given-greatest (s ∷ ss) (suc k) j h = let e = given-greatest ss k j (omega (arith, h)) in omega (arith, e)
 
-greatest-le : (spans : List Span) (j bound : ℕ) → ((k : ℕ) → k < length spans → given (span_at spans k) j ≤ bound) →
-    greatest_at spans j ≤ bound
+greatest-le : (spans : List Span) (j bound : ℕ) → ((k : ℕ) → k < length spans → given (span_at spans k) j ≤ bound) → greatest_at spans j ≤ bound
 greatest-le [] j bound h = omega arith
 greatest-le (s ∷ ss) j bound h =
     let first = h 0 (omega arith) in
     let rest = greatest-le ss j bound (λ k inside. h (suc k) (omega (arith, inside))) in
     omega (arith, first, rest)
 
-span-over : (all : ℕ) (spans : List Span) (k : ℕ) → AreOver all spans → k < length spans →
-    (span_at spans k).start + (span_at spans k).count ≤ all
+span-over : (all : ℕ) (spans : List Span) (k : ℕ) → AreOver all spans → k < length spans → (span_at spans k).start + (span_at spans k).count ≤ all
 span-over all spans k h inside = All-get_or (λ s. s.start + s.count ≤ all) spans k no_span inside h
 
 -- ---- the steps

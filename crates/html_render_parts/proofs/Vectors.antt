@@ -12,8 +12,7 @@ All-unmap P f xs h = λ k d inside.
 -- what holds of each list holds of the list that a vector holds
 pub at-vector : {X : Type 0} (P : List X → Type 0) (vs : List (Vec X)) (i : ℕ) (v : Vec X) → All P (lists vs) → i < length vs →
     v ≡ get_or vs i v → P v.items
-at-vector {X} P vs i v h inside is =
-    subst (λ (w : Vec X). P w.items) (sym is) (All-unmap P (λ (w : Vec X). w.items) vs h i v inside)
+at-vector {X} P vs i v h inside is = subst (λ (w : Vec X). P w.items) (sym is) (All-unmap P (λ (w : Vec X). w.items) vs h i v inside)
 
 -- what is left of them
 pub lists-drop : {X : Type 0} (vs : List (Vec X)) (i : ℕ) (v : Vec X) → i < length vs → v ≡ get_or vs i v →

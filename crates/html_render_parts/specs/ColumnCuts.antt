@@ -7,8 +7,7 @@ pub record IsColumnCut (minimums shares : List ℕ) (width : ℕ) (widths : List
   -- they are the level form
   pub form : IsLevelForm minimums shares width widths level lowered
   -- no other widths, level and number are
-  pub only_form : (others : List ℕ) (l d : ℕ) → IsLevelForm minimums shares width others l d →
-      (others ≡ widths) × (l ≡ level) × (d ≡ lowered)
+  pub only_form : (others : List ℕ) (l d : ℕ) → IsLevelForm minimums shares width others l d → (others ≡ widths) × (l ≡ level) × (d ≡ lowered)
   -- the widths are a fairest cut
   pub fairest : IsFairestCut minimums shares width widths
   -- no others are

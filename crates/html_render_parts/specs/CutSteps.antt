@@ -1,6 +1,6 @@
 -- What the steps of a column cut hand to one another.
 use Rattle.std.specs.Prelude.{◌≡◌, ◌≢◌, ℕ, ◌+◌, ◌<◌, ◌≤◌, ◌⊎◌, List, length, sum, slice_index}
-use Rattle.html_render_parts.specs.Cuts.{full_width, IsAtLevel, IsLowered}
+use Rattle.html_render_parts.specs.Cuts.{full_width, slack, IsLowered}
 
 -- as many minimums as shares, and each minimum is at most its share
 pub record AreColumns (minimums shares : List ℕ) : Type 0 where
@@ -14,8 +14,8 @@ LoweredBefore width place width' place' = (width' < width) ⊎ ((width' ≡ widt
 -- the places below a bound of the columns at the level, each once, in any order
 pub record AreAtLevel (minimums shares : List ℕ) (level bound : ℕ) (places : List ℕ) : Type 0 where
   pub inside : (p : ℕ) → p < length places → slice_index places p < bound
-  pub at_level : (p : ℕ) → p < length places → IsAtLevel minimums shares level (slice_index places p)
-  pub complete : (k : ℕ) → k < bound → IsAtLevel minimums shares level k → (p : ℕ) × (p < length places) × (slice_index places p ≡ k)
+  pub at_level : (p : ℕ) → p < length places → level ≤ slack minimums shares (slice_index places p)
+  pub complete : (k : ℕ) → k < bound → level ≤ slack minimums shares k → (p : ℕ) × (p < length places) × (slice_index places p ≡ k)
   pub distinct : (p q : ℕ) → p < length places → q < length places → p ≢ q → slice_index places p ≢ slice_index places q
 
 -- the places of the columns at the level, in the order in which they are lowered
@@ -30,9 +30,9 @@ pub record AreLowered (minimums shares : List ℕ) (level count : ℕ) (old new 
   pub lengths : length new ≡ length old
   pub each : (k : ℕ) → k < length old →
       (slice_index new k ≡ slice_index old k) ⊎
-      ((0 < level) × IsAtLevel minimums shares level k × (slice_index new k + 1 ≡ slice_index old k))
+      ((0 < level) × (level ≤ slack minimums shares k) × (slice_index new k + 1 ≡ slice_index old k))
   pub total : sum new + count ≡ sum old
-  pub first : (i j : ℕ) → i < length old → j < length old → slice_index new i + 1 ≡ slice_index old i → IsAtLevel minimums shares level j →
+  pub first : (i j : ℕ) → i < length old → j < length old → slice_index new i + 1 ≡ slice_index old i → level ≤ slack minimums shares j →
       slice_index new j ≡ slice_index old j →
       LoweredBefore (slice_index old i) i (slice_index old j) j
 
@@ -43,5 +43,5 @@ IsFull minimums shares widths level k = slice_index widths k ≡ full_width mini
 -- each lowered column is lowered before each column at the level of full width; at the level a greater minimum is a greater width
 pub record LowersFirst (minimums shares widths : List ℕ) (level : ℕ) : Type 0 where
   pub first : (i j : ℕ) → i < length minimums → j < length minimums → IsLowered minimums shares widths level i
-      → IsAtLevel minimums shares level j → IsFull minimums shares widths level j
+      → level ≤ slack minimums shares j → IsFull minimums shares widths level j
       → LoweredBefore (slice_index minimums i) i (slice_index minimums j) j

@@ -24,25 +24,26 @@ largest_slack minimums widths = 0
 
 -- ---- the fairest cut
 
--- each width is between its minimum and its share, and where there is a column they add up
-pub record IsCut (minimums shares : List ℕ) (width : ℕ) (widths : List ℕ) : Type 0 where
-  pub lengths : length widths ≡ length minimums
-  pub lower : (k : ℕ) → k < length minimums → slice_index minimums k ≤ slice_index widths k
-  pub upper : (k : ℕ) → k < length minimums → slice_index widths k ≤ slice_index shares k
-  pub total : 0 < length minimums → sum widths ≡ total_width shares width
-
 -- of two columns, the first gives a unit before the second: by greater slack, then by greater width, then as the left one
 abbrev pub GivesBefore : (slack width place slack' width' place' : ℕ) → Type 0
 GivesBefore slack width place slack' width' place' =
     (slack' < slack) ⊎ ((slack' ≡ slack) × ((width' < width) ⊎ ((width' ≡ width) × (place < place'))))
 
--- a cut whose last unit was taken from the right column, whichever it was: with that unit back, its column gives
--- before each other
-pub record IsFairestCut (minimums shares : List ℕ) (width : ℕ) (widths : List ℕ) : Type 0 where
-  pub is_cut : IsCut minimums shares width widths
-  pub last_unit : (i j : ℕ) → i < length minimums → j < length minimums → i ≢ j → slice_index widths i < slice_index shares i →
-      GivesBefore ((slice_index widths i + 1) - slice_index minimums i) (slice_index widths i + 1) i (slack minimums widths j)
-      (slice_index widths j) j
+module _ (minimums shares : List ℕ) where
+  -- each width is between its minimum and its share, and where there is a column they add up
+  pub record IsCut (width : ℕ) (widths : List ℕ) : Type 0 where
+    pub lengths : length widths ≡ length minimums
+    pub lower : (k : ℕ) → k < length minimums → slice_index minimums k ≤ slice_index widths k
+    pub upper : (k : ℕ) → k < length minimums → slice_index widths k ≤ slice_index shares k
+    pub total : 0 < length minimums → sum widths ≡ total_width shares width
+
+  -- a cut whose last unit was taken from the right column, whichever it was: with that unit back, its column gives
+  -- before each other
+  pub record IsFairestCut (width : ℕ) (widths : List ℕ) : Type 0 where
+    pub is_cut : IsCut width widths
+    pub last_unit : (i j : ℕ) → i < length minimums → j < length minimums → i ≢ j → slice_index widths i < slice_index shares i →
+        GivesBefore ((slice_index widths i + 1) - slice_index minimums i) (slice_index widths i + 1) i
+        (slack minimums widths j) (slice_index widths j) j
 
 -- ---- the level form
 
@@ -55,41 +56,35 @@ ranges minimums shares = []
 abbrev pub capped_sum : ℕ → List ℕ → ℕ
 capped_sum level ranges = sum_by (λ range. min range level) ranges
 
--- what the widths have above the minimums
-abbrev pub wanted : List ℕ → List ℕ → ℕ → ℕ
-wanted minimums shares width = total_width shares width - sum minimums
-
 -- the least level at which the capped ranges are enough
 pub record IsLevel (level : ℕ) (ranges : List ℕ) (wanted : ℕ) : Type 0 where
   pub enough : wanted ≤ capped_sum level ranges
   pub least : (l : ℕ) → l < level → capped_sum l ranges < wanted
 
--- a column's width where its range is capped at the level
-abbrev pub full_width : List ℕ → List ℕ → ℕ → ℕ → ℕ
-full_width minimums shares level k = slice_index minimums k + min (slice_index shares k - slice_index minimums k) level
+module _ (minimums shares : List ℕ) where
+  -- what the widths have above the minimums
+  abbrev pub wanted : ℕ → ℕ
+  wanted width = total_width shares width - sum minimums
 
--- a column's range reaches the level
-abbrev pub IsAtLevel : List ℕ → List ℕ → ℕ → ℕ → Type 0
-IsAtLevel minimums shares level k = level ≤ slice_index shares k - slice_index minimums k
+  -- a column's width where its range is capped at the level
+  abbrev pub full_width : (level k : ℕ) → ℕ
+  full_width level k = slice_index minimums k + min (slack minimums shares k) level
 
--- a column at the level is 1 narrower than its full width
-abbrev pub IsLowered : List ℕ → List ℕ → List ℕ → ℕ → ℕ → Type 0
-IsLowered minimums shares widths level k =
-    (0 < level) × IsAtLevel minimums shares level k × (slice_index widths k + 1 ≡ full_width minimums shares level k)
+  -- a column whose range reaches the level is 1 narrower than its full width
+  abbrev pub IsLowered : (widths : List ℕ) → (level k : ℕ) → Type 0
+  IsLowered widths level k = (0 < level) × (level ≤ slack minimums shares k) × (slice_index widths k + 1 ≡ full_width level k)
 
--- each column has its full width or is lowered; so many are lowered that the widths add up, and they are the first of the columns
--- at the level, by greater width and then from the left
-pub record IsLevelForm (minimums shares : List ℕ) (width : ℕ) (widths : List ℕ) (level lowered : ℕ) : Type 0 where
-  pub is_level : IsLevel level (ranges minimums shares) (wanted minimums shares width)
-  pub rest : lowered + wanted minimums shares width ≡ capped_sum level (ranges minimums shares)
-  pub lengths : length widths ≡ length minimums
-  pub each : (k : ℕ) → k < length minimums →
-      (slice_index widths k ≡ full_width minimums shares level k) ⊎ IsLowered minimums shares widths level k
-  pub count : sum widths + lowered ≡ sum minimums + capped_sum level (ranges minimums shares)
-  pub first : (i j : ℕ) → i < length minimums → j < length minimums → IsLowered minimums shares widths level i
-      → IsAtLevel minimums shares level j → slice_index widths j ≡ full_width minimums shares level j
-      → (full_width minimums shares level j < full_width minimums shares level i) ⊎
-      ((full_width minimums shares level j ≡ full_width minimums shares level i) × (i < j))
+  -- each column has its full width or is lowered; so many are lowered that the widths add up, and they are the first of the
+  -- columns whose ranges reach the level, by greater width and then from the left
+  pub record IsLevelForm (width : ℕ) (widths : List ℕ) (level lowered : ℕ) : Type 0 where
+    pub is_level : IsLevel level (ranges minimums shares) (wanted width)
+    pub rest : lowered + wanted width ≡ capped_sum level (ranges minimums shares)
+    pub lengths : length widths ≡ length minimums
+    pub each : (k : ℕ) → k < length minimums → (slice_index widths k ≡ full_width level k) ⊎ IsLowered widths level k
+    pub count : sum widths + lowered ≡ sum minimums + capped_sum level (ranges minimums shares)
+    pub first : (i j : ℕ) → i < length minimums → j < length minimums → IsLowered widths level i → level ≤ slack minimums shares j →
+        slice_index widths j ≡ full_width level j →
+        (full_width level j < full_width level i) ⊎ ((full_width level j ≡ full_width level i) × (i < j))
 
 -- ---- the loop of single units
 
@@ -99,9 +94,7 @@ giver minimums widths zero = 0
 giver minimums widths (suc n) =
     let best = giver minimums widths n in
     if nat_lt (slack minimums widths best) (slack minimums widths n)
-    || (slack minimums widths best == slack minimums widths n && nat_lt (slice_index widths best) (slice_index widths n))
-    then n
-    else best
+    || (slack minimums widths best == slack minimums widths n && nat_lt (slice_index widths best) (slice_index widths n)) then n else best
 
 -- a number of units taken, one after the other
 unfoldable pub without_units : ℕ → List ℕ → List ℕ → List ℕ

@@ -27,24 +27,20 @@ rank edges position = count_by (λ e. nat_lt e position) edges
 abbrev pub numbered : List ℕ → Place → PlacedCell
 numbered edges p = record { kind = p.kind; start = p.start; end = p.end; columns = rank edges p.end - rank edges p.start }
 
-pub record Grid : Type 0 where
-  pub edges : List ℕ
-  pub rows : List (List PlacedCell)
-
 -- each place ends at a position that a number of 128 bits can say
 abbrev pub positions_fit : List (List Place) → Bool
 positions_fit placed = list_all (list_all (λ p. nat_lt p.end (2 ^ 128))) placed
 
--- THE GRID of a table, or none where a place would end past the last position
-abbrev pub grid_of : List (List Span) → Option Grid
+-- THE GRID of a table: its edges, and what stands in each row; none where a place would end past the last position
+abbrev pub grid_of : List (List Span) → Option (List ℕ × List (List PlacedCell))
 grid_of rows =
     let placed = placed_rows rows in
     let edges = edges_of placed in
-    if positions_fit placed then Some (record { edges = edges; rows = map (map (numbered edges)) placed }) else None
+    if positions_fit placed then Some (edges, map (map (numbered edges)) placed) else None
 
 -- what a grid shows
-abbrev pub shown : TableGrid → Grid
-shown g = record { edges = g.edges.items; rows = lists g.rows.items }
+abbrev pub shown : TableGrid → List ℕ × List (List PlacedCell)
+shown g = (g.edges.items, lists g.rows.items)
 
 -- cells side by side, from a position on
 abbrev pub AreSideBySide : ℕ → List PlacedCell → Type 0

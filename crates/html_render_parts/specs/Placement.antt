@@ -46,8 +46,7 @@ place kind start columns = record { kind = kind; start = start; end = start + co
 -- moves past it
 abbrev pub due_places : ℕ → List Standing → List Place
 due_places cursor [] = []
-due_places cursor (h ∷ hs) =
-    if nat_le h.column cursor then place Placeholder cursor h.span.colspan ∷ due_places (cursor + h.span.colspan) hs else []
+due_places cursor (h ∷ hs) = if nat_le h.column cursor then place Placeholder cursor h.span.colspan ∷ due_places (cursor + h.span.colspan) hs else []
 
 -- the cursor behind the hanging cells that are due
 abbrev pub due_end : ℕ → List Standing → ℕ
@@ -104,8 +103,7 @@ bottom_rows hung = map (λ n. rest_from 0 (filter (λ c. nat_le n (end_of c)) hu
 -- the rows from one on, into which these cells of the rows above hang, in order of own column, and the rows below the last one
 abbrev pub rows_from : ℕ → (hung : List Standing) → List (List Span) → List (List Place)
 rows_from row hung [] = bottom_rows hung
-rows_from row hung (cells ∷ more) =
-    row_from 0 hung cells ∷ rows_from (row + 1) (hanging (row + 1) (hung ++ own_from row 0 hung cells)) more
+rows_from row hung (cells ∷ more) = row_from 0 hung cells ∷ rows_from (row + 1) (hanging (row + 1) (hung ++ own_from row 0 hung cells)) more
 
 -- the rows of a table as they are placed
 abbrev pub placed_rows : List (List Span) → List (List Place)
@@ -114,5 +112,4 @@ placed_rows rows = rows_from 0 [] rows
 -- the cells of each row, at their own columns
 abbrev pub own_rows_from : ℕ → (hung : List Standing) → List (List Span) → List (List Standing)
 own_rows_from row hung [] = []
-own_rows_from row hung (cells ∷ more) =
-    let own = own_from row 0 hung cells in own ∷ own_rows_from (row + 1) (hanging (row + 1) (hung ++ own)) more
+own_rows_from row hung (cells ∷ more) = let own = own_from row 0 hung cells in own ∷ own_rows_from (row + 1) (hanging (row + 1) (hung ++ own)) more

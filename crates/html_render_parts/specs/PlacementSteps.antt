@@ -49,8 +49,7 @@ keeping row cs built = record built { kept = built.kept ++ filter (hangs_into (r
 
 -- a placeholder, which tells its end where it's displaced
 abbrev pub with_hanging : Standing → RowSoFar → Option RowSoFar
-with_hanging h built =
-    put Placeholder h.span.colspan built >>= λ l. Some (if nat_lt h.column built.cursor then telling_end l else l)
+with_hanging h built = put Placeholder h.span.colspan built >>= λ l. Some (if nat_lt h.column built.cursor then telling_end l else l)
 
 -- the hanging cells that are due
 abbrev pub with_due : ℕ → List Standing → RowSoFar → Option RowSoFar
@@ -83,18 +82,15 @@ displaced_end start h = if nat_lt h.column start then (start + h.span.colspan) �
 
 abbrev pub due_told : ℕ → List Standing → List ℕ
 due_told cursor [] = []
-due_told cursor (h ∷ hs) =
-    if nat_le h.column cursor then displaced_end cursor h ++ due_told (cursor + h.span.colspan) hs else []
+due_told cursor (h ∷ hs) = if nat_le h.column cursor then displaced_end cursor h ++ due_told (cursor + h.span.colspan) hs else []
 
 abbrev pub rest_told : ℕ → List Standing → List ℕ
 rest_told cursor [] = []
-rest_told cursor (h ∷ hs) =
-    let column = max cursor h.column in displaced_end column h ++ rest_told (column + h.span.colspan) hs
+rest_told cursor (h ∷ hs) = let column = max cursor h.column in displaced_end column h ++ rest_told (column + h.span.colspan) hs
 
 abbrev pub row_told : ℕ → List Standing → List Span → List ℕ
 row_told cursor hs [] = rest_told cursor hs
-row_told cursor hs (s ∷ ss) =
-    let next = due_end cursor hs + s.colspan in due_told cursor hs ++ next ∷ row_told next (not_due cursor hs) ss
+row_told cursor hs (s ∷ ss) = let next = due_end cursor hs + s.colspan in due_told cursor hs ++ next ∷ row_told next (not_due cursor hs) ss
 
 -- ---- one row after another
 

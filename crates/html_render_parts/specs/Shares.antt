@@ -23,5 +23,4 @@ stand_side_by_side width needs = not (width == 0) && nat_le (sum (least_widths n
 
 -- THE WIDTHS of the columns side by side, the fairest cut of their shares; none where they can't stand so
 abbrev pub widths_across : (width : ℕ) → List ColumnNeed → Option (List ℕ)
-widths_across width needs =
-    if stand_side_by_side width needs then Some (cut_by_units (least_widths needs) (shares width needs) width) else None
+widths_across width needs = if stand_side_by_side width needs then Some (cut_by_units (least_widths needs) (shares width needs) width) else None

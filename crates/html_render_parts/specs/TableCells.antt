@@ -26,13 +26,11 @@ on_columns edges c =
 abbrev pub cell_grid_of : List (List Span) → Option CellGrid
 cell_grid_of rows =
     let edges = edges_of (placed_rows rows) in
-    if positions_fit (placed_rows rows)
-    then Some (record { edges = edges; rows = map (map (on_columns edges)) (own_rows_from 0 [] rows) }) else None
+    if positions_fit (placed_rows rows) then Some (record { edges = edges; rows = map (map (on_columns edges)) (own_rows_from 0 [] rows) }) else None
 
 -- what a cell spans: as many positions as there are between its edges
 abbrev pub span_on : (edges : List ℕ) → GridCell → Span
-span_on edges c =
-    record { colspan = slice_index_or edges (c.first + c.columns) 0 - slice_index_or edges c.first 0; rowspan = c.rowspan }
+span_on edges c = record { colspan = slice_index_or edges (c.first + c.columns) 0 - slice_index_or edges c.first 0; rowspan = c.rowspan }
 
 abbrev pub spans_on : CellGrid → List (List Span)
 spans_on g = map (map (span_on g.edges)) g.rows

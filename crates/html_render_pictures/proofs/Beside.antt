@@ -7,15 +7,15 @@ use Rattle.std.specs.Option.{option_to_list}
 use Rattle.html_render_lines.specs.Line.{Line}
 use Rattle.html_render_pictures.specs.Drawing.{as_many, line_or_empty}
 use Rattle.html_render_pictures.specs.Marked.{marked_behind}
-use Rattle.html_render_pictures.specs.Padding.{filled, filled_line}
+use Rattle.html_render_pictures.specs.Padding.{filled}
+use Rattle.html_render_pictures.specs.laws.Padding.{filled_line}
 use Rattle.html_render_pictures.specs.declared.picture.Frame.{Frame}
 use Rattle.html_render_pictures.specs.Picture.{KeptCell, separator, beside, cell_lines, height}
 use Rattle.html_render_pictures.specs.laws.Heights.{IsNoHigher, row_highest, cell-height, marked_behind-length}
 
 -- the next of the lines that stand beside others
 pub next-as-many : {T M : Type 0} (l : Line T M) (ls : List (Line T M)) (next : Option (Line T M)) (before after : List (Line T M)) →
-    before ≡ option_to_list next ++ after → (next ≡ None → after ≡ []) →
-    as_many (l ∷ ls) before ≡ line_or_empty next ∷ as_many ls after
+    before ≡ option_to_list next ++ after → (next ≡ None → after ≡ []) → as_many (l ∷ ls) before ≡ line_or_empty next ∷ as_many ls after
 next-as-many l ls (Some r) before after items none = ap (λ rs. as_many (l ∷ ls) rs) items
 next-as-many l ls None before after items none =
     ap (λ rs. as_many (l ∷ ls) rs) (items ∙ none refl) ∙ ap (λ rs. [] ∷ as_many ls rs) (sym (none refl))
@@ -44,8 +44,7 @@ module _ {T M : Type 0} (frame : Frame T) where
         ap (λ k. put (l ∷ ls) (replicate k [])) e
         ∙ ap (λ ks. (l ++ separator frame ∷ filled_line frame.tag width []) ∷ ks) (as-many-none ls (length ls) refl)
 
-    as-many-is : (ls rs : List (Line T M)) (n : ℕ) → n ≡ length ls - length rs →
-        put ls (rs ++ replicate n []) ≡ put ls (as_many ls rs)
+    as-many-is : (ls rs : List (Line T M)) (n : ℕ) → n ≡ length ls - length rs → put ls (rs ++ replicate n []) ≡ put ls (as_many ls rs)
     as-many-is [] rs n e = refl
     as-many-is (l ∷ ls) [] n e = as-many-none (l ∷ ls) n (omega (arith, e))
     as-many-is (l ∷ ls) (r ∷ rs) n e =

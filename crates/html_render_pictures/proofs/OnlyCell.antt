@@ -26,7 +26,6 @@ module _ {T M : Type 0} (frame : Frame T) where
 
 -- the last of one is the only one
 pub one_cell : {X : Type 0} (xs ys : List X) (x : X) → xs ≡ ys ++ x ∷ [] → length xs ≡ 1 → xs ≡ x ∷ []
-one_cell xs ys x e h =
-    e ∙ ap (λ l. l ++ x ∷ []) (nil_from_length ys (omega (arith, h, ap length e, length-append ys (x ∷ []))))
+one_cell xs ys x e h = e ∙ ap (λ l. l ++ x ∷ []) (nil_from_length ys (omega (arith, h, ap length e, length-append ys (x ∷ []))))
 
 pub ruleset only_cells = (only_cell, only_blank_cell, nil_from_length)

@@ -8,9 +8,9 @@ use Rattle.std.proofs.lemmas.List.Elements.{All-nil, All-cons, All-head, All-tai
 use Rattle.html_render_lines.specs.Line.{Line, columns, marks_line}
 use Rattle.html_render_lines.specs.laws.Columns.{columns-append, width-space}
 use Rattle.html_render_pictures.specs.Marked.{marked_before, marked_behind}
-use Rattle.html_render_pictures.specs.Padding.{repeated, filled_line, filled}
+use Rattle.html_render_pictures.specs.Padding.{repeated, filled}
 use Rattle.html_render_pictures.specs.Stretch.{AllAtLeast, IsStretch, lines_of}
-use Rattle.html_render_pictures.specs.laws.Padding.{repeated-columns}
+use Rattle.html_render_pictures.specs.laws.Padding.{filled_line, repeated-columns}
 use Rattle.html_render_pictures.specs.laws.Heights.{marked_behind-length}
 use Rattle.html_render_pictures.proofs.Ends.{marked_behind-end}
 
@@ -68,9 +68,7 @@ module _ {T M : Type 0} where
 
   -- a line that is wide enough stays as it is
   filled_line_wide : (tag : T) (w : ℕ) (l : Line T M) → w ≤ columns l → filled_line tag w l ≡ l
-  filled_line_wide tag w l h =
-      let none : w - columns l ≡ 0 = omega (arith, h) in
-      ap (λ n. l ++ repeated tag 0x20 n) none ∙ append-nil l
+  filled_line_wide tag w l h = let none : w - columns l ≡ 0 = omega (arith, h) in ap (λ n. l ++ repeated tag 0x20 n) none ∙ append-nil l
 
   pub filled_wide : (tag : T) (w : ℕ) (ls : List (Line T M)) → AllAtLeast w ls → filled (Some tag) w ls ≡ ls
   filled_wide tag w [] wide = refl
@@ -100,10 +98,6 @@ module _ {T M : Type 0} where
   filled_stretch_wide tag w n ls p h = filled_wide tag w ls (at_least_fewer w n ls h p.wide)
 
   -- ---- marks at the ends
-
-  pub marked_before_rest : (ms : List M) (ls rest : List (Line T M)) → 0 < length ls → marked_before ms ls ++ rest ≡ marked_before ms (ls ++ rest)
-  marked_before_rest ms [] rest h = absurd (omega (arith, h))
-  marked_before_rest ms (l ∷ ls) rest h = refl
 
   pub marked_behind_front : (ms : List M) (front ls : List (Line T M)) → 0 < length ls → front ++ marked_behind ms ls ≡ marked_behind ms (front ++ ls)
   marked_behind_front ms front [] h = absurd (omega (arith, h))
@@ -141,8 +135,7 @@ module _ {T M : Type 0} where
       sym (take_all (n + 1) xs (omega (arith, h))) ∙ take_more xs n l (omega (arith, h)) ∙ ap (λ x. take n xs ++ x ∷ []) (sym e)
 
   last_set : (xs : List (Line T M)) (n : ℕ) (l : Line T M) → length xs ≡ n + 1 → set xs n l ≡ take n xs ++ l ∷ []
-  last_set xs n l h =
-      sym (take_all (n + 1) (set xs n l) (omega (arith, h, length-set xs n l))) ∙ take_more_set xs n l (omega (arith, h))
+  last_set xs n l h = sym (take_all (n + 1) (set xs n l) (omega (arith, h, length-set xs n l))) ∙ take_more_set xs n l (omega (arith, h))
 
   -- the last of lines that stand in reverse is the first
   pub marked_reversed_last : (ms : List M) (xs : List (Line T M)) (n : ℕ) (l : Line T M) → length xs ≡ n + 1 → l ≡ get_or xs n l →
@@ -163,36 +156,6 @@ module _ {T M : Type 0} where
       reverse-append ((l ++ marks_line ms) ∷ []) xs
       ∙ sym (ap (λ x. marked_behind ms (reverse (x ∷ xs))) (sym e) ∙ ap (marked_behind ms) (reverse-append (l ∷ []) xs)
       ∙ marked_behind-end ms (reverse xs) l)
-
-  pub marked_none : (ms : List M) (xs : List (Line T M)) → length xs ≤ 0 → xs ≡ marked_behind ms xs
-  marked_none ms [] h = refl
-  marked_none ms (x ∷ xs) h = absurd (omega (arith, h))
-
-  pub marked_reversed_none : (ms : List M) (xs : List (Line T M)) → length xs ≤ 0 → reverse xs ≡ marked_behind ms (reverse xs)
-  marked_reversed_none ms [] h = refl
-  marked_reversed_none ms (x ∷ xs) h = absurd (omega (arith, h))
-
-  pub reversed_marked_none : (ms : List M) (xs : List (Line T M)) → length xs ≤ 0 → reverse xs ≡ marked_before ms (reverse xs)
-  reversed_marked_none ms [] h = refl
-  reversed_marked_none ms (x ∷ xs) h = absurd (omega (arith, h))
-
-  -- ---- what becomes of stretches
-
-  -- there are as many lines, of which nothing is known
-  pub stretch_kept : (n : ℕ) (xs ys us vs : List (Line T M)) → IsStretch n (reverse xs ++ ys) → length us ≡ length xs → length vs ≡ length ys →
-      IsStretch 0 (reverse us ++ vs)
-  stretch_kept n xs ys us vs p e f =
-      at_least_none (reverse us ++ vs)
-      (let h = p.some in omega (arith, h, e, f, length-append (reverse xs) ys, length-append (reverse us) vs, length-reverse xs, length-reverse us))
-
-  pub filled_stretch_is : (tag : T) (w n : ℕ) (ls ks : List (Line T M)) → ks ≡ filled (Some tag) w ls → IsStretch n ls → IsStretch w ks
-  filled_stretch_is tag w n ls ks e p = subst (λ l. IsStretch w l) (sym e) (filled_stretch tag w n ls p)
-
-  pub marked_before_stretch_is : (n : ℕ) (ms : List M) (ls ks : List (Line T M)) → ks ≡ marked_before ms ls → IsStretch n ls → IsStretch n ks
-  marked_before_stretch_is n ms ls ks e p = subst (λ l. IsStretch n l) (sym e) (marked_before_stretch n ms ls p)
-
-  pub marked_behind_stretch_is : (n : ℕ) (ms : List M) (ls ks : List (Line T M)) → ks ≡ marked_behind ms ls → IsStretch n ls → IsStretch n ks
-  marked_behind_stretch_is n ms ls ks e p = subst (λ l. IsStretch n l) (sym e) (marked_behind_stretch n ms ls p)
 
   -- ---- lines of stretches
 
@@ -225,10 +188,6 @@ module _ {T M : Type 0} where
       by : (q : List (Line T M)) → 0 < length q → (marked_before ms q ++ lines_of ps) ++ ls ≡ marked_before ms ((q ++ lines_of ps) ++ ls)
       by [] k = absurd (omega (arith, k))
       by (l ∷ q) k = refl
-
-  -- what is added behind a list is added behind what stands before the list
-  pub behind_pieces : (ps ls ks : List (Line T M)) → ps ++ (ls ++ ks) ≡ (ps ++ ls) ++ ks
-  behind_pieces ps ls ks = sym (append_assoc ps ls ks)
 
 pub ruleset fills = (filled_stretch_wide, stretch_fewer)
 

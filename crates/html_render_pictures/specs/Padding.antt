@@ -16,11 +16,7 @@ character_of Space = 0x20
 character_of Slash = BORDERS.slash
 character_of Dash = BORDERS.line
 
--- a line with spaces behind it, under a tag, up to `width` columns
-abbrev pub filled_line : {T M : Type 0} → T → (width : ℕ) → Line T M → Line T M
-filled_line tag width l = l ++ repeated tag 0x20 (width - columns l)
-
--- each line so, if there is padding
+-- lines, each with spaces behind it, under a tag, up to `width` columns, if there is padding
 abbrev pub filled : {T M : Type 0} → (padding : Option T) → (width : ℕ) → List (Line T M) → List (Line T M)
 filled None width ls = ls
-filled (Some tag) width ls = map (filled_line tag width) ls
+filled {T} {M} (Some tag) width ls = map (λ (l : Line T M). l ++ repeated tag 0x20 (width - columns l)) ls

@@ -33,8 +33,7 @@ waiting_in {T} {M} cells = flat_map (λ (c : KeptCell T M). if is_empty c.lines 
 
 -- the marks that still wait behind the last drawn row
 abbrev pub left_waiting : {T M : Type 0} → (waiting : List M) → List (TableRow T M) → List M
-left_waiting {T} {M} waiting rows =
-    fold (λ ms (r : TableRow T M). if is_drawn r then [] else ms ++ waiting_in r.cells) waiting rows
+left_waiting {T} {M} waiting rows = fold (λ ms (r : TableRow T M). if is_drawn r then [] else ms ++ waiting_in r.cells) waiting rows
 
 -- ---- where the separators of a row stand
 

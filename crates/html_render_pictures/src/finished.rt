@@ -3,7 +3,7 @@
 ghost use Rattle.std.specs.Prelude.{◌≡◌, ◌-◌, ◌++◌, length, Some, OnOk};
 ghost use Rattle.html_render_lines.specs.Line.{columns, marks_line};
 ghost use Rattle.html_render_pictures.specs.Marked.{marked_before, marked_behind};
-ghost use Rattle.html_render_pictures.specs.Padding.{filled_line, filled};
+ghost use Rattle.html_render_pictures.specs.Padding.{repeated, filled};
 
 use crate::fillers::{Filler, push_fillers};
 use html_render_lines::line::{Element, Line};
@@ -22,7 +22,7 @@ fn missing<T: Tag, M: Copy>(line: &Line<T, M>, width: usize) -> usize
 
 /// Fills a line with spaces up to `width` columns, under a tag.
 fn fill<T: Tag, M: Copy>(line: &mut Line<T, M>, width: usize, tag: T) -> Result<(), AllocError>
-    ensures { OnOk result (line.new ≡ filled_line tag width line.old) }
+    ensures { OnOk result (line.new ≡ line.old ++ repeated tag 0x20 (width - columns line.old)) }
 {
     let missing = missing(line, width);
     push_fillers(line, Filler::Space, missing, tag)
@@ -36,7 +36,7 @@ pub(crate) fn append_filled<T: Tag, M: Copy>(
     width: usize,
     tag: T,
 ) -> Result<(), AllocError>
-    ensures { OnOk result (line.new ≡ line.old ++ filled_line tag width right) }
+    ensures { OnOk result (line.new ≡ line.old ++ (right ++ repeated tag 0x20 (width - columns right))) }
 {
     let missing = missing(&right, width);
     line.append(right)?;

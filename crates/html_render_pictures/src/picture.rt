@@ -3,13 +3,13 @@
 ghost use Rattle.std.specs.Prelude.{◌≡◌, ◌-◌, ◌+◌, ◌^◌, ◌<◌, ◌≤◌, List, [], ◌++◌, ◌∷◌, cond, false, not, get_or, length, replicate, Some, OnOk, IfOk, IfErr};
 ghost use Rattle.std.specs.List.{list_any};
 ghost use Rattle.html_render_lines.specs.declared.line.Element.TheVariants.{Character};
-ghost use Rattle.html_render_lines.specs.Line.{is_empty};
+ghost use Rattle.html_render_lines.specs.Line.{columns, is_empty};
 ghost use Rattle.html_render_pictures.specs.Picture as definition;
 ghost use Rattle.html_render_pictures.specs.Picture.{TableRow};
 ghost use Rattle.html_render_pictures.specs.Drawing as drawing;
 ghost use Rattle.html_render_pictures.specs.declared.fillers.Filler.TheVariants as filler;
 ghost use Rattle.html_render_pictures.specs.Marked.{marked_behind};
-ghost use Rattle.html_render_pictures.specs.Padding.{filled, filled_line, repeated, character_of};
+ghost use Rattle.html_render_pictures.specs.Padding.{filled, repeated, character_of};
 
 use crate::fillers::{Filler, push_fillers};
 use crate::finished::{append_filled, fill_all, mark_behind, put_marks_front, reserve_all};
@@ -303,7 +303,7 @@ impl<T: Tag> Frame<T> {
         width: usize,
     ) -> Result<(), AllocError>
         ensures { OnOk result (line.new ≡ line.old ++ definition.separator self.now
-            ∷ filled_line self.now.tag width (drawing.line_or_empty right)) }
+            ∷ (drawing.line_or_empty right ++ repeated self.now.tag 0x20 (width - columns (drawing.line_or_empty right)))) }
     {
         line.push_char(self.separator(), 1, self.tag)?;
         match right {

@@ -32,7 +32,6 @@ module _ {T : Type 0} (equal : T → T → Bool) where
       grouped equal names (under tag (chars bs) ++ more) ≡ in_front equal (chars bs) tag (grouped equal names more)
   grouped-text laws names tag bs more utf8 some = by (chars bs) (encodes-chars bs utf8)
     where
-      by : (cs : List ℕ) → encode_utf8_all cs ≡ bs →
-          grouped equal names (under tag cs ++ more) ≡ in_front equal cs tag (grouped equal names more)
+      by : (cs : List ℕ) → encode_utf8_all cs ≡ bs → grouped equal names (under tag cs ++ more) ≡ in_front equal cs tag (grouped equal names more)
       by [] e = absurd (omega (arith, some, ap length e))
       by (c ∷ cs) e = grouped-under laws names tag c cs more

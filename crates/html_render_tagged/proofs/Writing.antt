@@ -13,11 +13,12 @@ use Rattle.std.specs.Str.{chars}
 module _ {A : Type 0} (post : Bor (List A) → Bor (List ℕ) → Result (String Global) Error → Type 0) where
   -- an answer in front of what is written behind it
   pub IsColouredLine-string : (es others : List (TaggedLineElement (Vec A Global))) (e : TaggedLineElement (Vec A Global))
-      (s : TaggedString (Vec A Global)) (answer rest : List ℕ) → es ≡ e ∷ others → e ≡ made.Str s →
+      (s : TaggedString (Vec A Global)) (answer : String Global) (rest : List ℕ) → es ≡ e ∷ others → e ≡ made.Str s →
       MayAnswer post (chars (string_bytes s.s)) s.tag.items answer → IsColouredLine post (pieces_of others) rest →
-      IsColouredLine post (pieces_of es) (answer ++ rest)
+      IsColouredLine post (pieces_of es) (string_bytes answer ++ rest)
   IsColouredLine-string es others e s answer rest split is may h =
-      subst (λ x. IsColouredLine post (pieces_of x) (answer ++ rest)) (sym (split ∙ ap (λ x. x ∷ others) is)) (answer, rest, may, h, refl)
+      subst (λ x. IsColouredLine post (pieces_of x) (string_bytes answer ++ rest)) (sym (split ∙ ap (λ x. x ∷ others) is))
+      (answer, rest, may, h, refl)
 
   pub IsColouredLine-end : (es : List (TaggedLineElement (Vec A Global))) → length es ≡ 0 → IsColouredLine post (pieces_of es) (10 ∷ [])
   IsColouredLine-end [] h = refl

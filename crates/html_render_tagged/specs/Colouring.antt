@@ -7,21 +7,16 @@ use Rattle.html_render_values.specs.declared.errors.Error.{Error}
 use Rattle.html_render_tagged.specs.Grouping.{Piece, Str, FragmentStart}
 
 module _ {A : Type 0} (post : Bor (List A) → Bor (List ℕ) → Result (String Global) Error → Type 0) where
-  -- a call of the map for characters under annotations may give this answer, in UTF-8
-  pub record MayAnswer (text : List ℕ) (tag : List A) (answer : List ℕ) : Type 0 where
-    pub tag_shown : Bor (List A)
-    pub text_shown : Bor (List ℕ)
-    pub answered : String Global
-    pub tag_is : tag_shown.now ≡ tag
-    pub text_is : text_shown.now ≡ encode_utf8_all text
-    pub met : post tag_shown text_shown (Ok answered)
-    pub answer_is : string_bytes answered ≡ answer
+  -- a call of the map for characters under annotations may give this answer
+  abbrev pub MayAnswer : (text : List ℕ) → (tag : List A) → (answer : String Global) → Type 0
+  MayAnswer text tag answer = (annotations : Bor (List A)) × (string : Bor (List ℕ)) ×
+      (annotations.now ≡ tag) × (string.now ≡ encode_utf8_all text) × post annotations string (Ok answer)
 
   -- the text of a line: an answer for each string, and then a newline
   abbrev pub IsColouredLine : List (Piece (List A)) → List ℕ → Type 0
   IsColouredLine [] written = written ≡ 10 ∷ []
   IsColouredLine (Str text tag ∷ ps) written =
-      (answer : List ℕ) × (rest : List ℕ) × MayAnswer text tag answer × IsColouredLine ps rest × (written ≡ answer ++ rest)
+      (answer : String Global) × (rest : List ℕ) × MayAnswer text tag answer × IsColouredLine ps rest × (written ≡ string_bytes answer ++ rest)
   IsColouredLine (FragmentStart name ∷ ps) written = IsColouredLine ps written
 
   -- THE TEXT of lines, in UTF-8

@@ -17,8 +17,7 @@ pub data Piece (T : Type 0) : Type 0 where
 module _ {T : Type 0} (equal : T → T → Bool) where
   -- a text in front of what follows it: it joins a string under an equal tag, and that has the text's tag then
   abbrev pub in_front : (text : List ℕ) → (tag : T) → List (Piece T) → List (Piece T)
-  in_front text tag (Str next other ∷ ps) =
-      if equal tag other then Str (text ++ next) tag ∷ ps else Str text tag ∷ Str next other ∷ ps
+  in_front text tag (Str next other ∷ ps) = if equal tag other then Str (text ++ next) tag ∷ ps else Str text tag ∷ Str next other ∷ ps
   in_front text tag ps = Str text tag ∷ ps
 
   -- a mark is the number of its name
@@ -26,9 +25,6 @@ module _ {T : Type 0} (equal : T → T → Bool) where
   grouped names [] = []
   grouped names (element.Character c tag ∷ es) = in_front (c ∷ []) tag (grouped names es)
   grouped names (element.Mark m ∷ es) = FragmentStart (get_or names m []) ∷ grouped names es
-
-  abbrev pub grouped_lines : (names : List (List ℕ)) → List (Line T ℕ) → List (List (Piece T))
-  grouped_lines names lines = map (λ l. grouped names l) lines
 
 -- what an element of a tagged line shows
 abbrev pub piece_of : {A : Type 0} → TaggedLineElement (Vec A Global) → Piece (List A)

@@ -12,7 +12,7 @@ ghost use Rattle.html_render_lines.specs.Tags.{line_with, lines_with};
 ghost use Rattle.html_render_lines.specs.TaggedText.{under, Cuts, elements_of, open_elements};
 ghost use Rattle.html_render_layout.specs.Stacks.{stack_at};
 ghost use Rattle.html_render_layout.specs.Working.{laid_out};
-ghost use Rattle.html_render_tagged.specs.Grouping.{in_front, grouped, grouped_lines, pieces_of, lines_of, ClonesAreSame};
+ghost use Rattle.html_render_tagged.specs.Grouping.{in_front, grouped, pieces_of, lines_of, ClonesAreSame};
 ghost use Rattle.html_render_tagged.specs.TaggedLine.{line_columns};
 ghost use Rattle.html_render_tagged.specs.Progress.{closed, last_in_front, pieces_with, Takes};
 
@@ -317,7 +317,7 @@ pub fn tagged_lines<A: Eq + Clone + Drop>(
     layout: LaidOut<A>,
 ) -> Result<Vec<TaggedLine<Vec<A>>>, Error>
     requires { ClonesAreSame A.is_clone }
-    ensures ok { IfOk result (λ lines. lines_of lines.items ≡ grouped_lines (pointwise A.eq) layout.names (laid_out layout)) }
+    ensures ok { IfOk result (λ lines. lines_of lines.items ≡ map (grouped (pointwise A.eq) layout.names) (laid_out layout)) }
     // each line has the columns that it was laid out in
     ensures columns { IfOk result (λ lines. map line_columns lines.items ≡ map columns (laid_out layout)) }
     ensures err { IfErr result (λ e. e ≡ Error.OutOfMemory) }
@@ -339,7 +339,7 @@ fn all_tagged<A: Eq + Clone + Drop>(
 ) -> Result<Vec<TaggedLine<Vec<A>>>, Error>
     requires { ClonesAreSame A.is_clone }
     ensures ok { IfOk result (λ made. lines_of made.items
-        ≡ grouped_lines (pointwise A.eq) names.now (lines_with (stack_at stacks.now) lines.now)) }
+        ≡ map (grouped (pointwise A.eq) names.now) (lines_with (stack_at stacks.now) lines.now)) }
     ensures err { IfErr result (λ e. e ≡ Error.OutOfMemory) }
 {
     let mut made = Vec::with_capacity(alloc, lines.len())?;

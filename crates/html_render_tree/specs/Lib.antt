@@ -20,7 +20,8 @@ pub use Rattle.html_render_parts.specs.Refusal
 pub use Rattle.html_render_tagged.specs.TaggedLine
 pub use Rattle.html_render_tagged.specs.Grouping
 pub use Rattle.html_render_tagged.specs.Colouring
--- what a render tree is displayed as
+-- what is said of each kind of node, and what a render tree is displayed as
+pub use Rattle.html_render_nodes.specs.Kinds
 pub use Rattle.html_render_nodes.specs.Dump
 -- what a decorator answers, and what those of plain and of rich text do, for callers that implement one
 pub use Rattle.html_render_parts.specs.Decoration

@@ -1,5 +1,5 @@
 -- What a configuration makes of a render tree.
-use Rattle.std.specs.Prelude.{◌≡◌, ℕ, Bool, false, List, [], Option, Some, IfSome}
+use Rattle.std.specs.Prelude.{◌≡◌, ℕ, Bool, false, List, [], Option, Some, IfSome, map}
 use Rattle.std.specs.Cmp.Lexicographic.{pointwise}
 use Rattle.html_render_values.specs.Forest.{Forest}
 use Rattle.html_render_values.specs.Outcome.{◌>>=◌}
@@ -11,7 +11,7 @@ use Rattle.html_render_layout.specs.declared.settings.LayoutSettings.{LayoutSett
 use Rattle.html_render_layout.specs.Layout.{layout_lines, mark_names}
 use Rattle.html_render_layout.specs.Promises.{Lines}
 use Rattle.html_render_layout.specs.Settings.{default_settings}
-use Rattle.html_render_tagged.specs.Grouping.{Piece, grouped_lines}
+use Rattle.html_render_tagged.specs.Grouping.{Piece, grouped}
 
 -- the settings of a configuration: its decorator, its rules in the order in which they were added, whether a character
 -- that is wider than a line stands alone on its line, and how nodes are laid out
@@ -39,7 +39,7 @@ module _ {S A : Type 0} (d : Decoration S A) (options : Options S) (tree : Fores
   rendered_strings eq = do
     lines ← rendered_lines
     names ← rendered_names
-    Some (grouped_lines (pointwise eq) names lines)
+    Some (map (grouped (pointwise eq) names) lines)
 
 -- ---- what every call that renders promises
 
@@ -54,4 +54,4 @@ pub record AreStrings {S A : Type 0} (d : Decoration S A) (options : Options S) 
   pub names : List (List ℕ)
   pub are_names : rendered_names d options tree width ≡ Some names
   pub same_names : IfSome (mark_names d options.settings tree options.decorator width false) (λ others. names ≡ others)
-  pub are : strings ≡ grouped_lines (pointwise eq) names lines
+  pub are : strings ≡ map (grouped (pointwise eq) names) lines

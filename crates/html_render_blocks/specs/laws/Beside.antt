@@ -15,13 +15,12 @@ use Rattle.html_render_pictures.specs.Padding.{filled, repeated}
 use Rattle.html_render_pictures.specs.Picture.{picture}
 use Rattle.html_render_blocks.specs.declared.block.BlockSetting.{BlockSetting}
 use Rattle.html_render_blocks.specs.Block.{paragraph_setting, inner_width, mark_items, empty_block}
-use Rattle.html_render_blocks.specs.Closing.{line_setting}
 use Rattle.html_render_blocks.specs.Definition.{Fed, definition, DefinedBlock, operations, ending}
 use Rattle.html_render_blocks.specs.Joined.{fitting, prefixed}
 use Rattle.html_render_blocks.specs.OpenRows.{OpenRow, open_row, next_width, past_cell, whole_row}
 use Rattle.html_render_blocks.specs.Tables.{Rows, frame_of}
 use Rattle.html_render_paragraphs.specs.laws.Answers.{Both, Both-weaken}
-use Rattle.html_render_blocks.specs.laws.Related.{OptionTags, Relates, RelatesEnds, RelatesParts, Related, operations-related, ends-related}
+use Rattle.html_render_blocks.specs.laws.Related.{line_setting, OptionTags, Relates, RelatesEnds, RelatesParts, Related, operations-related, ends-related}
 use Rattle.html_render_blocks.specs.laws.Related.{empty-related, later-related}
 
 -- what is said of whether overflow is on, of a paragraph's setting, of lines, of a picture on columns of these widths, and of a row that is

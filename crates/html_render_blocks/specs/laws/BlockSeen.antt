@@ -32,7 +32,6 @@ use Rattle.html_render_pictures.specs.laws.Tags.{lines-append, marked_before-wit
 use Rattle.html_render_blocks.specs.declared.block.BlockSetting.{BlockSetting}
 use Rattle.html_render_blocks.specs.declared.block.rows.RowPlace.{RowPlace}
 use Rattle.html_render_blocks.specs.Block.{paragraph_setting, inner_width, mark_items, empty_block}
-use Rattle.html_render_blocks.specs.Closing.{line_setting}
 use Rattle.html_render_blocks.specs.Definition as defined
 use Rattle.html_render_blocks.specs.Definition.{Fed, definition, DefinedBlock}
 use Rattle.html_render_blocks.specs.Joined.{prefixed, fitting}
@@ -41,7 +40,7 @@ use Rattle.html_render_blocks.specs.Machine.{machine, MachineBlock}
 use Rattle.html_render_blocks.specs.OpenRows.{OpenRow, empty_cell, empty_cells, before_cell, past_cell, whole_row}
 use Rattle.html_render_blocks.specs.Tables.{Rows, frame_of}
 use Rattle.html_render_paragraphs.specs.laws.Answers.{Both}
-use Rattle.html_render_blocks.specs.laws.Related.{OptionTags, Relates, RelatesEnds, RelatesParts, Related, operations-related, ends-related}
+use Rattle.html_render_blocks.specs.laws.Related.{line_setting, OptionTags, Relates, RelatesEnds, RelatesParts, Related, operations-related, ends-related}
 use Rattle.html_render_blocks.specs.laws.Related.{empty-related, later-related}
 
 -- ---- lines under other tags
@@ -69,8 +68,7 @@ module _ {T U M : Type 0} (f : T → U) where
       ∙ ap (λ b. leb (columns l) w && b) (within-with w ls)
 
   fitting-with : (w : ℕ) (o : Bool) (ls : List (Line T M)) → fitting w o (lines_with f ls) ≡ option_map (lines_with f) (fitting w o ls)
-  fitting-with w o ls =
-      if_with (option_map (lines_with f)) _ _ _ _ _ _ (ap (λ b. o || b) (within-with w ls)) refl refl
+  fitting-with w o ls = if_with (option_map (lines_with f)) _ _ _ _ _ _ (ap (λ b. o || b) (within-with w ls)) refl refl
 
   mark_items-with : (ms : List M) → mark_items ms ≡ map (item_with f) (mark_items {T = T} ms)
   mark_items-with [] = refl

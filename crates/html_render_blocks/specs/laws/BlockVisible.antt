@@ -18,14 +18,13 @@ use Rattle.html_render_paragraphs.specs.Paragraph.{Page, paragraph, all_lines}
 use Rattle.html_render_paragraphs.specs.Stream.{styled}
 use Rattle.html_render_lines.specs.TaggedText.{under}
 use Rattle.html_render_lines.specs.Visible.{is_visible, if_visible, visible_in_items, visible_in_line, visible_in_lines}
-use Rattle.html_render_lines.specs.laws.Cases.{if_cases}
+use Rattle.html_render_lines.specs.laws.Cases.{bind_some, map_if, if_cases}
 use Rattle.html_render_paragraphs.specs.laws.Visible.{paragraph_keeps}
 use Rattle.html_render_lines.specs.laws.Visible.{visible_in_line-append}
 use Rattle.html_render_blocks.specs.laws.Operations.{Counts}
 use Rattle.html_render_pictures.specs.laws.Padding.{filled-visible}
 use Rattle.html_render_pictures.specs.laws.Lines.{lines-append, marked_behind_same, count-append}
 use Rattle.html_render_pictures.specs.Padding.{filled, repeated}
-use Rattle.html_render_blocks.specs.laws.Cases.{map_if, then_if, any}
 use Rattle.html_render_blocks.specs.Joined.{prefixed, fitting}
 use Rattle.html_render_pictures.specs.Marked.{marked_behind, marked_before}
 use Rattle.html_render_blocks.specs.Block.{flush, add_lines, unended, start_block, feed, is_blank, mark_items, inner_width, inner_block}
@@ -45,6 +44,10 @@ use Rattle.html_render_pictures.specs.Picture.{KeptCell, TableRow, picture_lines
 use Rattle.html_render_pictures.specs.laws.Visible.{marked_before_same, picture_times}
 use Rattle.html_render_blocks.specs.Visible.{visible_in_text}
 use Rattle.html_render_pictures.specs.Visible.{count, visible_in_cells, visible_in_rows}
+
+pub any : {A : Type 0} (o : Option A) → IfSome o (λ a. Unit {0})
+any None = tt
+any (Some a) = tt
 
 -- the visible characters of a block, its open table aside: of its lines, and of all that was fed to its open paragraph
 abbrev pub visible_in_block : {T M : Type 0} → DefinedBlock T M → List ℕ
@@ -367,8 +370,8 @@ append_count : {T M : Type 0} (c : ℕ) (d e : DefinedBlock T M) (t : T) (first 
     IfSome (append definition d e t first later) (λ f. visible_count c d + visible_count c e ≤ visible_count c f)
 append_count {T} {M} c d e t first later =
     let More : DefinedBlock T M → Type 0 = λ f. visible_count c d + visible_count c e ≤ visible_count c f in
-    then_if (Keeps d) More _ (flush definition d) (flush_keeps d)
-    (λ b h. then_if (λ (g : DefinedBlock T M). visible_count c e ≤ count c (visible_in_lines g.lines)) More
+    bind_some (Keeps d) More _ (flush definition d) (flush_keeps d)
+    (λ b h. bind_some (λ (g : DefinedBlock T M). visible_count c e ≤ count c (visible_in_lines g.lines)) More
     (λ (g : DefinedBlock T M). option_map (λ (ls : List (Line T M)). put_lines definition b ls g.paragraph.waiting)
     (fitting b.setting.width b.setting.overflow (prefixed (under t first) (under t later) g.lines)))
     (flush definition (end_table definition e)) (flushed_count c e)
@@ -510,7 +513,7 @@ cell_added_count c d (Some (Stacked border has_lines)) cell e =
 add_cell_count : {T M : Type 0} (c : ℕ) (d cell : DefinedBlock T M) →
     IfSome ((operations_of definition).add_cell d cell) (λ e. visible_count c d + visible_count c cell ≤ visible_count c e)
 add_cell_count {T} {M} c d cell =
-    then_if (λ (f : DefinedBlock T M). visible_count c cell ≤ count c (visible_in_lines f.lines))
+    bind_some (λ (f : DefinedBlock T M). visible_count c cell ≤ count c (visible_in_lines f.lines))
     (λ (e : DefinedBlock T M). visible_count c d + visible_count c cell ≤ visible_count c e) (cell_added definition d d.table)
     (flush definition (end_table definition cell))
     (flushed_count c cell)

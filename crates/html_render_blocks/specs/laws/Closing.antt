@@ -5,13 +5,13 @@ use Rattle.html_render_lines.specs.Line.{Line, is_empty}
 use Rattle.html_render_lines.specs.Visible.{visible_in_items, visible_in_lines}
 use Rattle.html_render_blocks.specs.Block.{flush, add_lines, start_block, end_table, finish, add_closing_lines}
 use Rattle.html_render_blocks.specs.Definition.{definition, DefinedBlock}
-use Rattle.html_render_blocks.specs.Closing.{line_setting, closing_lines}
+use Rattle.html_render_blocks.specs.Closing.{closing_lines}
 use Rattle.html_render_pictures.specs.Marked.{marked_behind}
 use Rattle.html_render_pictures.specs.Visible.{count}
 use Rattle.html_render_pictures.specs.laws.Lines.{marked_behind_same}
 use Rattle.html_render_blocks.specs.laws.BlockVisible.{table_count, visible_count, Keeps, flush_keeps, start_keeps, add_lines_count, lines_count}
-use Rattle.html_render_blocks.specs.laws.BlockVisible.{end_table_count, ended_none}
-use Rattle.html_render_blocks.specs.laws.Cases.{map_if, then_if, any}
+use Rattle.html_render_blocks.specs.laws.BlockVisible.{any, end_table_count, ended_none}
+use Rattle.html_render_lines.specs.laws.Cases.{bind_some, map_if}
 
 -- a block's end loses nothing but the table that is open, which is over
 finish_keeps : {T M : Type 0} (d : DefinedBlock T M) → IfSome (finish definition d) (Keeps (end_table definition d))
@@ -45,12 +45,12 @@ closing_keeps : {T M : Type 0} (c : ℕ) (d : DefinedBlock T M) (cut : Bool) (ta
 closing_keeps c d cut tag [] = (omega arith, λ h. h)
 closing_keeps {T} {M} c d cut tag (t ∷ ts) =
     let More : DefinedBlock T M → Type 0 = λ e. (visible_count c d ≤ visible_count c e) × (IsClear d → IsClear e) in
-    then_if (Keeps d) More
+    bind_some (Keeps d) More
     (λ (e : DefinedBlock T M). option_and_then (λ (ls : List (Line T M)). Some (add_lines definition e ls))
-    (closing_lines (line_setting e.setting) cut tag (t ∷ ts)))
+    (closing_lines e.setting cut tag (t ∷ ts)))
     (start_block definition d) (start_keeps d)
-    (λ e h. then_if (λ ls. Unit {0}) More (λ (ls : List (Line T M)). Some (add_lines definition e ls))
-    (closing_lines (line_setting e.setting) cut tag (t ∷ ts)) (any (closing_lines (line_setting e.setting) cut tag (t ∷ ts)))
+    (λ e h. bind_some (λ ls. Unit {0}) More (λ (ls : List (Line T M)). Some (add_lines definition e ls))
+    (closing_lines e.setting cut tag (t ∷ ts)) (any (closing_lines e.setting cut tag (t ∷ ts)))
     (λ ls _.
     let same = ap (count c) h.0.0 in
     let table = ap (table_count c) h.0.1 in

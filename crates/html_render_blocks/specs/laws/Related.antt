@@ -5,7 +5,7 @@ use Rattle.std.proofs.lemmas.Option.{same_Some}
 use Rattle.html_render_values.specs.declared.white_space.WhiteSpace.{WhiteSpace}
 use Rattle.html_render_lines.specs.Line.{Line, is_empty}
 use Rattle.html_render_lines.specs.TaggedText.{under}
-use Rattle.html_render_paragraphs.specs.Paragraph.{all_lines}
+use Rattle.html_render_paragraphs.specs.Paragraph.{Setting, all_lines}
 use Rattle.html_render_paragraphs.specs.Stream.{styled}
 use Rattle.html_render_parts.specs.declared.table.PlacedCell.{PlacedCell}
 use Rattle.html_render_parts.specs.declared.widths.shares.ColumnNeed.{ColumnNeed}
@@ -24,7 +24,7 @@ use Rattle.html_render_blocks.specs.Block.{Block, paragraph_setting, is_blank, i
 use Rattle.html_render_blocks.specs.Block.{start_block, feed, inner_block, put_lines, end_open, end_table, add_border, stacked_begun}
 use Rattle.html_render_blocks.specs.Block.{with_table_begun, put_stacked, cell_added, row_ended, append}
 use Rattle.html_render_blocks.specs.Block.{finish, add_closing_lines, operations, ending}
-use Rattle.html_render_blocks.specs.Closing.{line_setting, on_one_line, closing_lines}
+use Rattle.html_render_blocks.specs.Closing.{on_one_line, closing_lines}
 use Rattle.html_render_paragraphs.specs.CutText.{text_lines}
 use Rattle.html_render_blocks.specs.Joined.{prefixed, fitting}
 use Rattle.html_render_blocks.specs.OpenRows.{OpenRow, open_row, next_width, past_cell, whole_row}
@@ -73,6 +73,10 @@ OptionTags Tags w None None = Unit {0}
 OptionTags Tags w None (Some u) = ⊥
 OptionTags Tags w (Some t) None = ⊥
 OptionTags Tags w (Some t) (Some u) = Tags w t u
+
+-- the setting of lines that aren't a paragraph's: the block's own width
+abbrev pub line_setting : BlockSetting → Setting
+line_setting s = record { width = s.width; overflow = s.overflow }
 
 -- what is asked of how settings, lines, paragraphs, pictures and rows are related, in a block of v columns. Clear are paragraphs to which
 -- nothing is fed
@@ -261,8 +265,7 @@ module _ {P R Q S T U W : Type 0} (from : Parts P R T ℕ) (to : Parts Q S U ℕ
   marks-related v w b c ms k = with_paragraph v w b c _ _ k (h.feed_marks v w b.paragraph c.paragraph ms k.paragraph)
 
   text-related : (v : ℕ) (w : W) (mode : WhiteSpace) (t t' : T) (u u' : U) (cs : List ℕ) → Tags w t u → Tags w t' u' → (b : First) (c : Second) →
-      Related v w b c →
-      Related v w (feed from b (styled (record { mode = mode; tag = t; continuation_tag = t' }) cs))
+      Related v w b c → Related v w (feed from b (styled (record { mode = mode; tag = t; continuation_tag = t' }) cs))
       (feed to c (styled (record { mode = mode; tag = u; continuation_tag = u' }) cs))
   text-related v w mode t t' u u' cs x y b c k =
       with_paragraph v w b c _ _ k (h.feed_text v w b.paragraph c.paragraph mode t t' u u' cs x y k.paragraph)
@@ -337,8 +340,7 @@ module _ {P R Q S T U W : Type 0} (from : Parts P R T ℕ) (to : Parts Q S U ℕ
 
   with_open-related : (v : ℕ) (w : W) (widths : List ℕ) (p : R) (q : S) (row : Option (OpenRow T ℕ)) (other : Option (OpenRow U ℕ)) →
       Pictures v w widths p q → OpenRows v w row other → Pictures v w widths (with_open from p row) (with_open to q other)
-  with_open-related v w widths p q None other k o =
-      subst (λ z. Pictures v w widths p (with_open to q z)) (sym o) k
+  with_open-related v w widths p q None other k o = subst (λ z. Pictures v w widths p (with_open to q z)) (sym o) k
   with_open-related v w widths p q (Some r) other k o =
       subst (λ z. Pictures v w widths (with_open from p (Some r)) (with_open to q z)) (sym o.1.0)
       (h.with_row v w widths p q r o.0 k o.1.1)
@@ -664,13 +666,13 @@ module _ {P R Q S T U W : Type 0} (from : Parts P R T ℕ) (to : Parts Q S U ℕ
   module _ (Cut : Bool → Type 0) (text : (v : ℕ) (w : W) (cut : Bool) (s r : BlockSetting) (t : T) (u : U) (cs : List ℕ) → Cut cut → Settings v s r →
       Tags w t u → Both N M (Lines v w) (text_lines (line_setting s) cut t cs) (text_lines (line_setting r) cut u cs)) where
     texts-related : (v : ℕ) (w : W) (cut : Bool) (s r : BlockSetting) (t : T) (u : U) → Cut cut → Settings v s r → Tags w t u →
-        (ts : List (List ℕ)) → Both N M (Lines v w) (closing_lines (line_setting s) cut t ts) (closing_lines (line_setting r) cut u ts)
+        (ts : List (List ℕ)) → Both N M (Lines v w) (closing_lines s cut t ts) (closing_lines r cut u ts)
     texts-related v w cut s r t u x k y [] = h.none v w
     texts-related v w cut s r t u x k y (cs ∷ rest) =
         Both-then N M weak (Lines v w) (Lines v w) _ _ (text_lines (line_setting s) cut t (on_one_line cs))
         (text_lines (line_setting r) cut u (on_one_line cs)) (text v w cut s r t u (on_one_line cs) x k y) (λ a b l.
         Both-then N M weak (Lines v w) (Lines v w) (λ later. Some (a ++ later)) (λ later. Some (b ++ later))
-        (closing_lines (line_setting s) cut t rest) (closing_lines (line_setting r) cut u rest) (texts-related v w cut s r t u x k y rest)
+        (closing_lines s cut t rest) (closing_lines r cut u rest) (texts-related v w cut s r t u x k y rest)
         (λ e f m. h.behind v w a e b f l m))
 
     closing-related : (v : ℕ) (w : W) (cut : Bool) (t : T) (u : U) (ts : List (List ℕ)) → Cut cut → Tags w t u → (b : First) (c : Second) →

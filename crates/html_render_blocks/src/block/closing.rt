@@ -9,7 +9,7 @@ ghost use Rattle.html_render_paragraphs.specs.CutText.{text_lines};
 ghost use Rattle.html_render_lines.specs.Line.{is_empty};
 ghost use Rattle.html_render_lines.specs.TaggedText.{under};
 ghost use Rattle.html_render_pictures.specs.Marked.{marked_behind};
-ghost use Rattle.html_render_blocks.specs.Closing.{line_setting, on_one_line, closing_lines};
+ghost use Rattle.html_render_blocks.specs.Closing.{on_one_line, closing_lines};
 ghost use Rattle.html_render_blocks.specs.Block as block;
 ghost use Rattle.html_render_blocks.specs.Machine as machine;
 ghost use Rattle.html_render_blocks.specs.Machine.{machine};
@@ -152,8 +152,9 @@ fn push_text<T: Tag, M: Copy>(
     cut: bool,
 ) -> Result<(), Error>
     ensures ok { OnOk result (option_map (λ more. lines.old.items ++ more)
-        (text_lines (line_setting setting) cut tag (chars text.now)) ≡ Some lines.new.items) }
-    ensures err { IfErr result (λ e. Refuses e (text_lines {M = M} (line_setting setting) cut tag (chars text.now))) }
+        (text_lines (record { width = setting.width; overflow = setting.overflow }) cut tag (chars text.now)) ≡ Some lines.new.items) }
+    ensures err { IfErr result (λ e. Refuses e
+        (text_lines {M = M} (record { width = setting.width; overflow = setting.overflow }) cut tag (chars text.now))) }
 {
     if cut {
         return push_cut_text(alloc, lines, text, tag, setting.width, setting.overflow);
@@ -173,8 +174,9 @@ fn push_closing_text<T: Tag, M: Copy>(
     cut: bool,
 ) -> Result<(), Error>
     ensures ok { OnOk result (option_map (λ more. lines.old.items ++ more)
-        (text_lines (line_setting setting) cut tag (on_one_line (chars text.now))) ≡ Some lines.new.items) }
-    ensures err { IfErr result (λ e. Refuses e (text_lines {M = M} (line_setting setting) cut tag (on_one_line (chars text.now)))) }
+        (text_lines (record { width = setting.width; overflow = setting.overflow }) cut tag (on_one_line (chars text.now))) ≡ Some lines.new.items) }
+    ensures err { IfErr result (λ e. Refuses e
+        (text_lines {M = M} (record { width = setting.width; overflow = setting.overflow }) cut tag (on_one_line (chars text.now)))) }
 {
     if is_on_one_line(text) {
         return push_text(alloc, lines, setting, text, tag, cut);
@@ -192,8 +194,8 @@ fn closing_lines<T: Tag, M: Copy>(
     tag: T,
     cut: bool,
 ) -> Result<Vec<Line<T, M>>, Error>
-    ensures ok { IfOk result (λ lines. closing_lines (line_setting setting) cut tag (map (λ t. chars (string_bytes t)) texts.now) ≡ Some lines.items) }
-    ensures err { IfErr result (λ e. Refuses e (closing_lines {M = M} (line_setting setting) cut tag (map (λ t. chars (string_bytes t)) texts.now))) }
+    ensures ok { IfOk result (λ lines. closing_lines setting cut tag (map (λ t. chars (string_bytes t)) texts.now) ≡ Some lines.items) }
+    ensures err { IfErr result (λ e. Refuses e (closing_lines {M = M} setting cut tag (map (λ t. chars (string_bytes t)) texts.now))) }
 {
     let mut lines = Vec::new(alloc);
     for text in texts {

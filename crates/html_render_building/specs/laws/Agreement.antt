@@ -1,11 +1,12 @@
 -- THE DRAFTS of a document become its render tree.
-use Rattle.std.proofs.Common.{◌≡◌, Bool, true, false, if◌then◌else◌, List, [], ◌++◌, Option, Some, None, option_map, refl, sym, ap, subst, ◌∙◌}
+use Rattle.std.proofs.lemmas.Bool.{cases_Bool}
+use Rattle.std.proofs.Common.{◌≡◌, Bool, true, false, if◌then◌else◌, List, [], ◌++◌, Option, Some, None, option_map, refl, sym, ap, subst, ◌∙◌, inl, inr}
 use Rattle.std.specs.Prelude.{filter, option_to_list, ◌&&◌, codes}
 use Rattle.html_render_values.specs.Forest.{Forest, none, node}
 use Rattle.html_render_values.specs.Outcome.{◌>>=◌}
 use Rattle.html_render_dom.specs.Content.{Content, document, text, element}
 use Rattle.html_render_dom.specs.Dom as documents
-use Rattle.html_render_dom.specs.Dom.{Dom, IsForest, node_count, children_at, content_at, below}
+use Rattle.html_render_dom.specs.Dom.{Dom, IsForest, node_count, children_at, below}
 use Rattle.html_render_dom.specs.laws.Trees.{below-children}
 use Rattle.html_render_dom.specs.Rules.{Rule as StyleRule}
 use Rattle.html_render_nodes.specs.declared.tree.NodeKind.TheVariants.{Container}
@@ -70,8 +71,7 @@ node-any : (rules : List StyleRule) (in_table : Bool) (content : Content) (child
 node-any rules in_table document children below =
     document-any in_table (all_came rules children All false) (results rules children)
     (subst (AllShowAny false (all_came rules children All false)) (sym (results-picked rules children)) (below All false))
-node-any rules in_table (text contents) children below =
-    shows_by refl refl refl (refl, refl) tt
+node-any rules in_table (text contents) children below = shows_by refl refl refl (refl, refl) tt
 node-any rules in_table (element name properties template_contents integration_point) children below =
     styled-any in_table (own_style rules name properties) (mark_of name properties) (λ k t. all_came rules children k t) (results rules children)
     (picked_results rules children Feet) (picked_results rules children Others) (picked_results rules children Captions)
@@ -89,17 +89,11 @@ all-shown rules (node content children others) pick in_table =
     one-more in_table
     (if picks pick content then came in_table (outline_of rules content children) (λ k t. all_came rules children k t) else Some None)
     (if picks pick content then result_of rules content children (results rules children) else Some None)
-    (by (picks pick content) (node-any rules in_table content children (λ k t. all-shown rules children k t)))
+    (elim (cases_Bool (picks pick content)) [
+      | inl t ↦ rw t (node-any rules in_table content children (λ k t. all-shown rules children k t))
+      | inr t ↦ rw t tt
+    ])
     (all_came rules others pick in_table) (picked_results rules others pick) (all-shown rules others pick in_table)
-  where
-    by : (b : Bool) →
-        AnyShows in_table (came in_table (outline_of rules content children) (λ k t. all_came rules children k t))
-        (result_of rules content children (results rules children)) →
-        AnyShows in_table
-        (if b then came in_table (outline_of rules content children) (λ k t. all_came rules children k t) else Some None)
-        (if b then result_of rules content children (results rules children) else Some None)
-    by true h = h
-    by false h = tt
 
 -- ---- documents
 
@@ -142,8 +136,7 @@ documents_agree rules t =
     (subst (AllShowAny false (all_came rules t All false)) (sym (results-picked rules t)) (all-shown rules t All false))
 
 -- THE RENDER TREE of a document is what its drafts become
-pub tree_of_drafts : (rules : List StyleRule) (dom : Dom) → IsForest dom →
-    option_map expanded (document_drafts rules dom) ≡ render_tree_of rules dom
+pub tree_of_drafts : (rules : List StyleRule) (dom : Dom) → IsForest dom → option_map expanded (document_drafts rules dom) ≡ render_tree_of rules dom
 tree_of_drafts rules dom f =
     let t = documents.trees_of dom (children_at dom 0) in
     documents_agree rules t ∙ by (results rules t)

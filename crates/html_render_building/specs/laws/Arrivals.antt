@@ -1,5 +1,6 @@
 -- What comes to an element is a list, and the element what this makes of it, the last first.
-use Rattle.std.proofs.Common.{◌≡◌, Bool, true, false, ◌||◌, if◌then◌else◌, List, [], ◌∷◌, ◌++◌, Option, Some, None, IfSome, option_map, refl, sym, ap, ◌∙◌}
+use Rattle.std.proofs.lemmas.Bool.{cases_Bool, cond_both}
+use Rattle.std.proofs.Common.{◌≡◌, Bool, true, false, if◌then◌else◌, List, [], ◌∷◌, ◌++◌, Option, Some, None, IfSome, option_map, refl, sym, ap, ◌∙◌, inl, inr}
 use Rattle.std.specs.Prelude.{option_to_list}
 use Rattle.html_render_values.specs.Forest.{Forest, none, node}
 use Rattle.html_render_values.specs.Outcome.{◌>>=◌}
@@ -26,7 +27,7 @@ use Rattle.html_render_building.specs.declared.elements.OpenKind.{OpenKind}
 use Rattle.html_render_building.specs.declared.elements.OpenKind.TheVariants.{Captioned, Table, Rows, Row}
 use Rattle.html_render_building.specs.declared.order.Pick.{Pick}
 use Rattle.html_render_building.specs.declared.order.Pick.TheVariants.{All, Captions, Feet, Others}
-use Rattle.html_render_building.specs.Elements.{counts, keeps, gathered, with_kept, opened_kind}
+use Rattle.html_render_building.specs.Elements.{keeps, gathered, opened_kind}
 use Rattle.html_render_building.specs.Order.{picks}
 use Rattle.html_render_building.specs.Spans.{spans_of_parts}
 use Rattle.html_render_building.specs.Building.{Arrival, Holding, arrive, arrive_any, leaf_arrival, closed, closed_by, closed_into}
@@ -79,13 +80,8 @@ module _ {X : Type 0} (f : OpenKind → X) (table : (parts : List (List (List Ce
   same r k = refl
 
   arrive-same : (a : Arrival) (p : Holding) → f (arrive a p).element.kind ≡ f p.element.kind
-  arrive-same a p =
-      by (keeps p.element.kind a.role a.kind)
-      (record p.element { has_results = p.element.has_results || counts p.element.kind a.role a.kind a.has_children })
-    where
-      by : (b : Bool) (e : Element) → f (if b then with_kept a.role a.is_stray e else e).kind ≡ f e.kind
-      by true e = same a.role e.kind
-      by false e = refl
+  arrive-same a p = cond_both (keeps p.element.kind a.role a.kind) _ _ (λ (e : Element). f e.kind ≡ f p.element.kind)
+      (λ _. same a.role p.element.kind) (λ _. refl)
 
   pub all_arrive-same : (xs : List Arrival) (p : Holding) → f (all_arrive xs p).element.kind ≡ f p.element.kind
   all_arrive-same [] p = refl
@@ -116,16 +112,13 @@ any-same (Some a) p = captioned-same (a ∷ []) p
 into-same : (h p : Holding) → IfSome (closed_into h p) (λ q. is_captioned q.element.kind ≡ is_captioned p.element.kind)
 into-same h p = by (rows_of h.element.kind)
   where
-    stands : (b : Bool) (grid : TableParts) → is_captioned (table_stands grid b h.element.is_stray h.drafts p).element.kind ≡ is_captioned p.element.kind
-    stands true grid = refl
-    stands false grid = refl
-
     grid_of : (o : Option TableParts) →
         IfSome (do
           grid ← o
           Some (table_stands grid h.element.has_results h.element.is_stray h.drafts p)) (λ q. is_captioned q.element.kind ≡ is_captioned p.element.kind)
     grid_of None = tt
-    grid_of (Some grid) = stands h.element.has_results grid
+    grid_of (Some grid) =
+        cond_both h.element.has_results _ _ (λ (q : Holding). is_captioned q.element.kind ≡ is_captioned p.element.kind) (λ _. refl) (λ _. refl)
 
     by : (o : Option (List (List (List CellSpan)))) → IfSome (closed_by o h p) (λ q. is_captioned q.element.kind ≡ is_captioned p.element.kind)
     by None = any-same (closed (is_captioned p.element.kind) h) p
@@ -169,13 +162,12 @@ module _ (q : Holding) (f : Pick → Holding → Option Holding) (g : Pick → B
   all-told k style e has_children i t c =
       let start = fresh k style e i in
       after-all to_q (if has_children then f All start else Some start) start (if has_children then g All false else Some [])
-      (λ h. closed_into h q) (λ xs. Some (closed in_table (all_arrive xs start))) (by has_children)
+      (λ h. closed_into h q) (λ xs. Some (closed in_table (all_arrive xs start)))
+      (elim (cases_Bool has_children) [
+        | inl b ↦ rw b (same All start ∙ ap (λ b. option_map (λ xs. all_arrive xs start) (g All b)) c)
+        | inr b ↦ rw b refl
+      ])
       (λ xs. close-told (all_arrive xs start) (table-same xs start ∙ t))
-    where
-      by : (b : Bool) → (if b then f All (fresh k style e i) else Some (fresh k style e i))
-          ≡ option_map (λ xs. all_arrive xs (fresh k style e i)) (if b then g All false else Some [])
-      by true = same All (fresh k style e i) ∙ ap (λ b. option_map (λ xs. all_arrive xs (fresh k style e i)) (g All b)) c
-      by false = refl
 
   captions-told : (start : Holding) → is_captioned start.element.kind ≡ true → is_table start.element.kind ≡ false →
       (do

@@ -1,6 +1,8 @@
 -- What an element becomes that is no table shows what its node becomes over the results of its children.
+use Rattle.std.proofs.lemmas.Bool.{cases_Bool, cond_both}
 use Rattle.html_render_building.specs.laws.Roles.{as_block}
 use Rattle.std.proofs.Common.{◌≡◌, ℕ, Bool, true, false, ◌&&◌, ◌||◌, if◌then◌else◌, List, [], ◌∷◌, Option, Some, None, option_map, refl, sym, ap, subst, ◌∙◌}
+use Rattle.std.proofs.Common.{inl, inr}
 use Rattle.std.specs.Prelude.{filter, map}
 use Rattle.std.specs.List.{list_any, list_all}
 use Rattle.html_render_values.specs.Forest.{Forest, none, node}
@@ -14,12 +16,12 @@ use Rattle.html_render_conversion.specs.declared.mapping.IfEmpty.{IfEmpty}
 use Rattle.html_render_conversion.specs.Conversion.{vanishes}
 use Rattle.html_render_dom.specs.Selectors.{is_filled}
 use Rattle.html_render_conversion.specs.Results as new
-use Rattle.html_render_conversion.specs.Results.{Nodes, Result, beside, completed, leaf, over, shows_nothing, trees_of}
+use Rattle.html_render_conversion.specs.Results.{Nodes, Result, beside, completed, over, trees_of}
 use Rattle.html_render_building.specs.declared.elements.Element.{Element}
 use Rattle.html_render_building.specs.declared.elements.OpenKind.{OpenKind}
 use Rattle.html_render_building.specs.declared.elements.OpenKind.TheVariants.{Node, Row, Rows, Table}
 use Rattle.html_render_building.specs.Elements.{counts, gathered, keeps, with_kept, has_place}
-use Rattle.html_render_building.specs.Building.{Arrival, Holding, arrive, beside_insertions, goes_beside, closed, fresh, made_of, mark_left, node_made, with_insertions}
+use Rattle.html_render_building.specs.Building.{Arrival, Holding, arrive, goes_beside, closed, fresh, made_of, mark_left, node_made}
 use Rattle.html_render_building.specs.laws.Arrivals.{all_arrive}
 use Rattle.html_render_building.specs.laws.Mappings.{stands_as_is}
 use Rattle.html_render_building.specs.laws.Shown.{AllShow, Gives, Shows, both, both-none, counts_result, keeps_result, own_trees, together}
@@ -29,45 +31,29 @@ use Rattle.html_render_building.specs.laws.Inserting.{ShowsAny, completed-noted,
 -- ---- as a table sees it
 
 -- in a table a caption is a block
-abbrev pub seen_role : new.Role → (in_table : Bool) → Result → Result
-seen_role new.Caption true r = as_block r
-seen_role new.Caption false r = r
-seen_role _ in_table r = r
-
 abbrev pub seen : (in_table : Bool) → Result → Result
-seen in_table r = seen_role r.role in_table r
+seen in_table r = if new.is_caption r.role && in_table then as_block r else r
 
 abbrev pub ShowsIn : (in_table : Bool) → Option Arrival → Option Result → Type 0
 ShowsIn in_table a r = ShowsAny a (option_map (seen in_table) r)
 
 pub shows-other : (in_table : Bool) (a : Arrival) (r : Result) → new.is_caption a.role ≡ false → Shows a r → Shows a (seen in_table r)
-shows-other in_table a r h s =
-    subst (Shows a) (sym (by r.role (ap new.is_caption (sym s.role_is) ∙ h))) s
-  where
-    by : (x : new.Role) → new.is_caption x ≡ false → seen_role x in_table r ≡ r
-    by new.Caption e = cc
-    by x e = refl
+shows-other in_table a r h s = rw (ap new.is_caption (sym s.role_is) ∙ h) s
 
 pub seen-elsewhere : (rs : List Result) → map (seen false) rs ≡ rs
 seen-elsewhere [] = refl
-seen-elsewhere (r ∷ rs) = ap (λ x. x ∷ map (seen false) rs) (by r.role) ∙ ap (λ x. r ∷ x) (seen-elsewhere rs)
-  where
-    by : (x : new.Role) → seen_role x false r ≡ r
-    by new.Caption = refl
-    by x = refl
+seen-elsewhere (r ∷ rs) =
+    let more = ap (λ x. r ∷ x) (seen-elsewhere rs) in elim (cases_Bool (new.is_caption r.role)) [ inl e ↦ rw e more | inr e ↦ rw e more ]
 
 -- ---- what stays of an element
 
 module _ {X : Type 0} (f : Element → X) (counted : (e : Element) (b : Bool) → f (record e { has_results = b }) ≡ f e)
     (kept : (r : new.Role) (s : Bool) (e : Element) → f (with_kept r s e) ≡ f e) where
   arrive-stays : (a : Arrival) (p : Holding) → f (arrive a p).element ≡ f p.element
-  arrive-stays a p = by (keeps p.element.kind a.role a.kind)
-      (record p.element { has_results = p.element.has_results || counts p.element.kind a.role a.kind a.has_children })
-      ∙ counted p.element (p.element.has_results || counts p.element.kind a.role a.kind a.has_children)
-    where
-      by : (b : Bool) (e : Element) → f (if b then with_kept a.role a.is_stray e else e) ≡ f e
-      by true e = kept a.role a.is_stray e
-      by false e = refl
+  arrive-stays a p =
+      let any = p.element.has_results || counts p.element.kind a.role a.kind a.has_children in
+      let e : Element = record p.element { has_results = any } in
+      cond_both (keeps p.element.kind a.role a.kind) _ e (λ x. f x ≡ f e) (λ _. kept a.role a.is_stray e) (λ _. refl) ∙ counted p.element any
 
   pub all-stays : (xs : List Arrival) (p : Holding) → f (all_arrive xs p).element ≡ f p.element
   all-stays [] p = refl
@@ -87,17 +73,12 @@ nothing_gathered r (Rows behind rows) h = cc
 nothing_gathered r (Row cells) h = cc
 nothing_gathered r k h = refl
 
-pub kind-stays : (k : OpenKind) → gathers_any k ≡ false → (xs : List Arrival) (p : Holding) → p.element.kind ≡ k →
-    (all_arrive xs p).element.kind ≡ k
+pub kind-stays : (k : OpenKind) → gathers_any k ≡ false → (xs : List Arrival) (p : Holding) → p.element.kind ≡ k → (all_arrive xs p).element.kind ≡ k
 kind-stays k gathers_none [] p e = e
-kind-stays k gathers_none (a ∷ xs) p e = by (keeps (all_arrive xs p).element.kind a.role a.kind) (kind-stays k gathers_none xs p e)
-  where
-    by : (b : Bool) → (all_arrive xs p).element.kind ≡ k →
-        (let q = (all_arrive xs p).element in
-        let c : Element = record q { has_results = q.has_results || counts q.kind a.role a.kind a.has_children } in
-        if b then with_kept a.role a.is_stray c else c).kind ≡ k
-    by true e = ap (gathered a.role) e ∙ nothing_gathered a.role k gathers_none
-    by false e = e
+kind-stays k gathers_none (a ∷ xs) p e =
+    let was = kind-stays k gathers_none xs p e in
+    cond_both (keeps (all_arrive xs p).element.kind a.role a.kind) _ _ (λ (x : Element). x.kind ≡ k)
+    (λ _. ap (gathered a.role) was ∙ nothing_gathered a.role k gathers_none) (λ _. was)
 
 -- ---- an element that is closed
 
@@ -112,32 +93,20 @@ module _ (in_table : Bool) (p : Holding) (xs : List Arrival) (rs : List Result) 
       closed in_table (all_arrive xs p)
       ≡ closed_as in_table k p.element.style p.element.if_empty (p.element.has_results || list_any (counts_result p.element.kind) rs)
       (p.element.has_children || is_filled (filter (keeps_result p.element.kind) rs)) (all_arrive xs p).element.is_stray p.element.inserted (all_arrive xs p).drafts
-  closed-is k kind_is =
-      let q = all_arrive xs p in
-      let i = p.element.inserted in
-      let style = p.element.style in
-      let e = p.element.if_empty in
-      let any = p.element.has_results || list_any (counts_result p.element.kind) rs in
-      let some = p.element.has_children || is_filled (filter (keeps_result p.element.kind) rs) in
-      ap (λ x. closed_as in_table x q.element.style q.element.if_empty q.element.has_results q.element.has_children q.element.is_stray
-      q.element.inserted q.drafts) kind_is
-      ∙ ap (λ x. closed_as in_table k x q.element.if_empty q.element.has_results q.element.has_children q.element.is_stray
-      q.element.inserted q.drafts) (all-stays (λ e. e.style) (λ e b. refl) (λ r s e. refl) xs p)
-      ∙ ap (λ x. closed_as in_table k style x q.element.has_results q.element.has_children q.element.is_stray
-      q.element.inserted q.drafts) (all-stays (λ e. e.if_empty) (λ e b. refl) (λ r s e. refl) xs p)
-      ∙ ap (λ x. closed_as in_table k style e x q.element.has_children q.element.is_stray q.element.inserted q.drafts)
-      (results-shown p xs rs shown)
-      ∙ ap (λ x. closed_as in_table k style e any x q.element.is_stray q.element.inserted q.drafts)
-      (children-shown p xs rs shown)
-      ∙ ap (λ x. closed_as in_table k style e any some q.element.is_stray x q.drafts)
-      (all-stays (λ e. e.inserted) (λ e b. refl) (λ r s e. refl) xs p)
+  closed-is k kind_is = rw (
+    kind_is,
+    all-stays (λ e. e.style) (λ e b. refl) (λ r s e. refl) xs p,
+    all-stays (λ e. e.if_empty) (λ e b. refl) (λ r s e. refl) xs p,
+    all-stays (λ e. e.inserted) (λ e b. refl) (λ r s e. refl) xs p,
+    results-shown p xs rs shown,
+    children-shown p xs rs shown,
+  ) refl
 
 pub mark-in : (in_table : Bool) (mark before after : Option (List ℕ)) →
     ShowsIn in_table (mark_left (inserted_of mark before after)) (completed mark before after None)
 mark-in in_table mark before after = by (mark_left (inserted_of mark before after)) mark (mark-shown mark before after)
   where
-    by : (a : Option Arrival) (m : Option (List ℕ)) → ShowsAny a (completed m before after None) →
-        ShowsIn in_table a (completed m before after None)
+    by : (a : Option Arrival) (m : Option (List ℕ)) → ShowsAny a (completed m before after None) → ShowsIn in_table a (completed m before after None)
     by None None h = tt
     by (Some a) (Some name) h = h
     by a m h = elim h [ ]
@@ -208,12 +177,8 @@ together-alone (r ∷ rs) =
 
 pub made-role : (k : NodeKind) (style : NodeStyle) (i : List Insertions) (has_children s : Bool) (below : Forest Draft) →
     new.is_caption (node_made (draft k style i) has_children s below).role ≡ false
-made-role k style i has_children s below = by (goes_beside (draft k style i))
-  where
-    by : (b : Bool) → new.is_caption (if b then beside_insertions (draft k style i) s below
-        else with_insertions new.Contents (draft k style i) has_children s below).role ≡ false
-    by true = refl
-    by false = refl
+made-role k style i has_children s below =
+    cond_both (goes_beside (draft k style i)) _ _ (λ (a : Arrival). new.is_caption a.role ≡ false) (λ _. refl) (λ _. refl)
 
 -- A NODE that is neither a table nor a part of one, over its children's results
 pub node_closed : (in_table : Bool) (k : NodeKind) (style : NodeStyle) (e : IfEmpty) (mark before after : Option (List ℕ)) →

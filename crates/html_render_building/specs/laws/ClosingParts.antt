@@ -1,7 +1,8 @@
 -- What a part of a table becomes shows what it becomes over the results of its children.
+use Rattle.std.proofs.lemmas.Bool.{cases_Bool}
 use Rattle.html_render_building.specs.laws.Roles as roles
 use Rattle.html_render_building.specs.laws.Roles.{in_style}
-use Rattle.std.proofs.Common.{◌≡◌, Bool, true, false, ◌||◌, if◌then◌else◌, List, [], ◌∷◌, ◌++◌, Option, Some, None, option_map, refl, ap, ◌∙◌, subst, sym}
+use Rattle.std.proofs.Common.{◌≡◌, Bool, true, false, if◌then◌else◌, List, [], ◌∷◌, ◌++◌, Option, Some, None, option_map, refl, ap, ◌∙◌, subst, sym, inl, inr}
 use Rattle.std.specs.Prelude.{filter, flat_map}
 use Rattle.html_render_values.specs.Forest.{Forest, none, node, followed_by}
 use Rattle.html_render_values.specs.Outcome.{◌>>=◌}
@@ -16,11 +17,10 @@ use Rattle.html_render_insertions.specs.declared.drafts.Draft.{Draft}
 use Rattle.html_render_insertions.specs.declared.drafts.Insertions.{Insertions}
 use Rattle.html_render_insertions.specs.Drafts.{draft, expanded, insert_first, front, back}
 use Rattle.html_render_conversion.specs.Results as new
-use Rattle.html_render_conversion.specs.Results.{Nodes, Result, beside, completed, over, row_over, rows_over, trees_of, in_first}
-use Rattle.html_render_building.specs.declared.elements.Element.{Element}
+use Rattle.html_render_conversion.specs.Results.{Nodes, Result, beside, in_first}
 use Rattle.html_render_building.specs.declared.elements.OpenKind.{OpenKind}
 use Rattle.html_render_building.specs.declared.elements.OpenKind.TheVariants.{Row, Rows}
-use Rattle.html_render_building.specs.Elements.{counts, gathered, keeps, with_kept}
+use Rattle.html_render_building.specs.Elements.{gathered, keeps}
 use Rattle.html_render_building.specs.Building.{Arrival, Holding, arrive, are_any, caption_kind, row_made, rows_made, with_insertions}
 use Rattle.html_render_building.specs.laws.Arrivals.{all_arrive}
 use Rattle.html_render_building.specs.laws.Shown.{shows_by, RowsArePlain, AllPlain, AllShow, Gives, Shows, own_trees, together, both}
@@ -97,7 +97,11 @@ module _ (is : new.Role → Bool) (no_rows : (behind : Bool) (rows : List (List 
 
   pub together-beside : (rs : List Result) → together (λ r. true) (filter (λ r. is r.role) rs) ≡ beside (filter (λ r. is r.role) rs)
   together-beside [] = refl
-  together-beside (r ∷ rs) = by (is r.role) refl (together-beside rs)
+  together-beside (r ∷ rs) = elim (cases_Bool (is r.role)) [
+    | inl e ↦ rw e (ap (λ x. both x (together (λ r. true) (filter (λ r. is r.role) rs))) (own r.role r.node r.below e)
+        ∙ ap (both (option_map (λ t. node r.node t none) r.below)) (together-beside rs) ∙ first r.below (beside (filter (λ r. is r.role) rs)))
+    | inr e ↦ rw e (together-beside rs)
+  ]
     where
       first : (o b : Option Nodes) → both (option_map (λ t. node r.node t none) o) b
           ≡ (do
@@ -107,25 +111,11 @@ module _ (is : new.Role → Bool) (no_rows : (behind : Bool) (rows : List (List 
       first None b = refl
       first o b = refl
 
-      by : (b : Bool) → is r.role ≡ b → together (λ r. true) (filter (λ r. is r.role) rs) ≡ beside (filter (λ r. is r.role) rs) →
-          together (λ r. true) (if b then r ∷ filter (λ r. is r.role) rs else filter (λ r. is r.role) rs)
-          ≡ beside (if b then r ∷ filter (λ r. is r.role) rs else filter (λ r. is r.role) rs)
-      by true e same =
-          ap (λ x. both x (together (λ r. true) (filter (λ r. is r.role) rs))) (own r.role r.node r.below e)
-          ∙ ap (both (option_map (λ t. node r.node t none) r.below)) same
-          ∙ first r.below (beside (filter (λ r. is r.role) rs))
-      by false e same = same
-
 -- ---- what is gathered
 
 pub kind-after : (a : Arrival) (q : Holding) → (arrive a q).element.kind
     ≡ (if keeps q.element.kind a.role a.kind then gathered a.role q.element.kind else q.element.kind)
-kind-after a q = by (keeps q.element.kind a.role a.kind)
-    (record q.element { has_results = q.element.has_results || counts q.element.kind a.role a.kind a.has_children })
-  where
-    by : (b : Bool) (e : Element) → (if b then with_kept a.role a.is_stray e else e).kind ≡ (if b then gathered a.role e.kind else e.kind)
-    by true e = refl
-    by false e = refl
+kind-after a q = elim (cases_Bool (keeps q.element.kind a.role a.kind)) [ inl t ↦ rw t refl | inr t ↦ rw t refl ]
 
 -- an element that gathers, of each role that it keeps, what the role spans
 module _ {F : Type 0} (gatherer : List F → OpenKind) (is : new.Role → Bool) (spans : new.Role → List F)
@@ -140,12 +130,7 @@ module _ {F : Type 0} (gatherer : List F → OpenKind) (is : new.Role → Bool) 
   gathers (a ∷ xs) (r ∷ rs) h p e =
       kind-after a (all_arrive xs p) ∙ ap (λ k. if keeps k a.role a.kind then gathered a.role k else k) (gathers xs rs h.1 p e)
       ∙ one a.role a.kind (kept_spans rs) ∙ ap (λ x. gatherer (if is x then spans x ++ kept_spans rs else kept_spans rs)) h.0.role_is
-      ∙ by (is r.role)
-    where
-      by : (b : Bool) → gatherer (if b then spans r.role ++ kept_spans rs else kept_spans rs)
-          ≡ gatherer (flat_map (λ r. spans r.role) (if b then r ∷ filter (λ r. is r.role) rs else filter (λ r. is r.role) rs))
-      by true = refl
-      by false = refl
+      ∙ (elim (cases_Bool (is r.role)) [ inl t ↦ rw t refl | inr t ↦ rw t refl ])
   gathers xs rs h p e = elim h [ ]
 
   -- where what it keeps is plain, so is what it holds

@@ -5,12 +5,13 @@ use Rattle.html_render_values.specs.Forest.{Forest, none, node, followed_by}
 use Rattle.html_render_nodes.specs.declared.tree.NodeKind.{NodeKind}
 use Rattle.html_render_nodes.specs.declared.tree.NodeKind.TheVariants.{Container, FragmentStart, Table, Text}
 use Rattle.html_render_nodes.specs.declared.tree.NodeStyle.{NodeStyle}
+use Rattle.html_render_nodes.specs.Kinds.{holds_insertions}
 use Rattle.html_render_nodes.specs.RenderNodes.{no_style, without_style}
 use Rattle.html_render_insertions.specs.declared.drafts.Draft.{Draft}
 use Rattle.html_render_insertions.specs.declared.drafts.Insertions.{Insertions}
 use Rattle.html_render_insertions.specs.Drafts.{front, back, wrapped, draft, plain_draft, node_of, expanded, insert_first, inserted_of, mark_in}
 use Rattle.html_render_insertions.specs.laws.Drafts.{wrapped-none, expanded-insert_top}
-use Rattle.html_render_conversion.specs.Results.{Nodes, Result, Contents, inserted, over, level_in, leaf, completed, in_first, holds_insertions}
+use Rattle.html_render_conversion.specs.Results.{Nodes, Result, Contents, inserted, over, level_in, leaf, completed, in_first}
 use Rattle.html_render_nodes.specs.laws.Splits.{followed_by-none}
 use Rattle.html_render_building.specs.Building.{Arrival, are_any, leaf_arrival, mark_left, node_made, with_insertions, beside_insertions}
 use Rattle.html_render_building.specs.laws.Mappings.{stands_as_is}
@@ -80,8 +81,7 @@ pub node_shown : (k : NodeKind) (style : NodeStyle) (i : List Insertions) (has_c
     stands_as_is k ≡ true → Gives s below o →
     Shows (node_made (draft k style i) has_children s below)
     (with_noted i (record { role = Contents; node = in_style style k; has_children = has_children; below = o }))
-node_shown k style [] has_children s below o h g =
-    shows_by refl refl refl (gives-alone s k style below o g) tt
+node_shown k style [] has_children s below o h g = shows_by refl refl refl (gives-alone s k style below o g) tt
 node_shown k style (x ∷ xs) has_children s below o h g =
     subst (λ w. Shows (node_made (draft k style (x ∷ xs)) has_children s below) (inserted w (front (x ∷ xs)) (back (x ∷ xs)) r))
     (sym (into-holds k h)) (by (holds_insertions k))
@@ -98,8 +98,7 @@ node_shown k style (x ∷ xs) has_children s below o h g =
     by false = shows_by refl refl refl (gives-beside s k style (x ∷ xs) below o g) tt
 
 -- what is left of an element that becomes nothing
-pub mark-shown : (mark before after : Option (List ℕ)) →
-    ShowsAny (mark_left (inserted_of mark before after)) (completed mark before after None)
+pub mark-shown : (mark before after : Option (List ℕ)) → ShowsAny (mark_left (inserted_of mark before after)) (completed mark before after None)
 mark-shown mark before after =
     subst (λ m. ShowsAny (option_map (λ name. leaf_arrival (plain_draft (FragmentStart name))) m) (completed mark before after None))
     (sym (mark-noted mark before after)) (by mark)
@@ -116,8 +115,7 @@ insert-cell i none = refl
 insert-cell i (node d children others) = expanded-insert_top i d children others
 
 -- and in the first cell of the first row
-pub insert-row : (i : List Insertions) (t : Forest Draft) → AllPlain t →
-    expanded (insert_first 1 i t) ≡ in_first 2 (front i) (back i) (expanded t)
+pub insert-row : (i : List Insertions) (t : Forest Draft) → AllPlain t → expanded (insert_first 1 i t) ≡ in_first 2 (front i) (back i) (expanded t)
 insert-row i none h = refl
 insert-row i (node d children others) h =
     ap (λ n. node (node_of d) (wrapped n (expanded (insert_first 0 i children))) (expanded others)) h.0

@@ -46,8 +46,7 @@ fits caption foot Nothing = true
 fits caption foot (Leaf kind) = stands_as_is kind
 fits caption foot (Parent kind if_empty) = fits_kind caption foot if_empty kind
 
-fits-if : (caption foot b : Bool) (x y : Mapping) →
-    fits caption foot (if b then x else y) ≡ (if b then fits caption foot x else fits caption foot y)
+fits-if : (caption foot b : Bool) (x y : Mapping) → fits caption foot (if b then x else y) ≡ (if b then fits caption foot x else fits caption foot y)
 fits-if caption foot true x y = refl
 fits-if caption foot false x y = refl
 

@@ -67,8 +67,7 @@ first_if b x l = if b then x ∷ l else l
 to-captions : (r : Option (Option Result)) → FitsAny true false r → (all f u c : Option (List Result)) → Parted all f u c →
     Parted (add r all) f u (add r c)
 to-captions None h all f u c p = ap (λ b. is_some f && b) (and-false (is_some u)) ∙ and-false (is_some f)
-to-captions (Some None) h all f u c p =
-    subst (λ o. Parted o f u (add (Some None) c)) (add-none all) (subst (Parted all f u) (add-none c) p)
+to-captions (Some None) h all f u c p = subst (λ o. Parted o f u (add (Some None) c)) (add-none all) (subst (Parted all f u) (add-none c) p)
 to-captions (Some (Some x)) h None f u None p = p
 to-captions (Some (Some x)) h None f u (Some c) p = p
 to-captions (Some (Some x)) h (Some rs) (Some f) (Some u) (Some c) p = (
@@ -82,8 +81,7 @@ to-captions (Some (Some x)) h (Some rs) f u c p = elim p [ ]
 to-feet : (r : Option (Option Result)) → FitsAny false true r → (all f u c : Option (List Result)) → Parted all f u c →
     Parted (add r all) (add r f) u c
 to-feet None h all f u c p = refl
-to-feet (Some None) h all f u c p =
-    subst (λ o. Parted o (add (Some None) f) u c) (add-none all) (subst (λ o. Parted all o u c) (add-none f) p)
+to-feet (Some None) h all f u c p = subst (λ o. Parted o (add (Some None) f) u c) (add-none all) (subst (λ o. Parted all o u c) (add-none f) p)
 to-feet (Some (Some x)) h None None u c p = p
 to-feet (Some (Some x)) h None (Some f) u c p = p
 to-feet (Some (Some x)) h (Some rs) (Some f) (Some u) (Some c) p = (
@@ -99,8 +97,7 @@ to-feet (Some (Some x)) h (Some rs) f u c p = elim p [ ]
 to-others : (r : Option (Option Result)) → FitsAny false false r → (all f u c : Option (List Result)) → Parted all f u c →
     Parted (add r all) f (add r u) c
 to-others None h all f u c p = and-false (is_some f)
-to-others (Some None) h all f u c p =
-    subst (λ o. Parted o f (add (Some None) u) c) (add-none all) (subst (λ o. Parted all f o c) (add-none u) p)
+to-others (Some None) h all f u c p = subst (λ o. Parted o f (add (Some None) u) c) (add-none all) (subst (λ o. Parted all f o c) (add-none u) p)
 to-others (Some (Some x)) h None f None c p = p
 to-others (Some (Some x)) h None f (Some u) c p = p
 to-others (Some (Some x)) h (Some rs) (Some f) (Some u) (Some c) p = (

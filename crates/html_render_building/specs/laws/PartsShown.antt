@@ -1,6 +1,5 @@
 -- A cell, a caption, a row and the rows of a table show their results once they are closed.
 use Rattle.html_render_building.specs.laws.Roles as roles
-use Rattle.html_render_building.specs.laws.Roles.{in_style}
 use Rattle.std.proofs.Common.{◌≡◌, ℕ, Bool, true, if◌then◌else◌, List, [], ◌∷◌, Option, Some, None, refl, ap, subst}
 use Rattle.std.specs.Prelude.{filter, flat_map}
 use Rattle.std.specs.List.{list_any}
@@ -16,7 +15,7 @@ use Rattle.html_render_conversion.specs.declared.mapping.IfEmpty.{IfEmpty}
 use Rattle.html_render_conversion.specs.Conversion.{vanishes}
 use Rattle.html_render_dom.specs.Selectors.{is_filled}
 use Rattle.html_render_conversion.specs.Results as new
-use Rattle.html_render_conversion.specs.Results.{Nodes, Result, beside, completed, over, row_over, rows_over, trees_of, in_first}
+use Rattle.html_render_conversion.specs.Results.{Result, beside, completed, over, row_over, rows_over, trees_of}
 use Rattle.html_render_building.specs.declared.elements.OpenKind.{OpenKind}
 use Rattle.html_render_building.specs.declared.elements.OpenKind.TheVariants.{Cell, Caption, Row, Rows}
 use Rattle.html_render_building.specs.Elements.{keeps}

@@ -1,4 +1,5 @@
 -- Which results are captions, and which are rows that stand behind all others: only those of elements of that name.
+use Rattle.std.proofs.lemmas.Bool.{cond_both}
 use Rattle.html_render_nodes.specs.declared.tree.NodeKind.TheVariants.{Text}
 use Rattle.html_render_conversion.specs.Marks.{mark_of, is_html}
 use Rattle.std.proofs.Common.{◌≡◌, ℕ, Bool, true, false, not, ◌&&◌, ◌||◌, if◌then◌else◌, List, Option, Some, None, is_some, option_map, refl, ◌++◌}
@@ -24,7 +25,7 @@ use Rattle.html_render_conversion.specs.Conversion.{element_mapping, node_style,
 use Rattle.html_render_dom.specs.Selectors.{is_filled}
 use Rattle.html_render_conversion.specs.Results as new
 use Rattle.html_render_conversion.specs.Results.{Nodes, Result, built, captioned, completed, inserted, level_in}
-use Rattle.html_render_conversion.specs.Results.{leaf, mapped, of_role, over, result_of, styled, table_of, table_over}
+use Rattle.html_render_conversion.specs.Results.{leaf, mapped, of_role, result_of, styled, table_of, table_over}
 use Rattle.html_render_building.specs.Order.{is_named}
 use Rattle.html_render_building.specs.laws.Inserting.{fronts}
 use Rattle.html_render_building.specs.laws.Mappings.{element_fits, fits, fits_kind}
@@ -50,31 +51,21 @@ module _ (caption foot : Bool) where
   fits-inserted None front back r h = refl
   fits-inserted (Some level) front back r h = h
 
-  fits-completed : (mark before after : Option (List ℕ)) (r : Option Result) → Fits caption foot r →
-      Fits caption foot (completed mark before after r)
+  fits-completed : (mark before after : Option (List ℕ)) (r : Option Result) → Fits caption foot r → Fits caption foot (completed mark before after r)
   fits-completed None before after None h = tt
   fits-completed (Some name) before after None h = refl
-  fits-completed mark before after (Some r) h = by (is_some mark || (is_some before || is_some after))
-    where
-      by : (b : Bool) →
-          fits_role caption foot (if b then inserted (level_in r.role r.node.kind) (fronts mark before) (leaf Text after) r else r).role
-          ≡ true
-      by true = fits-inserted (level_in r.role r.node.kind) (fronts mark before) (leaf Text after) r h
-      by false = h
+  fits-completed mark before after (Some r) h =
+      cond_both (is_some mark || (is_some before || is_some after)) _ r (λ (x : Result). fits_role caption foot x.role ≡ true)
+      (λ _. fits-inserted (level_in r.role r.node.kind) (fronts mark before) (leaf Text after) r h) (λ _. h)
 
   fits-table : (style : NodeStyle) (captions parts : List Result) → Fits caption foot (table_of style captions parts)
   fits-table style captions parts = by (option_map unmeasured_table (cell_grid_of (flat_map (λ r. new.spans_of r.role) parts)))
     where
-      either : (b : Bool) (grid : TableParts) →
-          fits_role caption foot (if b then captioned style grid captions parts else table_over style grid parts).role ≡ true
-      either true grid = refl
-      either false grid = refl
-
       by : (o : Option TableParts) → Fits caption foot (do
         grid ← o
         Some (if is_filled captions then captioned style grid captions parts else table_over style grid parts))
       by None = tt
-      by (Some grid) = either (is_filled captions) grid
+      by (Some grid) = cond_both (is_filled captions) _ _ (λ (r : Result). fits_role caption foot r.role ≡ true) (λ _. refl) (λ _. refl)
 
   fits-built : (k : ElementKind) (e : IfEmpty) (style : NodeStyle) (rs : List Result) → fits_kind caption foot e k ≡ true →
       Fits caption foot (built k style rs)
@@ -90,15 +81,12 @@ module _ (caption foot : Bool) where
   fits-mapped (Leaf k) style inside h = refl
   fits-mapped (Parent k e) style (Some rs) h = by (built k style rs) (fits-built k e style rs h)
     where
-      vanishing : (b : Bool) (r : Result) → fits_role caption foot r.role ≡ true → Fits caption foot (if b then None else Some r)
-      vanishing true r h = tt
-      vanishing false r h = h
-
       by : (o : Option Result) → Fits caption foot o → FitsAny caption foot (do
         r ← o
         Some (if vanishes e (list_any (λ r. new.counts k r.role r.node.kind r.has_children) rs) then None else Some r))
       by None h = tt
-      by (Some r) h = vanishing (vanishes e (list_any (λ r. new.counts k r.role r.node.kind r.has_children) rs)) r h
+      by (Some r) h =
+          cond_both (vanishes e (list_any (λ r. new.counts k r.role r.node.kind r.has_children) rs)) None (Some r) (Fits caption foot) (λ _. tt) (λ _. h)
   fits-mapped m style inside h = tt
 
   fits-styled : (m : Mapping) (mark : Option (List ℕ)) (style : ElementStyle) (inside : Option (List Result)) → fits caption foot m ≡ true →

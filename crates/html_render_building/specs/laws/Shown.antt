@@ -1,6 +1,6 @@
 -- What comes to an element shows the result of a node, and the element what it keeps of them.
-use Rattle.std.proofs.lemmas.Bool.{or_right}
-use Rattle.std.proofs.Common.{◌≡◌, Bool, true, false, not, ◌||◌, if◌then◌else◌, List, [], ◌∷◌, Option, Some, None, option_map, refl, sym, ap, subst, ◌∙◌}
+use Rattle.std.proofs.lemmas.Bool.{cases_Bool, or_right}
+use Rattle.std.proofs.Common.{◌≡◌, Bool, true, false, not, ◌||◌, if◌then◌else◌, List, [], ◌∷◌, Option, Some, None, option_map, refl, sym, ap, subst, ◌∙◌, inl, inr}
 use Rattle.std.specs.Prelude.{filter}
 use Rattle.std.specs.List.{list_any}
 use Rattle.html_render_values.specs.Forest.{Forest, none, node, followed_by}
@@ -58,8 +58,7 @@ pub or-false : (b : Bool) → (b || false) ≡ b
 or-false true = refl
 or-false false = refl
 
-pub gives-both : (s z : Bool) (d e : Forest Draft) (a b : Option Nodes) → Gives s d a → Gives z e b →
-    Gives (z || s) (followed_by d e) (both a b)
+pub gives-both : (s z : Bool) (d e : Forest Draft) (a b : Option Nodes) → Gives s d a → Gives z e b → Gives (z || s) (followed_by d e) (both a b)
 gives-both s z d e None b g h = ap (λ x. z || x) g ∙ or_right z true refl
 gives-both s z d e (Some t) None g h = ap (λ x. x || s) h
 gives-both s z d e (Some t) (Some u) g h =
@@ -159,10 +158,6 @@ module _ (p : Holding) where
       ∙ ap (λ x. counts own x a.kind a.has_children) s.role_is ∙ ap (λ k. counts own r.role k a.has_children) s.kind_is
       ∙ ap (counts own r.role r.node.kind) s.children_are
 
-  place-as : (xs : List Arrival) (a : Arrival) (r : Result) → Shows a r → has_place (all_arrive xs p).element.kind a.role ≡ has_place own r.role
-  place-as xs a r s = all_arrive-same (λ k. has_place k a.role) (λ parts. refl) (λ behind rows. refl) (λ cells. refl) xs p
-      ∙ ap (has_place own) s.role_is
-
   pub results-shown : (xs : List Arrival) (rs : List Result) → AllShow xs rs →
       (all_arrive xs p).element.has_results ≡ (p.element.has_results || list_any (counts_result own) rs)
   results-shown [] [] h = sym (or-false p.element.has_results)
@@ -182,13 +177,10 @@ module _ (p : Holding) where
       (all_arrive xs p).element.has_children ≡ (p.element.has_children || is_filled (filter (keeps_result own) rs))
   children-shown [] [] h = sym (or-false p.element.has_children)
   children-shown (a ∷ xs) (r ∷ rs) h =
-      ap (λ b. (after b a (all_arrive xs p).element).has_children) (keeps-as xs a r h.0) ∙ by (keeps_result own r) (children-shown xs rs h.1)
-    where
-      by : (b : Bool) → (all_arrive xs p).element.has_children ≡ (p.element.has_children || is_filled (filter (keeps_result own) rs)) →
-          (after b a (all_arrive xs p).element).has_children
-          ≡ (p.element.has_children || is_filled (if b then r ∷ filter (keeps_result own) rs else filter (keeps_result own) rs))
-      by true e = sym (or_right p.element.has_children true refl)
-      by false e = e
+      ap (λ b. (after b a (all_arrive xs p).element).has_children) (keeps-as xs a r h.0) ∙ (elim (cases_Bool (keeps_result own r)) [
+        | inl e ↦ rw e (sym (or_right p.element.has_children true refl))
+        | inr e ↦ rw e (children-shown xs rs h.1)
+      ])
   children-shown xs rs h = elim h [ ]
 
   pub trees_shown : (xs : List Arrival) (rs : List Result) → AllShow xs rs → (o : Option Nodes) → Gives p.element.is_stray p.drafts o →
@@ -197,22 +189,19 @@ module _ (p : Holding) where
   trees_shown (a ∷ xs) (r ∷ rs) h o g =
       subst (λ b. Gives (after b a (all_arrive xs p).element).is_stray (drafts_after b a (all_arrive xs p).drafts)
       (both (together (has_place own) (if keeps_result own r then r ∷ filter (keeps_result own) rs else filter (keeps_result own) rs)) o))
-      (sym (keeps-as xs a r h.0)) (by (keeps_result own r) (trees_shown xs rs h.1 o g))
+      (sym (keeps-as xs a r h.0)) (elim (cases_Bool (keeps_result own r)) [
+        | inl e ↦ rw e (subst (Gives (after true a (all_arrive xs p).element).is_stray (drafts_after true a (all_arrive xs p).drafts))
+            (both-assoc (placed_trees (has_place own) r) (together (has_place own) (filter (keeps_result own) rs)) o)
+            (gives-both (a.is_stray || not (has_place (all_arrive xs p).element.kind a.role)) (all_arrive xs p).element.is_stray a.drafts
+            (all_arrive xs p).drafts (placed_trees (has_place own) r) (both (together (has_place own) (filter (keeps_result own) rs)) o) kept
+            (trees_shown xs rs h.1 o g)))
+        | inr e ↦ rw e (trees_shown xs rs h.1 o g)
+      ])
     where
       kept : Gives (a.is_stray || not (has_place (all_arrive xs p).element.kind a.role)) a.drafts (placed_trees (has_place own) r)
-      kept = subst (λ b. Gives (a.is_stray || not b) a.drafts (placed_trees (has_place own) r)) (sym (place-as xs a r h.0))
+      kept = subst (λ b. Gives (a.is_stray || not b) a.drafts (placed_trees (has_place own) r))
+          (sym (all_arrive-same (λ k. has_place k a.role) (λ parts. refl) (λ behind rows. refl) (λ cells. refl) xs p ∙ ap (has_place own) h.0.role_is))
           (gives-placed a.is_stray (has_place own r.role) a.drafts (own_trees r.role r.node r.below) h.0.gives)
-
-      by : (b : Bool) →
-          Gives (all_arrive xs p).element.is_stray (all_arrive xs p).drafts (both (together (has_place own) (filter (keeps_result own) rs)) o) →
-          Gives (after b a (all_arrive xs p).element).is_stray (drafts_after b a (all_arrive xs p).drafts)
-          (both (together (has_place own) (if b then r ∷ filter (keeps_result own) rs else filter (keeps_result own) rs)) o)
-      by true shown =
-          subst (Gives (after true a (all_arrive xs p).element).is_stray (drafts_after true a (all_arrive xs p).drafts))
-          (both-assoc (placed_trees (has_place own) r) (together (has_place own) (filter (keeps_result own) rs)) o)
-          (gives-both (a.is_stray || not (has_place (all_arrive xs p).element.kind a.role)) (all_arrive xs p).element.is_stray a.drafts
-          (all_arrive xs p).drafts (placed_trees (has_place own) r) (both (together (has_place own) (filter (keeps_result own) rs)) o) kept shown)
-      by false shown = shown
   trees_shown xs rs h o g = elim h [ ]
 
   -- where nothing is kept, nothing changes
@@ -224,11 +213,8 @@ module _ (p : Holding) where
   nothing-kept [] [] h e = (refl, refl)
   nothing-kept (a ∷ xs) (r ∷ rs) h e =
       subst (λ b. AreAsBefore (drafts_after b a (all_arrive xs p).drafts) (after b a (all_arrive xs p).element)) (sym (keeps-as xs a r h.0))
-      (by (keeps_result own r) (nothing-kept xs rs h.1) e)
-    where
-      by : (b : Bool) → (is_filled (filter (keeps_result own) rs) ≡ false → AreAsBefore (all_arrive xs p).drafts (all_arrive xs p).element) →
-          is_filled (if b then r ∷ filter (keeps_result own) rs else filter (keeps_result own) rs) ≡ false →
-          AreAsBefore (drafts_after b a (all_arrive xs p).drafts) (after b a (all_arrive xs p).element)
-      by true same e = cc
-      by false same e = same e
+      (elim (cases_Bool (keeps_result own r)) [
+        | inl t ↦ absurd (let no : true ≡ false = rw t at e in cc)
+        | inr t ↦ rw t (nothing-kept xs rs h.1 (rw t at e))
+      ])
   nothing-kept xs rs h e = elim h [ ]

@@ -1,11 +1,12 @@
 -- A table that is closed shows what its node becomes over its captions and its rows.
+use Rattle.std.proofs.lemmas.Bool.{cases_Bool}
 use Rattle.html_render_building.specs.laws.Roles.{as_block, have_rows, in_style, joined}
-use Rattle.std.proofs.Common.{◌≡◌, ℕ, Bool, true, false, not, ◌||◌, if◌then◌else◌, List, [], ◌∷◌, ◌++◌, Option, Some, None, option_map, refl, sym, ap, subst, ◌∙◌}
+use Rattle.std.proofs.Common.{◌≡◌, ℕ, Bool, true, false, not, ◌||◌, if◌then◌else◌, List, [], ◌∷◌, ◌++◌, Option, Some, None, option_map, refl, sym, ap, subst, ◌∙◌, inl, inr}
 use Rattle.std.specs.Prelude.{filter, map}
 use Rattle.std.specs.List.{list_any}
 use Rattle.html_render_values.specs.Forest.{Forest, none, node}
 use Rattle.html_render_values.specs.Outcome.{◌>>=◌}
-use Rattle.html_render_nodes.specs.declared.tree.NodeKind.TheVariants.{Container, TableRow, TableCell, Block}
+use Rattle.html_render_nodes.specs.declared.tree.NodeKind.TheVariants.{Container, Block}
 use Rattle.html_render_nodes.specs.declared.tree.NodeStyle.{NodeStyle}
 use Rattle.html_render_nodes.specs.declared.tree.RenderNode.{RenderNode}
 use Rattle.html_render_insertions.specs.declared.drafts.Draft.{Draft}
@@ -13,8 +14,7 @@ use Rattle.html_render_insertions.specs.declared.drafts.Insertions.{Insertions}
 use Rattle.html_render_insertions.specs.Drafts.{inserted_of, insert_first, front, back, plain_draft}
 use Rattle.html_render_dom.specs.Selectors.{is_filled}
 use Rattle.html_render_conversion.specs.Results as new
-use Rattle.html_render_conversion.specs.Results.{Nodes, Result, beside, completed, over, row_over, rows_over, trees_of, in_first, captioned}
-use Rattle.html_render_conversion.specs.Results.{table_over, built}
+use Rattle.html_render_conversion.specs.Results.{Nodes, Result, beside, completed, in_first, captioned, table_over}
 use Rattle.html_render_building.specs.Elements.{has_place}
 use Rattle.html_render_building.specs.Building.{Arrival, Holding, closed, fresh, captioned_made, mark_left, table_made, table_stands}
 use Rattle.html_render_building.specs.laws.Arrivals.{all_arrive}
@@ -45,16 +45,11 @@ seen-caption x n c b rest others e = e
 
 pub seen-captions : (rs : List Result) → captions_of (map (seen true) rs) ≡ map as_block (captions_of rs)
 seen-captions [] = refl
-seen-captions (r ∷ rs) =
-    seen-caption r.role r.node r.has_children r.below (captions_of (map (seen true) rs)) (captions_of rs) (seen-captions rs)
+seen-captions (r ∷ rs) = seen-caption r.role r.node r.has_children r.below (captions_of (map (seen true) rs)) (captions_of rs) (seen-captions rs)
 
 any-filter : (is : Result → Bool) (rs : List Result) → list_any is rs ≡ is_filled (filter is rs)
 any-filter is [] = refl
-any-filter is (r ∷ rs) = by (is r) (any-filter is rs)
-  where
-    by : (b : Bool) → list_any is rs ≡ is_filled (filter is rs) → (b || list_any is rs) ≡ is_filled (if b then r ∷ filter is rs else filter is rs)
-    by true e = refl
-    by false e = e
+any-filter is (r ∷ rs) = elim (cases_Bool (is r)) [ inl e ↦ rw e refl | inr e ↦ rw e (any-filter is rs) ]
 
 any-map : (rs : List Result) → is_filled (map as_block rs) ≡ is_filled rs
 any-map [] = refl
@@ -97,8 +92,7 @@ alone-shown grid style (x ∷ xs) s rows parts h g = shows_by refl refl refl
 module _ (in_table : Bool) where
   shows-contents : (a : Option Arrival) (r : Result) → new.is_caption r.role ≡ false → ShowsAny a (Some r) → ShowsIn in_table a (Some r)
   shows-contents None r h s = elim s [ ]
-  shows-contents (Some a) r h s =
-      shows-other in_table a r (ap new.is_caption s.role_is ∙ h) s
+  shows-contents (Some a) r h s = shows-other in_table a r (ap new.is_caption s.role_is ∙ h) s
 
 noted-alone : (i : List Insertions) (grid : TableParts) (style : NodeStyle) (parts : List Result) →
     new.is_caption (with_noted i (table_over style grid parts)).role ≡ false

@@ -1,6 +1,8 @@
 -- A table whose captions, feet and other children are converted apart shows what it becomes over all of them.
+use Rattle.std.proofs.lemmas.List.Folds.{list_any-append}
+use Rattle.std.proofs.lemmas.Bool.{cases_Bool}
 use Rattle.html_render_building.specs.laws.Roles.{have_rows}
-use Rattle.std.proofs.Common.{◌≡◌, ℕ, Bool, true, false, not, ◌&&◌, ◌||◌, if◌then◌else◌, List, [], ◌∷◌, ◌++◌, Option, Some, None, refl, sym, ap, subst, ◌∙◌}
+use Rattle.std.proofs.Common.{◌≡◌, ℕ, Bool, true, false, not, ◌&&◌, ◌||◌, if◌then◌else◌, List, [], ◌∷◌, ◌++◌, Option, Some, None, refl, sym, ap, subst, ◌∙◌, inl, inr}
 use Rattle.std.specs.List.{list_any}
 use Rattle.html_render_values.specs.Outcome.{◌>>=◌}
 use Rattle.html_render_nodes.specs.declared.tree.NodeStyle.{NodeStyle}
@@ -9,8 +11,7 @@ use Rattle.html_render_conversion.specs.declared.mapping.ElementKind.TheVariants
 use Rattle.html_render_conversion.specs.Conversion.{vanishes}
 use Rattle.html_render_dom.specs.Selectors.{is_filled}
 use Rattle.html_render_conversion.specs.Results as new
-use Rattle.html_render_conversion.specs.Results.{Nodes, Result, beside, completed, over, row_over, rows_over, trees_of, in_first, captioned}
-use Rattle.html_render_conversion.specs.Results.{table_over, built, of_role, table_of}
+use Rattle.html_render_conversion.specs.Results.{Result, completed, captioned, table_over, built, of_role}
 use Rattle.html_render_building.specs.Building.{Arrival, Holding, arrive, closed, fresh, closed_into}
 use Rattle.html_render_building.specs.laws.Arrivals.{all_arrive}
 use Rattle.html_render_building.specs.laws.Shown.{AllShow, Both}
@@ -54,20 +55,10 @@ Parted (Some rs) _ _ _ = ⊥
 
 parts-append : (u f : List Result) → parts_of u ++ parts_of f ≡ parts_of (u ++ f)
 parts-append [] f = refl
-parts-append (r ∷ u) f = by (are_rows r.role) (parts-append u f)
-  where
-    by : (b : Bool) → parts_of u ++ parts_of f ≡ parts_of (u ++ f) →
-        (if b then r ∷ parts_of u else parts_of u) ++ parts_of f ≡ (if b then r ∷ parts_of (u ++ f) else parts_of (u ++ f))
-    by true e = ap (λ l. r ∷ l) e
-    by false e = e
-
-rows-append : (xs ys : List Result) → have_rows (xs ++ ys) ≡ (have_rows xs || have_rows ys)
-rows-append [] ys = refl
-rows-append (r ∷ xs) ys = ap (λ b. r.has_children || b) (rows-append xs ys) ∙ by r.has_children (have_rows xs) (have_rows ys)
-  where
-    by : (a b c : Bool) → (a || (b || c)) ≡ ((a || b) || c)
-    by true b c = refl
-    by false b c = refl
+parts-append (r ∷ u) f = elim (cases_Bool (are_rows r.role)) [
+  | inl e ↦ rw e (ap (λ l. r ∷ l) (parts-append u f))
+  | inr e ↦ rw e (parts-append u f)
+]
 
 abbrev table_counts : Result → Bool
 table_counts r = new.counts (Part part.Table) r.role r.node.kind r.has_children
@@ -98,12 +89,8 @@ table-counts (r ∷ rs) =
     by (new.Rows false rows) false f t c = refl
     by (new.Rows true rows) true f t c = sym (true-first (have_rows f) (have_rows t) (is_filled c))
     by (new.Rows true rows) false f t c = refl
-    by new.Contents true f t c = refl
-    by new.Contents false f t c = refl
-    by (new.Row cells) true f t c = refl
-    by (new.Row cells) false f t c = refl
-    by (new.Cell span) true f t c = refl
-    by (new.Cell span) false f t c = refl
+    by x true f t c = refl
+    by x false f t c = refl
 
 -- ---- a table
 
@@ -145,7 +132,7 @@ module _ (in_table : Bool) (style : NodeStyle) (mark before after : Option (List
       let rows : with_rows ≡ parts_of (u ++ f) = ap (λ l. l ++ of_role (new.are_rows true) rs) h.1 ∙ ap (λ l. parts_of u ++ l) h.2 ∙ parts-append u f in
       let counted : list_any table_counts rs ≡ (have_rows (parts_of (u ++ f)) || is_filled (captions_of c)) =
       table-counts rs
-      ∙ ap (λ b. b || is_filled (captions_of rs)) (sym (rows-append (of_role (new.are_rows false) rs) (of_role (new.are_rows true) rs)))
+      ∙ ap (λ b. b || is_filled (captions_of rs)) (sym (list_any-append (λ r. r.has_children) (of_role (new.are_rows false) rs) (of_role (new.are_rows true) rs)))
       ∙ ap (λ l. have_rows l || is_filled (captions_of rs)) rows
       ∙ ap (λ l. have_rows (parts_of (u ++ f)) || is_filled l) h.0 in
       ap (λ b. over_grid b (captions_of rs) with_rows (grid_over with_rows)) counted

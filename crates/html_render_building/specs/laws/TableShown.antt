@@ -1,6 +1,7 @@
 -- The rows of a table: what it gathers of them, and what it becomes over them.
+use Rattle.std.proofs.lemmas.Bool.{cases_Bool}
 use Rattle.html_render_building.specs.laws.Roles.{have_rows, joined}
-use Rattle.std.proofs.Common.{◌≡◌, Bool, true, false, ◌&&◌, ◌||◌, if◌then◌else◌, List, [], ◌∷◌, ◌++◌, Option, Some, option_map, refl, ap, subst, ◌∙◌}
+use Rattle.std.proofs.Common.{◌≡◌, Bool, true, false, ◌&&◌, ◌||◌, if◌then◌else◌, List, [], ◌∷◌, ◌++◌, Option, Some, option_map, refl, ap, subst, ◌∙◌, inl, inr}
 use Rattle.std.specs.Prelude.{filter, flat_map}
 use Rattle.std.specs.List.{list_any}
 use Rattle.html_render_values.specs.Forest.{Forest, none, followed_by}
@@ -9,7 +10,7 @@ use Rattle.html_render_conversion.specs.declared.tables.CellSpan.{CellSpan}
 use Rattle.html_render_nodes.specs.declared.tree.RenderNode.{RenderNode}
 use Rattle.html_render_insertions.specs.declared.drafts.Draft.{Draft}
 use Rattle.html_render_conversion.specs.Results as new
-use Rattle.html_render_conversion.specs.Results.{Nodes, Result, beside, completed, over, row_over, rows_over, trees_of, in_first}
+use Rattle.html_render_conversion.specs.Results.{Nodes, Result}
 use Rattle.html_render_building.specs.Elements.{gathered, keeps, are_rows}
 use Rattle.html_render_building.specs.Building.{Arrival, Holding, fresh, rows_of, closed_by, closed_into, table_stands}
 use Rattle.html_render_building.specs.laws.Arrivals.{all_arrive}
@@ -18,7 +19,6 @@ use Rattle.html_render_nodes.specs.Tables.{TableParts, unmeasured_table}
 use Rattle.html_render_nodes.specs.RenderNodes.{no_style}
 use Rattle.html_render_parts.specs.TableCells.{cell_grid_of}
 use Rattle.html_render_conversion.specs.declared.mapping.IfEmpty.TheVariants.{Vanishes}
-use Rattle.html_render_conversion.specs.Results.{captioned, table_over}
 use Rattle.html_render_building.specs.declared.elements.OpenKind.TheVariants.{Table}
 use Rattle.html_render_building.specs.Spans.{spans_of_parts}
 use Rattle.html_render_building.specs.laws.Shown.{RowsArePlain, results-shown, trees_shown}
@@ -71,12 +71,10 @@ rows-own x n o h = cc
 
 pub together-joined : (rs : List Result) → together (λ r. true) (parts_of rs) ≡ joined (parts_of rs)
 together-joined [] = refl
-together-joined (r ∷ rs) = by (are_rows r.role) refl (together-joined rs)
-  where
-    by : (b : Bool) → are_rows r.role ≡ b → together (λ r. true) (parts_of rs) ≡ joined (parts_of rs) →
-        together (λ r. true) (if b then r ∷ parts_of rs else parts_of rs) ≡ joined (if b then r ∷ parts_of rs else parts_of rs)
-    by true e same = ap (λ x. both x (together (λ r. true) (parts_of rs))) (rows-own r.role r.node r.below e) ∙ ap (both r.below) same
-    by false e same = same
+together-joined (r ∷ rs) = elim (cases_Bool (are_rows r.role)) [
+  | inl e ↦ rw e (ap (λ x. both x (together (λ r. true) (parts_of rs))) (rows-own r.role r.node r.below e) ∙ ap (both r.below) (together-joined rs))
+  | inr e ↦ rw e (together-joined rs)
+]
 
 pub rows-counted : (rs : List Result) → list_any (λ r. r.has_children && are_rows r.role) rs ≡ have_rows (parts_of rs)
 rows-counted [] = refl

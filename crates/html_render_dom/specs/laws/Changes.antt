@@ -15,8 +15,7 @@ use Rattle.html_render_dom.specs.laws.Members.{Contains-nil, Contains-head, Cont
 
 -- ---- one node written
 
-pub there : {X : Type 0} (f : Node → X) (nodes : List Node) (i : ℕ) (n : Node) → i < length nodes →
-    f (node_in (slice_set nodes i n) i) ≡ f n
+pub there : {X : Type 0} (f : Node → X) (nodes : List Node) (i : ℕ) (n : Node) → i < length nodes → f (node_in (slice_set nodes i n) i) ≡ f n
 there f nodes i n at = ap f (get_or-set_same nodes i n (lone document) at)
 
 pub elsewhere : {X : Type 0} (f : Node → X) (nodes : List Node) (i : ℕ) (n : Node) (h : ℕ) → h ≢ i →
@@ -71,8 +70,7 @@ created-shape dom c = record {
 pub above_no_older : {old new : Dom} → IsForest old → ((h : ℕ) → IsNode old h → parent_at new h ≡ parent_at old h) → (h : ℕ) →
     IsNode old h → IsInclusiveAncestor new (node_count old) h → ⊥
 above_no_older f same h at itself = omega arith
-above_no_older {old} f same h at (above p e up) =
-    above_no_older f same p (IfSome-parent old f h (Some p) (sym e ∙ same h at)) up
+above_no_older {old} f same h at (above p e up) = above_no_older f same p (IfSome-parent old f h (Some p) (sym e ∙ same h at)) up
 
 -- ---- one list and one parent written
 

@@ -31,8 +31,7 @@ pub Contains-from_any : (xs : List ℕ) (y : ℕ) → list_any (eqb y) xs ≡ tr
 Contains-from_any xs y e = Views.Contains-from_any {eq = eqb} eqb-true y xs e
 
 pub any-from_absent : (xs : List ℕ) (y : ℕ) → (Contains xs y → ⊥) → list_any (eqb y) xs ≡ false
-any-from_absent xs y absent =
-    elim (cases_Bool (list_any (eqb y) xs)) [ inl e ↦ absurd (absent (Contains-from_any xs y e)) | inr e ↦ e ]
+any-from_absent xs y absent = elim (cases_Bool (list_any (eqb y) xs)) [ inl e ↦ absurd (absent (Contains-from_any xs y e)) | inr e ↦ e ]
 
 pub any-from_Contains : (xs : List ℕ) (y : ℕ) → Contains xs y → list_any (eqb y) xs ≡ true
 any-from_Contains xs y h = Views.list_any-from_Contains {eq = eqb} nat_eq_equiv y xs h

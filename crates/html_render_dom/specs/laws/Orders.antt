@@ -56,8 +56,7 @@ key_tied a b e =
     joined p q r = λ i. record { important = p i; origin_rank = q i; specificity = r i }
 
 pub specificity_cmp-Equal : (a b : Specificity) → (specificity_cmp a b ≡ Equal) ↔ (a ≡ b)
-specificity_cmp-Equal a b =
-    (specificity_tied a b, λ e. subst (λ c. specificity_cmp a c ≡ Equal) e (tied_itself specificity_cmp-total a))
+specificity_cmp-Equal a b = (specificity_tied a b, λ e. subst (λ c. specificity_cmp a c ≡ Equal) e (tied_itself specificity_cmp-total a))
 
 pub key_cmp-Equal : (a b : Key) → (key_cmp a b ≡ Equal) ↔ (a ≡ b)
 key_cmp-Equal a b = (key_tied a b, λ e. subst (λ c. key_cmp a c ≡ Equal) e (tied_itself key_cmp-total a))
@@ -80,7 +79,6 @@ pub key-turned : (a b : Key) → is_le (key_cmp a b) ≡ false → is_le (key_cm
 key-turned a b e = ap is_le (key_cmp-total.antisymm b a) ∙ turned_le (key_cmp a b) e
 
 pub key-chain : (a b c : Key) → is_le (key_cmp a b) ≡ true → is_le (key_cmp b c) ≡ true → is_le (key_cmp a c) ≡ true
-key-chain a b c p q =
-    le_from_not_gt (key_cmp a c) (upto key_cmp-total a b c (not_gt_from_le (key_cmp a b) p) (not_gt_from_le (key_cmp b c) q))
+key-chain a b c p q = le_from_not_gt (key_cmp a c) (upto key_cmp-total a b c (not_gt_from_le (key_cmp a b) p) (not_gt_from_le (key_cmp b c) q))
 
 pub ruleset orders = (specificity_cmp-total, key_cmp-total, specificity_cmp-Equal, key_cmp-Equal)

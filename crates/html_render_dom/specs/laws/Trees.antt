@@ -55,8 +55,7 @@ record Below (dom : Dom) (x : ℕ) (t : Forest Content) : Type 0 where
   smaller : count tree < count t
   flatter : depth tree < depth t
 
-child_below : (dom : Dom) → IsForest dom → (p x : ℕ) → parent_at dom x ≡ Some p → (t : Forest Content) → HaveTrees dom (p ∷ []) t →
-    Below dom x t
+child_below : (dom : Dom) → IsForest dom → (p x : ℕ) → parent_at dom x ≡ Some p → (t : Forest Content) → HaveTrees dom (p ∷ []) t → Below dom x t
 child_below dom f p x e none h = absurd h
 child_below dom f p x e (node c kids beside) h =
     let r = one_of dom kids (children_at dom p) x (f.parent_lists_child p x e) h.2 in
@@ -127,8 +126,7 @@ depth-le dom f t hs h =
     omega (arith, way)
 
 -- enough fuel gives the trees
-enough : (dom : Dom) (t : Forest Content) (hs : List ℕ) (n : ℕ) → HaveTrees dom hs t → depth t ≤ 1 + n →
-    beside_each dom (below n dom) hs ≡ t
+enough : (dom : Dom) (t : Forest Content) (hs : List ℕ) (n : ℕ) → HaveTrees dom hs t → depth t ≤ 1 + n → beside_each dom (below n dom) hs ≡ t
 enough dom none [] n h le = refl
 enough dom (node c none beside) (x ∷ hs) zero h le = node-same h.1 refl (enough dom beside hs zero h.3 (omega arith))
 enough dom (node c (node d l e) beside) (x ∷ hs) zero h le = absurd (omega arith)
@@ -161,8 +159,7 @@ pub trees_of-cons : (dom : Dom) → IsForest dom → (h : ℕ) (hs : List ℕ) �
 trees_of-cons dom f h hs at = node-same refl (below-children dom f h at) refl
 
 -- a child's tree is less deep than its parent's
-pub depth-child : (dom : Dom) → IsForest dom → (h p : ℕ) → parent_at dom h ≡ Some p → IsNode dom p →
-    depth (tree_of dom h) < depth (tree_of dom p)
+pub depth-child : (dom : Dom) → IsForest dom → (h p : ℕ) → parent_at dom h ≡ Some p → IsNode dom p → depth (tree_of dom h) < depth (tree_of dom p)
 depth-child dom f h p e at =
     let b = child_below dom f p h e (tree_of dom p) (HaveTrees-tree_of dom f p at) in
     let in_h = f.child_is_node p h (f.parent_lists_child p h e) in

@@ -40,8 +40,7 @@ and_last a b h = ap (λ c. a && c) (and_true b) ∙ and_second a b h
 -- an element before the last one changes nothing
 kept_behind : {X : Type 0} (test : X → Bool) (x : X) (xs : List X) (w : X) → last_or None (filter test xs) ≡ Some w →
     last_or None (filter test (x ∷ xs)) ≡ Some w
-kept_behind test x xs w e =
-    elim (cases_Bool (test x)) [ inl a ↦ rw a (last_or-some (Some x) (filter test xs) w e) | inr a ↦ rw a e ]
+kept_behind test x xs w e = elim (cases_Bool (test x)) [ inl a ↦ rw a (last_or-some (Some x) (filter test xs) w e) | inr a ↦ rw a e ]
 
 first_alone : {X : Type 0} (test : X → Bool) (x : X) (xs : List X) → test x ≡ true → filter test xs ≡ [] →
     last_or None (filter test (x ∷ xs)) ≡ Some x
@@ -50,8 +49,7 @@ first_alone test x xs a e = rw (a, e) refl
 pushed : {X : Type 0} (test : X → Bool) (xs : List X) (x : X) → test x ≡ true → last_or None (xs ++ filter test (x ∷ [])) ≡ Some x
 pushed test xs x a = rw a (last_or-push None xs x)
 
-unpushed : {X : Type 0} (test : X → Bool) (xs : List X) (x : X) → test x ≡ false →
-    last_or None (xs ++ filter test (x ∷ [])) ≡ last_or None xs
+unpushed : {X : Type 0} (test : X → Bool) (xs : List X) (x : X) → test x ≡ false → last_or None (xs ++ filter test (x ∷ [])) ≡ last_or None xs
 unpushed test xs x a = rw a (ap (last_or None) (append-nil xs))
 
 module _ {U : Type 0} (le : U → U → Bool) where

@@ -4,7 +4,7 @@ ghost use Rattle.std.specs.Prelude.{◌≡◌, [], ◌∷◌, ◌++◌, IfErr, I
 ghost use Rattle.html_render_values.specs.declared.errors.Error.TheVariants.{OutOfMemory};
 ghost use Rattle.html_render_dom.specs.Content.{property_of};
 ghost use Rattle.html_render_dom.specs.Cascade.{winner};
-ghost use Rattle.html_render_dom.specs.ElementStyle.{applied, element_style, is_selected, style_by, style_of, subject_of, with_declarations};
+ghost use Rattle.html_render_dom.specs.ElementStyle.{applied, element_style, is_selected, style_by, style_of, with_declarations};
 ghost use Rattle.html_render_dom.specs.Rules.{declared_of, rule_of};
 ghost use Rattle.html_render_dom.specs.TextUpdates.{text_update};
 
@@ -213,7 +213,7 @@ pub fn computed_style(
 /// Whether one of the rules selects an element of this local name and these attributes. Where none does, its style is that
 /// of no declaration.
 pub fn is_selected(rules: &[StyleRule], element: &str, attrs: &[Attribute]) -> bool
-    ensures { result ≡ is_selected (map rule_of rules.now) (subject_of element.now (map property_of attrs.now)) }
+    ensures { result ≡ is_selected (map rule_of rules.now) element.now (map property_of attrs.now) }
 {
     let id = first_value(attrs, "id");
     let classes = first_value(attrs, "class");

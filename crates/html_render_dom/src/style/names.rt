@@ -2,7 +2,7 @@
 
 ghost use Rattle.std.specs.Prelude.{◌≡◌, ◌<◌, IfOk, IfErr, map};
 ghost use Rattle.html_render_dom.specs.Content.{property_of};
-ghost use Rattle.html_render_dom.specs.ElementStyle.{is_selected, subject_of};
+ghost use Rattle.html_render_dom.specs.ElementStyle.{is_selected};
 ghost use Rattle.html_render_dom.specs.NameKeys.{Tells, key_of};
 ghost use Rattle.html_render_dom.specs.Rules.{rule_of};
 
@@ -70,7 +70,7 @@ impl SelectedNames {
     /// Whether one of the rules selects an element of this local name and these attributes.
     pub fn is_selected(&self, rules: &[StyleRule], element: &str, attrs: &[Attribute]) -> bool
         requires { Tells self.now (map rule_of rules.now) }
-        ensures { result ≡ is_selected (map rule_of rules.now) (subject_of element.now (map property_of attrs.now)) }
+        ensures { result ≡ is_selected (map rule_of rules.now) element.now (map property_of attrs.now) }
     {
         self.keys[key_of(element)] && is_selected(rules, element, attrs)
     }

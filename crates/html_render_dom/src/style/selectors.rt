@@ -94,8 +94,7 @@ impl StyleRule {
     #[inline(always)]
     #[tactic(auto, using(crate::proofs::Words::all_of))]
     pub(super) fn selects(&self, name: &str, id: Option<&str>, classes: Option<&str>) -> bool
-        ensures { result ≡ selects (rule_of self.now)
-            (record { name = name.now; id = option_copied id.entry; classes = option_copied classes.entry }) }
+        ensures { result ≡ selects name.now (option_copied id.entry) (option_copied classes.entry) (rule_of self.now) }
     {
         matches_part(&self.element, Some(name))
             && matches_part(&self.id, id)

@@ -17,8 +17,7 @@ use Rattle.html_render_estimates.specs.Estimates.{table_estimate}
 
 sum_by-map : {X Y : Type 0} (f : Y → ℕ) (g : X → Y) (xs : List X) → sum_by f (map g xs) ≡ sum_by (λ x. f (g x)) xs
 sum_by-map f g [] = refl
-sum_by-map f g (x ∷ xs) =
-    sum_by-cons f (g x) (map g xs) ∙ ap (λ n. f (g x) + n) (sum_by-map f g xs) ∙ sym (sum_by-cons (λ y. f (g y)) x xs)
+sum_by-map f g (x ∷ xs) = sum_by-cons f (g x) (map g xs) ∙ ap (λ n. f (g x) + n) (sum_by-map f g xs) ∙ sym (sum_by-cons (λ y. f (g y)) x xs)
 
 -- where each value is at most those of two others together, so is the sum
 sum_by-parts : (f g h : ℕ → ℕ) (ks : List ℕ) → ((k : ℕ) → f k ≤ g k + h k) → sum_by f ks ≤ sum_by g ks + sum_by h ks
@@ -46,9 +45,7 @@ given-next s at rest h = by (leb s.start at && ltb at (s.start + s.count)) refl
         let high = ltb-true at (s.start + s.count) parts.1 in
         let n : columns_from s at ≡ columns_from s (at + 1) + 1 = omega (arith, low, high) in
         subst (λ m. s.value + rest ≤ m * s.value) (sym n) (omega (arith, h))
-    by false e =
-        let fewer : columns_from s (at + 1) ≤ columns_from s at = omega arith in
-        omega (arith, h, mul-le-mul_left s.value fewer)
+    by false e = let fewer : columns_from s (at + 1) ≤ columns_from s at = omega arith in omega (arith, h, mul-le-mul_left s.value fewer)
 
 sum-given : (s : Span) (at count : ℕ) → sum_by (given s) (range_with_len at count) ≤ columns_from s at * s.value
 sum-given s at zero = omega arith

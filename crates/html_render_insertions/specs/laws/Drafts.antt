@@ -44,8 +44,7 @@ pub count-at_first : (depth : ℕ) (change : Draft → Draft) (t : Forest Draft)
 count-at_first zero change none = refl
 count-at_first (suc depth) change none = refl
 count-at_first zero change (node d children others) = refl
-count-at_first (suc depth) change (node d children others) =
-    ap (λ n. 1 + n + count others) (count-at_first depth change children)
+count-at_first (suc depth) change (node d children others) = ap (λ n. 1 + n + count others) (count-at_first depth change children)
 
 -- ---- where an insertion shows
 

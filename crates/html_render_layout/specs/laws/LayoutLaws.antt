@@ -3,13 +3,12 @@
 use Rattle.std.proofs.Common.{◌≡◌, ℕ, ◌<◌, ◌==◌, Bool, true, false, cond, List, [], ◌∷◌, ◌++◌, Option, Some, None, refl, sym, ap, ◌∙◌, subst, arith}
 use Rattle.std.proofs.Common.{IfSome, IsSome}
 use Rattle.std.proofs.lemmas.Bool.{eqb-true}
-use Rattle.std.proofs.lemmas.Option.{same_Some}
+use Rattle.std.proofs.lemmas.Option.{IfSome_then, same_Some}
 use Rattle.html_render_values.specs.Forest.{Forest}
 use Rattle.html_render_parts.specs.Decoration.{Decoration}
 use Rattle.html_render_lines.specs.Line.{Line, AllWithinWidth}
 use Rattle.html_render_lines.specs.laws.Cases.{if_cases}
 use Rattle.html_render_nodes.specs.declared.tree.RenderNode.{RenderNode}
-use Rattle.html_render_nodes.specs.Pass.{run}
 use Rattle.html_render_paragraphs.specs.Paragraph.{Setting}
 use Rattle.html_render_blocks.specs.Block.{empty_block}
 use Rattle.html_render_blocks.specs.Definition as definition
@@ -22,10 +21,8 @@ use Rattle.html_render_blocks.specs.laws.Beside.{Holds, Blocks, operations-besid
 use Rattle.html_render_blocks.specs.laws.BlockHolds.{OwnWithin, PictureWithin, within, answers, refines}
 use Rattle.html_render_blocks.specs.laws.TableWithin.{OpenWithin}
 use Rattle.html_render_layout.specs.declared.settings.LayoutSettings.{LayoutSettings}
-use Rattle.html_render_layout.specs.Layout.{by_stacks, shown_after, Defined, defined, empty_state, estimated, layout_lines, mark_names}
+use Rattle.html_render_layout.specs.Layout.{by_stacks, shown_after, Defined, empty_state, estimated, layout_lines, mark_names}
 use Rattle.html_render_layout.specs.Working.{block_setting, padding}
-use Rattle.html_render_layout.specs.laws.Answers.{IfSome-weaken}
-use Rattle.html_render_layout.specs.laws.LayoutReturns.{layout-returns}
 use Rattle.html_render_layout.specs.laws.Related.{Other, with_other, shown-related}
 
 -- a layout beside one that may have overflow on: stacks are the same, and what is said of the block's lines is said of those that are shown
@@ -78,16 +75,14 @@ module _ {S A : Type 0} (d : Decoration S A) (settings : LayoutSettings) (g : Bo
         ),
       )
 
-  pub lines-shown : (t : Forest RenderNode) (decorator : S) (w : ℕ) (o : Bool) → OnOverflow o →
-      Both N M (λ a b. (b ≡ a) × OnLines w a)
+  pub lines-shown : (t : Forest RenderNode) (decorator : S) (w : ℕ) (o : Bool) → OnOverflow o → Both N M (λ a b. (b ≡ a) × OnLines w a)
       (shown_after (by_stacks d) definition.ending (λ (r : Defined S A). r.block.lines) t (empty_state d settings decorator w o))
       (shown_after (by_stacks d) definition.ending (λ (r : Defined S A). r.block.lines) t (empty_state d settings decorator w (g o)))
   lines-shown t decorator w o on =
       shown-beside (λ a b. (b ≡ a) × OnLines w a) (λ (r : Defined S A). r.block.lines) t decorator w o on (λ r u k.
       lines-beside g N M Tags (λ w t u e. e) Cut OnOverflow OnOwn OnLines OnPicture OnRow h weak Later (λ w z t u e l. e) w (tt, tt) r.block u.block k)
 
-  pub names-shown : (t : Forest RenderNode) (decorator : S) (w : ℕ) (o : Bool) → OnOverflow o →
-      Both N M (λ a b. b ≡ a)
+  pub names-shown : (t : Forest RenderNode) (decorator : S) (w : ℕ) (o : Bool) → OnOverflow o → Both N M (λ a b. b ≡ a)
       (shown_after (by_stacks d) definition.ending (λ (r : Defined S A). r.names) t (empty_state d settings decorator w o))
       (shown_after (by_stacks d) definition.ending (λ (r : Defined S A). r.names) t (empty_state d settings decorator w (g o)))
   names-shown t decorator w o on = shown-beside (λ a b. b ≡ a) (λ (r : Defined S A). r.names) t decorator w o on (λ r u k. refl)
@@ -95,8 +90,7 @@ module _ {S A : Type 0} (d : Decoration S A) (settings : LayoutSettings) (g : Bo
 -- where what is there with overflow off is there with overflow on, each answer is that
 pub same_answer : {L : Type 0} (f : Bool → Option L) → IfSome (f false) (λ lines. f true ≡ Some lines) → (o : Bool) (lines : L) →
     f o ≡ Some lines → IfSome (f false) (λ others. lines ≡ others)
-same_answer f h true lines e =
-    IfSome-weaken (λ others. f true ≡ Some others) (λ others. lines ≡ others) (f false) h (λ others k. same_Some lines others (sym e ∙ k))
+same_answer f h true lines e = IfSome_then (f false) h (λ others k. same_Some lines others (sym e ∙ k))
 same_answer f h false lines e = subst (λ p. IfSome p (λ others. lines ≡ others)) (sym e) refl
 
 module _ {S A : Type 0} (d : Decoration S A) (settings : LayoutSettings) where
@@ -149,8 +143,3 @@ module _ {S A : Type 0} (d : Decoration S A) (settings : LayoutSettings) where
       same_shown (λ a b. b ≡ a) (λ a b k. k) (w == 0) _ _
       (names-shown d settings (λ o. true) (Unit {0}) (Unit {0}) (λ x. x) (λ cut. Unit {0}) (λ o. Unit {0}) (λ v s. Unit {0}) (λ v ls. Unit {0})
       (λ v ws p. Unit {0}) (λ v r. Unit {0}) (refines (List A)) tt (estimated d settings decorator t) decorator w false tt)
-
-  -- trees that are laid out leave the texts that follow, with their annotations, and the decorator as they were
-  pub layout_leaves : (t : Forest RenderNode) (s : Defined S A) →
-      IfSome (run (defined d) t s) (λ r. (r.text ≡ s.text) × (r.decorator ≡ s.decorator))
-  layout_leaves t = layout-returns (by_stacks d) t

@@ -154,8 +154,7 @@ module _ {S A : Type 0} (d : Decoration S A) (settings : LayoutSettings) where
   -- and it visits what the definition visits, with as many open at once
   pub counts-work : {X : Type 0} (r : Result X Error) (t measured : Forest RenderNode) (decorator : S) (w : ℕ) (o : Bool)
       (s : Worked S A) (old other new : Meter) → measured ≡ with_needed_sizes (estimated d settings decorator t) → s ≡ empty_worked decorator w o →
-      other.probes ≡ old.probes →
-      CountsNodes r (layout_of (by_tags d tabled)) measured s other new →
+      other.probes ≡ old.probes → CountsNodes r (layout_of (by_tags d tabled)) measured s other new →
       CountsNodes r (defined d) (estimated d settings decorator t) (empty_state d settings decorator w o) old new
   counts-work r t measured decorator w o s old other new m e probes c =
       let u = estimated d settings decorator t in

@@ -3,7 +3,7 @@ use Rattle.std.proofs.Common.{◌≡◌, ◌≢◌, ℕ, ◌<◌, Bool, true, fa
 use Rattle.std.proofs.Common.{IfErr, IfSome, IsSome, option_map, refl, sym, ap, ◌∙◌, subst, arith}
 use Rattle.std.proofs.lemmas.Option.{same_Some}
 use Rattle.html_render_values.specs.declared.errors.Error.{Error}
-use Rattle.html_render_values.specs.declared.errors.Error.TheVariants.{TooNarrow, Fail, OutOfMemory}
+use Rattle.html_render_values.specs.declared.errors.Error.TheVariants.{TooNarrow}
 use Rattle.html_render_values.specs.Outcome.{Refuses}
 use Rattle.html_render_values.specs.Forest.{Forest}
 use Rattle.html_render_parts.specs.Decoration.{Decoration}
@@ -13,9 +13,8 @@ use Rattle.html_render_layout.specs.declared.settings.LayoutSettings.{LayoutSett
 use Rattle.html_render_layout.specs.Kept.{visited_nodes, KeepsTexts}
 use Rattle.html_render_layout.specs.Layout.{layout_lines, mark_names, unannotated}
 use Rattle.html_render_layout.specs.Promises.{AreLines, Lines, HasLines, LeavesTexts}
-use Rattle.html_render_layout.specs.Settings.{default_settings}
-use Rattle.html_render_layout.specs.laws.LayoutLaws.{layout_within, layout_succeeds, layout_leaves, layout_same, names_same, same_answer}
-use Rattle.html_render_layout.specs.laws.LayoutVisible.{layout_keeps_texts}
+use Rattle.html_render_layout.specs.laws.LayoutLaws.{layout_within, layout_succeeds, layout_same, names_same, same_answer}
+use Rattle.html_render_layout.specs.laws.LayoutVisible.{layout_keeps_texts, layout_leaves}
 
 module _ {S A : Type 0} (d : Decoration S A) (settings : LayoutSettings) (tree : Forest RenderNode) (decorator : S) (width : ℕ)
     (overflow : Bool) where
@@ -81,9 +80,8 @@ module _ {S A : Type 0} (d : Decoration S A) (settings : LayoutSettings) (tree :
 pub refuses-mapped : {L M : Type 0} (f : L → M) (e : Error) (o : Option L) → Refuses e (option_map f o) → Refuses e o
 refuses-mapped f TooNarrow None h = refl
 refuses-mapped f TooNarrow (Some ls) h = cc
-refuses-mapped f OutOfMemory o h = h
-refuses-mapped f Fail o h = h
+refuses-mapped f e o h = h
 
 -- every tree leaves the texts that follow
 pub texts_left : {S A : Type 0} (d : Decoration S A) → LeavesTexts d
-texts_left d t s = layout_leaves d default_settings t s
+texts_left d t s = layout_leaves d t s

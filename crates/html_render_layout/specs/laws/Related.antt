@@ -315,8 +315,7 @@ module _ {S A K T B L U C I : Type 0} (m : Means S A K T B) (pull : L → U → 
   visit-related : (i : I) (w : K × L) (a : Visit State) (b : Visit OtherState) (f : Places State → State → Option State)
       (g : Places OtherState → OtherState → Option OtherState) → Related i w a b →
       ((x : Places State) (y : Places OtherState) → PlacesRelated x y → (j : I) (q : State) (u : Different) → Holds j q u →
-      Both N M (Reached j (stacks_of q u)) (f x q) (g y (with_other q u))) →
-      Both N M (Reached i w) (through_visit a f) (through_visit b g)
+      Both N M (Reached j (stacks_of q u)) (f x q) (g y (with_other q u))) → Both N M (Reached i w) (through_visit a f) (through_visit b g)
   visit-related i w (Leaf a) (Leaf b) f g k below = k
   visit-related i w (Leaf a) (Inner b y z) f g k below =
       subst (λ x. Both N M (Reached i w) x (option_and_then (λ q. option_and_then z (g y q)) b)) (sym k.0)
@@ -343,8 +342,7 @@ module _ {S A K T B L U C I : Type 0} (m : Means S A K T B) (pull : L → U → 
   )
 
   followed-related : (i j : I) (w : K × L) (a : Visit State) (b : Visit OtherState) (f : State → Option State)
-      (g : OtherState → Option OtherState) → Related j w a b →
-      ((r : State) (u : Different) → Later w (stacks_of r u) → Holds j r u →
+      (g : OtherState → Option OtherState) → Related j w a b → ((r : State) (u : Different) → Later w (stacks_of r u) → Holds j r u →
       Both N M (Reached i (stacks_of r u)) (f r) (g (with_other r u))) → Related i w (followed a f) (followed b g)
   followed-related i j w (Leaf a) (Leaf b) f g k next = then_reached i j w a b f g k next
   followed-related i j w (Leaf a) (Inner b y z) f g k next = (ap (option_and_then f) k.0, k.1)
@@ -377,12 +375,7 @@ module _ {S A K T B L U C I : Type 0} (m : Means S A K T B) (pull : L → U → 
       since-related i (stacks_of s v) q t.other (followed (f q) a) (followed (g e) b) t.later
       (subst (λ x. Related i (stacks_of q t.other) (followed (f q) a) (followed (g x) b)) (sym t.is)
       (followed-related i c.0 (stacks_of q t.other) (f q) (g (with_other q t.other)) a b (same c.0 q t.other t.holds) (λ r u l d. c.1.1 r u l d)))
-  placed-related f g same Bare (Skipped e) i s v k c = absurd c
-  placed-related f g same Bare (Within b z) i s v k c = absurd c
-  placed-related f g same (Skipped t) Bare i s v k c = absurd c
-  placed-related f g same (Skipped t) (Within b z) i s v k c = absurd c
-  placed-related f g same (Within a x) Bare i s v k c = absurd c
-  placed-related f g same (Within a x) (Skipped e) i s v k c = absurd c
+  placed-related f g same x y i s v k c = absurd c
 
   -- ---- each shape
 
@@ -618,8 +611,7 @@ module _ {S A K T B L U C I : Type 0} (m : Means S A K T B) (pull : L → U → 
 
   module _ (end : DocumentEnd B T) (other_end : DocumentEnd C U) (Cut : Bool → Type 0) (ends : RelatesEnds end other_end N M Cut Tags Blocks) where
     ended-related : (footnotes cut : Bool) (tag : T) (other_tag : U) (i : I) (s : State) (v : Different) → Cut cut →
-        Tags (stacks_of s v) tag other_tag → Holds i s v →
-        Both N M (Reached i (stacks_of s v)) (ended m.decoration end footnotes cut tag s)
+        Tags (stacks_of s v) tag other_tag → Holds i s v → Both N M (Reached i (stacks_of s v)) (ended m.decoration end footnotes cut tag s)
         (ended m.decoration other_end footnotes cut other_tag (with_other s v))
     ended-related footnotes cut tag other_tag i s v c t k =
         let w = stacks_of s v in

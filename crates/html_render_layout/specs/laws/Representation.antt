@@ -1,5 +1,6 @@
 -- THE THEOREM: a layout whose characters carry tags represents the layout by stacks.
 use Rattle.std.proofs.Common.{◌≡◌, ℕ, List, ◌∷◌, [], ◌++◌, Option, Some, None, refl, ap, ◌∙◌, option_map}
+use Rattle.std.proofs.lemmas.Iterator.Adapters.{option_map_id}
 use Rattle.html_render_values.specs.Forest.{Forest}
 use Rattle.html_render_parts.specs.Decoration.{Decoration}
 use Rattle.html_render_lines.specs.Line.{Line}
@@ -89,8 +90,7 @@ module _ {S A K T V : Type 0} (d : Decoration S A) (push : K → T → A → K �
 
   -- the lines, with what is seen of their tags, are those of the definition with what is seen of their stacks
   pub lines-represented : (view : Worked → List (Line V ℕ)) → ((r : Worked) → view r ≡ lines_with (shown r.stacks) r.block.lines) →
-      (t : Forest RenderNode) (i : ℕ) (s : Worked) (v : Stacked) → Represents i s v →
-      shown_after (by_tags d push) machine.ending view t s
+      (t : Forest RenderNode) (i : ℕ) (s : Worked) (v : Stacked) → Represents i s v → shown_after (by_tags d push) machine.ending view t s
       ≡ option_map (lines_with seen) (shown_after (by_stacks d) definition.ending (λ (r : Defined S A). r.block.lines) t (with_other s v))
   lines-represented view is t i s v h =
       mapped (lines_with seen) _ _
@@ -102,10 +102,5 @@ module _ {S A K T V : Type 0} (d : Decoration S A) (push : K → T → A → K �
       shown_after (by_tags d push) machine.ending (λ (r : Worked). r.names) t s
       ≡ shown_after (by_stacks d) definition.ending (λ (r : Defined S A). r.names) t (with_other s v)
   names-represented t i s v h =
-      same _ _ (shown-represented (λ x y. x ≡ y) (λ (r : Worked). r.names) (λ (r : Defined S A). r.names) i (λ r u m. refl) t s v h)
-    where
-      same : {X : Type 0} (x y : Option X) → Both (Unit {0}) ⊥ (λ x y. x ≡ y) x y → x ≡ y
-      same None None h = refl
-      same None (Some y) h = absurd h
-      same (Some x) None h = absurd h
-      same (Some x) (Some y) h = ap Some h
+      mapped (λ names. names) _ _ (shown-represented (λ x y. x ≡ y) (λ (r : Worked). r.names) (λ (r : Defined S A). r.names) i (λ r u m. refl) t s v h)
+      ∙ option_map_id _

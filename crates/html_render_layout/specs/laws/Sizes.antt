@@ -1,5 +1,5 @@
 -- Sizes that are left out: trees without a table are laid out the same without them, as tables alone ask for sizes.
-use Rattle.std.proofs.Common.{◌≡◌, ◌||◌, true, false, ℕ, ◌+◌, length, Option, Some, None, Result, OnOk, option_and_then}
+use Rattle.std.proofs.Common.{◌≡◌, ◌||◌, true, false, ℕ, ◌+◌, max, length, Option, Some, None, Result, OnOk, option_and_then}
 use Rattle.std.proofs.Common.{refl, ap, ◌∙◌, ◌≤◌, subst, arith, length-append}
 use Rattle.std.proofs.lemmas.Bool.{or_parts, true≢false}
 use Rattle.html_render_values.specs.Forest.{Forest, none, node, count, depth}
@@ -10,15 +10,14 @@ use Rattle.html_render_nodes.specs.declared.tree.NodeKind.{NodeKind}
 use Rattle.html_render_nodes.specs.declared.tree.NodeKind.TheVariants.{Superscript, Table}
 use Rattle.html_render_nodes.specs.declared.tree.RenderNode.{RenderNode}
 use Rattle.html_render_nodes.specs.Counts.{CountsNodes}
-use Rattle.html_render_nodes.specs.Pass.{Place, Bare, Skipped, Within, Places, bare, Visit, Leaf, Inner, through_visit, inside, followed}
+use Rattle.html_render_nodes.specs.Pass.{Place, Bare, Skipped, Within, Places, bare, through_visit, inside, followed}
 use Rattle.html_render_nodes.specs.Pass.{placed, run_at, run, nodes_at, open_at}
-use Rattle.html_render_nodes.specs.laws.Visits.{from, from_state, count_from, count_from-same, length-from}
+use Rattle.html_render_nodes.specs.laws.Visits.{from, from_state, count_from, length-from}
 use Rattle.html_render_estimates.specs.Passes.{is_table, has_table, without_size, without_sizes, with_needed_sizes}
 use Rattle.html_render_blocks.specs.Operations.{DocumentEnd}
 use Rattle.html_render_layout.specs.declared.layout.state.LayoutState.{LayoutState}
 use Rattle.html_render_layout.specs.declared.settings.LayoutSettings.{LayoutSettings}
 use Rattle.html_render_layout.specs.Layout.{Means, digits_of, superscript, shape_of, style_steps, perform_all, shape_layout, layout_of, shown_after}
-use Rattle.html_render_layout.specs.laws.Opening.{and_then_same}
 
 -- a node without its size
 abbrev unsized : RenderNode → RenderNode
@@ -38,15 +37,6 @@ depth-same : (t : Forest RenderNode) → depth (without_sizes t) ≡ depth t
 depth-same none = refl
 depth-same (node n children beside) = omega (arith, depth-same children, depth-same beside)
 
-from_state-same : {S : Type 0} (o : Option S) (f h : S → Visit S) → ((x : S) → f x ≡ h x) → from_state o f ≡ from_state o h
-from_state-same None f h e = refl
-from_state-same (Some x) f h e = e x
-
-through_visit-same : {S : Type 0} (v : Visit S) (f h : Places S → S → Option S) → ((places : Places S) (x : S) → f places x ≡ h places x) →
-    through_visit v f ≡ through_visit v h
-through_visit-same (Leaf behind) f h e = refl
-through_visit-same (Inner before places after) f h e = and_then_same before _ _ (λ q. ap (option_and_then after) (e places q))
-
 module _ {S A K T B : Type 0} (m : Means S A K T B) where
   abbrev State : Type 0
   State = LayoutState S K T B
@@ -61,16 +51,14 @@ module _ {S A K T B : Type 0} (m : Means S A K T B) where
 
   node-same : (n : RenderNode) (trees : Forest RenderNode) (s : State) → is_table n.kind ≡ false →
       layout_of m (unsized n) (without_sizes trees) s ≡ layout_of m n trees s
-  node-same n trees s plain =
-      from_state-same (perform_all m s (style_steps m.decoration n.style) s) _ _ (λ q.
-      ap (λ x. followed (shape_layout m x q) (λ r. Some (record r { text = s.text }))) (kind-same q.settings n.kind n.estimate trees plain))
+  node-same n trees s plain = λ i. from_state (perform_all m s (style_steps m.decoration n.style) s) (λ q.
+      followed (shape_layout m (kind-same q.settings n.kind n.estimate trees plain i) q) (λ r. Some (record r { text = s.text })))
 
   placed-same : (p : Place State) (n : RenderNode) (trees : Forest RenderNode) (s : State) → is_table n.kind ≡ false →
       placed p (layout_of m (unsized n) (without_sizes trees)) s ≡ placed p (layout_of m n trees) s
   placed-same Bare n trees s plain = node-same n trees s plain
   placed-same (Skipped t) n trees s plain = refl
-  placed-same (Within before after) n trees s plain =
-      from_state-same before _ _ (λ q. ap (λ v. followed v after) (node-same n trees q plain))
+  placed-same (Within before after) n trees s plain = λ i. from_state before (λ q. followed (node-same n trees q plain i) after)
 
   -- ---- trees without a table
 
@@ -82,9 +70,7 @@ module _ {S A K T B : Type 0} (m : Means S A K T B) where
       ((places : Places State) (q : State) → behind (without_sizes children) places q ≡ behind children places q) →
       through_visit (placed p (layout_of m (unsized n) (without_sizes children)) s) (behind (without_sizes children))
       ≡ through_visit (placed p (layout_of m n children) s) (behind children)
-  behind-same p n children s plain same =
-      ap (λ v. through_visit v (behind (without_sizes children))) (placed-same p n children s plain)
-      ∙ through_visit-same (placed p (layout_of m n children) s) _ _ same
+  behind-same p n children s plain same = λ i. through_visit (placed-same p n children s plain i) (λ places q. same places q i)
 
   run-same : (t : Forest RenderNode) (places : Places State) (number : ℕ) (s : State) → has_table t ≡ false →
       run_at (layout_of m) places number (without_sizes t) s ≡ run_at (layout_of m) places number t s
@@ -92,20 +78,17 @@ module _ {S A K T B : Type 0} (m : Means S A K T B) where
   run-same (node n children beside) places number s plain =
       let front = or_parts (is_table n.kind) (has_table children || has_table beside) plain in
       let rest = or_parts (has_table children) (has_table beside) front.1 in
-      ap (option_and_then (λ q. run_at (layout_of m) places (number + 1) (without_sizes beside) q))
-      (behind-same (places number s) n children s front.0 (λ below q. run-same children below 0 q rest.0))
-      ∙ and_then_same (through_visit (placed (places number s) (layout_of m n children) s) (behind children)) _ _
-      (λ q. run-same beside places (number + 1) q rest.1)
+      λ i. option_and_then (λ q. run-same beside places (number + 1) q rest.1 i)
+      (behind-same (places number s) n children s front.0 (λ below q. run-same children below 0 q rest.0) i)
 
   -- what is counted of the nodes below a node, and of those beside it
   below-same : (f g : Places State × State → ℕ) (p : Place State) (n : RenderNode) (children : Forest RenderNode) (s : State) →
       is_table n.kind ≡ false → ((x : Places State × State) → f x ≡ g x) →
       count_from f (inside (placed p (layout_of m (unsized n) (without_sizes children)) s)) ≡ count_from g (inside (placed p (layout_of m n children) s))
-  below-same f g p n children s plain same =
-      ap (λ v. count_from f (inside v)) (placed-same p n children s plain) ∙ count_from-same f g (inside (placed p (layout_of m n children) s)) same
+  below-same f g p n children s plain same = λ i. count_from (λ x. same x i) (inside (placed-same p n children s plain i))
 
   beside-same : (f g : State → ℕ) (o p : Option State) → ((s : State) → f s ≡ g s) → o ≡ p → count_from f o ≡ count_from g p
-  beside-same f g o p same e = ap (count_from f) e ∙ count_from-same f g p same
+  beside-same f g o p same e = λ i. count_from (λ q. same q i) (e i)
 
   -- how many nodes are visited
   abbrev visits : Places State → ℕ → Forest RenderNode → State → ℕ
@@ -145,20 +128,14 @@ module _ {S A K T B : Type 0} (m : Means S A K T B) where
   opens-same (node n children beside) places number s plain =
       let front = or_parts (is_table n.kind) (has_table children || has_table beside) plain in
       let rest = or_parts (has_table children) (has_table beside) front.1 in
-      omega (
-        arith,
-        below-same (λ x. 1 + open_at (layout_of m) x.0 0 (without_sizes children) x.1) (λ x. 1 + open_at (layout_of m) x.0 0 children x.1)
-            (places number s) n children s front.0 (λ x. ap (λ k. 1 + k) (opens-same children x.0 0 x.1 rest.0)),
-        beside-same (λ q. open_at (layout_of m) places (number + 1) (without_sizes beside) q) (λ q. open_at (layout_of m) places (number + 1) beside q)
-            _ _ (λ q. opens-same beside places (number + 1) q rest.1)
-            (behind-same (places number s) n children s front.0 (λ below q. run-same children below 0 q rest.0)),
-      )
+      λ i. max (count_from (λ x. 1 + opens-same children x.0 0 x.1 rest.0 i) (inside (placed-same (places number s) n children s front.0 i)))
+      (count_from (λ q. opens-same beside places (number + 1) q rest.1 i)
+      (behind-same (places number s) n children s front.0 (λ below q. run-same children below 0 q rest.0) i))
 
   -- ---- all trees, with the sizes that are needed
 
   run-needed : (t : Forest RenderNode) (s : State) → run (layout_of m) (with_needed_sizes t) s ≡ run (layout_of m) t s
-  run-needed t s =
-      if_cases (λ x. run (layout_of m) x s ≡ run (layout_of m) t s) (has_table t) _ _ (λ _. refl) (λ e. run-same t bare 0 s e)
+  run-needed t s = if_cases (λ x. run (layout_of m) x s ≡ run (layout_of m) t s) (has_table t) _ _ (λ _. refl) (λ e. run-same t bare 0 s e)
 
   -- THE LAW: they show the same
   pub shown-needed : {L : Type 0} (end : DocumentEnd B T) (shown : State → L) (t : Forest RenderNode) (s : State) →
@@ -167,8 +144,7 @@ module _ {S A K T B : Type 0} (m : Means S A K T B) where
 
   -- and as many nodes are visited, with as many open at once
   pub counts-needed : {X E : Type 0} (r : Result X E) (t : Forest RenderNode) (s : State) (old new : Meter) →
-      CountsNodes r (layout_of m) (with_needed_sizes t) s old new →
-      CountsNodes r (layout_of m) t s old new
+      CountsNodes r (layout_of m) (with_needed_sizes t) s old new → CountsNodes r (layout_of m) t s old new
   counts-needed r t s old new =
       if_cases (λ u. CountsNodes r (layout_of m) u s old new → CountsNodes r (layout_of m) t s old new) (has_table t) _ _ (λ _ c. c) (λ e c. record {
         entered = subst (λ n. OnOk r (new.entered ≡ n)) (visits-same t bare 0 s e) c.entered;

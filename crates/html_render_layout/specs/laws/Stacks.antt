@@ -103,8 +103,7 @@ pointwise-push {A} eq (w ∷ xs) (z ∷ ys) x y e =
 
 -- two stacks are equal where the annotations on top are, and the stacks below
 pub pointwise-tops : {A : Type 0} (eq : A → A → Bool) (stacks : List (List A)) (i j : ℕ) (p q : Pushed A) →
-    IsStack stacks i p → IsStack stacks j q →
-    pointwise eq (stack_at stacks i) (stack_at stacks j)
+    IsStack stacks i p → IsStack stacks j q → pointwise eq (stack_at stacks i) (stack_at stacks j)
     ≡ ((p.depth == q.depth) && eq p.annotation q.annotation) && pointwise eq (stack_at stacks p.below) (stack_at stacks q.below)
 pointwise-tops {A} eq stacks i j p q left right = by (p.depth == q.depth) refl
   where

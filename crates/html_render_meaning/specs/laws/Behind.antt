@@ -13,15 +13,11 @@ pub record Meant {T M : Type 0} (s : Setting) (lines : List (Line T M)) (b : Boo
     pub are_lines : AreLines s b before ps own q.waiting
     pub are_all : all_lines q ≡ lines ++ own
 
-pub same_parts : {T M : Type 0} (s : Setting) (lines : List (Line T M)) (b : Bool) (before : List M) (ps qs : List (Part T M)) (q : Page T M) →
-    ps ≡ qs → Meant s lines b before ps q → Meant s lines b before qs q
-same_parts s lines b before ps qs q e m = subst (λ rs. Meant s lines b before rs q) e m
-
 -- a part that stands on the line, and what comes behind it
 pub behind_part : {T M : Type 0} (s : Setting) (lines : List (Line T M)) (b : Bool) (before : List M) (front : List (Part T M)) (p : Part T M)
     (rest : List (Part T M)) (q : Page T M) → Meant s lines b before ((front ++ p ∷ []) ++ rest) q → Meant s lines b before (front ++ p ∷ rest) q
 behind_part s lines b before front p rest q m =
-    same_parts s lines b before ((front ++ p ∷ []) ++ rest) (front ++ p ∷ rest) q (append_assoc front (p ∷ []) rest) m
+    subst (λ ps. Meant s lines b before ps q) (append_assoc front (p ∷ []) rest) m
 
 -- a line that ends, and what comes behind it
 pub behind_line : {T M : Type 0} (s : Setting) (lines : List (Line T M)) (line : Line T M) (b c : Bool) (before ms : List M)

@@ -17,7 +17,7 @@ use Rattle.html_render_meaning.specs.laws.Words.{columns-with_letter, columns-wi
 use Rattle.html_render_meaning.specs.laws.Laying.{lay, put_character-next}
 use Rattle.html_render_meaning.specs.laws.Standing.{spaced-start}
 use Rattle.html_render_meaning.specs.laws.Placed.{continued-full}
-use Rattle.html_render_meaning.specs.laws.Behind.{Meant, Completes, same_parts, behind_part, behind_line, then_rest, empty-or-not}
+use Rattle.html_render_meaning.specs.laws.Behind.{Meant, Completes, behind_part, behind_line, then_rest, empty-or-not}
 
 -- a word that doesn't pass the width alone, or only since it is a single character
 abbrev pub IsAlone : {T M : Type 0} → Setting → List (Item T M) → Type 0
@@ -76,12 +76,6 @@ module _ {T M : Type 0} (s : Setting) (rest : List (Part T M)) (q : Page T M) wh
   abbrev BeginsWith : List (Line T M) → Bool → List M → List (Part T M) → Option (Character T) → List (Item T M) → Type 0
   BeginsWith lines b before front space word = Meant s lines b before (front ++ Whole space word ∷ rest) q
 
-  same_word : (lines : List (Line T M)) (b : Bool) (before : List M) (front : List (Part T M)) (space : Option (Character T))
-      (v w : List (Item T M)) → v ≡ w → BeginsWith lines b before front space v → BeginsWith lines b before front space w
-  same_word lines b before front space v w e m =
-      same_parts s lines b before (front ++ Whole space v ∷ rest) (front ++ Whole space w ∷ rest) q
-      (ap (λ x. front ++ Whole space x ∷ rest) e) m
-
   -- so has what is left of a word, behind what of it stands on a line alone
   abbrev Begins : List (Item T M) → Type 0
   Begins tail =
@@ -91,15 +85,14 @@ module _ {T M : Type 0} (s : Setting) (rest : List (Part T M)) (q : Page T M) wh
 
   begins-nil : Completes s rest q → Begins []
   begins-nil k lines b before front ms space head st h e =
-      same_word lines b before front space head (head ++ []) (sym (append-nil head))
+      subst (BeginsWith lines b before front space) (sym (append-nil head))
       (behind_part s lines b before front (Whole space head) rest q
       (k lines b before (front ++ Whole space head ∷ []) (line_with_word b [] ms head) (marks_behind_word ms head)
       (stands-alone s b before front ms space head st h) e))
 
   begins-mark : (m : M) (tail : List (Item T M)) → Begins tail → Begins (item.Mark m ∷ tail)
   begins-mark m tail k lines b before front ms space head st h e =
-      same_word lines b before front space ((head ++ item.Mark m ∷ []) ++ tail) (head ++ item.Mark m ∷ tail)
-      (append_assoc head (item.Mark m ∷ []) tail)
+      subst (BeginsWith lines b before front space) (append_assoc head (item.Mark m ∷ []) tail)
       (k lines b before front ms space (head ++ item.Mark m ∷ []) st (alone-mark s head m h)
       (ap (λ p. then_rest s rest (put_items s p tail)) (page-append lines [] b ms head (item.Mark m ∷ [])) ∙ e))
 
@@ -117,15 +110,13 @@ module _ {T M : Type 0} (s : Setting) (rest : List (Part T M)) (q : Page T M) wh
     then_tail o = then_rest s rest (option_and_then (λ (p : Page T M). put_items s p tail) o)
 
     never : put_character s (page_of lines line b waiting) c ≡ None → ⊥
-    never n =
-        no-page (λ (p : Page T M). lay s p rest) _ q (ap (option_and_then (λ (p : Page T M). put_items s p tail)) n) e
+    never n = no-page (λ (p : Page T M). lay s p rest) _ q (ap (option_and_then (λ (p : Page T M). put_items s p tail)) n) e
 
     -- it stands there too
     here : put_character s (page_of lines line b waiting) c ≡ Some (page_of lines (with_letter b line waiting c) b []) →
         IsAlone s (head ++ item.Character c ∷ []) → BeginsWith lines b before front space (head ++ item.Character c ∷ tail)
     here f a =
-        same_word lines b before front space ((head ++ item.Character c ∷ []) ++ tail) (head ++ item.Character c ∷ tail)
-        (append_assoc head (item.Character c ∷ []) tail)
+        subst (BeginsWith lines b before front space) (append_assoc head (item.Character c ∷ []) tail)
         (k lines b before front ms space (head ++ item.Character c ∷ []) st a
         (ap (λ p. then_rest s rest (put_items s p tail)) (page-append lines [] b ms head (item.Character c ∷ [])) ∙ sym (ap then_tail f) ∙ e))
 

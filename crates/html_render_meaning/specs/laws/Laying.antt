@@ -94,13 +94,11 @@ pub lay-parts : {T M : Type 0} (s : Setting) (page : Page T M) (space : Option (
     place s page space ps ≡ lay s page (parts space ps)
 lay-parts s page space [] = refl
 lay-parts {T} {M} s page space (Word k word ∷ ps) =
-    then_same (λ (p : Page T M). place s p None ps) (λ (p : Page T M). lay s p (parts None ps)) (put_word s page space word)
-    (λ p. lay-parts s p None ps)
+    then_same _ _ (put_word s page space word) (λ p. lay-parts s p None ps)
 lay-parts s page space (Gap c ∷ ps) = lay-parts s page (option_or space (Some c)) ps
 lay-parts s page space (Cut ∷ ps) = lay-parts s page space ps
 lay-parts {T} {M} s page space (Single k c ∷ ps) =
-    then_same (λ (p : Page T M). place s p None ps) (λ (p : Page T M). lay s p (parts None ps))
-    (put_single s (page_for_single s page space k) k c) (λ p. lay-parts s p None ps)
+    then_same _ _ (put_single s (page_for_single s page space k) k c) (λ p. lay-parts s p None ps)
     ∙ sym (lay-single s (page_for_single s page space k) k c (parts None ps))
     ∙ sym (lay-between s page space k (with_single k c (parts None ps)))
 lay-parts s page space (Loose m ∷ ps) = lay-parts s (with_waiting_mark page m) space ps

@@ -35,8 +35,7 @@ put_word-full s lines line b ms space word e h =
 put_word-cut : {T M : Type 0} (s : Setting) (lines : List (Line T M)) (waiting : List M) (line : Line T M) (b : Bool) (ms : List M)
     (space : Option (Character T)) (front : List (Item T M)) (c : Character T) (back : List (Item T M)) →
     put_word s (page_of lines [] b waiting) space front ≡ Some (page_of lines line b ms) → IsNotEmpty line →
-    s.width < columns (with_letter b line ms c) →
-    put_word s (page_of lines [] b waiting) space (front ++ item.Character c ∷ back)
+    s.width < columns (with_letter b line ms c) → put_word s (page_of lines [] b waiting) space (front ++ item.Character c ∷ back)
     ≡ put_word s (page_of (lines ++ line ∷ []) [] true ms) None (item.Character c ∷ back)
 put_word-cut {T} {M} s lines waiting line b ms space front c back h e f =
     let start : Page T M = page_of lines [] b waiting in
@@ -58,9 +57,7 @@ pub lay-letters : {T M : Type 0} (s : Setting) (page : Page T M) (cs : List (Cha
 lay-letters s page [] rest = refl
 lay-letters {T} {M} s page (c ∷ cs) rest =
     ap (option_and_then (λ (p : Page T M). lay s p (map letter cs ++ rest))) (put_letter s page c)
-    ∙ then_same (λ (p : Page T M). lay s p (map letter cs ++ rest))
-    (λ (p : Page T M). option_and_then (λ (q : Page T M). lay s q rest) (put_items s p (map (λ d. item.Character d) cs))) (put_character s page c)
-    (λ p. lay-letters s p cs rest)
+    ∙ then_same _ _ (put_character s page c) (λ p. lay-letters s p cs rest)
     ∙ sym (then_assoc (λ (p : Page T M). put_items s p (map (λ d. item.Character d) cs)) (λ (q : Page T M). lay s q rest) (put_character s page c))
 
 pub lay-soft : {T M : Type 0} (s : Setting) (page : Page T M) (cs : List (Character T)) (rest : List (Part T M)) →
@@ -134,8 +131,7 @@ of_page {T} {M} (Some page) ls left e =
 
 -- lines that are the paragraph's are those that are placed
 pub paragraph_placed : {T M : Type 0} (s : Setting) (marks : List M) (xs : List (Item T M)) (ls : List (Line T M)) (left : List M) →
-    IsParagraph s marks xs ls left →
-    (page : Page T M) × (paragraph s marks xs ≡ Some page) × (all_lines page ≡ ls) × (page.waiting ≡ left)
+    IsParagraph s marks xs ls left → (page : Page T M) × (paragraph s marks xs ≡ Some page) × (all_lines page ≡ ls) × (page.waiting ≡ left)
 paragraph_placed s marks xs ls left h =
     of_page (paragraph s marks xs) ls left (ap (option_map shown) (lay-parts s (blank_page marks) None (pieces xs)) ∙ laid h [])
 

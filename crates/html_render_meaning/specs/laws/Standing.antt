@@ -84,8 +84,7 @@ space-full {T} {M} s lines line b ms c h =
     ∙ if_false _ _ _ (lt-leb (columns (spaced b line (Some c)) + 0) s.width (omega (arith, h)))
 
 pub soft-fitting : {T M : Type 0} (s : Setting) (lines : List (Line T M)) (line : Line T M) (b : Bool) (ms : List M) (c : Character T) →
-    columns (with_letter b line ms c) ≤ s.width →
-    put_fitting s (page_of lines line b ms) c ≡ page_of lines (with_letter b line ms c) b []
+    columns (with_letter b line ms c) ≤ s.width → put_fitting s (page_of lines line b ms) c ≡ page_of lines (with_letter b line ms c) b []
 soft-fitting s lines line b ms c h =
     let e = columns-with_letter b line ms c in
     if_true _ _ _ (le-leb (columns line + width_of c.code) s.width (omega (arith, e, h)))

@@ -104,8 +104,7 @@ overflowing x false false = refl
 
 -- a single character on an empty line
 pub put_items-alone : {T M : Type 0} (s : Setting) (lines : List (Line T M)) (b : Bool) (ms : List M) (word : List (Item T M)) →
-    s.overflow ≡ true → character_count word ≡ 1 →
-    put_items s (page_of lines [] b ms) word ≡ Some (page_with_word lines [] b ms word)
+    s.overflow ≡ true → character_count word ≡ 1 → put_items s (page_of lines [] b ms) word ≡ Some (page_with_word lines [] b ms word)
 put_items-alone s lines b ms [] o h = absurd (omega (arith, h))
 put_items-alone {T} {M} s lines b ms (item.Character c ∷ word) o h =
     let put : put_character s (page_of lines [] b ms) c ≡ Some (page_of lines (with_letter b [] ms c) b []) =

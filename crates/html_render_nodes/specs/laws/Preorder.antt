@@ -44,6 +44,4 @@ pub record IsForest {K : Type 0} (es : List (Entry K)) (t : Forest K) : Type 0 w
   pub kept : flatten (forest_of es) ≡ es
 
 pub IsForest-flatten : {K : Type 0} (es : List (Entry K)) (t : Forest K) → es ≡ flatten t → IsForest es t
-IsForest-flatten es t e =
-    let v = ap forest_of e ∙ forest_of-flatten t in
-    record { is = v; kept = ap flatten v ∙ sym e }
+IsForest-flatten es t e = let v = ap forest_of e ∙ forest_of-flatten t in record { is = v; kept = ap flatten v ∙ sym e }

@@ -24,11 +24,6 @@ count_from-at_most : {S : Type 0} (count : S → ℕ) (n : ℕ) (o : Option S) �
 count_from-at_most count n None h = omega arith
 count_from-at_most count n (Some s) h = h s
 
--- the same is counted
-pub count_from-same : {S : Type 0} (f g : S → ℕ) (o : Option S) → ((s : S) → f s ≡ g s) → count_from f o ≡ count_from g o
-count_from-same f g None h = refl
-count_from-same f g (Some s) h = h s
-
 module _ {K S : Type 0} (visits : Visits K S) where
   -- each node is visited once at most
   nodes-at_most : (t : Forest K) (places : Places S) (number : ℕ) (s : S) → length (nodes_at true visits places number t s) ≤ count t

@@ -2,9 +2,9 @@
 
 ghost use Rattle.std.specs.Prelude.{◌≡◌, Some, replicate};
 ghost use Rattle.std.specs.Fmt.{WritesOnOk};
-ghost use Rattle.html_render_nodes.specs.Dump.{dump, kind_name, line};
+ghost use Rattle.html_render_nodes.specs.Dump.{dump, line};
 
-use super::{Emphasis, NodeKind, RenderTree};
+use super::RenderTree;
 use std::fmt;
 
 /// Writes a name behind `depth` spaces, and a line feed.
@@ -24,41 +24,6 @@ fn write_indent<W: fmt::Write>(f: &mut fmt::Formatter<W>, depth: usize) -> fmt::
         f.write_str(" ")?;
     }
     Ok(())
-}
-
-impl NodeKind {
-    /// What a dump calls a node of this kind.
-    fn name(&self) -> &'static str
-        ensures { result.now ≡ kind_name self.now }
-    {
-        match self {
-            NodeKind::Text(_) => "Text",
-            NodeKind::Container => "Container",
-            NodeKind::Break => "Break",
-            NodeKind::Block => "Block",
-            NodeKind::Div => "Div",
-            NodeKind::Emphasis(Emphasis::Em) => "Em",
-            NodeKind::Emphasis(Emphasis::Strong) => "Strong",
-            NodeKind::Emphasis(Emphasis::Code) => "Code",
-            NodeKind::Header(_) => "Header",
-            NodeKind::BlockQuote => "BlockQuote",
-            NodeKind::Ul => "Ul",
-            NodeKind::Ol(_) => "Ol",
-            NodeKind::ListItem => "ListItem",
-            NodeKind::Dl => "Dl",
-            NodeKind::Dt => "Dt",
-            NodeKind::Dd => "Dd",
-            NodeKind::Strikeout => "Strikeout",
-            NodeKind::Superscript => "Sup",
-            NodeKind::Link(_) => "Link",
-            NodeKind::Image(_) => "Img",
-            NodeKind::Svg(_) => "Svg",
-            NodeKind::FragmentStart(_) => "FragStart",
-            NodeKind::Table(_) => "Table",
-            NodeKind::TableRow => "TableRow",
-            NodeKind::TableCell => "TableCell",
-        }
-    }
 }
 
 /// A render tree is displayed as a line for each node in pre-order: its depth in spaces, the name of its kind, and a line

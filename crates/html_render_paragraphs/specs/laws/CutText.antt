@@ -59,8 +59,7 @@ record Fills {T M : Type 0} (w : ℕ) (all : Line T M) (page : Page T M) : Type 
   pub first : page.line ≡ [] → page.lines ≡ []
   pub none_waits : page.waiting ≡ []
 
-one_tag : {T : Type 0} (M : Type 0) (b : Bool) (tag : T) (c : ℕ) (ms : List M) → ms ≡ [] →
-    ◌≡◌ {A = Line T M} (element.Character c tag ∷ [])
+one_tag : {T : Type 0} (M : Type 0) (b : Bool) (tag : T) (c : ℕ) (ms : List M) → ms ≡ [] → ◌≡◌ {A = Line T M} (element.Character c tag ∷ [])
     (map (λ (m : M). element.Mark m) ms ++ element.Character c (tag_on b (character_of (kept_style tag) c)) ∷ [])
 one_tag M true tag c ms none = rw none refl
 one_tag M false tag c ms none = rw none refl

@@ -49,8 +49,7 @@ module _ {T U M : Type 0} (f : T → U) where
     setting = st.setting;
     page = page_with st.page;
     pending = option_map (character_with f) st.pending;
-    word =
-        map item_with st.word;
+    word = map item_with st.word;
     open_word = st.open_word;
   }
 

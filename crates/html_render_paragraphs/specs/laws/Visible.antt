@@ -279,5 +279,4 @@ page_keeps s marks xs = IfSome_then (paragraph s marks xs) (place_adds s (blank_
 -- no visible character is lost, none is added, and they keep their order
 pub paragraph_keeps : {T M : Type 0} (s : Setting) (marks : List M) (xs : List (Item T M)) →
     IfSome (paragraph s marks xs) (λ p. visible_in_lines (all_lines p) ≡ visible_in_items xs)
-paragraph_keeps s marks xs =
-    IfSome_then (paragraph s marks xs) (page_keeps s marks xs) (λ p h. all_lines_seen p ∙ h)
+paragraph_keeps s marks xs = IfSome_then (paragraph s marks xs) (page_keeps s marks xs) (λ p h. all_lines_seen p ∙ h)

@@ -71,9 +71,7 @@ pub put_items-append : {T M : Type 0} (s : Setting) (page : Page T M) (v w : Lis
     put_items s page (v ++ w) ≡ option_and_then (λ p. put_items s p w) (put_items s page v)
 put_items-append s page [] w = refl
 put_items-append {T} {M} s page (item.Character c ∷ v) w =
-    then_same (λ (p : Page T M). put_items s p (v ++ w))
-    (λ (p : Page T M). option_and_then (λ (q : Page T M). put_items s q w) (put_items s p v)) (put_character s page c)
-    (λ p. put_items-append s p v w)
+    then_same _ _ (put_character s page c) (λ p. put_items-append s p v w)
     ∙ sym (then_assoc (λ (p : Page T M). put_items s p v) (λ (q : Page T M). put_items s q w) (put_character s page c))
 put_items-append s page (item.Mark m ∷ v) w = put_items-append s (with_waiting_mark page m) v w
 
@@ -100,8 +98,7 @@ place-word_mark : {T M : Type 0} (s : Setting) (page : Page T M) (pending : Opti
 place-word_mark {T} {M} s page pending k w m ps =
     ap (λ o. option_and_then (λ (p : Page T M). place s p None ps) o) (put_word-push_mark s page pending w m)
     ∙ map_and_then (λ (p : Page T M). with_waiting_mark p m) (λ (p : Page T M). place s p None ps) (put_word s page pending w)
-    ∙ then_same (λ (p : Page T M). place s (with_waiting_mark p m) None ps) (λ (p : Page T M). place s p None (with_mark m ps))
-    (put_word s page pending w) (λ p. place-mark s p None m ps)
+    ∙ then_same _ _ (put_word s page pending w) (λ p. place-mark s p None m ps)
 
 -- ---- the open word before the pieces
 
@@ -129,8 +126,7 @@ end_resumes : {T M : Type 0} (g : State T M → Option (Page T M)) (ps : List (P
     option_and_then g (end_word (state s page pending w (Some k))) ≡ place s page pending (Word k w ∷ ps)
 end_resumes {T} {M} g ps s e page pending w k =
     map_and_then (λ (p : Page T M). state s p None [] None) g (put_word s page pending w)
-    ∙ then_same (λ (p : Page T M). g (state s p None [] None)) (λ (p : Page T M). place s p None ps) (put_word s page pending w)
-    (λ p. e p None [])
+    ∙ then_same _ _ (put_word s page pending w) (λ p. e p None [])
 
 finish_resumes : {T M : Type 0} (s : Setting) (page : Page T M) (pending : Option (Character T)) (w : List (Item T M)) (k : Option Bool) →
     finished (state s page pending w k) ≡ resume (state s page pending w k) []
@@ -252,8 +248,7 @@ pub after-append : {T M : Type 0} (st : State T M) (xs ys : List (Item T M)) →
     after st (xs ++ ys) ≡ option_and_then (λ t. after t ys) (after st xs)
 after-append st [] ys = refl
 after-append {T} {M} st (x ∷ xs) ys =
-    then_same (λ (t : State T M). after t (xs ++ ys)) (λ (t : State T M). option_and_then (λ (u : State T M). after u ys) (after t xs))
-    (step st x) (λ t. after-append t xs ys)
+    then_same _ _ (step st x) (λ t. after-append t xs ys)
     ∙ sym (then_assoc (λ (t : State T M). after t xs) (λ (t : State T M). after t ys) (step st x))
 
 pub ruleset fed = (finished-after)

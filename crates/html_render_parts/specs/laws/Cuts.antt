@@ -43,8 +43,7 @@ sum-le (a ∷ us) (b ∷ vs) e h =
     omega (arith, here, sum-le us vs (omega arith) (λ k less. h (suc k) (omega arith)), sum_by-cons (λ z. z))
 
 -- two lists of one sum that are in order at each place are equal
-pub same-from_le : (xs ys : List ℕ) → length xs ≡ length ys → sum xs ≡ sum ys → ((k : ℕ) → k < length xs → get_or ys k 0 ≤ get_or xs k 0) →
-    xs ≡ ys
+pub same-from_le : (xs ys : List ℕ) → length xs ≡ length ys → sum xs ≡ sum ys → ((k : ℕ) → k < length xs → get_or ys k 0 ≤ get_or xs k 0) → xs ≡ ys
 same-from_le [] [] e s h = refl
 same-from_le (x ∷ xs) (y ∷ ys) e s h =
     let here : y ≤ x = h 0 (omega arith) in
@@ -56,8 +55,7 @@ same-from_le (x ∷ xs) (y ∷ ys) e s h =
 same-from_le xs ys e s h = cc
 
 -- some place of xs is below that of ys, or none is
-pub find-below : (xs ys : List ℕ) (n : ℕ) →
-    ((k : ℕ) × (k < n) × (get_or xs k 0 < get_or ys k 0)) ⊎ ((k : ℕ) → k < n → get_or ys k 0 ≤ get_or xs k 0)
+pub find-below : (xs ys : List ℕ) (n : ℕ) → ((k : ℕ) × (k < n) × (get_or xs k 0 < get_or ys k 0)) ⊎ ((k : ℕ) → k < n → get_or ys k 0 ≤ get_or xs k 0)
 find-below xs ys zero = inr (λ k h. absurd (omega arith))
 find-below xs ys (suc n) = elim (find-below xs ys n) [
   | inl f ↦ inl (f.0, omega arith, f.2)
@@ -89,8 +87,7 @@ fairest-only ms ss w xs ys p q =
       ]
     ]
   where
-    same : (us vs : List ℕ) → IsFairestCut ms ss w us → IsFairestCut ms ss w vs →
-        ((k : ℕ) → k < length ms → get_or vs k 0 ≤ get_or us k 0) → us ≡ vs
+    same : (us vs : List ℕ) → IsFairestCut ms ss w us → IsFairestCut ms ss w vs → ((k : ℕ) → k < length ms → get_or vs k 0 ≤ get_or us k 0) → us ≡ vs
     same [] [] p q le = refl
     same [] (b ∷ vs) p q le = let a = p.is_cut.lengths in let b = q.is_cut.lengths in absurd (omega arith)
     same (a ∷ us) vs p q le =
@@ -108,8 +105,7 @@ few-units (m ∷ ms) ss w ws fits cut few =
     omega (arith, t, minimums-fit (m ∷ ms) ss w fits)
 
 -- columns that are each at least their part of m have it together, with the separators between them
-pub neighbours : (xs : List ℕ) (m : ℕ) → 0 < length xs → ((k : ℕ) → k < length xs → m / length xs ≤ get_or xs k 0) →
-    m ≤ sum xs + (length xs - 1)
+pub neighbours : (xs : List ℕ) (m : ℕ) → 0 < length xs → ((k : ℕ) → k < length xs → m / length xs ≤ get_or xs k 0) → m ≤ sum xs + (length xs - 1)
 neighbours xs m pos h = let t = at-least xs (m / length xs) h in omega arith
   where
     at-least : (ys : List ℕ) (q : ℕ) → ((k : ℕ) → k < length ys → q ≤ get_or ys k 0) → length ys * q ≤ sum ys

@@ -1,7 +1,7 @@
 -- What cells need fits: no column needs more than its size, the columns side by side keep to their width, and each cell has its
 -- least width over its columns.
-use Rattle.std.proofs.Common.{◌≡◌, ℕ, ◌+◌, ◌-◌, ◌/◌, Bool, true, false, ◌≤◌, ◌<◌, List, [], ◌∷◌, length, sum, map, cond, sym, subst, arith, IfSome}
-use Rattle.std.proofs.Common.{All, Contains, ap, ◌∙◌, get_or, ◌&&◌, leb, nat_lt, refl, Some, None}
+use Rattle.std.proofs.Common.{◌≡◌, ℕ, ◌+◌, ◌-◌, ◌/◌, true, ◌≤◌, ◌<◌, List, [], ◌∷◌, length, sum, map, cond, sym, subst, arith, IfSome}
+use Rattle.std.proofs.Common.{All, Contains, ap, ◌∙◌, get_or, ◌&&◌, leb, nat_lt}
 use Rattle.std.proofs.lemmas.Bool.{and_from, le-leb, lt-ltb}
 use Rattle.std.proofs.lemmas.List.{get_or-map, length-map}
 use Rattle.std.proofs.lemmas.List.Elements.{All-nil, All-cons, All-contains, All-contains_itself, All-weaker}

@@ -18,8 +18,7 @@ and_true : (a b : Bool) → (a && b) ≡ true → b ≡ true
 and_true true b e = e
 and_true false b e = cc
 
-pub shares_fit : (w : ℕ) (needs : List ColumnNeed) → stand_side_by_side w needs ≡ true →
-    CutFits (least_widths needs) (shares w needs) w
+pub shares_fit : (w : ℕ) (needs : List ColumnNeed) → stand_side_by_side w needs ≡ true → CutFits (least_widths needs) (shares w needs) w
 shares_fit w needs stand =
     let same : length (least_widths needs) ≡ length needs = length-map needs (λ n. n.least) in
     let room = leb-true (sum (least_widths needs) + (length needs - 1)) w
@@ -42,8 +41,7 @@ pub of_widths : (w : ℕ) (needs : List ColumnNeed) (P : List ℕ → Type 0) �
     IfSome (widths_across w needs) P
 of_widths w needs P f = by (stand_side_by_side w needs) refl
   where
-    by : (b : Bool) → stand_side_by_side w needs ≡ b →
-        IfSome (cond b (Some (cut_by_units (least_widths needs) (shares w needs) w)) None) P
+    by : (b : Bool) → stand_side_by_side w needs ≡ b → IfSome (cond b (Some (cut_by_units (least_widths needs) (shares w needs) w)) None) P
     by true e =
         let fits = shares_fit w needs e in
         f (cut_by_units (least_widths needs) (shares w needs) w) fits
@@ -59,13 +57,10 @@ div-both a b (suc t) =
     (le-div_iff_mul-le {k = suc t} {x = a / suc t + b / suc t} {y = a + b} (omega arith)).1
     (omega (arith, add-mul (a / suc t) (b / suc t) (suc t), div-mul-le_self a (suc t), div-mul-le_self b (suc t)))
 
-share-most : (w t : ℕ) (n : ColumnNeed) → share w t n ≤ n.least + n.size * w / t
-share-most w t n = omega arith
-
 shares-most : (w t : ℕ) (needs : List ColumnNeed) → sum (map (share w t) needs) ≤ sum (least_widths needs) + sum_by (λ m. m.size) needs * w / t
 shares-most w t [] = omega arith
 shares-most w t (n ∷ ns) =
-    let one = share-most w t n in
+    let one : share w t n ≤ n.least + n.size * w / t = omega arith in
     let rest = shares-most w t ns in
     let both = div-both (n.size * w) (sum_by (λ m. m.size) ns * w) t in
     omega (
@@ -86,14 +81,12 @@ shares_keep w needs =
     omega (arith, most, whole)
 
 -- so a cut of them takes few units
-pub few_units_across : (w : ℕ) (needs : List ColumnNeed) →
-    IfSome (widths_across w needs) (λ ws. sum (shares w needs) - sum ws ≤ w)
+pub few_units_across : (w : ℕ) (needs : List ColumnNeed) → IfSome (widths_across w needs) (λ ws. sum (shares w needs) - sum ws ≤ w)
 few_units_across w needs = of_widths w needs (λ ws. sum (shares w needs) - sum ws ≤ w)
     (λ ws fits cut. few-units (least_widths needs) (shares w needs) w ws fits cut (shares_keep w needs))
 
 -- where no column needs more at least than its size, a share is no more than the size: it is nothing where that is
-pub share_is : (w t : ℕ) (n : ColumnNeed) → n.least ≤ n.size →
-    share w t n ≡ cond (n.size == 0) 0 (min n.size (max (n.size * w / t) n.least))
+pub share_is : (w t : ℕ) (n : ColumnNeed) → n.least ≤ n.size → share w t n ≡ cond (n.size == 0) 0 (min n.size (max (n.size * w / t) n.least))
 share_is w t n h = by (n.size == 0) refl
   where
     by : (b : Bool) → (n.size == 0) ≡ b → share w t n ≡ cond b 0 (min n.size (max (n.size * w / t) n.least))

@@ -61,8 +61,7 @@ unit-taken ms ss ws i h inside some best =
     }
 
 -- above the minimums' sum, the best column has a unit to take
-pub best-has : (ms ss ws : List ℕ) (i : ℕ) → IsFairSoFar ms ss ws → i < length ws → IsBest ms ws i → sum ms < sum ws →
-    get_or ms i 0 < get_or ws i 0
+pub best-has : (ms ss ws : List ℕ) (i : ℕ) → IsFairSoFar ms ss ws → i < length ws → IsBest ms ws i → sum ms < sum ws → get_or ms i 0 < get_or ws i 0
 best-has ms ss ws i h inside best more = elim (cases_lt (get_or ms i 0) (get_or ws i 0)) [
   | inl less ↦ less
   | inr le ↦ absurd (

@@ -1,7 +1,7 @@
 //! Whether a list of widths is the cut that `column_widths` answers, in a few passes and without memory.
 
 ghost use Rattle.std.specs.Prelude.{◌≡◌, ◌≢◌, ℕ, ◌+◌, ◌-◌, ◌*◌, ◌^◌, ◌<◌, ◌≤◌, ◌↔◌, ◌⊎◌, length, min, sum, slice_index, IsTrue, IfSome, IfNone};
-ghost use Rattle.html_render_parts.specs.Cuts.{ranges, capped_sum, CutFits, IsAtLevel, IsLowered, IsLevel, IsLevelForm};
+ghost use Rattle.html_render_parts.specs.Cuts.{ranges, capped_sum, CutFits, slack, IsLowered, IsLevel, IsLevelForm};
 ghost use Rattle.html_render_parts.specs.CutSteps.{AreColumns, IsFull, LoweredBefore, LowersFirst};
 
 use super::cut::ColumnCut;
@@ -133,12 +133,12 @@ fn next_lowered(
 ) -> Option<usize>
     requires columns { AreColumns minimums.now shares.now }
     requires widths { length widths.now ≡ length minimums.now }
-    ensures found { IfSome result (λ i. (i < length minimums.now) × IsAtLevel minimums.now shares.now level i
+    ensures found { IfSome result (λ i. (i < length minimums.now) × (level ≤ slack minimums.now shares.now i)
         × IsFull minimums.now shares.now widths.now level i) }
-    ensures first { IfSome result (λ i. (k : ℕ) → k < length minimums.now → k ≢ i → IsAtLevel minimums.now shares.now level k
+    ensures first { IfSome result (λ i. (k : ℕ) → k < length minimums.now → k ≢ i → level ≤ slack minimums.now shares.now k
         → IsFull minimums.now shares.now widths.now level k
         → LoweredBefore (slice_index minimums.now i) i (slice_index minimums.now k) k) }
-    ensures none { IfNone result ((k : ℕ) → k < length minimums.now → IsAtLevel minimums.now shares.now level k
+    ensures none { IfNone result ((k : ℕ) → k < length minimums.now → level ≤ slack minimums.now shares.now k
         → ¬ IsFull minimums.now shares.now widths.now level k) }
 {
     let mut next = None;

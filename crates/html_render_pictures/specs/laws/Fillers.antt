@@ -15,7 +15,8 @@ use Rattle.html_render_lines.specs.declared.line.Element.TheVariants.{Character}
 use Rattle.html_render_lines.specs.Character.{width_of}
 use Rattle.html_render_lines.specs.Line.{Line}
 use Rattle.html_render_lines.specs.TaggedText.{text_columns, under}
-use Rattle.html_render_pictures.specs.Padding.{character_of, repeated, filled_line}
+use Rattle.html_render_pictures.specs.Padding.{character_of, repeated}
+use Rattle.html_render_pictures.specs.laws.Padding.{filled_line}
 use Rattle.html_render_pictures.specs.declared.fillers.Filler.{Filler}
 use Rattle.html_render_pictures.specs.declared.fillers.Filler.TheVariants.{Space, Slash, Dash}
 use Rattle.html_render_pictures.specs.laws.Glyphs.{space_width, slash_width, joint_width}
@@ -24,8 +25,7 @@ use Rattle.html_render_pictures.specs.laws.Glyphs.{space_width, slash_width, joi
 
 encodes-length : (c n : ℕ) → length (encodes (replicate n c)) ≡ n * len_utf8 c
 encodes-length c zero = omega arith
-encodes-length c (suc n) =
-    grind (arith, length-append (encode c) (encodes (replicate n c)), length-encode c, encodes-length c n)
+encodes-length c (suc n) = grind (arith, length-append (encode c) (encodes (replicate n c)), length-encode c, encodes-length c n)
 
 scalars-replicate : (c n : ℕ) → scalar c ≡ true → scalars (replicate n c) ≡ true
 scalars-replicate c zero s = refl

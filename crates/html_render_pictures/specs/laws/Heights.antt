@@ -4,7 +4,7 @@ use Rattle.std.proofs.lemmas.List.{length-append, length-map, length-replicate}
 use Rattle.std.proofs.lemmas.List.Elements.{All-nil, All-cons}
 use Rattle.html_render_lines.specs.Line.{Line}
 use Rattle.html_render_pictures.specs.Marked.{marked_behind}
-use Rattle.html_render_pictures.specs.Padding.{filled_line}
+use Rattle.html_render_pictures.specs.laws.Padding.{filled_line}
 use Rattle.html_render_pictures.specs.declared.picture.Frame.{Frame}
 use Rattle.html_render_pictures.specs.Picture.{KeptCell, cell_lines, beside, height}
 

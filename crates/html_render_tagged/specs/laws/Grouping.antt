@@ -13,7 +13,7 @@ use Rattle.html_render_lines.specs.TaggedText.{text_columns}
 use Rattle.html_render_tagged.specs.declared.line.TaggedLineElement.{TaggedLineElement}
 use Rattle.html_render_tagged.specs.declared.line.TaggedLineElement.TheVariants as made
 use Rattle.html_render_tagged.specs.TaggedLine.{line_columns, element_columns, AllTaggedWithinWidth}
-use Rattle.html_render_tagged.specs.Grouping.{Piece, Str, FragmentStart, in_front, grouped, grouped_lines, piece_of, pieces_of, lines_of}
+use Rattle.html_render_tagged.specs.Grouping.{Piece, Str, FragmentStart, in_front, grouped, piece_of, pieces_of, lines_of}
 use Rattle.html_render_tagged.specs.Grouping.{piece_columns, pieces_columns, ComesOther, AreLongest, strings_characters, line_characters}
 
 -- ---- columns
@@ -92,20 +92,19 @@ columns-pieces {A} (made.FragmentStart name ∷ es) =
     let line = sum_by-cons (λ (x : TaggedLineElement (Vec A Global)). element_columns x) (made.FragmentStart name) es in
     omega (arith, columns-pieces es, pieces-cons (piece_of (made.FragmentStart name)) (pieces_of es))
 
-all-pieces : {A : Type 0} (lines : List (List (TaggedLineElement (Vec A Global)))) →
-    map line_columns lines ≡ map pieces_columns (lines_of lines)
+all-pieces : {A : Type 0} (lines : List (List (TaggedLineElement (Vec A Global)))) → map line_columns lines ≡ map pieces_columns (lines_of lines)
 all-pieces [] = refl
 all-pieces (l ∷ ls) = rw (columns-pieces l, all-pieces ls) refl
 
 all-grouped : {T : Type 0} (equal : T → T → Bool) (names : List (List ℕ)) (lines : List (Line T ℕ)) →
-    map pieces_columns (grouped_lines equal names lines) ≡ map columns lines
+    map pieces_columns (map (grouped equal names) lines) ≡ map columns lines
 all-grouped equal names [] = refl
 all-grouped equal names (l ∷ ls) = rw (columns-grouped equal names l, all-grouped equal names ls) refl
 
 -- tagged lines that are grouped from lines have their columns
 pub columns-lines : {A : Type 0} (equal : List A → List A → Bool) (names : List (List ℕ))
     (made : List (List (TaggedLineElement (Vec A Global)))) (lines : List (Line (List A) ℕ)) →
-    lines_of made ≡ grouped_lines equal names lines → map line_columns made ≡ map columns lines
+    lines_of made ≡ map (grouped equal names) lines → map line_columns made ≡ map columns lines
 columns-lines equal names made lines e = all-pieces made ∙ ap (map pieces_columns) e ∙ all-grouped equal names lines
 
 -- tagged lines are as wide as the lines

@@ -1,5 +1,6 @@
 -- Good trees beside each other, what is inserted into them, and which rows a grid has.
-use Rattle.std.proofs.Common.{◌≡◌, ℕ, ◌+◌, ◌-◌, Bool, true, false, ◌&&◌, List, [], ◌∷◌, ◌++◌, map, refl, ap, ◌∙◌}
+use Rattle.std.proofs.Common.{◌≡◌, ℕ, ◌+◌, ◌-◌, Bool, true, ◌&&◌, List, [], ◌∷◌, ◌++◌, map, refl, ap, ◌∙◌}
+use Rattle.std.proofs.lemmas.Bool.{and_from, and_parts}
 use Rattle.html_render_values.specs.Forest.{none, node, followed_by}
 use Rattle.html_render_parts.specs.Placement.{own_from, own_rows_from, due_end, not_due, hanging}
 use Rattle.html_render_parts.specs.TableCells.{on_columns}
@@ -9,26 +10,13 @@ use Rattle.html_render_parts.specs.declared.table.placement.Standing.{Standing}
 use Rattle.html_render_conversion.specs.declared.tables.CellSpan.{CellSpan}
 use Rattle.html_render_nodes.specs.declared.tree.NodeKind.{NodeKind}
 use Rattle.html_render_nodes.specs.declared.tree.NodeKind.TheVariants.{Table, TableRow, TableCell}
-use Rattle.html_render_nodes.specs.declared.tree.RenderNode.{RenderNode}
 use Rattle.html_render_conversion.specs.Tables.{spanned, spanned_in, width_of}
 use Rattle.html_render_conversion.specs.Results.{Nodes, in_first}
 use Rattle.html_render_tree.specs.GoodTrees.{Place, Anywhere, InTable, InRow, around, are_good_below, are_good}
 
--- ---- two tests
-
-pub and-left : (a b : Bool) → (a && b) ≡ true → a ≡ true
-and-left true b h = refl
-and-left false b h = cc
-
-pub and-right : (a b : Bool) → (a && b) ≡ true → b ≡ true
-and-right true b h = h
-and-right false b h = cc
-
-pub and-both : {a b : Bool} → a ≡ true → b ≡ true → (a && b) ≡ true
-and-both {a} {b} h k = ap (λ c. c && b) h ∙ k
-
+-- two tests
 and-map : {a b a' b' : Bool} → (a ≡ true → a' ≡ true) → (b ≡ true → b' ≡ true) → (a && b) ≡ true → (a' && b') ≡ true
-and-map {a} {b} inner outer h = and-both (inner (and-left a b h)) (outer (and-right a b h))
+and-map {a} {b} {a'} {b'} inner outer h = let both = and_parts a b h in and_from a' b' (inner both.0) (outer both.1)
 
 -- ---- rows of as many cells
 
@@ -56,8 +44,7 @@ spanned_in-alike widest (cells ∷ rows) = rw (cells_like-map (spanned (widest -
 own-alike : (edges : List ℕ) (row cursor : ℕ) (hs : List Standing) (cells : List Span) →
     cells_like (map (on_columns edges) (own_from row cursor hs cells)) ≡ cells_like cells
 own-alike edges row cursor hs [] = refl
-own-alike edges row cursor hs (s ∷ cells) =
-    ap (λ cs. some_cell ∷ cs) (own-alike edges row (due_end cursor hs + s.colspan) (not_due cursor hs) cells)
+own-alike edges row cursor hs (s ∷ cells) = ap (λ cs. some_cell ∷ cs) (own-alike edges row (due_end cursor hs + s.colspan) (not_due cursor hs) cells)
 
 pub own_rows-alike : (edges : List ℕ) (row : ℕ) (hung : List Standing) (rows : List (List Span)) →
     rows_like (map (map (on_columns edges)) (own_rows_from row hung rows)) ≡ rows_like rows
@@ -79,7 +66,7 @@ at-anywhere TableCell t u u' outer h = cc
 at-anywhere kind t u u' outer h = and-map {a = are_good Anywhere t} (λ e. e) outer h
 
 -- among cells, and among rows, those below it are others too
-at-row : (kind : NodeKind) (c : GridCell) (cs ds : List GridCell) (t t' u u' : Nodes) →
+pub at-row : (kind : NodeKind) (c : GridCell) (cs ds : List GridCell) (t t' u u' : Nodes) →
     (are_good Anywhere t ≡ true → are_good Anywhere t' ≡ true) → (are_good (InRow cs) u ≡ true → are_good (InRow ds) u' ≡ true) →
     good_over (InRow (c ∷ cs)) kind t u ≡ true → good_over (InRow (c ∷ ds)) kind t' u' ≡ true
 at-row TableCell c cs ds t t' u u' inner outer h = and-map inner outer h
@@ -95,12 +82,7 @@ at-table kind c cs ds t t' u u' inner outer h = cc
 
 pub followed-anywhere : (t u : Nodes) → are_good Anywhere t ≡ true → are_good Anywhere u ≡ true → are_good Anywhere (followed_by t u) ≡ true
 followed-anywhere none u h k = k
-followed-anywhere (node n children others) u h k =
-    at-anywhere n.kind children others (followed_by others u) (λ e. followed-anywhere others u e k) h
-
-pub first-cell : (n : RenderNode) (c : GridCell) (cs : List GridCell) (t u : Nodes) → are_good (InRow (c ∷ [])) (node n t none) ≡ true →
-    are_good (InRow cs) u ≡ true → are_good (InRow (c ∷ cs)) (node n t u) ≡ true
-first-cell n c cs t u h k = at-row n.kind c [] cs t t none u (λ e. e) (λ e. k) h
+followed-anywhere (node n children others) u h k = at-anywhere n.kind children others (followed_by others u) (λ e. followed-anywhere others u e k) h
 
 pub followed-rows : {X : Type 0} (a b : List (List X)) (t u : Nodes) → are_good (InTable (rows_like a)) t ≡ true →
     are_good (InTable (rows_like b)) u ≡ true → are_good (InTable (rows_like (a ++ b))) (followed_by t u) ≡ true
@@ -139,8 +121,7 @@ module _ (front back : Nodes) (f : are_good Anywhere front ≡ true) (b : are_go
   pub between-good : (t : Nodes) → are_good Anywhere t ≡ true → are_good Anywhere (followed_by front (followed_by t back)) ≡ true
   between-good t h = followed-anywhere front (followed_by t back) f (followed-anywhere t back h b)
 
-  pub into_cell-good : (cells : List GridCell) (t : Nodes) → are_good (InRow cells) t ≡ true →
-      are_good (InRow cells) (in_first 1 front back t) ≡ true
+  pub into_cell-good : (cells : List GridCell) (t : Nodes) → are_good (InRow cells) t ≡ true → are_good (InRow cells) (in_first 1 front back t) ≡ true
   into_cell-good cells none h = h
   into_cell-good [] (node n children others) h = cc
   into_cell-good (c ∷ cs) (node n children others) h =

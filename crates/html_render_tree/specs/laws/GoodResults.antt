@@ -3,7 +3,7 @@ use Rattle.std.proofs.Common.{◌≡◌, ℕ, Bool, true, false, ◌||◌, List,
 use Rattle.std.proofs.Common.{Option, Some, None, option_map, IfSome, refl, sym, ap, ◌∙◌}
 use Rattle.std.specs.Prelude.{option_and_then, is_some, if◌then◌else◌}
 use Rattle.std.specs.List.{list_all, AllByRecursion}
-use Rattle.std.proofs.lemmas.Bool.{cond_both}
+use Rattle.std.proofs.lemmas.Bool.{and_from, and_parts, cond_both}
 use Rattle.std.proofs.lemmas.Option.{IfSome_then}
 use Rattle.html_render_values.specs.Forest.{none, node, followed_by}
 use Rattle.html_render_values.specs.Outcome.{◌>>=◌}
@@ -12,13 +12,14 @@ use Rattle.html_render_nodes.specs.declared.tree.NodeKind.{NodeKind}
 use Rattle.html_render_nodes.specs.declared.tree.NodeKind.TheVariants.{Container, FragmentStart, Table, TableCell, TableRow, Text}
 use Rattle.html_render_nodes.specs.declared.tree.NodeStyle.{NodeStyle}
 use Rattle.html_render_nodes.specs.declared.tree.RenderNode.{RenderNode}
+use Rattle.html_render_nodes.specs.Kinds.{holds_insertions}
 use Rattle.html_render_nodes.specs.RenderNodes.{without_style}
-use Rattle.html_render_conversion.specs.Results.{Nodes, Result, Role, Contents, Caption, Rows, Row, Cell, beside, stands_alone, holds_insertions}
+use Rattle.html_render_conversion.specs.Results.{Nodes, Result, Role, Contents, Caption, Rows, Row, Cell, beside, stands_alone}
 use Rattle.html_render_conversion.specs.Results.{level_in, in_first, of_role, trees_of, over, spans_of, inserted, leaf, completed}
 use Rattle.html_render_building.specs.laws.Roles.{cell_spans, in_style, is_cell, is_row, joined, row_spans}
 use Rattle.html_render_conversion.specs.Tables.{greatest_width, spanned_in}
 use Rattle.html_render_tree.specs.GoodTrees.{Place, Anywhere, InTable, InRow, around, is_over, are_good_below, are_good}
-use Rattle.html_render_tree.specs.laws.GoodPlaces.{and-left, and-right, and-both, some_cell, cells_like, rows_like, spanned_in-alike, first-cell}
+use Rattle.html_render_tree.specs.laws.GoodPlaces.{some_cell, cells_like, rows_like, spanned_in-alike, at-row}
 use Rattle.html_render_tree.specs.laws.GoodPlaces.{followed-anywhere, followed-rows, into_cell-good, into_row-good, between-good}
 
 -- ---- results
@@ -87,9 +88,7 @@ AllGoodOf-append is (r ∷ rs) others g h = (g.0, AllGoodOf-append is rs others 
 
 all-good : (is : Role → Bool) (rs : List Result) → AllGood rs → list_all (λ r. is r.role) rs ≡ true → AllGoodOf is rs
 all-good is [] g h = tt
-all-good is (r ∷ rs) g h =
-    let others = list_all (λ r. is r.role) rs in
-    ((g.0, and-left (is r.role) others h), all-good is rs g.1 (and-right (is r.role) others h))
+all-good is (r ∷ rs) g h = let both = and_parts (is r.role) (list_all (λ r. is r.role) rs) h in ((g.0, both.0), all-good is rs g.1 both.1)
 
 -- what is there is good, and so is what follows from it
 pub good-then : {X Y : Type 0} (P : X → Type 0) (Q : Y → Type 0) (f : X → Option Y) → ((x : X) → P x → IfSome (f x) Q) → (o : Option X) →
@@ -116,8 +115,7 @@ beside-good is place last first (r ∷ rs) g =
 -- a plain node
 pub plain-good : (n : RenderNode) (t u : Nodes) → IsPlain n.kind → are_good Anywhere t ≡ true → are_good Anywhere u ≡ true →
     are_good Anywhere (node n t u) ≡ true
-plain-good n t u plain h k =
-    ap (are_good_below (λ p. are_good p t) (λ p. are_good p u)) plain ∙ and-both h k
+plain-good n t u plain h k = ap (are_good_below (λ p. are_good p t) (λ p. are_good p u)) plain ∙ and_from _ _ h k
 
 -- those that stand in no table
 pub alone-good : (rs : List Result) → AllGoodOf stands_alone rs → AreGoodIn Anywhere (beside rs)
@@ -144,8 +142,7 @@ cells-good = beside-good is_cell cells_place refl (λ r rs t u cell h k. by r.ro
     by : (role : Role) (n : RenderNode) (rs : List Result) (t u : Nodes) → is_cell role ≡ true → IsGood role n t →
         are_good (cells_place rs) u ≡ true →
         are_good (InRow (cells_like (cell_spans role ++ flat_map (λ r. cell_spans r.role) rs))) (node n t u) ≡ true
-    by (Cell span) n rs t u cell h k =
-        first-cell n some_cell (cells_like (flat_map (λ r. cell_spans r.role) rs)) t u h k
+    by (Cell span) n rs t u cell h k = at-row n.kind some_cell [] (cells_like (flat_map (λ r. cell_spans r.role) rs)) t t none u (λ e. e) (λ e. k) h
     by role n rs t u cell h k = cc
 
 abbrev rows_place : List Result → Place
@@ -216,7 +213,7 @@ module _ (front back : Nodes) (f : are_good Anywhere front ≡ true) (b : are_go
       changed-good Contents Contents n n (λ t. followed_by front (followed_by t back))
       (λ t h. plain-good n (followed_by front (followed_by t back)) none plain
       (between-good front back f b t
-      (and-left (are_good Anywhere t) true (ap (are_good_below (λ p. are_good p t) (λ p. are_good p none)) (sym plain) ∙ h))) refl)
+      (and_parts (are_good Anywhere t) true (ap (are_good_below (λ p. are_good p t) (λ p. are_good p none)) (sym plain) ∙ h)).0) refl)
 
   into_contents-good : (kind : NodeKind) (style : NodeStyle) (estimate : Estimate) (has : Bool) (o : Option Nodes) →
       IsGoodIn Contents (a_node kind style estimate) o →
@@ -225,7 +222,7 @@ module _ (front back : Nodes) (f : are_good Anywhere front ≡ true) (b : are_go
       let n = a_node (Table grid) style estimate in
       let rows = grid.cells.rows in
       changed-good Contents Contents n n (in_first 2 front back)
-      (λ t k. and-both (into_row-good front back f b rows t (and-left (are_good (InTable rows) t) true k)) refl) o h
+      (λ t k. and_from _ _ (into_row-good front back f b rows t (and_parts (are_good (InTable rows) t) true k).0) refl) o h
   into_contents-good kind style estimate has o h = by (holds_insertions kind) refl
     where
       n : RenderNode
@@ -236,7 +233,7 @@ module _ (front back : Nodes) (f : are_good Anywhere front ≡ true) (b : are_go
       by true e = inside-good kind style estimate (plain-holds kind e) o h
       by false e =
           changed-good Contents Contents n (without_style Container) (λ t. followed_by front (node n t back))
-          (λ t k. and-both (followed-anywhere front (node n t back) f (followed-anywhere (node n t none) back k b)) refl) o h
+          (λ t k. and_from _ _ (followed-anywhere front (node n t back) f (followed-anywhere (node n t none) back k b)) refl) o h
 
   inserted-good : (role : Role) (n : RenderNode) (has : Bool) (o : Option Nodes) → IsGoodIn role n o →
       IsGoodResult (inserted (level_in role n.kind) front back (a_result role n has o))
@@ -267,11 +264,7 @@ front-good (Some name) before = back-good before
 pub completed-good : (mark before after : Option (List ℕ)) (o : Option Result) → IsGoodIfAny o → IsGoodIfAny (completed mark before after o)
 completed-good None before after None h = tt
 completed-good (Some name) before after None h = refl
-completed-good mark before after (Some r) h = by (is_some mark || (is_some before || is_some after))
-  where
-    front : Nodes
-    front = followed_by (leaf FragmentStart mark) (leaf Text before)
-
-    by : (some : Bool) → IsGoodResult (if some then inserted (level_in r.role r.node.kind) front (leaf Text after) r else r)
-    by true = inserted-good front (leaf Text after) (front-good mark before) (back-good after) r.role r.node r.has_children r.below h
-    by false = h
+completed-good mark before after (Some r) h =
+    let front = followed_by (leaf FragmentStart mark) (leaf Text before) in
+    cond_both (is_some mark || (is_some before || is_some after)) _ r IsGoodResult
+    (λ _. inserted-good front (leaf Text after) (front-good mark before) (back-good after) r.role r.node r.has_children r.below h) (λ _. h)

@@ -3,7 +3,7 @@ use Rattle.std.proofs.Common.{◌≡◌, ℕ, Bool, true, false, ◌&&◌, if◌
 use Rattle.std.proofs.Common.{is_some, IfSome, option_map, option_to_list, refl, sym, ap, ◌∙◌, subst}
 use Rattle.std.specs.Prelude.{codes}
 use Rattle.std.specs.List.{list_any}
-use Rattle.std.proofs.lemmas.Bool.{cond_both}
+use Rattle.std.proofs.lemmas.Bool.{and_from, cond_both}
 use Rattle.std.specs.Str.{bytes_eq}
 use Rattle.html_render_values.specs.Forest.{Forest, none, node}
 use Rattle.html_render_values.specs.Outcome.{◌>>=◌}
@@ -37,7 +37,7 @@ use Rattle.html_render_conversion.specs.Results.{built, mapped, styled, result_o
 use Rattle.html_render_building.specs.laws.Roles.{as_block, cell_spans, have_rows, in_style, is_cell, is_row, joined, row_spans}
 use Rattle.html_render_building.specs.laws.Mappings.{fits_kind, stands_as_is, fits, element_fits}
 use Rattle.html_render_tree.specs.GoodTrees.{Anywhere, InTable, InRow, are_good}
-use Rattle.html_render_tree.specs.laws.GoodPlaces.{and-both, cells_like, rows_like, own_rows-alike, rows-good-same}
+use Rattle.html_render_tree.specs.laws.GoodPlaces.{cells_like, rows_like, own_rows-alike, rows-good-same}
 use Rattle.html_render_tree.specs.laws.GoodResults.{good-then, good-map, IsPlain, IsGoodIn, IsGoodResult, IsGoodIfAny, AllGood, AllGoodOf, AreGoodIn}
 use Rattle.html_render_tree.specs.laws.GoodResults.{filter-good, of_role-good, AllGoodOf-append, AllGoodOf-more, plain-good, alone-good, trees_of-good}
 use Rattle.html_render_tree.specs.laws.GoodResults.{cells-good, rows-good, holds_rows, joined-good, below-good, over-good, completed-good}
@@ -50,7 +50,7 @@ table_over-good : (style : NodeStyle) (grid : TableParts) (parts : List Result) 
 table_over-good style grid parts g a =
     let spans = flat_map (λ r. spans_of r.role) parts in
     below-good (InTable (rows_like spans)) Contents (in_style style (Table grid))
-    (λ t h. and-both (sym (rows-good-same grid.cells.rows t) ∙ ap (λ all. are_good (InTable all) t) a ∙ h) refl)
+    (λ t h. and_from _ _ (sym (rows-good-same grid.cells.rows t) ∙ ap (λ all. are_good (InTable all) t) a ∙ h) refl)
     (joined parts) (joined-good parts g)
 
 -- its captions as blocks
@@ -127,7 +127,7 @@ row_over-good : (style : NodeStyle) (rs : List Result) → AllGoodOf is_cell rs 
 row_over-good style rs g =
     let spans = flat_map (λ r. cell_spans r.role) rs in
     below-good (InRow (cells_like spans)) (Row spans) (in_style style TableRow)
-    (λ t h. and-both h refl) (beside rs) (cells-good rs g)
+    (λ t h. and_from _ _ h refl) (beside rs) (cells-good rs g)
 
 plain-as-is : (kind : NodeKind) → stands_as_is kind ≡ true → IsPlain kind
 plain-as-is (Table grid) m = cc
@@ -144,7 +144,7 @@ built-good caption foot if_empty (Part part.Body) style rs m g = rows_over-good 
 built-good caption foot if_empty (Part part.Foot) style rs m g = rows_over-good true (of_role is_row rs) (of_role-good is_row rs g)
 built-good caption foot if_empty (Part part.Row) style rs m g = row_over-good style (of_role is_cell rs) (of_role-good is_cell rs g)
 built-good caption foot if_empty (Part (part.Cell span)) style rs m g =
-    below-good Anywhere (Cell span) (in_style style TableCell) (λ t h. and-both h refl) (trees_of rs) (trees_of-good rs g)
+    below-good Anywhere (Cell span) (in_style style TableCell) (λ t h. and_from _ _ h refl) (trees_of rs) (trees_of-good rs g)
 built-good caption foot if_empty (Part part.Caption) style rs m g =
     below-good Anywhere Caption (in_style style Container) (λ t h. (refl, h)) (trees_of rs) (trees_of-good rs g)
 built-good caption foot if_empty (Node kind) style rs m g =

@@ -1,6 +1,6 @@
 -- What follows for the lines of a configuration, their strings and their texts.
 use Rattle.std.proofs.Common.{◌≡◌, ℕ, Bool, true, false, List, [], ◌∷◌, ◌++◌, Option, Some, None, ◌==◌, ◌↔◌, cond, option_map, option_and_then, refl}
-use Rattle.std.proofs.Common.{sym, ap, ◌∙◌}
+use Rattle.std.proofs.Common.{map, sym, ap, ◌∙◌}
 use Rattle.std.specs.Prelude.{encode_utf8}
 use Rattle.std.specs.Cmp.Lexicographic.{pointwise}
 use Rattle.html_render_values.specs.Forest.{Forest}
@@ -14,7 +14,7 @@ use Rattle.html_render_nodes.specs.Pass.{run}
 use Rattle.html_render_layout.specs.Layout.{layout_lines, mark_names, Defined, defined, estimated, empty_state, unannotated}
 use Rattle.html_render_layout.specs.Promises.{AreLines}
 use Rattle.html_render_layout.specs.laws.Promises.{same-names}
-use Rattle.html_render_tagged.specs.Grouping.{Piece, grouped_lines}
+use Rattle.html_render_tagged.specs.Grouping.{Piece, grouped}
 use Rattle.html_render_tree.specs.Rendering.{Options, rendered_lines, rendered_names, rendered_strings, Rendered, AreStrings}
 use Rattle.html_render_tree.specs.Texts.{line_bytes, text_of}
 
@@ -29,8 +29,7 @@ module _ {T U : Type 0} (f : T → U) where
   -- the text of lines doesn't tell their tags
   pub text-with : (ls : List (Line T ℕ)) → text_of (lines_with f ls) ≡ text_of ls
   text-with [] = refl
-  text-with (l ∷ ls) =
-      ap (λ bs. (bs ++ 10 ∷ []) ++ text_of (lines_with f ls)) (bytes-with l) ∙ ap (λ bs. line_bytes l ++ bs) (text-with ls)
+  text-with (l ∷ ls) = ap (λ bs. (bs ++ 10 ∷ []) ++ text_of (lines_with f ls)) (bytes-with l) ∙ ap (λ bs. line_bytes l ++ bs) (text-with ls)
 
 -- ---- lines and names
 
@@ -59,20 +58,18 @@ none_together {S} {A} d settings tree decorator width overflow =
 pub text-rendered : {S A : Type 0} (d : Decoration S A) (options : Options S) (tree : Forest RenderNode) (width : ℕ)
     (bare : List (Line (Unit {0}) ℕ)) (bytes : List ℕ) → Rendered d options tree width (λ lines. bare ≡ unannotated lines) → bytes ≡ text_of bare →
     Rendered d options tree width (λ lines. bytes ≡ text_of lines)
-text-rendered {S} {A} d options tree width bare bytes h b =
-    (h.0, h.1, b ∙ ap text_of h.2 ∙ text-with (λ (stack : List A). tt) h.0)
+text-rendered {S} {A} d options tree width bare bytes h b = (h.0, h.1, b ∙ ap text_of h.2 ∙ text-with (λ (stack : List A). tt) h.0)
 
 -- so it is the text of the lines that are there
 pub text-answered : {S A : Type 0} (d : Decoration S A) (options : Options S) (tree : Forest RenderNode) (width : ℕ) (bytes : List ℕ) →
     Rendered d options tree width (λ lines. bytes ≡ text_of lines) → option_map text_of (rendered_lines d options tree width) ≡ Some bytes
-text-answered d options tree width bytes h =
-    ap (option_map text_of) h.1.are ∙ ap Some (sym h.2)
+text-answered d options tree width bytes h = ap (option_map text_of) h.1.are ∙ ap Some (sym h.2)
 
 -- the strings of lines with the names of their marks
 pub strings-rendered : {S A : Type 0} (d : Decoration S A) (options : Options S) (tree : Forest RenderNode) (width : ℕ) (eq : A → A → Bool)
     (strings : List (List (Piece (List A)))) (lines : List (Line (List A) ℕ)) (names : List (List ℕ)) →
     AreLines d options.settings tree options.decorator width options.overflow lines → rendered_names d options tree width ≡ Some names →
-    strings ≡ grouped_lines (pointwise eq) names lines → Rendered d options tree width (AreStrings d options tree width eq strings)
+    strings ≡ map (grouped (pointwise eq) names) lines → Rendered d options tree width (AreStrings d options tree width eq strings)
 strings-rendered d options tree width eq strings lines names are there grouped = (
   lines,
   are,
@@ -89,5 +86,5 @@ pub strings-answered : {S A : Type 0} (d : Decoration S A) (options : Options S)
     (strings : List (List (Piece (List A)))) → Rendered d options tree width (AreStrings d options tree width eq strings) →
     rendered_strings d options tree width eq ≡ Some strings
 strings-answered d options tree width eq strings h =
-    ap (option_and_then (λ ls. option_and_then (λ ns. Some (grouped_lines (pointwise eq) ns ls)) (rendered_names d options tree width))) h.1.are
-    ∙ ap (option_and_then (λ ns. Some (grouped_lines (pointwise eq) ns h.0))) h.2.are_names ∙ ap Some (sym h.2.are)
+    ap (option_and_then (λ ls. option_and_then (λ ns. Some (map (grouped (pointwise eq) ns) ls)) (rendered_names d options tree width))) h.1.are
+    ∙ ap (option_and_then (λ ns. Some (map (grouped (pointwise eq) ns) h.0))) h.2.are_names ∙ ap Some (sym h.2.are)

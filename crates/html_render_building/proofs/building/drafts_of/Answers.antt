@@ -90,8 +90,7 @@ converting-smaller-in-Continue-branch-4 c =
 opened-are : (c : In-Some-pop) → c.converting.elements.items ≡ c.pop.new.self.items ++ c.in-Some-pop.open ∷ []
 opened-are c = sym c.in_default.ensures.same ∙ c.in-Some-pop.ensures.items
 
-ending : (c : In-Some-pop) →
-    Ending (map rule_of c.args.rules.now) c.args.dom.now c.pop.new.self.items c.in-Some-pop.open c.converting.drafts
+ending : (c : In-Some-pop) → Ending (map rule_of c.args.rules.now) c.args.dom.now c.pop.new.self.items c.in-Some-pop.open c.converting.drafts
 ending c =
     let dom = c.args.dom.now in
     let rules = map rule_of c.args.rules.now in
@@ -119,8 +118,7 @@ weaker (Err e) o wanted same h = fails-too e o wanted same h
 last : (c : In-Some-pop) → length c.pop.new.self.items ≡ 0 →
     document_of (record { element = c.in-Some-pop.open.element; drafts = c.converting.drafts })
     ≡ document_drafts (map rule_of c.args.rules.now) c.args.dom.now
-last c empty =
-    Ending-last (map rule_of c.args.rules.now) c.args.dom.now c.pop.new.self.items c.in-Some-pop.open c.converting.drafts (ending c) empty
+last c empty = Ending-last (map rule_of c.args.rules.now) c.args.dom.now c.pop.new.self.items c.in-Some-pop.open c.converting.drafts (ending c) empty
 
 pub returns-then-is_empty-clause-ok : goal.returns-then-is_empty-clause-ok
 returns-then-is_empty-clause-ok c =

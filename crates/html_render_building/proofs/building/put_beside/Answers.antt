@@ -3,8 +3,7 @@ use Rattle.html_render_building.proofs.Arriving.{enclosed}
 use Rattle.html_render_building.proofs.building.put_beside.Goals as goal
 
 pub put_over-requires : goal.put_over-requires
-put_over-requires c =
-    enclosed c.args.drafts.now c.enclose.new.self c.args.start _ c.requires (c.in_ok-enclose.ensures.ok c.requires)
+put_over-requires c = enclosed c.args.drafts.now c.enclose.new.self c.args.start _ c.requires (c.in_ok-enclose.ensures.ok c.requires)
 
 pub returns-clause-ok : goal.returns-clause-ok
 returns-clause-ok c =

@@ -13,11 +13,7 @@ returns-clause-cases c =
     ∙ ap (λ t. node c.in_ok-entry.entry.now.node p.below t) beside)
 
 pub returns-clause-below : goal.returns-clause-below
-returns-clause-below c =
-    let p = parted _ _ _ c.requires c.in_ok-entry.ensures.cases.0 in
-    rw c.split_at.ensures.front p.below_is.kept
+returns-clause-below c = let p = parted _ _ _ c.requires c.in_ok-entry.ensures.cases.0 in rw c.split_at.ensures.front p.below_is.kept
 
 pub returns-clause-beside : goal.returns-clause-beside
-returns-clause-beside c =
-    let p = parted _ _ _ c.requires c.in_ok-entry.ensures.cases.0 in
-    rw c.split_at.ensures.back p.beside_is.kept
+returns-clause-beside c = let p = parted _ _ _ c.requires c.in_ok-entry.ensures.cases.0 in rw c.split_at.ensures.back p.beside_is.kept

@@ -2,7 +2,7 @@ use Rattle.std.proofs.Common.{◌≡◌, map, ap, ◌∙◌}
 use Rattle.std.proofs.lemmas.Result.{err_from_is_err_and}
 use Rattle.html_render_parts.specs.Placement.{lists, placed_rows}
 use Rattle.html_render_parts.specs.Grid.{edges_of, numbered}
-use Rattle.html_render_parts.proofs.EdgeRanks.{rank-least, rank-numbering}
+use Rattle.html_render_parts.proofs.EdgeRanks.{rank-least, rank-less}
 use Rattle.html_render_parts.proofs.EdgesOfCells.{edge-is, is-edge}
 use Rattle.html_render_parts.proofs.GridMade.{grid-parts, made, refused}
 use Rattle.html_render_parts.proofs.SideBySide.{are-ordered, fit-columns, have-columns, stand-side_by_side}
@@ -34,8 +34,7 @@ returns-clause-side_by_side c =
     let rows = lists c.args.rows.now in rw (grid-parts rows _ (returns-clause-ok c)).1 (stand-side_by_side rows c.requires)
 
 pub returns-clause-columns : goal.returns-clause-columns
-returns-clause-columns c =
-    let rows = lists c.args.rows.now in rw (grid-parts rows _ (returns-clause-ok c)).1 (have-columns rows c.requires)
+returns-clause-columns c = let rows = lists c.args.rows.now in rw (grid-parts rows _ (returns-clause-ok c)).1 (have-columns rows c.requires)
 
 pub returns-clause-in_table : goal.returns-clause-in_table
 returns-clause-in_table c =
@@ -51,7 +50,7 @@ returns-clause-edges c =
     rw (parts.0, parts.1) (λ e. (edge-is es (placed_rows rows) e, is-edge es (placed_rows rows) e))
 
 pub returns-clause-numbering : goal.returns-clause-numbering
-returns-clause-numbering c = rank-numbering c.in_ok-edges.edges.items
+returns-clause-numbering c = λ a b in_a in_b less. rank-less c.in_ok-edges.edges.items a b in_a less
 
 pub returns-clause-least : goal.returns-clause-least
 returns-clause-least c = rank-least c.in_ok-edges.edges.items c.in_ok-edges.ensures.rising

@@ -1,4 +1,4 @@
-use Rattle.std.proofs.Common.{[], ◌∷◌, ◌++◌, sym, ap, ◌∙◌, refl, append_assoc, string_bytes, arith}
+use Rattle.std.proofs.Common.{[], ◌∷◌, ◌++◌, sym, ap, ◌∙◌, append_assoc, string_bytes, arith}
 use Rattle.std.proofs.lemmas.Str.{encodes-chars}
 use Rattle.html_render_tagged.proofs.Writing.{IsColouredLine-string, IsColouredLine-end}
 use Rattle.html_render_tagged.proofs.colours.push_line.Goals as goal
@@ -8,17 +8,13 @@ loop-element-preserved-in_ok-push_str g c = λ rest h.
     let answer = string_bytes c.in_ok-answer.answer in
     let all = c.loop-element.invariant (answer ++ rest)
     (IsColouredLine-string (goal.F-post g c.args.colour_map.now) c.loop-element.left.now c.in-Some.others.now c.in-Some.element.now
-    c.in-Str.string answer rest c.in-Some.ensures.cases.0 c.in-Str.is
-    record {
-      tag_shown = c.as_slice.result;
-      text_shown = c.as_str.result;
-      answered = c.in_ok-answer.answer;
-      tag_is = c.as_slice.ensures.value;
-      text_is = c.as_str.ensures.value
-          ∙ sym (encodes-chars (string_bytes c.in-Str.string.s) (rw (sym c.as_str.ensures.value) c.as_str.utf8));
-      met = c.in_ok-answer.ensures;
-      answer_is = refl;
-    } h) in
+    c.in-Str.string c.in_ok-answer.answer rest c.in-Some.ensures.cases.0 c.in-Str.is (
+      c.as_slice.result,
+      c.as_str.result,
+      c.as_slice.ensures.value,
+      c.as_str.ensures.value ∙ sym (encodes-chars (string_bytes c.in-Str.string.s) (rw (sym c.as_str.ensures.value) c.as_str.utf8)),
+      c.in_ok-answer.ensures,
+    ) h) in
     let written = c.in_ok-push_str.ensures.bytes ∙ ap (λ bs. string_bytes c.loop-element.text ++ bs) c.as_str-in-Str.ensures.value in
     (all.0, all.1, ap (λ bs. bs ++ rest) written ∙ append_assoc (string_bytes c.loop-element.text) answer rest ∙ all.2)
 

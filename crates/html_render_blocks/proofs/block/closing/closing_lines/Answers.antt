@@ -2,13 +2,13 @@ use Rattle.std.proofs.Common.{◌+◌, ◌∷◌, ◌++◌, map, drop, sym, ap, 
 use Rattle.std.proofs.lemmas.List.{at_drop_more}
 use Rattle.std.specs.Prelude.{string_bytes}
 use Rattle.std.specs.Str.{chars}
-use Rattle.html_render_blocks.specs.Closing.{line_setting, closing_lines}
+use Rattle.html_render_blocks.specs.Closing.{closing_lines}
 use Rattle.html_render_blocks.proofs.Closing.{closing-step}
 use Rattle.html_render_blocks.proofs.block.closing.closing_lines.Goals as goal
 
 pub loop-text-preserved : goal.loop-text-preserved
 loop-text-preserved g c =
-    let s = line_setting c.args.setting in
+    let s = c.args.setting in
     let rest = drop (c.loop-text.text-index + 1) c.args.texts.now in
     c.loop-text.invariant
     ∙ at_drop_more (λ xs. option_map (λ ls. c.loop-text.lines.items ++ ls)

@@ -5,8 +5,7 @@ use Rattle.html_render_blocks.proofs.block.tables.with_ahead.Given as goal
 
 -- the rows that are ahead still come
 abbrev pub invariant-loop-ahead : goal.invariant-loop-ahead
-invariant-loop-ahead g l =
-    with_ahead machine l.widths l.fn.ahead l.fn.picture ≡ with_ahead machine l.widths l.ahead l.picture
+invariant-loop-ahead g l = with_ahead machine l.widths l.fn.ahead l.fn.picture ≡ with_ahead machine l.widths l.ahead l.picture
 
 abbrev pub decreases-loop-ahead : goal.decreases-loop-ahead
 decreases-loop-ahead g l = length l.ahead

@@ -1,10 +1,10 @@
 -- Each turn of the loop takes the declarations of one rule more, if it selects the element.
-use Rattle.std.proofs.Common.{[], sym, ap, ◌∙◌, arith, codes, filter, map, option_copied}
+use Rattle.std.proofs.Common.{ℕ, List, [], Option, sym, ap, ◌∙◌, arith, codes, filter, map, option_copied}
 use Rattle.std.specs.List.{flat_map}
 use Rattle.std.proofs.lemmas.List.{take_all}
 use Rattle.html_render_dom.specs.Content.{property_of}
 use Rattle.html_render_dom.specs.Rules.{rule_of}
-use Rattle.html_render_dom.specs.Selectors.{Subject, first_value, selects}
+use Rattle.html_render_dom.specs.Selectors.{first_value, selects}
 use Rattle.html_render_dom.specs.ElementStyle.{applied, style_by, style_of, with_declarations}
 use Rattle.html_render_dom.proofs.Applies.{said_to, said_to-all, said_to-selected, said_to-other, with_declarations-more}
 use Rattle.html_render_dom.proofs.style.computed.computed_style.Goals as goal
@@ -12,25 +12,21 @@ use Rattle.html_render_dom.proofs.style.computed.computed_style.Goals.{then-sele
 
 pub loop-rule-preserved : goal.loop-rule-preserved
 loop-rule-preserved c =
-    let subject : Subject = record {
-      name = c.args.element.now;
-      id = option_copied c.first_value-id.result;
-      classes = option_copied c.first_value-classes.result;
-    } in
+    let asked = selects c.args.element.now (option_copied c.first_value-id.result) (option_copied c.first_value-classes.result) in
     let rule = c.rule-item.result in
     let turn =
-    ap (λ s. with_declarations s (said_to subject rule)) c.loop-rule.invariant
-    ∙ with_declarations-more (said_to subject) (style_by []) c.args.rules.now c.loop-rule.rule-index rule (omega arith) c.rule-item.is in
+    ap (λ s. with_declarations s (said_to asked rule)) c.loop-rule.invariant
+    ∙ with_declarations-more (said_to asked) (style_by []) c.args.rules.now c.loop-rule.rule-index rule (omega arith) c.rule-item.is in
     elim c.if-selects.branch [
       | then-selects+in_ok-update_all w ↦ (
           ap style_of w.style-is
           ∙ w.in_ok-update_all.ensures
-          ∙ ap (with_declarations (style_of c.loop-rule.style)) (said_to-selected subject rule (sym c.selects.ensures ∙ w.if-selects.true))
+          ∙ ap (with_declarations (style_of c.loop-rule.style)) (said_to-selected asked rule (sym c.selects.ensures ∙ w.if-selects.true))
           ∙ turn
           )
       | else-selects w ↦ (
           ap style_of w.style-is
-          ∙ said_to-other subject rule (style_of c.loop-rule.style) (sym c.selects.ensures ∙ w.if-selects.false)
+          ∙ said_to-other asked rule (style_of c.loop-rule.style) (sym c.selects.ensures ∙ w.if-selects.false)
           ∙ turn
           )
     ]
@@ -41,11 +37,10 @@ returns-clause-ok c =
     let properties = map property_of c.args.attrs.now in
     let id = option_copied c.first_value-id.result in
     let classes = option_copied c.first_value-classes.result in
-    let subject : Subject = record { name = c.args.element.now; id = id; classes = classes } in
-    let style_for = λ (s : Subject). style_by (flat_map applied (filter (λ rule. selects rule s) (map rule_of rules))) in
+    let asked = selects c.args.element.now in
+    let style_for = λ (v w : Option (List ℕ)). style_by (flat_map applied (filter (asked v w) (map rule_of rules))) in
     c.loop-rule.invariant
-    ∙ ap (λ rs. with_declarations (style_by []) (flat_map (said_to subject) rs)) (take_all c.loop-rule.rule-index rules (omega arith))
-    ∙ ap (with_declarations (style_by [])) (said_to-all subject rules)
-    ∙ ap (λ v. style_for (record { name = c.args.element.now; id = v; classes = classes })) c.first_value-id.ensures
-    ∙ ap (λ v. style_for (record { name = c.args.element.now; id = first_value (codes "id") properties; classes = v }))
-    c.first_value-classes.ensures
+    ∙ ap (λ rs. with_declarations (style_by []) (flat_map (said_to (asked id classes)) rs)) (take_all c.loop-rule.rule-index rules (omega arith))
+    ∙ ap (with_declarations (style_by [])) (said_to-all (asked id classes) rules)
+    ∙ ap (λ v. style_for v classes) c.first_value-id.ensures
+    ∙ ap (style_for (first_value (codes "id") properties)) c.first_value-classes.ensures

@@ -22,5 +22,4 @@ returns-in-Some c =
     (changed_in c.deref.ensures.value there (with_style c.args.style) c.index_mut.result.now _ c.index_mut.ensures.value refl).is
 
 pub returns-in_default : goal.returns-in_default
-returns-in_default c =
-    sym (c.in_default.ensures.lost (reversed c.self.view_is c.self.invariant c.deref.ensures.value) (with_style c.args.style))
+returns-in_default c = sym (c.in_default.ensures.lost (reversed c.self.view_is c.self.invariant c.deref.ensures.value) (with_style c.args.style))

@@ -5,8 +5,7 @@ use Rattle.html_render_nodes.specs.Splits.{SplitAt}
 use Rattle.html_render_insertions.proofs.Drafting.{truncated}
 use Rattle.html_render_insertions.proofs.drafts.Drafts.truncate.Goals as goal
 
-now : (c : goal.After-truncate) (s : SplitAt c.args.self.now c.args.mark) →
-    IsForest (reverse c.truncate.new.self.items) s.beside
+now : (c : goal.After-truncate) (s : SplitAt c.args.self.now c.args.mark) → IsForest (reverse c.truncate.new.self.items) s.beside
 now c s =
     let entries : flatten c.args.self.now ≡ reverse c.self.inside.entries.items = sym (ap flatten c.self.view_is) ∙ c.self.invariant in
     rw c.truncate.ensures.items (truncated c.self.inside.entries.items c.args.self.now c.args.mark s entries)

@@ -8,8 +8,7 @@ abbrev pub invariant-loop-text : goal.invariant-loop-text
 invariant-loop-text l =
     record {
       longer : length l.initial.nodes.items ≤ length l.nodes.items;
-      whole : l.nodes.items ++ flatten (leaves (reverse l.behind.items))
-          ≡ l.initial.nodes.items ++ flatten (leaves (reverse l.fn.done.behind.items));
+      whole : l.nodes.items ++ flatten (leaves (reverse l.behind.items)) ≡ l.initial.nodes.items ++ flatten (leaves (reverse l.fn.done.behind.items));
     }
 
 abbrev pub decreases-loop-text : goal.decreases-loop-text

@@ -11,5 +11,4 @@ returns-else-tag-len-clause-same g c =
     rw (← c.self.view_is) (stack_at-kept c.self.inside.pushed.items c.args.tag (omega (arith, c.len.ensures, c.if-tag-len.false)))
 
 pub returns-else-tag-len-clause-within : goal.returns-else-tag-len-clause-within
-returns-else-tag-len-clause-within g c = omega
-    (arith, length-stacks_after ([] ∷ []) c.self.inside.pushed.items, ap length c.self.view_is)
+returns-else-tag-len-clause-within g c = omega (arith, length-stacks_after ([] ∷ []) c.self.inside.pushed.items, ap length c.self.view_is)

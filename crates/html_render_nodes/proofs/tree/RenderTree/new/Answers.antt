@@ -7,8 +7,7 @@ use Rattle.html_render_nodes.proofs.Depths.{noted-whole, only-memory}
 use Rattle.html_render_nodes.proofs.tree.RenderTree.new.Goals as goal
 use Rattle.html_render_nodes.proofs.tree.RenderTree.new.Goals.{After-walk}
 
-noted : (c : After-walk) →
-    run noting c.args.nodes (record { noted = c.in_ok-with_capacity.field-0.items; depth = 0 })
+noted : (c : After-walk) → run noting c.args.nodes (record { noted = c.in_ok-with_capacity.field-0.items; depth = 0 })
     ≡ Some (record { noted = depths_of 0 c.args.nodes; depth = 0 })
 noted c =
     noted-whole c.args.nodes c.entries.result.now _ c.entries.ensures (omega (arith, c.entries.type_inv))

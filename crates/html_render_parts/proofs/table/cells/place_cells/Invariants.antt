@@ -12,8 +12,7 @@ invariant-loop-row l =
     }
 
 abbrev pub invariant-bottom : goal.invariant-bottom
-invariant-bottom l =
-    IsGathered (placed_rows (lists l.fn.rows)) (bottom_rows l.placer.hanging) l.placer.hanging l.positions
+invariant-bottom l = IsGathered (placed_rows (lists l.fn.rows)) (bottom_rows l.placer.hanging) l.placer.hanging l.positions
 
 abbrev pub decreases-bottom : goal.decreases-bottom
 decreases-bottom l = length l.placer.hanging

@@ -1,6 +1,7 @@
-use Rattle.std.proofs.Common.{◌-◌, length, set, ap, ◌∙◌, arith}
+use Rattle.std.proofs.Common.{◌-◌, length, set, refl, ap, ◌∙◌, arith}
+use Rattle.std.proofs.lemmas.List.{nil_from_length}
 use Rattle.std.proofs.lemmas.Result.{on_ok_weaker}
-use Rattle.html_render_pictures.proofs.Stretches.{marked_last, marked_none}
+use Rattle.html_render_pictures.proofs.Stretches.{marked_last}
 use Rattle.html_render_pictures.proofs.lines.stretch.mark_end_of_last.Goals as goal
 
 pub returns-in-Some : goal.returns-in-Some
@@ -11,4 +12,4 @@ returns-in-Some g c =
     c.push_marks.ensures
 
 pub returns-in-None : goal.returns-in-None
-returns-in-None g c = marked_none c.args.marks.now c.args.lines.now c.in-None.ensures.item.3
+returns-in-None g c = rw (nil_from_length c.args.lines.now (omega (arith, c.in-None.ensures.item.3))) refl

@@ -2,7 +2,8 @@ use Rattle.std.proofs.Common.{◌≡◌, ◌∷◌, ◌+◌, ◌++◌, Some, Non
 use Rattle.std.proofs.lemmas.List.{drop_more, drop-set-lt, nil_from_length}
 use Rattle.std.specs.Vec.Iter.{into_iter_items, into_iter_steps}
 use Rattle.html_render_pictures.specs.Drawing.{as_many, line_or_empty}
-use Rattle.html_render_pictures.specs.Padding.{filled, filled_line}
+use Rattle.html_render_pictures.specs.Padding.{filled}
+use Rattle.html_render_pictures.specs.laws.Padding.{filled_line}
 use Rattle.html_render_pictures.specs.Picture.{beside, separator}
 use Rattle.html_render_pictures.proofs.Beside.{beside-more, next-as-many}
 use Rattle.html_render_pictures.proofs.picture.Frame.put_all_beside.Goals as goal

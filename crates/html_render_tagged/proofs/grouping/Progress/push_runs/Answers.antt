@@ -7,8 +7,7 @@ pub range-requires-text-s : goal.range-requires-text-s
 range-requires-text-s g c κs = IsUtf8-runs c.loop-run.left.now c.loop-run.text.now c.loop-run.invariant.cuts
 
 pub range-requires-clause-end_boundary : goal.range-requires-clause-end_boundary
-range-requires-clause-end_boundary g c =
-    run-boundary c.loop-run.text.now c.in-Some.ensures.cases.0 c.in-Text.is c.loop-run.invariant.cuts
+range-requires-clause-end_boundary g c = run-boundary c.loop-run.text.now c.in-Some.ensures.cases.0 c.in-Text.is c.loop-run.invariant.cuts
 
 pub range_from-text-requires : goal.range_from-text-requires
 range_from-text-requires g c = λ _.

@@ -4,8 +4,7 @@ use Rattle.html_render_dom.specs.Dom.{IsNode, IsInclusiveAncestor, node_count, t
 use Rattle.html_render_dom.proofs.dom.documents.RcDom.is_inclusive_ancestor.Given as goal
 
 abbrev pub invariant-loop-ancestor : goal.invariant-loop-ancestor
-invariant-loop-ancestor l =
-    IsNode l.self l.at × (IsInclusiveAncestor l.self l.ancestor l.fn.node ↔ IsInclusiveAncestor l.self l.ancestor l.at)
+invariant-loop-ancestor l = IsNode l.self l.at × (IsInclusiveAncestor l.self l.ancestor l.fn.node ↔ IsInclusiveAncestor l.self l.ancestor l.at)
 
 abbrev pub decreases-loop-ancestor : goal.decreases-loop-ancestor
 decreases-loop-ancestor l = node_count l.self - depth (tree_of l.self l.at)

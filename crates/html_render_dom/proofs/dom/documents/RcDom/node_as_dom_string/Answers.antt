@@ -15,8 +15,7 @@ write_start-requires-clause-indent c =
     omega (arith, deep)
 
 pub write_next-requires-clause-frames : goal.write_next-requires-clause-frames
-write_next-requires-clause-frames c =
-    (All-pop (FrameFits c.args.self.now) _ _ _ c.pop.ensures.items c.loop-frame.invariant.1).0
+write_next-requires-clause-frames c = (All-pop (FrameFits c.args.self.now) _ _ _ c.pop.ensures.items c.loop-frame.invariant.1).0
 
 pub loop-frame-preserved : goal.loop-frame-preserved
 loop-frame-preserved c =

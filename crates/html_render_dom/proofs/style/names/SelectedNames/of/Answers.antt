@@ -1,6 +1,6 @@
 -- Each turn of the loop tells the key of the name that one rule more states.
 use Rattle.std.proofs.Common.{◌≡◌, ◌+◌, [], ◌∷◌, ◌++◌, true, map, option_map, set, string_bytes, take, sym, ap, subst, ◌∙◌, arith}
-use Rattle.std.proofs.lemmas.List.{length-set, map-append, take_more}
+use Rattle.std.proofs.lemmas.List.{length-set, map-append, take_all, take_more}
 use Rattle.html_render_dom.specs.NameKeys.{Tells, key_of}
 use Rattle.html_render_dom.specs.Rules.{rule_of}
 use Rattle.html_render_dom.proofs.NameKeys.{Tells-named}
@@ -23,3 +23,8 @@ loop-rule-preserved c =
       subst (λ rs. Tells (set keys c.key_of.result true) rs) (sym more) (subst (λ k. Tells (set keys k true)
           (map rule_of (take i rules) ++ rule_of rule ∷ [])) (sym key) told),
     )
+
+pub returns-clause-ok : goal.returns-clause-ok
+returns-clause-ok c =
+    let all = take_all c.loop-rule.rule-index c.args.rules.now (omega arith) in
+    subst (λ rs. Tells c.loop-rule.keys.items (map rule_of rs)) all c.loop-rule.invariant.1

@@ -1,6 +1,7 @@
 use Rattle.std.proofs.Common.{◌≡◌, ◌+◌, ◌<◌, ◌++◌, ◌∷◌, [], drop, length, sym, ap, ◌∙◌, arith, rules, append_assoc, drop-cons, suc}
 use Rattle.std.proofs.Output.{has_written_append}
-use Rattle.html_render_nodes.specs.Dump.{dump, kind_name, line}
+use Rattle.html_render_nodes.specs.Dump.{dump, line}
+use Rattle.html_render_nodes.specs.Kinds.{kind_name}
 use Rattle.html_render_nodes.specs.Preorder.{flatten}
 use Rattle.html_render_nodes.proofs.Depths.{length-depths, lines, lines-whole}
 use Rattle.html_render_nodes.proofs.tree.dump.RenderTreeDisplay.fmt.Goals as goal
