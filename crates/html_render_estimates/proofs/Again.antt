@@ -14,6 +14,7 @@ use Rattle.html_render_nodes.specs.declared.tree.NodeKind.TheVariants.{Text, Bre
 use Rattle.html_render_nodes.specs.declared.tree.RenderNode.{RenderNode}
 use Rattle.html_render_nodes.specs.Preorder.{flatten, forest_of}
 use Rattle.html_render_nodes.specs.laws.Preorder.{forest_of-flatten, IsForest, IsForest-flatten}
+use Rattle.html_render_estimates.specs.declared.settings.LayoutSettings.{LayoutSettings}
 use Rattle.html_render_estimates.specs.Estimates.{trees, greatest_least, measured_kind, estimate_of, measured}
 use Rattle.html_render_estimates.specs.Passes.{is_table, has_table, with_needs, without_size, without_sizes, with_needed_sizes}
 use Rattle.html_render_estimates.specs.laws.Least.{tables-measured}
@@ -39,23 +40,23 @@ found_table t i e es behind table =
     ∙ list_any-append (λ e. is_table e.node.kind) (take i (flatten t)) (drop i (flatten t))
     ∙ ap (λ l. before || any_table l) behind ∙ ap (λ b. before || (b || any_table es)) table ∙ or_right before true refl
 
-module _ {D A : Type 0} (decoration : Decoration D A) (decorator : D) (min_wrap_width : ℕ) where
+module _ {D A : Type 0} (decoration : Decoration D A) (decorator : D) (settings : LayoutSettings) where
   abbrev with_sizes : Forest RenderNode → Forest RenderNode
-  with_sizes t = measured decoration decorator min_wrap_width t
+  with_sizes t = measured decoration decorator settings t
 
   -- what each pass makes of a node
   abbrev pub sized : RenderNode → (children : Forest RenderNode) → RenderNode
-  sized n children = record n { kind = measured_kind n.kind children; estimate = estimate_of decoration decorator min_wrap_width n.kind children }
+  sized n children = record n { kind = measured_kind n.kind children; estimate = estimate_of decoration decorator settings n.kind children }
 
   abbrev unsized_estimate : NodeKind → (children : Forest RenderNode) → Estimate
-  unsized_estimate kind children = without_size (estimate_of decoration decorator min_wrap_width kind children)
+  unsized_estimate kind children = without_size (estimate_of decoration decorator settings kind children)
 
   abbrev pub unsized : RenderNode → (children : Forest RenderNode) → RenderNode
   unsized n children = record n { estimate = unsized_estimate n.kind children }
 
   -- a node that keeps what was found out of it
   pub noted : (n : RenderNode) (needs : List ColumnNeed) (e : Estimate) (f : Forest RenderNode) → with_needs needs n.kind ≡ measured_kind n.kind f →
-      e ≡ estimate_of decoration decorator min_wrap_width n.kind f → record n { kind = with_needs needs n.kind; estimate = e } ≡ sized n f
+      e ≡ estimate_of decoration decorator settings n.kind f → record n { kind = with_needs needs n.kind; estimate = e } ≡ sized n f
   noted n needs e f is_needs is_estimate =
       ap (λ x. record n { kind = x; estimate = e }) is_needs ∙ ap (λ x. record n { kind = measured_kind n.kind f; estimate = x }) is_estimate
 
@@ -120,11 +121,11 @@ module _ {D A : Type 0} (decoration : Decoration D A) (decorator : D) (min_wrap_
   -- with their sizes, where a node is a table, and else without
   pub with_table : (t : Forest RenderNode) → has_table t ≡ true → all_measured t ≡ with_sizes t
   with_table t table = ap (λ b. if b then with_sizes t else without_sizes (with_sizes t))
-      (tables-measured decoration decorator min_wrap_width t ∙ table)
+      (tables-measured decoration decorator settings t ∙ table)
 
   pub without_table : (t : Forest RenderNode) → has_table t ≡ false → all_measured t ≡ without_sizes (with_sizes t)
   without_table t plain = ap (λ b. if b then with_sizes t else without_sizes (with_sizes t))
-      (tables-measured decoration decorator min_wrap_width t ∙ plain)
+      (tables-measured decoration decorator settings t ∙ plain)
 
   pub done : (t : Forest RenderNode) (old es : List (Entry RenderNode)) → old ≡ flatten t → es ≡ flatten (all_measured (forest_of old)) →
       IsForest es (all_measured t)

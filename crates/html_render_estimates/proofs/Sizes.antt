@@ -158,3 +158,12 @@ letters-columns bs spaced zero some within letters = absurd (omega (arith, some)
 letters-columns bs spaced (suc n) some within letters =
     subst (λ k. columns_of spaced (chars bs) ≡ cond spaced 1 0 + k + columns_of false (chars (drop k bs))) (omega arith)
     (more-letters bs spaced n (omega (arith, within)) (λ i d low high. letters i d low (omega (arith, high))))
+
+-- ---- a space in front of a text
+
+pub space-columns : (bs : List ℕ) (spaced : Bool) → 0 < length bs → is_collapsible (get_or bs 0 0) ≡ true → get_or bs 0 0 < 128 →
+    columns_of spaced (chars bs) ≡ columns_of true (chars (drop 1 bs))
+space-columns bs spaced within space small = ap (columns_of spaced) (next-chars bs 0 within small) ∙ behind (get_or bs 0 0) space
+  where
+    behind : (c : ℕ) → is_collapsible c ≡ true → columns_of spaced (c ∷ chars (drop 1 bs)) ≡ columns_of true (chars (drop 1 bs))
+    behind c e = rw e refl

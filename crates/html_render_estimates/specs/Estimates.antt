@@ -1,5 +1,5 @@
 -- What each node of a forest measures, from its kind and what its children measure.
-use Rattle.std.specs.Prelude.{ℕ, pos, ◌+◌, ◌-◌, ◌*◌, ◌/◌, ◌+ℤ◌, ◌-ℤ◌, max, min, List, sum_by}
+use Rattle.std.specs.Prelude.{ℕ, ℤ, pos, ◌+◌, ◌-◌, ◌*◌, ◌/◌, ◌+ℤ◌, ◌-ℤ◌, max, min, List, sum_by}
 use Rattle.std.specs.Int.{saturate_signed, w64}
 use Rattle.std.specs.Str.{chars}
 use Rattle.html_render_values.specs.Forest.{Forest, none, node}
@@ -13,6 +13,7 @@ use Rattle.html_render_nodes.specs.declared.tree.NodeKind.{NodeKind}
 use Rattle.html_render_nodes.specs.declared.tree.NodeKind.TheVariants.{Text, Break, Header, BlockQuote, Ul, Ol, Dd}
 use Rattle.html_render_nodes.specs.declared.tree.NodeKind.TheVariants.{Link, Image, Svg, FragmentStart, Table}
 use Rattle.html_render_nodes.specs.declared.tree.RenderNode.{RenderNode}
+use Rattle.html_render_estimates.specs.declared.settings.LayoutSettings.{LayoutSettings}
 use Rattle.html_render_estimates.specs.TextSize.{size_of, saturated}
 use Rattle.html_render_estimates.specs.Cells.{cell_needs}
 
@@ -32,12 +33,12 @@ total_size none = 0
 total_size (node n children beside) = saturated (n.estimate.size + total_size beside)
 
 -- THE ESTIMATE OF A TABLE: at least each column has what it needs; of the size of a cell each of its columns has an equal part, rounded
--- down, and a column's size is that of all its parts; one column of text stands between any two columns
-abbrev pub table_estimate : (columns : ℕ) → List CellNeed → (children : ℕ) → Estimate
-table_estimate columns cells children =
-    let least = saturated (sum_by (λ n. n.least) (column_needs columns cells) + (columns - 1)) in
-    let size = saturated (sum_by (λ c. c.size / c.count * c.count) cells + (columns - 1)) in
-    record { least = least; size = size; prefix = 0; children = children }
+-- down, and a column's size is that of all its parts; one column of text stands between any two columns, and a prefix before all
+abbrev pub table_estimate : (columns : ℕ) → List CellNeed → (prefix children : ℕ) → Estimate
+table_estimate columns cells prefix children =
+    let least = saturated (sum_by (λ n. n.least) (column_needs columns cells) + (columns - 1) + prefix) in
+    let size = saturated (sum_by (λ c. c.size / c.count * c.count) cells + (columns - 1) + prefix) in
+    record { least = least; size = size; prefix = prefix; children = children }
 
 -- WHAT THE COLUMNS of a table NEED for its measured cells is kept in its node, for the layout
 abbrev pub measured_kind : NodeKind → (children : Forest RenderNode) → NodeKind
@@ -52,22 +53,26 @@ abbrev pub prefix_columns : List ℕ → ℕ
 prefix_columns text = saturated (text_columns (chars text))
 
 module _ {D A : Type 0} (decoration : Decoration D A) (decorator : D) where
-  -- the columns of what stands before the lines of a node with so many children. A numbered list has those of its first item or of
-  -- its last, if these are more; numbers stop at the ends of their type
-  abbrev pub prefix_of : NodeKind → (children : ℕ) → ℕ
-  prefix_of (Header level) children = prefix_columns (decoration.header_prefix decorator level)
-  prefix_of BlockQuote children = prefix_columns (decoration.quote_prefix decorator)
-  prefix_of Ul children = prefix_columns (decoration.unordered_item_prefix decorator)
-  prefix_of (Ol first) children =
-      let last = saturate_signed w64 (first +ℤ pos children -ℤ pos 1) in
+  -- the columns of the prefixes of so many items, numbered from the first on: those of the first one's or of the last one's, if these
+  -- are more; numbers stop at the ends of their type
+  abbrev pub number_columns : (first : ℤ) → (items : ℕ) → ℕ
+  number_columns first items =
+      let last = saturate_signed w64 (first +ℤ pos items -ℤ pos 1) in
       max (prefix_columns (decoration.ordered_item_prefix decorator first)) (prefix_columns (decoration.ordered_item_prefix decorator last))
-  prefix_of Dd children = 2
-  prefix_of kind children = 0
 
-  module _ (min_wrap_width : ℕ) where
+  module _ (settings : LayoutSettings) where
+    -- the columns of what stands before the lines of a node with so many children
+    abbrev pub prefix_of : NodeKind → (children : ℕ) → ℕ
+    prefix_of (Header level) children = prefix_columns (decoration.header_prefix decorator level)
+    prefix_of BlockQuote children = prefix_columns (decoration.quote_prefix decorator)
+    prefix_of Ul children = prefix_columns (decoration.unordered_item_prefix decorator)
+    prefix_of (Ol first) children = number_columns first children
+    prefix_of Dd children = 2
+    prefix_of kind children = 0
+
     -- the estimate of what is written in one piece, of this size
     abbrev pub piece : (size : ℕ) → Estimate
-    piece size = record { least = min size min_wrap_width; size = size; prefix = 0; children = 0 }
+    piece size = record { least = min size settings.min_wrap_width; size = size; prefix = 0; children = 0 }
 
     -- THE ESTIMATE of a node over its measured children: for what stands round it an image has two columns, and a link five
     abbrev pub estimate_of : NodeKind → (children : Forest RenderNode) → Estimate
@@ -78,7 +83,9 @@ module _ {D A : Type 0} (decoration : Decoration D A) (decorator : D) where
     estimate_of (FragmentStart name) children = record { least = 0; size = 0; prefix = 0; children = 0 }
     estimate_of (Link target) children =
         record { least = max (greatest_least children) 5; size = saturated (total_size children + 5); prefix = 0; children = trees children }
-    estimate_of (Table grid) children = table_estimate (columns_of grid.cells) (cell_needs grid.cells.rows children) (trees children)
+    estimate_of (Table grid) children =
+        let prefix = prefix_of (Table grid) (trees children) in
+        table_estimate (columns_of grid.cells) (cell_needs grid.cells.rows children) prefix (trees children)
     estimate_of kind children =
         let prefix = prefix_of kind (trees children) in
         let least = saturated (greatest_least children + prefix) in

@@ -1,3 +1,5 @@
+-- how documents are laid out
+pub mod Settings
 -- the size of a text
 pub mod TextSize
 -- the cells of a table

@@ -1,16 +1,17 @@
 //! Estimates of the nodes of a render tree.
 //!
-//! `measure(alloc, &decorator, 3, tree)?` is the tree with each node's estimate: the least width in which the node
+//! `measure(alloc, &decorator, &settings, tree)?` is the tree with each node's estimate: the least width in which the node
 //! can be laid out well, the columns of the decorator's prefix and the number of children; and in a tree with a table its size.
 
 ghost use Rattle.std.specs.Prelude.{◌≡◌, ◌+◌, ◌+ℤ◌, ◌-ℤ◌, pos, max, min, true, false, IfOk, IfErr, OnOk, MatchBool};
 ghost use Rattle.std.specs.Int.{saturate_signed, w64};
 ghost use Rattle.html_render_nodes.specs.Preorder.{flatten, forest_of};
-ghost use Rattle.html_render_estimates.specs.Estimates.{trees, greatest_least, text_size, prefix_of};
+ghost use Rattle.html_render_estimates.specs.Estimates.{trees, greatest_least, text_size, number_columns, prefix_of};
 ghost use Rattle.html_render_estimates.specs.TextSize.{saturated};
 ghost use Rattle.html_render_estimates.specs.Estimates.{measured_kind, estimate_of, measured};
 ghost use Rattle.html_render_estimates.specs.Passes.{is_table, has_table, with_needs, without_size, without_sizes, with_needed_sizes};
 
+use crate::settings::LayoutSettings;
 use crate::sized::{Measure, measure_table, total_size};
 use crate::text::{columns, size_within};
 use crate::trees::first_tree;
@@ -21,16 +22,16 @@ use std::alloc::Global;
 
 /// Trees beside each other: how many there are, and the greatest of their least widths.
 #[derive(Clone, Copy)]
-pub(crate) struct Children {
+struct Children {
     /// How many trees there are.
-    pub(crate) count: usize,
+    count: usize,
     /// The greatest of their least widths.
     least: usize,
 }
 
 /// The trees of measured nodes.
 #[inline]
-pub(crate) fn children_of(nodes: &[Entry<RenderNode>]) -> Children
+fn children_of(nodes: &[Entry<RenderNode>]) -> Children
     requires { flatten (forest_of nodes.now) ≡ nodes.now }
     ensures count { result.count ≡ trees (forest_of nodes.now) }
     ensures least { result.least ≡ greatest_least (forest_of nodes.now) }
@@ -69,7 +70,7 @@ pub fn number_columns<D: TextDecorator>(
     first: i64,
     items: usize,
 ) -> Result<usize, Error>
-    ensures ok { IfOk result (λ columns. columns ≡ prefix_of D.decoration decorator.now (NodeKind.Ol first) items) }
+    ensures ok { IfOk result (λ columns. columns ≡ number_columns D.decoration decorator.now first items) }
     ensures err { IfErr result (λ e. e ≡ Error.OutOfMemory) }
 {
     let first_prefix = decorator.ordered_item_prefix(alloc, first)?;
@@ -78,14 +79,15 @@ pub fn number_columns<D: TextDecorator>(
 }
 
 /// The columns of the prefix of a node with `children` children.
-#[inline]
+#[inline(always)]
 fn prefix_of<D: TextDecorator>(
     alloc: Global,
     decorator: &D,
+    settings: &LayoutSettings,
     kind: &NodeKind,
     children: usize,
 ) -> Result<usize, Error>
-    ensures ok { IfOk result (λ columns. columns ≡ prefix_of D.decoration decorator.now kind.now children) }
+    ensures ok { IfOk result (λ columns. columns ≡ prefix_of D.decoration decorator.now settings.now kind.now children) }
     ensures err { IfErr result (λ e. e ≡ Error.OutOfMemory) }
 {
     match kind {
@@ -154,30 +156,30 @@ fn link_estimate(below: &[Entry<RenderNode>]) -> Estimate
 fn estimate_of<D: TextDecorator>(
     alloc: Global,
     decorator: &D,
-    min_wrap_width: usize,
+    settings: &LayoutSettings,
     kind: &NodeKind,
     below: &[Entry<RenderNode>],
 ) -> Result<Estimate, Error>
     requires { flatten (forest_of below.now) ≡ below.now }
     ensures ok { IfOk result (λ e. is_table kind.now ≡ false →
-        e ≡ without_size (estimate_of D.decoration decorator.now min_wrap_width kind.now (forest_of below.now))) }
+        e ≡ without_size (estimate_of D.decoration decorator.now settings.now kind.now (forest_of below.now))) }
     ensures err { IfErr result (λ e. e ≡ Error.OutOfMemory) }
 {
     match kind {
         NodeKind::Text(text) | NodeKind::Svg(text) => Ok(piece(size_within(
             text.as_str(),
-            min_wrap_width,
+            settings.min_wrap_width,
         ))),
         NodeKind::Break => Ok(piece(1)),
         NodeKind::Image(image) => Ok(piece(image_size_within(
             image.title().as_str(),
-            min_wrap_width,
+            settings.min_wrap_width,
         ))),
         NodeKind::FragmentStart(_) => Ok(piece(0)),
         NodeKind::Link(_) => Ok(link_estimate(below)),
         _ => {
             let children = children_of(below);
-            let prefix = prefix_of(alloc, decorator, kind, children.count)?;
+            let prefix = prefix_of(alloc, decorator, settings, kind, children.count)?;
             Ok(Estimate {
                 least: children.least.saturating_add(prefix),
                 size: 0,
@@ -192,16 +194,16 @@ fn estimate_of<D: TextDecorator>(
 fn sized_estimate_of<D: TextDecorator>(
     alloc: Global,
     decorator: &D,
-    min_wrap_width: usize,
+    settings: &LayoutSettings,
     kind: &NodeKind,
     below: &[Entry<RenderNode>],
 ) -> Result<Estimate, Error>
     requires { flatten (forest_of below.now) ≡ below.now }
     ensures ok { IfOk result (λ e. is_table kind.now ≡ false →
-        e ≡ estimate_of D.decoration decorator.now min_wrap_width kind.now (forest_of below.now)) }
+        e ≡ estimate_of D.decoration decorator.now settings.now kind.now (forest_of below.now)) }
     ensures err { IfErr result (λ e. e ≡ Error.OutOfMemory) }
 {
-    let estimate = estimate_of(alloc, decorator, min_wrap_width, kind, below)?;
+    let estimate = estimate_of(alloc, decorator, settings, kind, below)?;
     let size = match kind {
         NodeKind::Text(text) | NodeKind::Svg(text) => size_within(text.as_str(), usize::MAX),
         NodeKind::Break => 1,
@@ -217,19 +219,21 @@ fn sized_estimate_of<D: TextDecorator>(
 fn measure_of<D: TextDecorator>(
     alloc: Global,
     decorator: &D,
-    min_wrap_width: usize,
+    settings: &LayoutSettings,
     kind: &NodeKind,
     below: &[Entry<RenderNode>],
 ) -> Result<Measure, Error>
     requires { flatten (forest_of below.now) ≡ below.now }
-    ensures estimate { IfOk result (λ m. m.estimate ≡ estimate_of D.decoration decorator.now min_wrap_width kind.now (forest_of below.now)) }
+    ensures estimate { IfOk result (λ m. m.estimate ≡ estimate_of D.decoration decorator.now settings.now kind.now (forest_of below.now)) }
     ensures needs { IfOk result (λ m. with_needs m.needs.items kind.now ≡ measured_kind kind.now (forest_of below.now)) }
     ensures err { IfErr result (λ e. e ≡ Error.OutOfMemory) }
 {
     if let NodeKind::Table(grid) = kind {
-        return measure_table(alloc, grid.cells(), below);
+        let children = children_of(below).count;
+        let prefix = prefix_of(alloc, decorator, settings, kind, children)?;
+        return measure_table(alloc, grid.cells(), prefix, children, below);
     }
-    let estimate = sized_estimate_of(alloc, decorator, min_wrap_width, kind, below)?;
+    let estimate = sized_estimate_of(alloc, decorator, settings, kind, below)?;
     Ok(Measure {
         estimate,
         needs: Vec::new(alloc),
@@ -271,13 +275,13 @@ fn any_table(entries: &[Entry<RenderNode>]) -> bool
 fn measure_without_sizes<D: TextDecorator>(
     alloc: Global,
     decorator: &D,
-    min_wrap_width: usize,
+    settings: &LayoutSettings,
     entries: &mut Vec<Entry<RenderNode>>,
 ) -> Result<(), Error>
     requires kept { flatten (forest_of entries.old.items) ≡ entries.old.items }
     requires plain { has_table (forest_of entries.old.items) ≡ false }
     ensures ok { OnOk result (entries.new.items
-        ≡ flatten (without_sizes (measured D.decoration decorator.now min_wrap_width (forest_of entries.old.items)))) }
+        ≡ flatten (without_sizes (measured D.decoration decorator.now settings.now (forest_of entries.old.items)))) }
     ensures err { IfErr result (λ e. e ≡ Error.OutOfMemory) }
 {
     let mut at = entries.len();
@@ -286,7 +290,7 @@ fn measure_without_sizes<D: TextDecorator>(
         let all = entries.as_slice();
         let entry = &all[at];
         let below = &all[at + 1..at + entry.size];
-        let estimate = estimate_of(alloc, decorator, min_wrap_width, &entry.node.kind, below)?;
+        let estimate = estimate_of(alloc, decorator, settings, &entry.node.kind, below)?;
         entries[at].node.estimate = estimate;
     }
     Ok(())
@@ -296,11 +300,11 @@ fn measure_without_sizes<D: TextDecorator>(
 fn measure_with_sizes<D: TextDecorator>(
     alloc: Global,
     decorator: &D,
-    min_wrap_width: usize,
+    settings: &LayoutSettings,
     entries: &mut Vec<Entry<RenderNode>>,
 ) -> Result<(), Error>
     requires { flatten (forest_of entries.old.items) ≡ entries.old.items }
-    ensures ok { OnOk result (entries.new.items ≡ flatten (measured D.decoration decorator.now min_wrap_width (forest_of entries.old.items))) }
+    ensures ok { OnOk result (entries.new.items ≡ flatten (measured D.decoration decorator.now settings.now (forest_of entries.old.items))) }
     ensures err { IfErr result (λ e. e ≡ Error.OutOfMemory) }
 {
     let mut at = entries.len();
@@ -309,7 +313,7 @@ fn measure_with_sizes<D: TextDecorator>(
         let all = entries.as_slice();
         let entry = &all[at];
         let below = &all[at + 1..at + entry.size];
-        let measure = measure_of(alloc, decorator, min_wrap_width, &entry.node.kind, below)?;
+        let measure = measure_of(alloc, decorator, settings, &entry.node.kind, below)?;
         note(&mut entries[at].node, measure);
     }
     Ok(())
@@ -319,18 +323,18 @@ fn measure_with_sizes<D: TextDecorator>(
 fn measure_nodes<D: TextDecorator>(
     alloc: Global,
     decorator: &D,
-    min_wrap_width: usize,
+    settings: &LayoutSettings,
     entries: &mut Vec<Entry<RenderNode>>,
 ) -> Result<(), Error>
     requires { flatten (forest_of entries.old.items) ≡ entries.old.items }
     ensures ok { OnOk result (entries.new.items
-        ≡ flatten (with_needed_sizes (measured D.decoration decorator.now min_wrap_width (forest_of entries.old.items)))) }
+        ≡ flatten (with_needed_sizes (measured D.decoration decorator.now settings.now (forest_of entries.old.items)))) }
     ensures err { IfErr result (λ e. e ≡ Error.OutOfMemory) }
 {
     if any_table(entries) {
-        return measure_with_sizes(alloc, decorator, min_wrap_width, entries);
+        return measure_with_sizes(alloc, decorator, settings, entries);
     }
-    measure_without_sizes(alloc, decorator, min_wrap_width, entries)
+    measure_without_sizes(alloc, decorator, settings, entries)
 }
 
 /// The tree with each node's estimate. Without a table in the tree its size is left out, as 0.
@@ -341,13 +345,13 @@ fn measure_nodes<D: TextDecorator>(
 pub fn measure<D: TextDecorator>(
     alloc: Global,
     decorator: &D,
-    min_wrap_width: usize,
+    settings: &LayoutSettings,
     tree: Flat<RenderNode>,
 ) -> Result<Flat<RenderNode>, Error>
-    ensures ok { IfOk result (λ t. t ≡ with_needed_sizes (measured D.decoration decorator.now min_wrap_width tree)) }
+    ensures ok { IfOk result (λ t. t ≡ with_needed_sizes (measured D.decoration decorator.now settings.now tree)) }
     ensures err { IfErr result (λ e. e ≡ Error.OutOfMemory) }
 {
     let mut entries = tree.into_entries();
-    measure_nodes(alloc, decorator, min_wrap_width, &mut entries)?;
+    measure_nodes(alloc, decorator, settings, &mut entries)?;
     Ok(Flat::from_entries(entries))
 }

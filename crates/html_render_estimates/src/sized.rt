@@ -6,10 +6,9 @@ ghost use Rattle.html_render_parts.specs.TableCells.{columns_of};
 ghost use Rattle.html_render_nodes.specs.Preorder.{flatten, forest_of};
 ghost use Rattle.html_render_estimates.specs.TextSize.{saturated};
 ghost use Rattle.html_render_estimates.specs.Cells.{cell_needs};
-ghost use Rattle.html_render_estimates.specs.Estimates.{trees, total_size, table_estimate};
+ghost use Rattle.html_render_estimates.specs.Estimates.{total_size, table_estimate};
 
 use crate::cells::cell_needs;
-use crate::estimate::children_of;
 use crate::trees::first_tree;
 use html_render_nodes::tree::{Entry, Estimate, RenderNode};
 use html_render_parts::table::cells::TableCells;
@@ -63,27 +62,29 @@ pub struct Measure {
     pub needs: Vec<ColumnNeed>,
 }
 
-/// What is found out of a table on this grid over its measured rows.
+/// What is found out of a table on this grid, with `children` children behind a prefix of `prefix` columns, over its measured
+/// rows.
 pub fn measure_table(
     alloc: Global,
     grid: &TableCells,
+    prefix: usize,
+    children: usize,
     rows: &[Entry<RenderNode>],
 ) -> Result<Measure, Error>
     requires { flatten (forest_of rows.now) ≡ rows.now }
     ensures estimate { IfOk result (λ m. m.estimate
-        ≡ table_estimate (columns_of grid.now) (cell_needs grid.now.rows (forest_of rows.now)) (trees (forest_of rows.now))) }
+        ≡ table_estimate (columns_of grid.now) (cell_needs grid.now.rows (forest_of rows.now)) prefix children) }
     ensures needs { IfOk result (λ m. m.needs.items ≡ column_needs (columns_of grid.now) (cell_needs grid.now.rows (forest_of rows.now))) }
     ensures err { IfErr result (λ e. e ≡ Error.OutOfMemory) }
 {
-    let children = children_of(rows).count;
     let columns = grid.columns();
     let cells = cell_needs(alloc, grid, rows)?;
     let needs = column_needs(alloc, columns, cells.as_slice())?;
-    let between = columns.saturating_sub(1);
+    let beside = columns.saturating_sub(1).saturating_add(prefix);
     let estimate = Estimate {
-        least: least_of_columns(needs.as_slice()).saturating_add(between),
-        size: size_of_cells(cells.as_slice()).saturating_add(between),
-        prefix: 0,
+        least: least_of_columns(needs.as_slice()).saturating_add(beside),
+        size: size_of_cells(cells.as_slice()).saturating_add(beside),
+        prefix,
         children,
     };
     Ok(Measure { estimate, needs })

@@ -171,6 +171,11 @@ fn columns_within(text: &str, before: usize, space_before: bool, limit: usize) -
             rest = behind;
             continue;
         }
+        if let Some(behind) = split_space(rest) {
+            spaced = true;
+            rest = behind;
+            continue;
+        }
         let Some((c, behind)) = first_character(rest) else {
             break;
         };
@@ -200,6 +205,21 @@ fn split_letters(text: &str) -> Option<(usize, &str)>
     }
     let (_, behind) = text.split_at_checked(letters)?;
     Some((letters, behind))
+}
+
+/// What stands behind the space or newline that a text begins with, if it begins with one.
+#[inline]
+fn split_space(text: &str) -> Option<&str>
+    ensures columns { IfSome result (λ rest. (spaced : Bool) → columns_of spaced (chars text.now) ≡ columns_of true (chars rest.now)) }
+    ensures shorter { IfSome result (λ rest. length rest.now < length text.now) }
+    ensures text { IfSome result (λ rest. IsUtf8 rest.now) }
+{
+    let bytes = text.as_bytes();
+    if bytes.is_empty() || !is_space(bytes[0]) {
+        return None;
+    }
+    let (_, behind) = text.split_at_checked(1)?;
+    Some(behind)
 }
 
 /// The columns of a character that isn't collapsible white space.

@@ -1,8 +1,8 @@
 -- What stands in the place of an image.
 use Rattle.std.specs.Prelude.{ℕ, ◌==◌, length, List, [], ◌∷◌, Option, Some, None, if◌then◌else◌}
 use Rattle.std.specs.List.{list_any}
-use Rattle.html_render_layout.specs.declared.settings.ImageRenderMode.{ImageRenderMode}
-use Rattle.html_render_layout.specs.declared.settings.ImageRenderMode.TheVariants.{IgnoreEmpty, ShowAlways, Replace, Filename}
+use Rattle.html_render_estimates.specs.declared.settings.ImageRenderMode.{ImageRenderMode}
+use Rattle.html_render_estimates.specs.declared.settings.ImageRenderMode.TheVariants.{IgnoreEmpty, ShowAlways, Replace, Filename}
 
 -- the part of an address behind its last slash, and the whole where it has none
 abbrev pub file_name : List ℕ → List ℕ

@@ -1,5 +1,5 @@
 -- What the lines of a layout keep of the texts of its tree.
-use Rattle.std.specs.Prelude.{ℕ, ◌≤◌, Bool, false, List, [], flat_map}
+use Rattle.std.specs.Prelude.{ℕ, ◌≤◌, false, List, [], flat_map}
 use Rattle.std.specs.Str.{chars}
 use Rattle.html_render_values.specs.Forest.{Forest}
 use Rattle.html_render_parts.specs.Decoration.{Decoration}
@@ -9,15 +9,16 @@ use Rattle.html_render_nodes.specs.declared.tree.NodeKind.{NodeKind}
 use Rattle.html_render_nodes.specs.declared.tree.NodeKind.TheVariants.{Text}
 use Rattle.html_render_nodes.specs.declared.tree.RenderNode.{RenderNode}
 use Rattle.html_render_nodes.specs.Pass.{bare, nodes_at}
+use Rattle.html_render_blocks.specs.declared.block.BlockSetting.{BlockSetting}
 use Rattle.html_render_blocks.specs.Visible.{visible_in_text}
 use Rattle.html_render_pictures.specs.Visible.{count}
-use Rattle.html_render_layout.specs.declared.settings.LayoutSettings.{LayoutSettings}
+use Rattle.html_render_estimates.specs.declared.settings.LayoutSettings.{LayoutSettings}
 use Rattle.html_render_layout.specs.Layout.{defined, estimated, empty_state}
 
 -- the nodes that a layout visits, in order, without the cells that it skips
-abbrev pub visited_nodes : {S A : Type 0} → Decoration S A → LayoutSettings → Forest RenderNode → S → (width : ℕ) → (overflow : Bool) → List RenderNode
-visited_nodes d settings t decorator width overflow =
-    nodes_at false (defined d) bare 0 (estimated d settings decorator t) (empty_state d settings decorator width overflow)
+abbrev pub visited_nodes : {S A : Type 0} → Decoration S A → LayoutSettings → Forest RenderNode → S → BlockSetting → List RenderNode
+visited_nodes d settings t decorator block =
+    nodes_at false (defined d) bare 0 (estimated d settings decorator t) (empty_state d settings decorator block)
 
 -- the characters of a node, if it is a text
 abbrev pub node_characters : NodeKind → List ℕ

@@ -27,16 +27,18 @@ use Rattle.html_render_nodes.specs.declared.tree.NodeKind.TheVariants.{Table, Ta
 use Rattle.html_render_nodes.specs.declared.tree.NodeStyle.{NodeStyle}
 use Rattle.html_render_nodes.specs.declared.tree.Estimate.{Estimate}
 use Rattle.html_render_nodes.specs.declared.tree.RenderNode.{RenderNode}
-use Rattle.html_render_nodes.specs.Pass.{Place, Skipped, Within, bare, Visit, Leaf, Inner, Visits, followed, run}
+use Rattle.html_render_nodes.specs.Pass.{Place, Bare, Skipped, Within, bare, Visit, Leaf, Inner, Visits, followed, placed, run}
 use Rattle.html_render_blocks.specs.declared.block.BlockSetting.{BlockSetting}
 use Rattle.html_render_blocks.specs.Operations.{Operations, DocumentEnd}
 use Rattle.html_render_blocks.specs.Block.{empty_block}
 use Rattle.html_render_blocks.specs.Definition as definition
 use Rattle.html_render_blocks.specs.Definition.{definition as defined_parts, DefinedBlock}
-use Rattle.html_render_estimates.specs.Estimates.{prefix_columns, prefix_of, measured}
+use Rattle.html_render_estimates.specs.Estimates.{prefix_columns, number_columns, measured}
+use Rattle.html_render_layout.specs.declared.layout.nesting.OwnBlock.{OwnBlock}
+use Rattle.html_render_layout.specs.declared.layout.nesting.OwnBlock.TheVariants.{Shared, Prefixed, Indented}
 use Rattle.html_render_layout.specs.declared.layout.state.LayoutState.{LayoutState}
 use Rattle.html_render_layout.specs.declared.layout.state.TextContext.{TextContext}
-use Rattle.html_render_layout.specs.declared.settings.LayoutSettings.{LayoutSettings}
+use Rattle.html_render_estimates.specs.declared.settings.LayoutSettings.{LayoutSettings}
 use Rattle.html_render_layout.specs.Images.{shown_title}
 use Rattle.html_render_layout.specs.Ending.{ended}
 
@@ -72,10 +74,12 @@ pub data Step (S A : Type 0) : Type 0 where
 pub data Shape (S A : Type 0) : Type 0 where
   Steps : List (Step S A) → Shape S A  -- whatever stands below it
   Around : (before after : List (Step S A)) → Shape S A  -- round the nodes below it
-  Prefixed : (S → List ℕ) → (least : ℕ) → Shape S A  -- these in a block, each of whose lines stands behind a prefix
-  Indented : (columns least : ℕ) → Shape S A  -- or behind an indent of spaces
   Items : (S → ℕ → List ℕ) → (S → ℕ) → (least : ℕ) → Shape S A  -- each in a block of its own: the first line behind its prefix, by its number
   Cells : Shape S A  -- each as a cell of the table's next row
+
+-- the columns that a node needs behind its prefix
+abbrev pub inner_least : Estimate → ℕ
+inner_least e = e.least - e.prefix
 
 abbrev pub spaces : ℕ → List ℕ
 spaces count = replicate count 32
@@ -122,8 +126,14 @@ module _ {S A : Type 0} (d : Decoration S A) where
   image source None = []
   image source (Some title) = start (record { start = λ x. d.image x source title; end = λ x. [] })
 
-  -- THE TABLE, over these trees: a node whose lines stand behind a prefix needs the columns behind that; the numbers of items stop at the
-  -- ends of their type
+  -- THE BLOCK in which each stands, by this decorator
+  abbrev pub block_of : LayoutSettings → S → NodeKind → Estimate → OwnBlock
+  block_of settings x (Header level) e = Prefixed (d.header_prefix x level) (inner_least e)
+  block_of settings x BlockQuote e = Prefixed (d.quote_prefix x) (inner_least e)
+  block_of settings x Dd e = Indented (spaces 2) 2 (inner_least e)
+  block_of settings x kind e = Shared
+
+  -- THE TABLE, over these trees: the numbers of items stop at the ends of their type
   abbrev pub shape_of : LayoutSettings → NodeKind → Estimate → (trees : Forest RenderNode) → Shape S A
   shape_of settings (Text t) e trees = Steps (Write (λ x. chars t) ∷ [])
   shape_of settings Container e trees = Around [] []
@@ -131,15 +141,15 @@ module _ {S A : Type 0} (d : Decoration S A) where
   shape_of settings Block e trees = Around (StartBlock ∷ []) (EndBlock ∷ [])
   shape_of settings Div e trees = Around (NewLine ∷ []) (NewLine ∷ [])
   shape_of settings (Emphasis m) e trees = Around (start (emphasis_decoration m)) (end (emphasis_decoration m) ∷ [])
-  shape_of settings (Header level) e trees = Prefixed (λ x. d.header_prefix x level) (e.least - e.prefix)
-  shape_of settings BlockQuote e trees = Prefixed (λ x. d.quote_prefix x) (e.least - e.prefix)
-  shape_of settings Ul e trees = Items (λ x n. d.unordered_item_prefix x) (λ x. prefix_columns (d.unordered_item_prefix x)) (e.least - e.prefix)
+  shape_of settings (Header level) e trees = Around [] []
+  shape_of settings BlockQuote e trees = Around [] []
+  shape_of settings Ul e trees = Items (λ x n. d.unordered_item_prefix x) (λ x. prefix_columns (d.unordered_item_prefix x)) (inner_least e)
   shape_of settings (Ol first) e trees =
-      Items (λ x n. d.ordered_item_prefix x (saturate_signed w64 (first +ℤ pos n))) (λ x. prefix_of d x (Ol first) e.children) (e.least - e.prefix)
+      Items (λ x n. d.ordered_item_prefix x (saturate_signed w64 (first +ℤ pos n))) (λ x. number_columns d x first e.children) (inner_least e)
   shape_of settings ListItem e trees = Around (StartBlock ∷ []) (EndBlock ∷ [])
   shape_of settings Dl e trees = Around (StartBlock ∷ []) []
   shape_of settings Dt e trees = Around (NewLine ∷ start d.em) (end d.em ∷ [])
-  shape_of settings Dd e trees = Indented 2 (e.least - e.prefix)
+  shape_of settings Dd e trees = Around [] []
   shape_of settings Strikeout e trees = Around (start d.strikeout ++ Strike ∷ []) (Unstrike ∷ (end d.strikeout ∷ []))
   shape_of settings Superscript e trees = superscript (digits_of trees)
   shape_of settings (Link target) e trees = Around (AddTarget target ∷ start (link d target)) (end (link d target) ∷ (Restore ∷ (WriteNumber ∷ [])))
@@ -256,9 +266,11 @@ module _ {S A K T B : Type 0} (m : Means S A K T B) where
   appended_block tag prefix b c =
       m.operations.start_block b >>= λ e. option_map m.operations.end_block (m.operations.append e c tag (chars prefix) (chars prefix))
 
-  -- the place of an item of a list
-  abbrev pub item_place : (prefix : List ℕ) → (columns least : ℕ) → State → Place State
-  item_place prefix columns least s = Within (nested columns least s) (appended s (padded columns prefix) columns)
+  -- the place of a node that stands in this block
+  abbrev pub block_place : OwnBlock → State → Place State
+  block_place Shared s = Bare
+  block_place (Prefixed prefix least) s = Within (nested (prefix_columns prefix) least s) (joined (appended_block s.text.tag prefix) s)
+  block_place (Indented prefix columns least) s = Within (nested columns least s) (appended s prefix columns)
 
   -- and of the next cell of a row: it is skipped where there is no block for it
   abbrev pub cell_place : Option B → State → Place State
@@ -270,18 +282,21 @@ module _ {S A K T B : Type 0} (m : Means S A K T B) where
   abbrev pub shape_layout : Shape S A → State → Visit State
   shape_layout (Steps steps) s = Leaf (perform_all s steps s)
   shape_layout (Around before after) s = Inner (perform_all s before s) bare (perform_all s after)
-  shape_layout (Prefixed prefix least) s =
-      Inner (nested (prefix_columns (prefix s.decorator)) least s) bare (joined (appended_block s.text.tag (prefix s.decorator)) s)
-  shape_layout (Indented columns least) s = Inner (nested columns least s) bare (appended s (spaces columns) columns)
-  shape_layout (Items prefix columns least) s = Inner (Some s) (λ n r. item_place (prefix r.decorator n) (columns s.decorator) least r) (λ r. Some r)
+  shape_layout (Items prefix columns least) s =
+      let c = columns s.decorator in Inner (Some s) (λ n r. block_place (Indented (padded c (prefix r.decorator n)) c least) r) (λ r. Some r)
   shape_layout Cells s =
       Inner (Some (record s { block = m.operations.begin_row s.block })) (λ n r. cell_place (m.operations.cell_block r.block) r)
       (on_block m.operations.end_row)
 
-  -- EACH NODE: by its kind, in its style. Texts are treated behind it as they were before it
+  -- a kind of node over these trees, in its block
+  abbrev pub kind_layout : NodeKind → Estimate → (trees : Forest RenderNode) → State → Visit State
+  kind_layout kind e trees s =
+      placed (block_place (block_of m.decoration s.settings s.decorator kind e) s) (λ q. shape_layout (shape_of m.decoration q.settings kind e trees) q) s
+
+  -- EACH NODE: its kind, in its style. Texts are treated behind it as they were before it
   abbrev pub layout_of : Visits RenderNode State
   layout_of n trees s =
-      option_map_or (λ q. followed (shape_layout (shape_of m.decoration q.settings n.kind n.estimate trees) q) (λ r. Some (record r { text = s.text })))
+      option_map_or (λ q. followed (kind_layout n.kind n.estimate trees q) (λ r. Some (record r { text = s.text })))
       (perform_all s (style_steps m.decoration n.style) s) (Leaf None)
 
   -- what the state shows once all trees are laid out and the document is closed, under the tag that its texts began with
@@ -317,28 +332,27 @@ begin_with settings decorator stacks tag block =
 
 module _ {S A : Type 0} (d : Decoration S A) (settings : LayoutSettings) where
   -- an empty block in the decorator's sub-block, without annotations; its lines are padded, if that is chosen
-  abbrev pub empty_state : S → (width : ℕ) → (overflow : Bool) → Defined S A
-  empty_state decorator width overflow =
-      let setting : BlockSetting = record { width = width; max_wrap_width = settings.max_wrap_width; overflow = overflow } in
+  abbrev pub empty_state : S → BlockSetting → Defined S A
+  empty_state decorator block =
       let padding : Option (List A) = if settings.pad_block_width then Some [] else None in
-      begin_with settings (d.subblock decorator) tt [] (empty_block defined_parts setting padding)
+      begin_with settings (d.subblock decorator) tt [] (empty_block defined_parts block padding)
 
   -- a tree with the estimate of each node, whose prefixes are those of the decorator of a block inside the root's: a text needs
   -- its own columns, or as many as it is wrapped to at least
   abbrev pub estimated : S → Forest RenderNode → Forest RenderNode
-  estimated decorator t = measured d (d.subblock (d.subblock decorator)) settings.min_wrap_width t
+  estimated decorator t = measured d (d.subblock (d.subblock decorator)) settings t
 
-  -- THE LAYOUT of a render tree: what is shown of the state behind it; none where it is too narrow
-  abbrev pub layout : {L : Type 0} → (Defined S A → L) → Forest RenderNode → S → (width : ℕ) → (overflow : Bool) → Option L
-  layout shown t decorator width overflow =
-      if width == 0 then None else shown_after (by_stacks d) definition.ending shown (estimated decorator t) (empty_state decorator width overflow)
+  -- THE LAYOUT of a render tree in a block: what is shown of the state behind it; none where it is too narrow
+  abbrev pub layout : {L : Type 0} → (Defined S A → L) → Forest RenderNode → S → BlockSetting → Option L
+  layout shown t decorator block =
+      if block.width == 0 then None else shown_after (by_stacks d) definition.ending shown (estimated decorator t) (empty_state decorator block)
 
   -- its lines, each character with its stack of annotations
-  abbrev pub layout_lines : Forest RenderNode → S → (width : ℕ) → (overflow : Bool) → Option (List (Line (List A) ℕ))
+  abbrev pub layout_lines : Forest RenderNode → S → BlockSetting → Option (List (Line (List A) ℕ))
   layout_lines = layout (λ s. s.block.lines)
 
   -- and the names of its marks: a mark in the lines is the place of one
-  abbrev pub mark_names : Forest RenderNode → S → (width : ℕ) → (overflow : Bool) → Option (List (List ℕ))
+  abbrev pub mark_names : Forest RenderNode → S → BlockSetting → Option (List (List ℕ))
   mark_names = layout (λ s. s.names)
 
 -- the same lines without annotations

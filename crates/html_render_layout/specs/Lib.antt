@@ -1,6 +1,5 @@
 -- the layout: the definition, and what the code computes
 pub mod Stacks
-pub mod Settings
 pub mod Images
 pub mod Ending
 pub mod Layout

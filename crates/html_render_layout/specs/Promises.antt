@@ -1,33 +1,32 @@
 -- What every call that lays out a tree, or renders one, promises of the lines.
-use Rattle.std.specs.Prelude.{◌≡◌, ◌≤◌, ℕ, Bool, true, false, List, Some, IfSome, IsSome}
+use Rattle.std.specs.Prelude.{◌≡◌, ◌≤◌, ℕ, true, false, List, Some, IfSome, IsSome}
 use Rattle.html_render_values.specs.Forest.{Forest}
 use Rattle.html_render_parts.specs.Decoration.{Decoration}
 use Rattle.html_render_lines.specs.Line.{Line, AllWithinWidth}
 use Rattle.html_render_nodes.specs.declared.tree.RenderNode.{RenderNode}
 use Rattle.html_render_nodes.specs.Pass.{run}
-use Rattle.html_render_layout.specs.declared.settings.LayoutSettings.{LayoutSettings}
+use Rattle.html_render_estimates.specs.declared.settings.LayoutSettings.{LayoutSettings}
+use Rattle.html_render_blocks.specs.declared.block.BlockSetting.{BlockSetting}
 use Rattle.html_render_layout.specs.Kept.{visited_nodes, KeepsTexts}
 use Rattle.html_render_layout.specs.Layout.{layout_lines, Defined, defined}
 
--- of the lines that it answers: they are those of the tree in the width; with overflow off and links wrapped none passes the width;
+-- of the lines that it answers: they are those of the tree in a block; with overflow off and links wrapped none passes the width;
 -- where overflow off gives lines, they are these; and each visible character of the texts that are visited stands in them
-pub record AreLines {S A : Type 0} (d : Decoration S A) (settings : LayoutSettings) (tree : Forest RenderNode) (decorator : S) (width : ℕ)
-    (overflow : Bool) (lines : List (Line (List A) ℕ)) : Type 0 where
-  pub are : layout_lines d settings tree decorator width overflow ≡ Some lines
-  pub within : overflow ≡ false → settings.wrap_links ≡ true → AllWithinWidth width lines
-  pub same : IfSome (layout_lines d settings tree decorator width false) (λ others. lines ≡ others)
-  pub kept : KeepsTexts (visited_nodes d settings tree decorator width overflow) lines
+pub record AreLines {S A : Type 0} (d : Decoration S A) (settings : LayoutSettings) (tree : Forest RenderNode) (decorator : S) (block : BlockSetting)
+    (lines : List (Line (List A) ℕ)) : Type 0 where
+  pub are : layout_lines d settings tree decorator block ≡ Some lines
+  pub within : block.overflow ≡ false → settings.wrap_links ≡ true → AllWithinWidth block.width lines
+  pub same : IfSome (layout_lines d settings tree decorator (record block { overflow = false })) (λ others. lines ≡ others)
+  pub kept : KeepsTexts (visited_nodes d settings tree decorator block) lines
 
 -- the lines that it answers, of which this holds
-abbrev pub Lines : {S A : Type 0} → Decoration S A → LayoutSettings → Forest RenderNode → S → (width : ℕ) → (overflow : Bool) →
-    (List (Line (List A) ℕ) → Type 0) → Type 0
-Lines {S} {A} d settings tree decorator width overflow Shown =
-    (lines : List (Line (List A) ℕ)) × AreLines d settings tree decorator width overflow lines × Shown lines
+abbrev pub Lines : {S A : Type 0} → Decoration S A → LayoutSettings → Forest RenderNode → S → BlockSetting → (List (Line (List A) ℕ) → Type 0) → Type 0
+Lines {S} {A} d settings tree decorator block Shown =
+    (lines : List (Line (List A) ℕ)) × AreLines d settings tree decorator block lines × Shown lines
 
 -- with overflow on there are lines in every width but 0
-abbrev pub HasLines : {S A : Type 0} → Decoration S A → LayoutSettings → Forest RenderNode → S → (width : ℕ) → (overflow : Bool) → Type 0
-HasLines d settings tree decorator width overflow =
-    overflow ≡ true → 1 ≤ width → IsSome (layout_lines d settings tree decorator width overflow)
+abbrev pub HasLines : {S A : Type 0} → Decoration S A → LayoutSettings → Forest RenderNode → S → BlockSetting → Type 0
+HasLines d settings tree decorator block = block.overflow ≡ true → 1 ≤ block.width → IsSome (layout_lines d settings tree decorator block)
 
 -- every tree that is laid out leaves the texts that follow, with their annotations, and the decorator of any state as they were
 abbrev pub LeavesTexts : {S A : Type 0} → Decoration S A → Type 0

@@ -1,6 +1,6 @@
 -- What the code's layout computes, on blocks that are fed character by character: with tags that are numbers, and
 -- without any.
-use Rattle.std.specs.Prelude.{ℕ, Bool, List, [], ◌∷◌, ◌++◌, length, Option, Some, None, if◌then◌else◌}
+use Rattle.std.specs.Prelude.{ℕ, List, [], ◌∷◌, ◌++◌, length, Option, Some, None, if◌then◌else◌}
 use Rattle.html_render_values.specs.Forest.{Forest}
 use Rattle.html_render_parts.specs.Decoration.{Decoration}
 use Rattle.html_render_lines.specs.Line.{Line}
@@ -8,16 +8,11 @@ use Rattle.html_render_lines.specs.Tags.{lines_with}
 use Rattle.html_render_nodes.specs.declared.tree.RenderNode.{RenderNode}
 use Rattle.html_render_layout.specs.declared.layout.state.LayoutState.{LayoutState}
 use Rattle.html_render_layout.specs.declared.layout.LaidOut.{LaidOut}
-use Rattle.html_render_layout.specs.declared.settings.LayoutSettings.{LayoutSettings}
-use Rattle.html_render_blocks.specs.declared.block.BlockSetting.{BlockSetting}
+use Rattle.html_render_estimates.specs.declared.settings.LayoutSettings.{LayoutSettings}
 use Rattle.html_render_blocks.specs.Machine as machine
 use Rattle.html_render_blocks.specs.Machine.{MachineBlock}
 use Rattle.html_render_layout.specs.Stacks.{stack_at}
 use Rattle.html_render_layout.specs.Layout.{Means, shown_after}
-
--- how wide the outermost block is, and its paragraphs' lines
-abbrev pub block_setting : LayoutSettings → (width : ℕ) → (overflow : Bool) → BlockSetting
-block_setting settings width overflow = record { width = width; max_wrap_width = settings.max_wrap_width; overflow = overflow }
 
 -- what lines are padded under, where they are
 abbrev pub padding : {T : Type 0} → LayoutSettings → T → Option T

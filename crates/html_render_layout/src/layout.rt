@@ -1,6 +1,6 @@
 //! The layout of a render tree into lines.
 //!
-//! `lay_out(alloc, &decorator, tree, 10, false, &mut meter)?` answers the lines of the tree, wrapped to 10 columns.
+//! `lay_out(alloc, &decorator, tree, block, &settings, &mut meter)?` answers the lines of the tree, wrapped to the columns of a block.
 
 ghost use Rattle.std.specs.Prelude.{◌≡◌, ◌≢◌, ◌≤◌, ◌<◌, Some, ℕ, true, Err, OnOk, OnErr, IfOk, IfErr};
 ghost use Rattle.html_render_values.specs.Outcome.{Refuses};
@@ -15,15 +15,15 @@ ghost use Rattle.html_render_layout.specs.Layout.{estimated, layout_lines, mark_
 ghost use Rattle.html_render_layout.specs.Promises.{AreLines, Lines, HasLines, LeavesTexts};
 ghost use Rattle.html_render_layout.specs.Opening.{below, opened, closed};
 ghost use Rattle.html_render_layout.specs.laws.Opening.{layout-opened};
-ghost use Rattle.html_render_layout.specs.Working.{block_setting, padding, by_tags, tabled, work_lines, work_names, laid_out, untagged_work};
+ghost use Rattle.html_render_layout.specs.Working.{padding, by_tags, tabled, work_lines, work_names, laid_out, untagged_work};
 
 use self::state::{LayoutState, TextContext, TextList};
 use self::working::{Kept, State};
-use crate::settings::LayoutSettings;
 use crate::stacks::Stacks;
 use crate::tagging::{Tagging, Untagged};
 use html_render_blocks::block::{Block, BlockSetting};
 use html_render_estimates::estimate::measure;
+use html_render_estimates::settings::LayoutSettings;
 use html_render_lines::line::Line;
 use html_render_lines::tag::Tag;
 use html_render_nodes::tree::{Entry, Flat, RenderNode, RenderTree};
@@ -192,19 +192,19 @@ fn lines_from<D: TextDecorator>(
     })
 }
 
-/// A tree with the estimate of each node, whose prefixes are those of a sub-block of this sub-block's decorator. A text needs
-/// `min_wrap_width` columns at least, unless its own are fewer. Sizes are left out of a tree without a table.
+/// A tree with the estimate of each node, whose prefixes are those of a sub-block of this sub-block's decorator. Sizes are left
+/// out of a tree without a table.
 fn estimated<D: TextDecorator>(
     alloc: Global,
     inner: &D,
-    min_wrap_width: usize,
+    settings: &LayoutSettings,
     tree: RenderTree,
 ) -> Result<Flat<RenderNode>, Error>
-    ensures ok { IfOk result (λ t. t ≡ with_needed_sizes (measured D.decoration (D.decoration.subblock inner.now) min_wrap_width tree)) }
+    ensures ok { IfOk result (λ t. t ≡ with_needed_sizes (measured D.decoration (D.decoration.subblock inner.now) settings.now tree)) }
     ensures err { IfErr result (λ e. e ≡ Error.OutOfMemory) }
 {
     let innermost = inner.make_subblock_decorator(alloc)?;
-    measure(alloc, &innermost, min_wrap_width, tree.into_nodes())
+    measure(alloc, &innermost, settings, tree.into_nodes())
 }
 
 /// The tag of the spaces that lines are filled with, if they are.
@@ -218,71 +218,51 @@ fn padding<T: Tag>(settings: &LayoutSettings, tag: T) -> Option<T>
     }
 }
 
-/// A block that is as wide as the lines, with padding under this tag, if there is padding.
-fn outermost<T: Tag>(
-    alloc: Global,
-    settings: &LayoutSettings,
-    width: usize,
-    overflow: bool,
-    tag: T,
-) -> Block<T, usize>
-    ensures { result ≡ empty_block machine (block_setting settings.now width overflow) (padding settings.now tag) }
-{
-    let setting = BlockSetting {
-        width,
-        max_wrap_width: settings.max_wrap_width,
-        overflow,
-    };
-    Block::new(alloc, setting, padding(settings, tag))
-}
-
-/// The lines of a tree, wrapped to `width` columns, with what a sub-block of the decorator's writes. Where a character
-/// is wider than a line, it stands alone on one with `overflow`. Behind them stand the lines that close the document: the
+/// The lines of a tree in a block, with what a sub-block of the decorator's writes. Behind them stand the lines that close the document: the
 /// number of each link and its target with `settings.link_footnotes`, and what the decorator answers for all targets; they
 /// are wrapped with `settings.wrap_links`. The meter's `entered`, `left` and `frames` count from 0,
 /// also where the call refuses; `probes` stays.
 ///
 /// # Errors
 ///
-/// `TooNarrow`, at width 0, and, without `overflow`, where a character is wider than a line or a prefix leaves too few
+/// `TooNarrow`, at width 0, and, with overflow off, where a character is wider than a line or a prefix leaves too few
 /// columns. `OutOfMemory`.
 #[tactic(auto, using(crate::specs::laws::Promises::lines_there, crate::specs::laws::Promises::texts_left))]
 pub fn lay_out<D: TextDecorator>(
     alloc: Global,
     decorator: &D,
     tree: RenderTree,
-    width: usize,
-    overflow: bool,
+    block: BlockSetting,
     settings: &LayoutSettings,
     meter: &mut Meter,
 ) -> Result<LaidOut<D::Annotation>, Error>
     // the lines are those of the tree, of which each promise holds; want of memory aside, it is too narrow exactly where there are none
-    ensures ok { IfOk result (λ lines. AreLines D.decoration settings.now tree decorator.now width overflow (laid_out lines)) }
-    ensures names { IfOk result (λ lines. mark_names D.decoration settings.now tree decorator.now width overflow ≡ Some lines.names) }
-    ensures err { IfErr result (λ e. Refuses e (layout_lines D.decoration settings.now tree decorator.now width overflow)) }
+    ensures ok { IfOk result (λ lines. AreLines D.decoration settings.now tree decorator.now block (laid_out lines)) }
+    ensures names { IfOk result (λ lines. mark_names D.decoration settings.now tree decorator.now block ≡ Some lines.names) }
+    ensures err { IfErr result (λ e. Refuses e (layout_lines D.decoration settings.now tree decorator.now block)) }
 
     // with overflow no width is too small but 0, before anything is allocated
-    ensures wide { 0 < width → overflow ≡ true → result ≢ Err Error.TooNarrow }
-    ensures no_width { width ≡ 0 → result ≡ Err Error.TooNarrow }
+    ensures wide { 0 < block.width → block.overflow ≡ true → result ≢ Err Error.TooNarrow }
+    ensures no_width { block.width ≡ 0 → result ≡ Err Error.TooNarrow }
 
     // what holds of every tree: where there are lines, and what is left as it was
-    ensures there { HasLines D.decoration settings.now tree decorator.now width overflow }
+    ensures there { HasLines D.decoration settings.now tree decorator.now block }
     ensures stacks { LeavesTexts D.decoration }
 
     // what was counted, where there are lines, and where there are none
     ensures counts { CountsNodes result (defined D.decoration)
-        (estimated D.decoration settings.now decorator.now tree) (empty_state D.decoration settings.now decorator.now width overflow) meter.old meter.new }
+        (estimated D.decoration settings.now decorator.now tree) (empty_state D.decoration settings.now decorator.now block) meter.old meter.new }
 {
     meter.entered = 0;
     meter.left = 0;
     meter.frames = 0;
-    if width == 0 {
+    if block.width == 0 {
         return Err(Error::TooNarrow);
     }
     let own = settings.try_clone(alloc)?;
     let inner = decorator.make_subblock_decorator(alloc)?;
-    let tree = estimated(alloc, &inner, settings.min_wrap_width, tree)?;
-    let block = outermost(alloc, settings, width, overflow, 0);
+    let tree = estimated(alloc, &inner, settings, tree)?;
+    let block = Block::new(alloc, block, padding(settings, 0));
     let state = begin_with(alloc, own, inner, Stacks::new(alloc), 0, block);
     lines_from(alloc, &tree, state, meter)
 }
@@ -307,32 +287,31 @@ fn untagged_lines_from<D: TextDecorator>(
 ///
 /// # Errors
 ///
-/// `TooNarrow`, at width 0, and, without `overflow`, where a character is wider than a line or a prefix leaves too few
+/// `TooNarrow`, at width 0, and, with overflow off, where a character is wider than a line or a prefix leaves too few
 /// columns. `OutOfMemory`.
 #[tactic(auto, using(crate::specs::laws::Promises::lines_there, crate::specs::laws::Promises::texts_left))]
 pub fn lay_out_untagged<D: TextDecorator>(
     alloc: Global,
     decorator: &D,
     tree: RenderTree,
-    width: usize,
-    overflow: bool,
+    block: BlockSetting,
     settings: &LayoutSettings,
 ) -> Result<Vec<Line<(), usize>>, Error>
     // as for the lines with annotations
-    ensures ok { IfOk result (λ answer. Lines D.decoration settings.now tree decorator.now width overflow (λ lines. answer.items ≡ unannotated lines)) }
-    ensures err { IfErr result (λ e. Refuses e (layout_lines D.decoration settings.now tree decorator.now width overflow)) }
-    ensures wide { 0 < width → overflow ≡ true → result ≢ Err Error.TooNarrow }
-    ensures no_width { width ≡ 0 → result ≡ Err Error.TooNarrow }
-    ensures there { HasLines D.decoration settings.now tree decorator.now width overflow }
+    ensures ok { IfOk result (λ answer. Lines D.decoration settings.now tree decorator.now block (λ lines. answer.items ≡ unannotated lines)) }
+    ensures err { IfErr result (λ e. Refuses e (layout_lines D.decoration settings.now tree decorator.now block)) }
+    ensures wide { 0 < block.width → block.overflow ≡ true → result ≢ Err Error.TooNarrow }
+    ensures no_width { block.width ≡ 0 → result ≡ Err Error.TooNarrow }
+    ensures there { HasLines D.decoration settings.now tree decorator.now block }
     ensures stacks { LeavesTexts D.decoration }
 {
-    if width == 0 {
+    if block.width == 0 {
         return Err(Error::TooNarrow);
     }
     let own = settings.try_clone(alloc)?;
     let inner = decorator.make_subblock_decorator(alloc)?;
-    let tree = estimated(alloc, &inner, settings.min_wrap_width, tree)?;
-    let block = outermost(alloc, settings, width, overflow, ());
+    let tree = estimated(alloc, &inner, settings, tree)?;
+    let block = Block::new(alloc, block, padding(settings, ()));
     let state = begin_with(alloc, own, inner, Untagged, (), block);
     untagged_lines_from(alloc, &tree, state)
 }

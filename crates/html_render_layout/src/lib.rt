@@ -2,6 +2,5 @@
 #![tactic(auto)]
 
 pub mod layout;
-pub mod settings;
 pub mod stacks;
 pub mod tagging;

@@ -1,5 +1,5 @@
 -- What a configuration makes of a render tree.
-use Rattle.std.specs.Prelude.{◌≡◌, ℕ, Bool, false, List, [], Option, Some, IfSome, map}
+use Rattle.std.specs.Prelude.{◌≡◌, ℕ, Bool, false, List, [], Option, Some, None, IfSome, map}
 use Rattle.std.specs.Cmp.Lexicographic.{pointwise}
 use Rattle.html_render_values.specs.Forest.{Forest}
 use Rattle.html_render_values.specs.Outcome.{◌>>=◌}
@@ -7,32 +7,39 @@ use Rattle.html_render_dom.specs.Rules.{Rule}
 use Rattle.html_render_lines.specs.Line.{Line}
 use Rattle.html_render_parts.specs.Decoration.{Decoration}
 use Rattle.html_render_nodes.specs.declared.tree.RenderNode.{RenderNode}
-use Rattle.html_render_layout.specs.declared.settings.LayoutSettings.{LayoutSettings}
+use Rattle.html_render_estimates.specs.declared.settings.LayoutSettings.{LayoutSettings}
+use Rattle.html_render_blocks.specs.declared.block.BlockSetting.{BlockSetting}
 use Rattle.html_render_layout.specs.Layout.{layout_lines, mark_names}
 use Rattle.html_render_layout.specs.Promises.{Lines}
-use Rattle.html_render_layout.specs.Settings.{default_settings}
+use Rattle.html_render_estimates.specs.Settings.{default_settings}
 use Rattle.html_render_tagged.specs.Grouping.{Piece, grouped}
 
 -- the settings of a configuration: its decorator, its rules in the order in which they were added, whether a character
--- that is wider than a line stands alone on its line, and how nodes are laid out
+-- that is wider than a line stands alone on its line, the columns of a paragraph's lines at most, and how nodes are laid out
 pub record Options (S : Type 0) : Type 0 where
   pub decorator : S
   pub rules : List Rule
   pub overflow : Bool
+  pub max_wrap_width : Option ℕ
   pub settings : LayoutSettings
 
 -- the settings that a configuration begins with
 abbrev pub initial_options : {S : Type 0} → S → Options S
-initial_options decorator = record { decorator = decorator; rules = []; overflow = false; settings = default_settings }
+initial_options decorator =
+    record { decorator = decorator; rules = []; overflow = false; max_wrap_width = None; settings = default_settings }
+
+-- the block that a document stands in, in a width
+abbrev pub document_block : {S : Type 0} → Options S → (width : ℕ) → BlockSetting
+document_block options width = record { width = width; max_wrap_width = options.max_wrap_width; overflow = options.overflow }
 
 module _ {S A : Type 0} (d : Decoration S A) (options : Options S) (tree : Forest RenderNode) (width : ℕ) where
   -- THE LINES of a render tree in a width, with these settings: each character with its annotations; none where it is too narrow
   abbrev pub rendered_lines : Option (List (Line (List A) ℕ))
-  rendered_lines = layout_lines d options.settings tree options.decorator width options.overflow
+  rendered_lines = layout_lines d options.settings tree options.decorator (document_block options width)
 
   -- the names of the marks in them
   abbrev pub rendered_names : Option (List (List ℕ))
-  rendered_names = mark_names d options.settings tree options.decorator width options.overflow
+  rendered_names = mark_names d options.settings tree options.decorator (document_block options width)
 
   -- the same lines as tagged strings, of characters whose annotations are equal one by one
   abbrev pub rendered_strings : (A → A → Bool) → Option (List (List (Piece (List A))))
@@ -45,7 +52,7 @@ module _ {S A : Type 0} (d : Decoration S A) (options : Options S) (tree : Fores
 
 -- what is promised of the lines that it answers, of which this holds
 abbrev pub Rendered : {S A : Type 0} → Decoration S A → Options S → Forest RenderNode → (width : ℕ) → (List (Line (List A) ℕ) → Type 0) → Type 0
-Rendered d options tree width Shown = Lines d options.settings tree options.decorator width options.overflow Shown
+Rendered d options tree width Shown = Lines d options.settings tree options.decorator (document_block options width) Shown
 
 -- of tagged strings: they are the lines under the names of their marks, which are those of the tree in the width; where overflow off
 -- gives names, they are these
@@ -53,5 +60,5 @@ pub record AreStrings {S A : Type 0} (d : Decoration S A) (options : Options S) 
     (strings : List (List (Piece (List A)))) (lines : List (Line (List A) ℕ)) : Type 0 where
   pub names : List (List ℕ)
   pub are_names : rendered_names d options tree width ≡ Some names
-  pub same_names : IfSome (mark_names d options.settings tree options.decorator width false) (λ others. names ≡ others)
+  pub same_names : IfSome (mark_names d options.settings tree options.decorator (record (document_block options width) { overflow = false })) (λ others. names ≡ others)
   pub are : strings ≡ map (grouped (pointwise eq) names) lines

@@ -6,7 +6,7 @@
 ghost use Rattle.std.specs.Prelude.{◌≡◌, ◌∷◌, ◌++◌, [], Some, true, false, IfOk, IfErr};
 ghost use Rattle.html_render_conversion.specs.Results.{render_tree_of};
 ghost use Rattle.html_render_dom.specs.Rules.{rule_of};
-ghost use Rattle.html_render_layout.specs.Settings.{default_settings};
+ghost use Rattle.html_render_estimates.specs.Settings.{default_settings};
 ghost use Rattle.html_render_parts.specs.Refusal.{Fails};
 ghost use Rattle.html_render_tree.specs.GoodTrees.{Anywhere, are_good};
 ghost use Rattle.html_render_tree.specs.Decorations.{decorations};
@@ -16,8 +16,8 @@ use html_render_building::building;
 use html_render_dom::Error;
 use html_render_dom::dom::RcDom;
 use html_render_dom::style::StyleRule;
-pub use html_render_layout::settings::ImageRenderMode;
-use html_render_layout::settings::LayoutSettings;
+pub use html_render_estimates::settings::ImageRenderMode;
+use html_render_estimates::settings::LayoutSettings;
 use html_render_nodes::tree::RenderTree;
 use html_render_parts::decorate::{PlainDecorator, RichDecorator, TextDecorator};
 use std::alloc::Global;
@@ -32,6 +32,7 @@ pub struct Config<D: TextDecorator> {
     /// In the order in which they were added.
     rules: Vec<StyleRule>,
     overflow: bool,
+    max_wrap_width: Option<usize>,
     settings: LayoutSettings,
 }
 
@@ -46,6 +47,7 @@ impl<D: TextDecorator> Model for Config<D> {
       decorator = c.decorator;
       rules = map rule_of c.rules.items;
       overflow = c.overflow;
+      max_wrap_width = c.max_wrap_width;
       settings = c.settings;
     } };
 }
@@ -88,6 +90,7 @@ pub fn with_decorator<D: TextDecorator>(alloc: Global, decorator: D) -> Config<D
         decorator,
         rules: Vec::new(alloc),
         overflow: false,
+        max_wrap_width: None,
         settings: LayoutSettings::default(),
     }
 }
@@ -176,9 +179,9 @@ impl<D: TextDecorator> Config<D> {
     /// A line of a paragraph has no more columns than this, also where its block is wider. Prefixes aren't counted, and the
     /// lines behind the document are as wide as the document.
     pub fn max_wrap_width(mut self, columns: usize) -> Config<D>
-        ensures { result ≡ record self { settings = record self.settings { max_wrap_width = Some columns } } }
+        ensures { result ≡ record self { max_wrap_width = Some columns } }
     {
-        self.settings.max_wrap_width = Some(columns);
+        self.max_wrap_width = Some(columns);
         self
     }
 

@@ -1,16 +1,17 @@
 //! Laws of what is rendered, each the contract of a function that does nothing.
 
-ghost use Rattle.std.specs.Prelude.{◌≡◌, ◌↔◌, Bool, true, ℕ, None, IfSome, map, replicate};
+ghost use Rattle.std.specs.Prelude.{◌≡◌, ◌↔◌, true, None, IfSome, map, replicate};
 ghost use Rattle.html_render_dom.specs.Selectors.{specificity_of};
 ghost use Rattle.html_render_dom.specs.declared.style.origins.StyleOrigin.TheVariants as origin;
 ghost use Rattle.html_render_values.specs.Forest.{Forest};
+ghost use Rattle.html_render_blocks.specs.declared.block.BlockSetting.{BlockSetting};
 ghost use Rattle.html_render_layout.specs.Layout.{layout_lines, mark_names};
 ghost use Rattle.html_render_layout.specs.Promises.{AreLines};
 ghost use Rattle.html_render_tree.specs.Decorations.{decorations, decoration_specificity};
 
 use html_render_dom::Error;
 use html_render_dom::dom::Handle;
-use html_render_layout::settings::{ImageRenderMode, LayoutSettings};
+use html_render_estimates::settings::{ImageRenderMode, LayoutSettings};
 use html_render_nodes::tree::RenderNode;
 use html_render_parts::decorate::{RichAnnotation, TextDecorator};
 
@@ -20,19 +21,19 @@ fn decorations_are_ten_rules_of_the_agent()
     ensures specificities { map specificity_of decorations ≡ replicate 10 decoration_specificity }
 {}
 
-/// Where a tree has lines in a width, they are what every call that renders promises of them.
+/// Where a tree has lines in a block, they are what every call that renders promises of them.
 #[tactic(auto, using(html_render_layout::specs::laws::Promises::lines_promised))]
 fn lines_are_promised<D: TextDecorator>()
-    ensures { (settings : LayoutSettings) (tree : Forest RenderNode) (decorator : D) (width : ℕ) (overflow : Bool) →
-        IfSome (layout_lines D.decoration settings tree decorator width overflow) (AreLines D.decoration settings tree decorator width overflow) }
+    ensures { (settings : LayoutSettings) (tree : Forest RenderNode) (decorator : D) (block : BlockSetting) →
+        IfSome (layout_lines D.decoration settings tree decorator block) (AreLines D.decoration settings tree decorator block) }
 {}
 
-/// A tree has lines in a width exactly where it has the names of their marks.
+/// A tree has lines in a block exactly where it has the names of their marks.
 #[tactic(auto, using(crate::specs::laws::Rendering::none_together))]
 fn lines_and_names_are_there_together<D: TextDecorator>()
-    ensures { (settings : LayoutSettings) (tree : Forest RenderNode) (decorator : D) (width : ℕ) (overflow : Bool) →
-        (layout_lines D.decoration settings tree decorator width overflow ≡ None)
-        ↔ (mark_names D.decoration settings tree decorator width overflow ≡ None) }
+    ensures { (settings : LayoutSettings) (tree : Forest RenderNode) (decorator : D) (block : BlockSetting) →
+        (layout_lines D.decoration settings tree decorator block ≡ None)
+        ↔ (mark_names D.decoration settings tree decorator block ≡ None) }
 {}
 
 /// Two errors are equal exactly if they are the same, and two handles exactly if they name the same node.

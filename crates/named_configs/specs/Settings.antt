@@ -18,7 +18,7 @@ changed options NoLinkWrapping = record options { settings = record options.sett
 changed options (UnicodeStrikeout strokes) = record options { settings = record options.settings { unicode_strikeout = strokes } }
 changed options (EmptyImgMode mode) = record options { settings = record options.settings { empty_images = mode } }
 changed options PadBlockWidth = record options { settings = record options.settings { pad_block_width = true } }
-changed options (MaxWrapWidth columns) = record options { settings = record options.settings { max_wrap_width = Some columns } }
+changed options (MaxWrapWidth columns) = record options { max_wrap_width = Some columns }
 changed options (MinWrapWidth columns) = record options { settings = record options.settings { min_wrap_width = columns } }
 changed options (RawMode raw) = record options { settings = record options.settings { raw_mode = raw; table_borders = false } }
 changed options NoTableBorders = record options { settings = record options.settings { table_borders = false } }

@@ -1,5 +1,5 @@
 -- No node's least width passes its size, and what the code answers of sizes where no node is a table.
-use Rattle.std.proofs.Common.{◌≡◌, false, ◌||◌, ℕ, ◌-◌, ◌^◌, ◌≤◌, List, [], ◌∷◌, ◌++◌, refl, sym, ap, ◌∙◌, subst, arith}
+use Rattle.std.proofs.Common.{◌≡◌, false, ◌||◌, ◌-◌, ◌^◌, ◌≤◌, List, [], ◌∷◌, ◌++◌, refl, sym, ap, ◌∙◌, subst, arith}
 use Rattle.std.specs.Prelude.{All, if◌then◌else◌}
 use Rattle.std.proofs.lemmas.List.Elements.{All-nil, All-cons, All-append}
 use Rattle.html_render_values.specs.Forest.{Forest, none, node}
@@ -13,8 +13,9 @@ use Rattle.html_render_nodes.specs.Preorder.{flatten}
 use Rattle.html_render_parts.specs.TableCells.{columns_of}
 use Rattle.html_render_parts.specs.declared.table.cells.GridCell.{GridCell}
 use Rattle.html_render_parts.specs.declared.widths.needs.CellNeed.{CellNeed}
+use Rattle.html_render_estimates.specs.declared.settings.LayoutSettings.{LayoutSettings}
 use Rattle.html_render_estimates.specs.Cells.{row_needs, cell_needs}
-use Rattle.html_render_estimates.specs.Estimates.{trees, greatest_least, total_size, measured_kind, estimate_of, measured}
+use Rattle.html_render_estimates.specs.Estimates.{trees, greatest_least, total_size, prefix_of, measured_kind, estimate_of, measured}
 use Rattle.html_render_estimates.specs.Passes.{is_table, has_table, without_sizes, with_needed_sizes}
 use Rattle.html_render_estimates.specs.laws.Tables.{AreWithin, table_within}
 
@@ -61,12 +62,12 @@ all_unsized (node n children beside) =
     All-cons IsUnsized _ _ refl
     (All-append IsUnsized (flatten (without_sizes children)) (flatten (without_sizes beside)) (all_unsized children) (all_unsized beside))
 
-module _ {D A : Type 0} (decoration : Decoration D A) (decorator : D) (min_wrap_width : ℕ) where
+module _ {D A : Type 0} (decoration : Decoration D A) (decorator : D) (settings : LayoutSettings) where
   abbrev estimate : NodeKind → (children : Forest RenderNode) → Estimate
-  estimate kind children = estimate_of decoration decorator min_wrap_width kind children
+  estimate kind children = estimate_of decoration decorator settings kind children
 
   abbrev all_measured : Forest RenderNode → Forest RenderNode
-  all_measured t = measured decoration decorator min_wrap_width t
+  all_measured t = measured decoration decorator settings t
 
   -- ---- a node
 
@@ -79,7 +80,8 @@ module _ {D A : Type 0} (decoration : Decoration D A) (decorator : D) (min_wrap_
   node_within (Svg title) below h w = omega arith
   node_within (FragmentStart name) below h w = omega arith
   node_within (Table grid) below h w =
-      table_within (columns_of grid.cells) (cell_needs grid.cells.rows below) (trees below) (cells_within grid.cells.rows below w)
+      let prefix = prefix_of decoration decorator settings (Table grid) (trees below) in
+      table_within (columns_of grid.cells) (cell_needs grid.cells.rows below) prefix (trees below) (cells_within grid.cells.rows below w)
   node_within kind below h w = omega (arith, h)
 
   node_bounded : (kind : NodeKind) (below : Forest RenderNode) → (estimate kind below).size ≤ 2 ^ 64 - 1

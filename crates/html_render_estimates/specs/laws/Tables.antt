@@ -98,9 +98,9 @@ sum-le columns (c ∷ cs) h =
 
 -- ---- a table
 
-pub table_within : (columns : ℕ) (cells : List CellNeed) (children : ℕ) → AreWithin cells →
-    (table_estimate columns cells children).least ≤ (table_estimate columns cells children).size
-table_within columns cells children h =
+pub table_within : (columns : ℕ) (cells : List CellNeed) (prefix children : ℕ) → AreWithin cells →
+    (table_estimate columns cells prefix children).least ≤ (table_estimate columns cells prefix children).size
+table_within columns cells prefix children h =
     let needs : sum_by (λ (n : ColumnNeed). n.least) (column_needs columns cells) ≡ sum_by (needed_by cells) (range_with_len 0 columns) =
     sum_by-map (λ (n : ColumnNeed). n.least) (need_at cells) (range_with_len 0 columns) in
     omega (arith, needs, sum-le columns cells h)

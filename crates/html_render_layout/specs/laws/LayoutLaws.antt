@@ -10,6 +10,7 @@ use Rattle.html_render_lines.specs.Line.{Line, AllWithinWidth}
 use Rattle.html_render_lines.specs.laws.Cases.{if_cases}
 use Rattle.html_render_nodes.specs.declared.tree.RenderNode.{RenderNode}
 use Rattle.html_render_paragraphs.specs.Paragraph.{Setting}
+use Rattle.html_render_blocks.specs.declared.block.BlockSetting.{BlockSetting}
 use Rattle.html_render_blocks.specs.Block.{empty_block}
 use Rattle.html_render_blocks.specs.Definition as definition
 use Rattle.html_render_blocks.specs.Definition.{definition as defined_parts, DefinedBlock}
@@ -20,9 +21,9 @@ use Rattle.html_render_blocks.specs.laws.Related.{OptionTags}
 use Rattle.html_render_blocks.specs.laws.Beside.{Holds, Blocks, operations-beside, ends-beside, empty-beside, later-beside, lines-beside}
 use Rattle.html_render_blocks.specs.laws.BlockHolds.{OwnWithin, PictureWithin, within, answers, refines}
 use Rattle.html_render_blocks.specs.laws.TableWithin.{OpenWithin}
-use Rattle.html_render_layout.specs.declared.settings.LayoutSettings.{LayoutSettings}
+use Rattle.html_render_estimates.specs.declared.settings.LayoutSettings.{LayoutSettings}
 use Rattle.html_render_layout.specs.Layout.{by_stacks, shown_after, Defined, empty_state, estimated, layout_lines, mark_names}
-use Rattle.html_render_layout.specs.Working.{block_setting, padding}
+use Rattle.html_render_layout.specs.Working.{padding}
 use Rattle.html_render_layout.specs.laws.Related.{Other, with_other, shown-related}
 
 -- a layout beside one that may have overflow on: stacks are the same, and what is said of the block's lines is said of those that are shown
@@ -43,9 +44,12 @@ module _ {S A : Type 0} (d : Decoration S A) (settings : LayoutSettings) (g : Bo
   abbrev Beside : ℕ → Stacks → DefinedBlock (List A) ℕ → DefinedBlock (List A) ℕ → Type 0
   Beside = Blocks g N M Tags (λ w t u e. e) Cut OnOverflow OnOwn OnLines OnPicture OnRow h weak Later (λ w z t u e l. e)
 
-  abbrev other : (width : ℕ) → (overflow : Bool) → Other (Unit {0}) (List A) (DefinedBlock (List A) ℕ)
-  other w o =
-      record { stacks = tt; tag = []; blank = []; block = empty_block defined_parts (block_setting settings w (g o)) (padding settings []) }
+  -- the block of the other side
+  abbrev beside : BlockSetting → BlockSetting
+  beside b = record b { overflow = g b.overflow }
+
+  abbrev other : BlockSetting → Other (Unit {0}) (List A) (DefinedBlock (List A) ℕ)
+  other b = record { stacks = tt; tag = []; blank = []; block = empty_block defined_parts (beside b) (padding settings []) }
 
   padded : OptionTags Tags (tt, tt) (padding settings []) (padding settings [])
   padded = by settings.pad_block_width
@@ -54,38 +58,38 @@ module _ {S A : Type 0} (d : Decoration S A) (settings : LayoutSettings) (g : Bo
       by true = refl
       by false = tt
 
-  shown-beside : {X : Type 0} (R : X → X → Type 0) (view : Defined S A → X) (t : Forest RenderNode) (decorator : S) (w : ℕ) (o : Bool) →
-      OnOverflow o → ((r : Defined S A) (u : Other (Unit {0}) (List A) (DefinedBlock (List A) ℕ)) → Beside w (tt, tt) r.block u.block →
+  shown-beside : {X : Type 0} (R : X → X → Type 0) (view : Defined S A → X) (t : Forest RenderNode) (decorator : S) (b : BlockSetting) →
+      OnOverflow b.overflow → ((r : Defined S A) (u : Other (Unit {0}) (List A) (DefinedBlock (List A) ℕ)) → Beside b.width (tt, tt) r.block u.block →
       R (view r) (view (with_other r u))) →
-      Both N M R (shown_after (by_stacks d) definition.ending view t (empty_state d settings decorator w o))
-      (shown_after (by_stacks d) definition.ending view t (empty_state d settings decorator w (g o)))
-  shown-beside R view t decorator w o on related =
+      Both N M R (shown_after (by_stacks d) definition.ending view t (empty_state d settings decorator b))
+      (shown_after (by_stacks d) definition.ending view t (empty_state d settings decorator (beside b)))
+  shown-beside R view t decorator b on related =
       shown-related (by_stacks d) (by_stacks d).push definition.operations N M weak Later (λ w. tt) (λ w v u k l. tt) Tags (λ w v t u e l. e) Beside
       (λ v w z b c k l. later-beside g N M Tags (λ w t u e. e) Cut OnOverflow OnOwn OnLines OnPicture OnRow h weak Later (λ w z t u e l. e) v w z b c k l)
       (λ k l t u a e. tt) (λ k l t u a e. ap (λ z. z ++ a ∷ []) e)
       (operations-beside g N M Tags (λ w t u e. e) Cut OnOverflow OnOwn OnLines OnPicture OnRow h weak Later (λ w z t u e l. e))
       definition.ending definition.ending Cut
       (ends-beside g N M Tags (λ w t u e. e) Cut OnOverflow OnOwn OnLines OnPicture OnRow h weak Later (λ w z t u e l. e))
-      R view view w (λ r u k. related r u k.1.1) t (empty_state d settings decorator w o) (other w o) cut (
+      R view view b.width (λ r u k. related r u k.1.1) t (empty_state d settings decorator b) (other b) cut (
         refl,
         (
           refl,
           empty-beside g N M Tags (λ w t u e. e) Cut OnOverflow OnOwn OnLines OnPicture OnRow h weak Later (λ w z t u e l. e) (tt, tt)
-              (block_setting settings w o) (padding settings []) (padding settings []) on padded,
+              b (padding settings []) (padding settings []) on padded,
         ),
       )
 
-  pub lines-shown : (t : Forest RenderNode) (decorator : S) (w : ℕ) (o : Bool) → OnOverflow o → Both N M (λ a b. (b ≡ a) × OnLines w a)
-      (shown_after (by_stacks d) definition.ending (λ (r : Defined S A). r.block.lines) t (empty_state d settings decorator w o))
-      (shown_after (by_stacks d) definition.ending (λ (r : Defined S A). r.block.lines) t (empty_state d settings decorator w (g o)))
-  lines-shown t decorator w o on =
-      shown-beside (λ a b. (b ≡ a) × OnLines w a) (λ (r : Defined S A). r.block.lines) t decorator w o on (λ r u k.
-      lines-beside g N M Tags (λ w t u e. e) Cut OnOverflow OnOwn OnLines OnPicture OnRow h weak Later (λ w z t u e l. e) w (tt, tt) r.block u.block k)
+  pub lines-shown : (t : Forest RenderNode) (decorator : S) (b : BlockSetting) → OnOverflow b.overflow → Both N M (λ a c. (c ≡ a) × OnLines b.width a)
+      (shown_after (by_stacks d) definition.ending (λ (r : Defined S A). r.block.lines) t (empty_state d settings decorator b))
+      (shown_after (by_stacks d) definition.ending (λ (r : Defined S A). r.block.lines) t (empty_state d settings decorator (beside b)))
+  lines-shown t decorator b on =
+      shown-beside (λ a c. (c ≡ a) × OnLines b.width a) (λ (r : Defined S A). r.block.lines) t decorator b on (λ r u k.
+      lines-beside g N M Tags (λ w t u e. e) Cut OnOverflow OnOwn OnLines OnPicture OnRow h weak Later (λ w z t u e l. e) b.width (tt, tt) r.block u.block k)
 
-  pub names-shown : (t : Forest RenderNode) (decorator : S) (w : ℕ) (o : Bool) → OnOverflow o → Both N M (λ a b. b ≡ a)
-      (shown_after (by_stacks d) definition.ending (λ (r : Defined S A). r.names) t (empty_state d settings decorator w o))
-      (shown_after (by_stacks d) definition.ending (λ (r : Defined S A). r.names) t (empty_state d settings decorator w (g o)))
-  names-shown t decorator w o on = shown-beside (λ a b. b ≡ a) (λ (r : Defined S A). r.names) t decorator w o on (λ r u k. refl)
+  pub names-shown : (t : Forest RenderNode) (decorator : S) (b : BlockSetting) → OnOverflow b.overflow → Both N M (λ a b. b ≡ a)
+      (shown_after (by_stacks d) definition.ending (λ (r : Defined S A). r.names) t (empty_state d settings decorator b))
+      (shown_after (by_stacks d) definition.ending (λ (r : Defined S A). r.names) t (empty_state d settings decorator (beside b)))
+  names-shown t decorator b on = shown-beside (λ a b. b ≡ a) (λ (r : Defined S A). r.names) t decorator b on (λ r u k. refl)
 
 -- where what is there with overflow off is there with overflow on, each answer is that
 pub same_answer : {L : Type 0} (f : Bool → Option L) → IfSome (f false) (λ lines. f true ≡ Some lines) → (o : Bool) (lines : L) →
@@ -95,30 +99,31 @@ same_answer f h false lines e = subst (λ p. IfSome p (λ others. lines ≡ othe
 
 module _ {S A : Type 0} (d : Decoration S A) (settings : LayoutSettings) where
   -- with overflow off, and closing lines that are cut, no line passes the width
-  pub layout_within : (t : Forest RenderNode) (decorator : S) (w : ℕ) → settings.wrap_links ≡ true →
-      IfSome (layout_lines d settings t decorator w false) (λ lines. AllWithinWidth w lines)
-  layout_within t decorator w wrapped =
-      if_cases (λ x. IfSome x (AllWithinWidth w)) (w == 0) _ _ (λ _. tt) (λ _.
+  pub layout_within : (t : Forest RenderNode) (decorator : S) (b : BlockSetting) → settings.wrap_links ≡ true →
+      IfSome (layout_lines d settings t decorator (record b { overflow = false })) (λ lines. AllWithinWidth b.width lines)
+  layout_within t decorator b wrapped =
+      if_cases (λ x. IfSome x (AllWithinWidth b.width)) (b.width == 0) _ _ (λ _. tt) (λ _.
       first _ _ (lines-shown d settings (λ o. o) (Unit {0}) ⊥ (λ x. tt) (λ cut. cut ≡ true) (λ o. o ≡ false) (OwnWithin (List A))
       (λ v ls. AllWithinWidth v ls) (PictureWithin (List A)) (λ v r. OpenWithin v r) (within (List A)) wrapped
-      (estimated d settings decorator t) decorator w false refl))
+      (estimated d settings decorator t) decorator (record b { overflow = false }) refl))
     where
-      first : (o p : Option (List (Line (List A) ℕ))) → Both (Unit {0}) ⊥ (λ a b. (b ≡ a) × AllWithinWidth w a) o p → IfSome o (AllWithinWidth w)
+      first : (o p : Option (List (Line (List A) ℕ))) → Both (Unit {0}) ⊥ (λ a c. (c ≡ a) × AllWithinWidth b.width a) o p → IfSome o (AllWithinWidth b.width)
       first None None k = tt
-      first None (Some b) k = tt
+      first None (Some c) k = tt
       first (Some a) None k = absurd k
-      first (Some a) (Some b) k = k.1
+      first (Some a) (Some c) k = k.1
 
   -- with overflow on it is never too narrow, but at width 0
-  pub layout_succeeds : (t : Forest RenderNode) (decorator : S) (w : ℕ) → 0 < w → IsSome (layout_lines d settings t decorator w true)
-  layout_succeeds t decorator w h =
-      if_cases (λ (x : Option (List (Line (List A) ℕ))). IsSome x) (w == 0) _ _ (λ e. absurd (let zero = eqb-true w 0 e in omega arith)) (λ _.
+  pub layout_succeeds : (t : Forest RenderNode) (decorator : S) (b : BlockSetting) → 0 < b.width →
+      IsSome (layout_lines d settings t decorator (record b { overflow = true }))
+  layout_succeeds t decorator b h =
+      if_cases (λ (x : Option (List (Line (List A) ℕ))). IsSome x) (b.width == 0) _ _ (λ e. absurd (let zero = eqb-true b.width 0 e in omega arith)) (λ _.
       there _ _ (lines-shown d settings (λ o. o) ⊥ ⊥ (λ x. x) (λ cut. Unit {0}) (λ o. o ≡ true) (λ v s. s.overflow ≡ true)
-      (λ v ls. Unit {0}) (λ v ws p. Unit {0}) (λ v r. Unit {0}) (answers (List A)) tt (estimated d settings decorator t) decorator w true refl))
+      (λ v ls. Unit {0}) (λ v ws p. Unit {0}) (λ v r. Unit {0}) (answers (List A)) tt (estimated d settings decorator t) decorator (record b { overflow = true }) refl))
     where
       there : (o p : Option (List (Line (List A) ℕ))) → Both ⊥ ⊥ (λ a b. (b ≡ a) × Unit {0}) o p → IsSome o
       there None None k = absurd k
-      there None (Some b) k = absurd k
+      there None (Some c) k = absurd k
       there (Some a) p k = refl
 
   same_shown : {X : Type 0} (R : X → X → Type 0) → ((a b : X) → R a b → b ≡ a) → (narrow : Bool) (o p : Option X) →
@@ -129,17 +134,19 @@ module _ {S A : Type 0} (d : Decoration S A) (settings : LayoutSettings) where
   same_shown R is false (Some a) (Some b) k = ap Some (is a b k)
 
   -- where there are lines with overflow off, they are the lines with overflow on
-  pub layout_same : (t : Forest RenderNode) (decorator : S) (w : ℕ) →
-      IfSome (layout_lines d settings t decorator w false) (λ lines. layout_lines d settings t decorator w true ≡ Some lines)
-  layout_same t decorator w =
-      same_shown (λ a b. (b ≡ a) × Unit {0}) (λ a b k. k.0) (w == 0) _ _
+  pub layout_same : (t : Forest RenderNode) (decorator : S) (b : BlockSetting) →
+      IfSome (layout_lines d settings t decorator (record b { overflow = false })) (λ lines.
+      layout_lines d settings t decorator (record b { overflow = true }) ≡ Some lines)
+  layout_same t decorator b =
+      same_shown (λ a c. (c ≡ a) × Unit {0}) (λ a c k. k.0) (b.width == 0) _ _
       (lines-shown d settings (λ o. true) (Unit {0}) (Unit {0}) (λ x. x) (λ cut. Unit {0}) (λ o. Unit {0}) (λ v s. Unit {0}) (λ v ls. Unit {0})
-      (λ v ws p. Unit {0}) (λ v r. Unit {0}) (refines (List A)) tt (estimated d settings decorator t) decorator w false tt)
+      (λ v ws p. Unit {0}) (λ v r. Unit {0}) (refines (List A)) tt (estimated d settings decorator t) decorator (record b { overflow = false }) tt)
 
   -- and so are the names of their marks
-  pub names_same : (t : Forest RenderNode) (decorator : S) (w : ℕ) →
-      IfSome (mark_names d settings t decorator w false) (λ names. mark_names d settings t decorator w true ≡ Some names)
-  names_same t decorator w =
-      same_shown (λ a b. b ≡ a) (λ a b k. k) (w == 0) _ _
+  pub names_same : (t : Forest RenderNode) (decorator : S) (b : BlockSetting) →
+      IfSome (mark_names d settings t decorator (record b { overflow = false })) (λ names.
+      mark_names d settings t decorator (record b { overflow = true }) ≡ Some names)
+  names_same t decorator b =
+      same_shown (λ a c. c ≡ a) (λ a c k. k) (b.width == 0) _ _
       (names-shown d settings (λ o. true) (Unit {0}) (Unit {0}) (λ x. x) (λ cut. Unit {0}) (λ o. Unit {0}) (λ v s. Unit {0}) (λ v ls. Unit {0})
-      (λ v ws p. Unit {0}) (λ v r. Unit {0}) (refines (List A)) tt (estimated d settings decorator t) decorator w false tt)
+      (λ v ws p. Unit {0}) (λ v r. Unit {0}) (refines (List A)) tt (estimated d settings decorator t) decorator (record b { overflow = false }) tt)

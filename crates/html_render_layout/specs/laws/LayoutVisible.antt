@@ -1,7 +1,7 @@
 -- A layout loses no visible character of the texts that it visits, and leaves the texts that follow and the decorator as they were.
 use Rattle.std.specs.Fmt.{decimal}
 use Rattle.std.specs.Str.{chars}
-use Rattle.std.proofs.Common.{◌≡◌, ℕ, ◌+◌, ◌≤◌, ◌==◌, Bool, false, List, [], ◌∷◌, ◌++◌, length, codes, Option, Some, None, option_and_then}
+use Rattle.std.proofs.Common.{◌≡◌, ℕ, ◌+◌, ◌≤◌, ◌==◌, false, List, [], ◌∷◌, ◌++◌, length, codes, Option, Some, None, option_and_then}
 use Rattle.std.proofs.Common.{IfSome, map, option_map, refl, ap, sym, ◌∙◌, subst, arith}
 use Rattle.std.specs.Prelude.{flat_map, sum_by, not, ◌&&◌, if◌then◌else◌}
 use Rattle.std.proofs.lemmas.List.Concat.{flat_map-append}
@@ -21,6 +21,7 @@ use Rattle.html_render_nodes.specs.declared.tree.RenderNode.{RenderNode}
 use Rattle.html_render_nodes.specs.Pass.{Place, Bare, Skipped, Within, is_skipped, Places, bare, Visit, Leaf, Inner, through_visit, inside, followed}
 use Rattle.html_render_nodes.specs.Pass.{placed, run_at, run, nodes_at}
 use Rattle.html_render_nodes.specs.laws.Visits.{from, from_state}
+use Rattle.html_render_blocks.specs.declared.block.BlockSetting.{BlockSetting}
 use Rattle.html_render_blocks.specs.Definition as definition
 use Rattle.html_render_blocks.specs.Definition.{DefinedBlock}
 use Rattle.html_render_blocks.specs.Visible.{visible_in_text}
@@ -29,14 +30,16 @@ use Rattle.html_render_pictures.specs.Visible.{count}
 use Rattle.html_render_pictures.specs.laws.Lines.{count-append}
 use Rattle.html_render_blocks.specs.laws.Operations.{Counts}
 use Rattle.html_render_blocks.specs.laws.Closing.{IsClear, finish_count, closed_count}
+use Rattle.html_render_layout.specs.declared.layout.nesting.OwnBlock.{OwnBlock}
+use Rattle.html_render_layout.specs.declared.layout.nesting.OwnBlock.TheVariants.{Shared, Prefixed, Indented}
 use Rattle.html_render_layout.specs.declared.layout.state.LayoutState.{LayoutState}
-use Rattle.html_render_layout.specs.declared.settings.LayoutSettings.{LayoutSettings}
+use Rattle.html_render_estimates.specs.declared.settings.LayoutSettings.{LayoutSettings}
 use Rattle.html_render_layout.specs.Kept.{visited_nodes, node_characters, KeepsTexts}
 use Rattle.html_render_layout.specs.Layout.{Means, Step, Write, WriteNumber, Annotate, Treat, Strike, Unstrike, Restore, NewLine, NewLineHard}
 use Rattle.html_render_layout.specs.Layout.{StartBlock, EndBlock, Fence, BeginTable, EndTable, AddTarget, AddMark}
-use Rattle.html_render_layout.specs.Layout.{Shape, Steps, Around, Prefixed, Indented, Items, Cells, shape_of, style_steps}
+use Rattle.html_render_layout.specs.Layout.{Shape, Steps, Around, Items, Cells, block_of, shape_of, style_steps}
 use Rattle.html_render_layout.specs.Layout.{annotated, struck, on_block, text_style, write, perform, perform_all, joined, appended, appended_block}
-use Rattle.html_render_layout.specs.Layout.{cell_place, shape_layout, layout_of, Defined, defined, by_stacks, empty_state, estimated, layout_lines}
+use Rattle.html_render_layout.specs.Layout.{block_place, cell_place, shape_layout, kind_layout, layout_of, Defined, defined, by_stacks, empty_state, estimated, layout_lines}
 use Rattle.html_render_layout.specs.Ending.{closing_texts, ended}
 
 -- whatever there is
@@ -142,12 +145,6 @@ module _ {S A K T B : Type 0} (m : Means S A K T B) (v : B → ℕ) (w : List �
   Adds P n (Inner before places after) =
       IfSome before (λ q. (k : ℕ) (r : State) → Has q.decorator (counted q + k) r → IfSome (after r) (P (n + k))) × PlacesAdd places
 
-  -- in a block inside that of s
-  inside-adds : (s : State) (before : Option State) (after : State → Option State) → Joins s after →
-      IfSome before (λ q. (k : ℕ) (r : State) → Has q.decorator (counted q + k) r → IfSome (after r) (Has s.decorator (counted s + k)))
-  inside-adds s None after k = tt
-  inside-adds s (Some q) after k = λ i r a. IfSome_then (after r) (k r) (λ t b. (b.1.0, omega (arith, a.1, b.1.1)))
-
   followed-adds : (P Q : ℕ → State → Type 0) (k n : ℕ) (l : Visit State) (next : State → Option State) →
       ((i : ℕ) (r : State) → P (k + i) r → IfSome (next r) (Q (n + i))) → Adds P k l → Adds Q n (followed l next)
   followed-adds P Q k n (Leaf behind) next so a =
@@ -158,6 +155,20 @@ module _ {S A K T B : Type 0} (m : Means S A K T B) (v : B → ℕ) (w : List �
   followed-adds P Q k n (Inner before places after) next so a =
       (IfSome_then before a.0 (λ q f i r b. bind_some (P (k + i)) (Q (n + i)) next (after r) (f i r b) (so i)), a.1)
 
+  -- a visit in a block inside that of s
+  inside-adds : (s : State) (before : Option State) (after : State → Option State) (visit : State → Visit State) → Joins s after →
+      ((q : State) → Adds (Has q.decorator) (counted q) (visit q)) → Adds (Has s.decorator) (counted s) (placed (Within before after) visit s)
+  inside-adds s None after visit k adds = tt
+  inside-adds s (Some q) after visit k adds =
+      followed-adds (Has q.decorator) (Has s.decorator) (counted q) (counted s) (visit q) after
+      (λ i r a. IfSome_then (after r) (k r) (λ t b. (b.1.0, omega (arith, a.1, b.1.1)))) (adds q)
+
+  block-adds : (b : OwnBlock) (s : State) (visit : State → Visit State) →
+      ((q : State) → Adds (Has q.decorator) (counted q) (visit q)) → Adds (Has s.decorator) (counted s) (placed (block_place m b s) visit s)
+  block-adds Shared s visit adds = adds s
+  block-adds (Prefixed prefix least) s visit adds = inside-adds s _ _ visit (block-joins s prefix) adds
+  block-adds (Indented prefix columns least) s visit adds = inside-adds s _ _ visit (appended-joins s prefix columns) adds
+
   -- a node's shape adds no less than there is; and a text what is counted in it
   shape-adds : (x : Shape S A) (s : State) → Adds (Has s.decorator) (counted s) (shape_layout m x s)
   shape-adds (Steps xs) s = steps-keep s xs s.decorator (counted s) s (refl, omega arith)
@@ -166,8 +177,6 @@ module _ {S A K T B : Type 0} (m : Means S A K T B) (v : B → ℕ) (w : List �
         steps-keep s ys s.decorator (counted s + k) r (b.0 ∙ a.0, omega (arith, a.1, b.1))),
     λ number q. tt,
   )
-  shape-adds (Prefixed prefix least) s = (inside-adds s _ _ (block-joins s (prefix s.decorator)), λ number q. tt)
-  shape-adds (Indented columns least) s = (inside-adds s _ _ (appended-joins s _ columns), λ number q. tt)
   shape-adds (Items prefix columns least) s =
       let c = columns s.decorator in
       (λ k r a. a, λ number q. (whatever _ (m.operations.sub_block q.block c least) _ (λ b. refl), appended-joins q _ c))
@@ -186,10 +195,11 @@ module _ {S A K T B : Type 0} (m : Means S A K T B) (v : B → ℕ) (w : List �
   textless d n l a = subst (λ k. Adds (Has d) k l) (omega (arith, empty)) a
 
   kind-adds : (k : NodeKind) (e : Estimate) (trees : Forest RenderNode) (s : State) →
-      Adds (Has s.decorator) (counted s + w (node_characters k)) (shape_layout m (shape_of m.decoration s.settings k e trees) s)
+      Adds (Has s.decorator) (counted s + w (node_characters k)) (kind_layout m k e trees s)
   kind-adds (Text t) e trees s = write-count (chars t) s.decorator (counted s) s (refl, omega arith)
   kind-adds k e trees s =
-      let x = shape_of m.decoration s.settings k e trees in textless s.decorator (counted s) (shape_layout m x s) (shape-adds x s)
+      textless s.decorator (counted s) (kind_layout m k e trees s)
+      (block-adds (block_of m.decoration s.settings s.decorator k e) s (λ q. shape_layout m (shape_of m.decoration q.settings k e trees) q) (λ q. shape-adds (shape_of m.decoration q.settings k e trees) q))
 
   node-adds : (n : RenderNode) (trees : Forest RenderNode) (s : State) → Adds (Left s) (counted s + node_count n) (layout_of m n trees s)
   node-adds n trees s = by (perform_all m s xs s) (steps-keep s xs s.decorator (counted s) s (refl, omega arith))
@@ -198,11 +208,11 @@ module _ {S A K T B : Type 0} (m : Means S A K T B) (v : B → ℕ) (w : List �
       xs = style_steps m.decoration n.style
 
       by : (o : Option State) → IfSome o (Has s.decorator (counted s)) → Adds (Left s) (counted s + node_count n) (from_state o (λ q.
-          followed (shape_layout m (shape_of m.decoration q.settings n.kind n.estimate trees) q) (λ r. Some (record r { text = s.text }))))
+          followed (kind_layout m n.kind n.estimate trees q) (λ r. Some (record r { text = s.text }))))
       by None a = tt
       by (Some q) a =
           followed-adds (Has q.decorator) (Left s) (counted q + node_count n) (counted s + node_count n)
-          (shape_layout m (shape_of m.decoration q.settings n.kind n.estimate trees) q) _
+          (kind_layout m n.kind n.estimate trees q) _
           (λ k r b. (refl, (b.0 ∙ a.0, omega (arith, a.1, b.1)))) (kind-adds n.kind n.estimate trees q)
 
   -- what is counted of a node in its place
@@ -318,10 +328,10 @@ module _ {S A : Type 0} (d : Decoration S A) where
       (layout-grows (by_stacks d) (visible_count 0) (text_count 0) (operations_keep_visible 0) refl (struck-count 0) t s) (λ r k. (k.0, k.1.0))
 
   -- THE LAW: each visible character of the texts that are visited stands in the lines as often, or more often
-  pub layout_keeps_texts : (settings : LayoutSettings) (t : Forest RenderNode) (decorator : S) (w : ℕ) (o : Bool) →
-      IfSome (layout_lines d settings t decorator w o) (KeepsTexts (visited_nodes d settings t decorator w o))
-  layout_keeps_texts settings t decorator w o =
-      for_each Stands (layout_lines d settings t decorator w o) (λ c. if_cases (λ x. IfSome x (Stands c)) (w == 0) _ _ (λ _. tt) (λ _.
+  pub layout_keeps_texts : (settings : LayoutSettings) (t : Forest RenderNode) (decorator : S) (block : BlockSetting) →
+      IfSome (layout_lines d settings t decorator block) (KeepsTexts (visited_nodes d settings t decorator block))
+  layout_keeps_texts settings t decorator block =
+      for_each Stands (layout_lines d settings t decorator block) (λ c. if_cases (λ x. IfSome x (Stands c)) (block.width == 0) _ _ (λ _. tt) (λ _.
       bind_some _ _ _ (run (defined d) trees start) (layout-grows (by_stacks d) (visible_count c) (text_count c)
       (operations_keep_visible c) refl (struck-count c) trees start) (λ r a.
       map_if (λ (q : Defined S A). visible_count c r.block ≤ count c (visible_in_lines q.block.lines)) _ _
@@ -331,13 +341,13 @@ module _ {S A : Type 0} (d : Decoration S A) where
       let ts : List (List ℕ) = map chars (closing_texts d settings.link_footnotes r.decorator r.targets) in
       bind_some _ _ _ (definition.ending.add_closing_lines b settings.wrap_links [] ts) (closed_count c b settings.wrap_links [] ts h.0)
       (λ e k. let le = h.1 in omega (arith, le, k))))
-      (λ q e. omega (arith, a.1.1, e, texts_count c (visited_nodes d settings t decorator w o))))))
+      (λ q e. omega (arith, a.1.1, e, texts_count c (visited_nodes d settings t decorator block))))))
     where
       Stands : ℕ → List (Line (List A) ℕ) → Type 0
-      Stands c lines = text_count c (text_characters (visited_nodes d settings t decorator w o)) ≤ count c (visible_in_lines lines)
+      Stands c lines = text_count c (text_characters (visited_nodes d settings t decorator block)) ≤ count c (visible_in_lines lines)
 
       trees : Forest RenderNode
       trees = estimated d settings decorator t
 
       start : Defined S A
-      start = empty_state d settings decorator w o
+      start = empty_state d settings decorator block

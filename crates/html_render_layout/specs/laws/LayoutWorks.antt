@@ -15,6 +15,7 @@ use Rattle.html_render_lines.specs.laws.Cases.{if_false}
 use Rattle.html_render_lines.specs.Tags.{element_with, line_with, lines_with}
 use Rattle.html_render_nodes.specs.declared.tree.RenderNode.{RenderNode}
 use Rattle.html_render_estimates.specs.Passes.{with_needed_sizes}
+use Rattle.html_render_blocks.specs.declared.block.BlockSetting.{BlockSetting}
 use Rattle.html_render_blocks.specs.Block.{empty_block}
 use Rattle.html_render_blocks.specs.Definition as definition
 use Rattle.html_render_blocks.specs.Definition.{definition, DefinedBlock}
@@ -26,12 +27,12 @@ use Rattle.html_render_layout.specs.Stacks.{stack_at}
 use Rattle.html_render_nodes.specs.Counts.{CountsNodes}
 use Rattle.html_render_nodes.specs.Pass.{visited, most_open}
 use Rattle.html_render_nodes.specs.laws.Counts.{counts-same}
-use Rattle.html_render_layout.specs.declared.settings.LayoutSettings.{LayoutSettings}
+use Rattle.html_render_estimates.specs.declared.settings.LayoutSettings.{LayoutSettings}
 use Rattle.html_render_layout.specs.Layout.{by_stacks, layout_of, shown_after, Defined, defined, begin_with, empty_state}
 use Rattle.html_render_layout.specs.Layout.{estimated, layout, layout_lines, mark_names, unannotated}
 use Rattle.html_render_layout.specs.laws.Related.{Other}
 use Rattle.html_render_layout.specs.laws.Sizes.{shown-needed, counts-needed}
-use Rattle.html_render_layout.specs.Working.{block_setting, padding, by_tags, Worked, tabled, tagged, work_lines, work_names, Untagged, untagged, untagged_work}
+use Rattle.html_render_layout.specs.Working.{padding, by_tags, Worked, tabled, tagged, work_lines, work_names, Untagged, untagged, untagged_work}
 use Rattle.html_render_layout.specs.laws.Representation.{Represents, walk-represented, lines-represented, names-represented}
 
 -- ---- a map of tags that changes none
@@ -55,15 +56,15 @@ module _ {T M : Type 0} (f : T → T) (same : (t : T) → f t ≡ t) where
 
 module _ {S A : Type 0} (d : Decoration S A) (settings : LayoutSettings) where
   -- what is defined of measured trees, from an empty block
-  abbrev wanted : Forest RenderNode → S → ℕ → Bool → Option (List (Line (List A) ℕ))
-  wanted t decorator w o =
-      shown_after (by_stacks d) definition.ending (λ (r : Defined S A). r.block.lines) t (empty_state d settings decorator w o)
+  abbrev wanted : Forest RenderNode → S → BlockSetting → Option (List (Line (List A) ℕ))
+  wanted t decorator block =
+      shown_after (by_stacks d) definition.ending (λ (r : Defined S A). r.block.lines) t (empty_state d settings decorator block)
 
   -- what is shown in a width that isn't 0
-  shown-wide : {X : Type 0} (view : Defined S A → X) (t : Forest RenderNode) (decorator : S) (w : ℕ) (o : Bool) → w ≢ 0 →
-      shown_after (by_stacks d) definition.ending view (estimated d settings decorator t) (empty_state d settings decorator w o)
-      ≡ layout d settings view t decorator w o
-  shown-wide view t decorator w o wide = sym (if_false (w == 0) None _ (ne_eqb w 0 wide))
+  shown-wide : {X : Type 0} (view : Defined S A → X) (t : Forest RenderNode) (decorator : S) (block : BlockSetting) → block.width ≢ 0 →
+      shown_after (by_stacks d) definition.ending view (estimated d settings decorator t) (empty_state d settings decorator block)
+      ≡ layout d settings view t decorator block
+  shown-wide view t decorator block wide = sym (if_false (block.width == 0) None _ (ne_eqb block.width 0 wide))
 
   -- ---- tags that are numbers
 
@@ -92,109 +93,109 @@ module _ {S A : Type 0} (d : Decoration S A) (settings : LayoutSettings) where
       by true = x
       by false = tt
 
-  abbrev pub empty_worked : S → (width : ℕ) → (overflow : Bool) → Worked S A
-  empty_worked decorator w o =
-      begin_with settings (d.subblock decorator) ([] ∷ []) 0 (empty_block machine (block_setting settings w o) (padding settings 0))
+  abbrev pub empty_worked : S → BlockSetting → Worked S A
+  empty_worked decorator block =
+      begin_with settings (d.subblock decorator) ([] ∷ []) 0 (empty_block machine block (padding settings 0))
 
   -- what differs in the state by stacks
-  abbrev stacked : (width : ℕ) → (overflow : Bool) → Other (Unit {0}) (List A) (DefinedBlock (List A) ℕ)
-  stacked w o =
-      record { stacks = tt; tag = []; blank = []; block = empty_block definition (block_setting settings w o) (padding settings []) }
+  abbrev stacked : BlockSetting → Other (Unit {0}) (List A) (DefinedBlock (List A) ℕ)
+  stacked block =
+      record { stacks = tt; tag = []; blank = []; block = empty_block definition block (padding settings []) }
 
   -- the table of stacks, beside nothing
   abbrev Tabled : Type 0
   Tabled = List (List A) × Unit {0}
 
-  begins : (decorator : S) (w : ℕ) (o : Bool) →
+  begins : (decorator : S) (block : BlockSetting) →
       Represents d tabled stack_at (λ (s : List A). s) Pushed (λ k. ([], sym (append-nil k))) Pushed-goes
-      (λ k t a. ((stack_at k t ++ a ∷ []) ∷ [], refl)) tag_pushed w (empty_worked decorator w o) (stacked w o)
-  begins decorator w o = (
+      (λ k t a. ((stack_at k t ++ a ∷ []) ∷ [], refl)) tag_pushed block.width (empty_worked decorator block) (stacked block)
+  begins decorator block = (
     λ l g. ap (λ x. stack_at x 0) g.1,
     (
       λ l g. ap (λ x. stack_at x 0) g.1,
       empty-seen (λ (k : Tabled) t. stack_at k.0 t) (λ (s : List A). s) (λ (k l : Tabled). Pushed k.0 l.0)
           (λ (k : Tabled). ([], sym (append-nil k.0))) (λ (k l m : Tabled). Pushed-goes k.0 l.0 m.0) (([] ∷ []), tt)
-          (block_setting settings w o) (padding settings 0) (padding settings [])
+          block (padding settings 0) (padding settings [])
           (padded_alike (λ (k : Tabled) t. stack_at k.0 t) (λ (s : List A). s) (λ (k l : Tabled). Pushed k.0 l.0)
           (λ (k : Tabled). ([], sym (append-nil k.0))) (λ (k l m : Tabled). Pushed-goes k.0 l.0 m.0) (([] ∷ []), tt) 0 []
           (λ l g. ap (λ x. stack_at x 0) g.1)),
     ),
   )
 
-  work_lines-wanted : (t : Forest RenderNode) (decorator : S) (w : ℕ) (o : Bool) →
-      work_lines d t (empty_worked decorator w o) ≡ wanted t decorator w o
-  work_lines-wanted t decorator w o =
+  work_lines-wanted : (t : Forest RenderNode) (decorator : S) (block : BlockSetting) →
+      work_lines d t (empty_worked decorator block) ≡ wanted t decorator block
+  work_lines-wanted t decorator block =
       lines-represented d tabled stack_at (λ (s : List A). s) Pushed (λ k. ([], sym (append-nil k))) Pushed-goes
       (λ k t a. ((stack_at k t ++ a ∷ []) ∷ [], refl)) tag_pushed
-      (λ (r : Worked S A). lines_with (stack_at r.stacks) r.block.lines) (λ r. refl) t w (empty_worked decorator w o) (stacked w o)
-      (begins decorator w o)
-      ∙ mapped-same (λ (s : List A). s) (λ s. refl) (wanted t decorator w o)
+      (λ (r : Worked S A). lines_with (stack_at r.stacks) r.block.lines) (λ r. refl) t block.width (empty_worked decorator block) (stacked block)
+      (begins decorator block)
+      ∙ mapped-same (λ (s : List A). s) (λ s. refl) (wanted t decorator block)
 
   -- from an empty block of a width that isn't 0, what the code does with the measured trees makes the lines of the tree
-  pub layout_lines-works : (t measured : Forest RenderNode) (decorator : S) (w : ℕ) (o : Bool) (s : Worked S A) → w ≢ 0 →
-      measured ≡ with_needed_sizes (estimated d settings decorator t) → s ≡ empty_worked decorator w o → work_lines d measured s ≡ layout_lines d settings t decorator w o
-  layout_lines-works t measured decorator w o s wide m e =
-      ap (λ x. work_lines d measured x) e ∙ ap (λ x. work_lines d x (empty_worked decorator w o)) m
+  pub layout_lines-works : (t measured : Forest RenderNode) (decorator : S) (block : BlockSetting) (s : Worked S A) → block.width ≢ 0 →
+      measured ≡ with_needed_sizes (estimated d settings decorator t) → s ≡ empty_worked decorator block → work_lines d measured s ≡ layout_lines d settings t decorator block
+  layout_lines-works t measured decorator block s wide m e =
+      ap (λ x. work_lines d measured x) e ∙ ap (λ x. work_lines d x (empty_worked decorator block)) m
       ∙ shown-needed (by_tags d tabled) machine.ending (λ (r : Worked S A). tagged r.stacks r.block.lines)
-      (estimated d settings decorator t) (empty_worked decorator w o)
-      ∙ work_lines-wanted (estimated d settings decorator t) decorator w o ∙ shown-wide (λ (r : Defined S A). r.block.lines) t decorator w o wide
+      (estimated d settings decorator t) (empty_worked decorator block)
+      ∙ work_lines-wanted (estimated d settings decorator t) decorator block ∙ shown-wide (λ (r : Defined S A). r.block.lines) t decorator block wide
 
   -- and so are the names of its marks
-  pub mark_names-works : (t measured : Forest RenderNode) (decorator : S) (w : ℕ) (o : Bool) (s : Worked S A) → w ≢ 0 →
-      measured ≡ with_needed_sizes (estimated d settings decorator t) → s ≡ empty_worked decorator w o → work_names d measured s ≡ mark_names d settings t decorator w o
-  mark_names-works t measured decorator w o s wide m e =
-      ap (λ x. work_names d measured x) e ∙ ap (λ x. work_names d x (empty_worked decorator w o)) m
+  pub mark_names-works : (t measured : Forest RenderNode) (decorator : S) (block : BlockSetting) (s : Worked S A) → block.width ≢ 0 →
+      measured ≡ with_needed_sizes (estimated d settings decorator t) → s ≡ empty_worked decorator block → work_names d measured s ≡ mark_names d settings t decorator block
+  mark_names-works t measured decorator block s wide m e =
+      ap (λ x. work_names d measured x) e ∙ ap (λ x. work_names d x (empty_worked decorator block)) m
       ∙ shown-needed (by_tags d tabled) machine.ending (λ (r : Worked S A). r.names)
-      (estimated d settings decorator t) (empty_worked decorator w o)
+      (estimated d settings decorator t) (empty_worked decorator block)
       ∙ names-represented d tabled stack_at (λ (s : List A). s) Pushed (λ k. ([], sym (append-nil k))) Pushed-goes
-      (λ k t a. ((stack_at k t ++ a ∷ []) ∷ [], refl)) tag_pushed (estimated d settings decorator t) w (empty_worked decorator w o)
-      (stacked w o) (begins decorator w o)
-      ∙ shown-wide (λ (r : Defined S A). r.names) t decorator w o wide
+      (λ k t a. ((stack_at k t ++ a ∷ []) ∷ [], refl)) tag_pushed (estimated d settings decorator t) block.width (empty_worked decorator block)
+      (stacked block) (begins decorator block)
+      ∙ shown-wide (λ (r : Defined S A). r.names) t decorator block wide
 
   -- and it visits what the definition visits, with as many open at once
-  pub counts-work : {X : Type 0} (r : Result X Error) (t measured : Forest RenderNode) (decorator : S) (w : ℕ) (o : Bool)
-      (s : Worked S A) (old other new : Meter) → measured ≡ with_needed_sizes (estimated d settings decorator t) → s ≡ empty_worked decorator w o →
+  pub counts-work : {X : Type 0} (r : Result X Error) (t measured : Forest RenderNode) (decorator : S) (block : BlockSetting)
+      (s : Worked S A) (old other new : Meter) → measured ≡ with_needed_sizes (estimated d settings decorator t) → s ≡ empty_worked decorator block →
       other.probes ≡ old.probes → CountsNodes r (layout_of (by_tags d tabled)) measured s other new →
-      CountsNodes r (defined d) (estimated d settings decorator t) (empty_state d settings decorator w o) old new
-  counts-work r t measured decorator w o s old other new m e probes c =
+      CountsNodes r (defined d) (estimated d settings decorator t) (empty_state d settings decorator block) old new
+  counts-work r t measured decorator block s old other new m e probes c =
       let u = estimated d settings decorator t in
       let walk = walk-represented d tabled stack_at (λ (s : List A). s) Pushed (λ k. ([], sym (append-nil k))) Pushed-goes
-      (λ k t a. ((stack_at k t ++ a ∷ []) ∷ [], refl)) tag_pushed u w (empty_worked decorator w o) (stacked w o) (begins decorator w o) in
-      counts-same r (layout_of (by_tags d tabled)) (defined d) u s (empty_state d settings decorator w o) old other new
+      (λ k t a. ((stack_at k t ++ a ∷ []) ∷ [], refl)) tag_pushed u block.width (empty_worked decorator block) (stacked block) (begins decorator block) in
+      counts-same r (layout_of (by_tags d tabled)) (defined d) u s (empty_state d settings decorator block) old other new
       (ap (λ x. visited (layout_of (by_tags d tabled)) u x) e ∙ walk.0)
       (ap (λ x. most_open (layout_of (by_tags d tabled)) u x) e ∙ walk.1) probes
       (counts-needed (by_tags d tabled) r u s other new (subst (λ x. CountsNodes r (layout_of (by_tags d tabled)) x s other new) m c))
 
   -- ---- no tags
 
-  abbrev pub empty_untagged : {K : Type 0} → K → S → (width : ℕ) → (overflow : Bool) → Untagged S K
-  empty_untagged k decorator w o =
-      begin_with settings (d.subblock decorator) k tt (empty_block machine (block_setting settings w o) (padding settings tt))
+  abbrev pub empty_untagged : {K : Type 0} → K → S → BlockSetting → Untagged S K
+  empty_untagged k decorator block =
+      begin_with settings (d.subblock decorator) k tt (empty_block machine block (padding settings tt))
 
-  untagged_work-wanted : {K : Type 0} (t : Forest RenderNode) (decorator : S) (w : ℕ) (o : Bool) (k : K) →
-      untagged_work d t (empty_untagged k decorator w o) ≡ option_map (lines_with (λ (s : List A). tt)) (wanted t decorator w o)
-  untagged_work-wanted {K} t decorator w o k =
+  untagged_work-wanted : {K : Type 0} (t : Forest RenderNode) (decorator : S) (block : BlockSetting) (k : K) →
+      untagged_work d t (empty_untagged k decorator block) ≡ option_map (lines_with (λ (s : List A). tt)) (wanted t decorator block)
+  untagged_work-wanted {K} t decorator block k =
       lines-represented d untagged (λ k t. tt) (λ (s : List A). tt) (λ k l. Unit {0}) (λ k. tt) (λ k l m a b. tt) (λ k t a. tt)
       (λ k t a s h l g. refl)
-      (λ (r : Untagged S K). r.block.lines) (λ r. sym (lines-same (λ (t : Unit {0}). tt) (λ t. refl) r.block.lines)) t w
-      (empty_untagged k decorator w o) (stacked w o) (
+      (λ (r : Untagged S K). r.block.lines) (λ r. sym (lines-same (λ (t : Unit {0}). tt) (λ t. refl) r.block.lines)) t block.width
+      (empty_untagged k decorator block) (stacked block) (
         λ l g. refl,
         (
           λ l g. refl,
           empty-seen (λ (k : K × Unit {0}) (t : Unit {0}). tt) (λ (s : List A). tt) (λ k l. Unit {0}) (λ k. tt) (λ k l m a b. tt) (k, tt)
-              (block_setting settings w o) (padding settings tt) (padding settings [])
+              block (padding settings tt) (padding settings [])
               (padded_alike (λ (k : K × Unit {0}) (t : Unit {0}). tt) (λ (s : List A). tt) (λ k l. Unit {0}) (λ k. tt) (λ k l m a b. tt) (k, tt) tt []
               (λ l g. refl)),
         ),
       )
 
   -- the same, without what the characters are annotated with
-  pub untagged_lines-works : {K : Type 0} (t measured : Forest RenderNode) (decorator : S) (w : ℕ) (o : Bool) (k : K)
-      (s : Untagged S K) → w ≢ 0 → measured ≡ with_needed_sizes (estimated d settings decorator t) → s ≡ empty_untagged k decorator w o →
-      untagged_work d measured s ≡ option_map unannotated (layout_lines d settings t decorator w o)
-  untagged_lines-works {K} t measured decorator w o k s wide m e =
-      ap (λ x. untagged_work d measured x) e ∙ ap (λ x. untagged_work d x (empty_untagged k decorator w o)) m
+  pub untagged_lines-works : {K : Type 0} (t measured : Forest RenderNode) (decorator : S) (block : BlockSetting) (k : K)
+      (s : Untagged S K) → block.width ≢ 0 → measured ≡ with_needed_sizes (estimated d settings decorator t) → s ≡ empty_untagged k decorator block →
+      untagged_work d measured s ≡ option_map unannotated (layout_lines d settings t decorator block)
+  untagged_lines-works {K} t measured decorator block k s wide m e =
+      ap (λ x. untagged_work d measured x) e ∙ ap (λ x. untagged_work d x (empty_untagged k decorator block)) m
       ∙ shown-needed (by_tags d untagged) machine.ending (λ (r : Untagged S K). r.block.lines)
-      (estimated d settings decorator t) (empty_untagged k decorator w o)
-      ∙ untagged_work-wanted (estimated d settings decorator t) decorator w o k
-      ∙ ap (option_map (lines_with (λ (s : List A). tt))) (shown-wide (λ (r : Defined S A). r.block.lines) t decorator w o wide)
+      (estimated d settings decorator t) (empty_untagged k decorator block)
+      ∙ untagged_work-wanted (estimated d settings decorator t) decorator block k
+      ∙ ap (option_map (lines_with (λ (s : List A). tt))) (shown-wide (λ (r : Defined S A). r.block.lines) t decorator block wide)

@@ -1,25 +1,42 @@
 -- What the walk does at a node is what is defined.
-use Rattle.std.specs.Prelude.{◌≡◌, ℕ, List, Option, Some, None, option_and_then, option_map, refl}
-use Rattle.std.proofs.Common.{ap, subst}
+use Rattle.std.specs.Prelude.{◌≡◌, ℕ, List, [], ◌∷◌, map, Option, Some, None, option_and_then, option_map, refl}
+use Rattle.std.proofs.Common.{ap, sym, subst}
+use Rattle.std.specs.Str.{chars}
 use Rattle.html_render_values.specs.Forest.{Forest}
 use Rattle.html_render_nodes.specs.declared.tree.Estimate.{Estimate}
 use Rattle.html_render_nodes.specs.declared.tree.NodeKind.{NodeKind}
-use Rattle.html_render_nodes.specs.declared.tree.NodeKind.TheVariants.{Text, Break, Superscript, Image, Svg, FragmentStart}
+use Rattle.html_render_nodes.specs.declared.tree.NodeKind.TheVariants.{Text, Break, Header, BlockQuote, Dd, Superscript, Image, Svg, FragmentStart, Table}
 use Rattle.html_render_nodes.specs.declared.tree.RenderNode.{RenderNode}
 use Rattle.html_render_nodes.specs.Pass.{Visit, Leaf, Inner, followed, placed, places_in}
-use Rattle.html_render_nodes.specs.Pass.{Way, past, opened_with, IsOpened}
+use Rattle.html_render_nodes.specs.Pass.{Way, Past, past, opened_with, IsOpened}
 use Rattle.html_render_nodes.specs.laws.Visits.{from_state}
+use Rattle.html_render_estimates.specs.Estimates.{prefix_columns}
+use Rattle.html_render_layout.specs.declared.layout.nesting.OwnBlock.{OwnBlock}
+use Rattle.html_render_layout.specs.declared.layout.nesting.OwnBlock.TheVariants.{Shared, Prefixed, Indented}
 use Rattle.html_render_layout.specs.declared.layout.state.Closing.{Closing}
 use Rattle.html_render_layout.specs.declared.layout.state.Interruption.{Interruption}
-use Rattle.html_render_layout.specs.declared.layout.state.Interruption.TheVariants.{NoBlock, Indented, Cell}
+use Rattle.html_render_layout.specs.declared.layout.state.Interruption.TheVariants as interruption
+use Rattle.html_render_layout.specs.declared.layout.state.Interruption.TheVariants.{NoBlock, Quoted, Cell}
 use Rattle.html_render_layout.specs.declared.layout.state.KindClosing.{KindClosing}
-use Rattle.html_render_layout.specs.declared.layout.state.KindClosing.TheVariants.{Bullets, Numbers, EndRow}
+use Rattle.html_render_layout.specs.declared.layout.state.KindClosing.TheVariants.{EndRow}
 use Rattle.html_render_layout.specs.declared.layout.state.LayoutState.{LayoutState}
 use Rattle.html_render_layout.specs.declared.layout.state.TextContext.{TextContext}
-use Rattle.html_render_layout.specs.Layout.{Means, superscript, digits_of, shape_of, style_steps, perform_all, appended, within}
-use Rattle.html_render_layout.specs.Layout.{padded, item_place, cell_place, shape_layout, layout_of}
-use Rattle.html_render_layout.specs.Opening.{number_from, item, interrupted, item_closed, keeping, kind_kept, kind_opened, kind_closed, kind_below, opened_in}
-use Rattle.html_render_layout.specs.Opening.{cell_opened, item_opened, opened_below, opened, below, closed}
+use Rattle.html_render_layout.specs.Layout.{Write, NewLineHard, raised, image, write, perform}
+use Rattle.html_render_layout.specs.Layout.{Means, superscript, digits_of, block_of, shape_of, style_steps, perform_all, within}
+use Rattle.html_render_layout.specs.Layout.{block_place, cell_place, shape_layout, kind_layout, layout_of}
+use Rattle.html_render_layout.specs.Images.{shown_title}
+use Rattle.html_render_layout.specs.Opening.{interrupted, continued, keeping, block_begun, block_kept, kind_kept, kind_opened, kind_closed, child_block, kind_below}
+use Rattle.html_render_layout.specs.Opening.{opened_in, text_opened, cell_opened, block_opened, opened_below, opened, below, closed}
+
+-- nothing done behind a visit
+module _ {S : Type 0} where
+  some : (x : Option S) → option_and_then (λ r. Some r) x ≡ x
+  some None = refl
+  some (Some r) = refl
+
+  followed-some : (v : Visit S) → followed v (λ r. Some r) ≡ v
+  followed-some (Leaf behind) = ap Leaf (some behind)
+  followed-some (Inner before places after) = λ j. Inner before places (λ r. some (after r) j)
 
 module _ {S A K T B : Type 0} (m : Means S A K T B) where
   abbrev State : Type 0
@@ -31,99 +48,148 @@ module _ {S A K T B : Type 0} (m : Means S A K T B) where
   StandsFor kept (Inner before places after) = (places ≡ kind_below m kept) × ((r : State) → after r ≡ kind_closed m kept r)
 
   superscript-stands : (digits : Option (List ℕ)) (e : Estimate) (s : State) →
-      let shape = superscript m.decoration digits in StandsFor (kind_kept m shape Superscript e s) (shape_layout m shape s)
-  superscript-stands None e s = (refl, λ r. refl)
+      StandsFor (kind_kept m NoBlock Superscript e s) (followed (shape_layout m (superscript m.decoration digits) s) (λ r. Some r))
+  superscript-stands None e s = (refl, λ r. some (kind_closed m (kind_kept m NoBlock Superscript e s) r))
   superscript-stands (Some digits) e s = tt
 
-  kind-stands : (k : NodeKind) (e : Estimate) (trees : Forest RenderNode) (s : State) →
-      let shape = shape_of m.decoration s.settings k e trees in StandsFor (kind_kept m shape k e s) (shape_layout m shape s)
-  kind-stands (Text t) e trees s = tt
-  kind-stands Break e trees s = tt
-  kind-stands (Image i) e trees s = tt
-  kind-stands (Svg title) e trees s = tt
-  kind-stands (FragmentStart name) e trees s = tt
-  kind-stands Superscript e trees s = superscript-stands (digits_of trees) e s
-  kind-stands k e trees s = (refl, λ r. refl)
+  -- what the node interrupts with a block of its own, in the state q
+  abbrev own : NodeKind → Estimate → (q : State) → Interruption S T B
+  own k e q = block_kept m (block_of m.decoration q.settings q.decorator k e) q
+
+  kind-stands : (k : NodeKind) (e : Estimate) (trees : Forest RenderNode) (q s : State) →
+      StandsFor (kind_kept m (own k e q) k e s)
+      (followed (shape_layout m (shape_of m.decoration s.settings k e trees) s) (continued m (own k e q)))
+  kind-stands (Text t) e trees q s = tt
+  kind-stands Break e trees q s = tt
+  kind-stands (Image i) e trees q s = tt
+  kind-stands (Svg title) e trees q s = tt
+  kind-stands (FragmentStart name) e trees q s = tt
+  kind-stands Superscript e trees q s = superscript-stands (digits_of trees) e s
+  kind-stands (Header level) e trees q s = (refl, λ r. refl)
+  kind-stands BlockQuote e trees q s = (refl, λ r. refl)
+  kind-stands Dd e trees q s = (refl, λ r. refl)
+  kind-stands (Table grid) e trees q s = (refl, λ r. refl)
+  kind-stands k e trees q s = (refl, λ r. some (kind_closed m (kind_kept m (own k e q) k e s) r))
+
+  -- and a leaf interrupts nothing
+  superscript-opened : (digits : Option (List ℕ)) (kept : KindClosing S T B) (s : State) →
+      opened_with (followed (shape_layout m (superscript m.decoration digits) s) (λ r. Some r)) kept
+      ≡ opened_with (shape_layout m (superscript m.decoration digits) s) kept
+  superscript-opened None kept s = refl
+  superscript-opened (Some digits) kept s = ap past (some (perform_all m s (Write (λ x. map raised digits) ∷ []) s))
+
+  kind-opened : (k : NodeKind) (e : Estimate) (trees : Forest RenderNode) (q s : State) (kept : KindClosing S T B) →
+      let n = shape_layout m (shape_of m.decoration s.settings k e trees) s in
+      opened_with (followed n (continued m (own k e q))) kept ≡ opened_with n kept
+  kind-opened (Text t) e trees q s kept = ap past (some (write m (chars t) s))
+  kind-opened Break e trees q s kept = ap past (some (perform m s NewLineHard s))
+  kind-opened (Image i) e trees q s kept =
+      ap past (some (perform_all m s (image m.decoration i.source (shown_title s.settings.empty_images i.source i.title)) s))
+  kind-opened (Svg title) e trees q s kept = ap past (some (perform_all m s (image m.decoration [] (shown_title s.settings.empty_images [] title)) s))
+  kind-opened (FragmentStart name) e trees q s kept = refl
+  kind-opened Superscript e trees q s kept = superscript-opened (digits_of trees) kept s
+  kind-opened k e trees q s kept = refl
 
   abbrev Opened : Visit State → Option (Way State (Closing S T B)) → Type 0
   Opened n w = IsOpened (below m) (closed m) n w
 
-  -- from what is kept of its kind to what is kept of the node: in the block that it interrupts another one for, if it does
-  kept-opened : (n : Visit State) (kept : KindClosing S T B) (i : Interruption S T B) (text : TextContext T) → StandsFor kept n →
-      Opened (followed (followed n (λ r. Some (record r { text = text }))) (item_closed m i))
-      (option_and_then (λ w. keeping m i text w) (opened_with n kept))
-  kept-opened (Leaf None) kept i text stands = record { told = λ children. refl; asked = refl }
-  kept-opened (Leaf (Some t)) kept i text stands = by (item_closed m i (record t { text = text }))
+  -- from what is kept of its kind to what is kept of the node, in its place, with texts treated behind it as before it
+  kept-opened : (n : Visit State) (kept : KindClosing S T B) (item : Interruption S T B) (text : TextContext T) → StandsFor kept n →
+      Opened (followed (followed n (λ r. Some (record r { text = text }))) (continued m item))
+      (option_and_then (λ w. keeping m item text w) (opened_with n kept))
+  kept-opened (Leaf None) kept item text stands = record { told = λ children. refl; asked = refl }
+  kept-opened (Leaf (Some t)) kept item text stands = by (continued m item (record t { text = text }))
     where
       by : (c : Option State) → Opened (Leaf c) (past c)
       by None = record { told = λ children. refl; asked = refl }
       by (Some r) = record { told = λ children. refl; asked = refl }
-  kept-opened (Inner None places after) kept i text stands = record { told = λ children. refl; asked = refl }
-  kept-opened (Inner (Some q) places after) kept i text stands = record {
+  kept-opened (Inner None places after) kept item text stands = record { told = λ children. refl; asked = refl }
+  kept-opened (Inner (Some q) places after) kept item text stands = record {
     told = λ children j. option_and_then (λ r. closes (stands.1 r j) j) (children (stands.0 j) q);
     asked = λ j. Some (stands.0 j, q);
   }
     where
-      closes : (x : Option State) → option_and_then (item_closed m i) (option_and_then (λ (t : State). Some (record t { text = text })) x)
-          ≡ option_and_then (λ (t : State). item_closed m i (record t { text = text })) x
+      closes : (x : Option State) → option_and_then (continued m item) (option_and_then (λ (t : State). Some (record t { text = text })) x)
+          ≡ option_and_then (λ (t : State). continued m item (record t { text = text })) x
       closes None = refl
       closes (Some t) = refl
 
-  -- in its style
-  node-kept : (n : RenderNode) (trees : Forest RenderNode) (s : State) (i : Interruption S T B) →
-      Opened (followed (layout_of m n trees s) (item_closed m i)) (opened_in m i n trees s)
-  node-kept n trees s i = by (perform_all m s (style_steps m.decoration n.style) s)
+  -- in a block inside that of s, if there is one; around is what a visit stands in besides
+  nested-opened : (own : Interruption S T B) (c : Option B) (s : State) (visit : State → Visit State) (around : Visit State → Visit State) →
+      around (Leaf None) ≡ Leaf None → (f : State → Option (Way State (Closing S T B))) →
+      ((q : State) → Opened (around (followed (visit q) (continued m own))) (f q)) →
+      Opened (around (from_state (option_map (λ e. within m e s) c) (λ q. followed (visit q) (continued m own))))
+      (option_and_then f (option_map (λ e. within m e s) c))
+  nested-opened own None s visit around same f h = subst (λ v. Opened v None) (sym same) (record { told = λ children. refl; asked = refl })
+  nested-opened own (Some e) s visit around same f h = h (within m e s)
+
+  -- in a block of its own, if it has one
+  in-block : (b : OwnBlock) (s : State) (visit : State → Visit State) (around : Visit State → Visit State) → around (Leaf None) ≡ Leaf None →
+      (f : State → Option (Way State (Closing S T B))) →
+      ((q : State) → Opened (around (followed (visit q) (continued m (block_kept m b s)))) (f q)) →
+      Opened (around (placed (block_place m b s) visit s)) (option_and_then f (block_begun m b s))
+  in-block Shared s visit around same f h = subst (λ v. Opened (around v) (f s)) (followed-some (visit s)) (h s)
+  in-block (Prefixed prefix least) s visit around same f h =
+      nested-opened (Quoted (interrupted m s prefix (prefix_columns prefix))) (m.operations.sub_block s.block (prefix_columns prefix) least) s visit
+      around same f h
+  in-block (Indented prefix columns least) s visit around same f h =
+      nested-opened (interruption.Indented (interrupted m s prefix columns)) (m.operations.sub_block s.block columns least) s visit around same f h
+
+  -- a node in its place
+  node-kept : (n : RenderNode) (trees : Forest RenderNode) (item : Interruption S T B) (s : State) →
+      Opened (followed (layout_of m n trees s) (continued m item)) (opened_in m item n trees s)
+  node-kept n trees item s = by (perform_all m s (style_steps m.decoration n.style) s)
     where
       by : (o : Option State) →
-          Opened (followed (from_state o (λ q. followed (shape_layout m (shape_of m.decoration q.settings n.kind n.estimate trees) q)
-          (λ r. Some (record r { text = s.text })))) (item_closed m i))
-          (option_and_then (λ w. keeping m i s.text w) (option_and_then (λ (q : State). kind_opened m n.kind n.estimate trees q) o))
+          Opened (followed (from_state o (λ q. followed (kind_layout m n.kind n.estimate trees q) (λ r. Some (record r { text = s.text }))))
+          (continued m item)) (option_and_then (λ (q : State). option_and_then (λ (p : State).
+          option_and_then (λ w. keeping m item s.text w) (kind_opened m (own n.kind n.estimate q) n.kind n.estimate trees p)) (block_begun m (block_of m.decoration q.settings q.decorator n.kind n.estimate) q)) o)
       by None = record { told = λ children. refl; asked = refl }
       by (Some q) =
-          let shape = shape_of m.decoration q.settings n.kind n.estimate trees in
-          kept-opened (shape_layout m shape q) (kind_kept m shape n.kind n.estimate q) i s.text (kind-stands n.kind n.estimate trees q)
+          in-block (block_of m.decoration q.settings q.decorator n.kind n.estimate) q
+          (λ p. shape_layout m (shape_of m.decoration p.settings n.kind n.estimate trees) p)
+          (λ v. followed (followed v (λ r. Some (record r { text = s.text }))) (continued m item)) refl
+          (λ p. option_and_then (λ w. keeping m item s.text w) (kind_opened m (own n.kind n.estimate q) n.kind n.estimate trees p)) (λ p.
+          let kept = kind_kept m (own n.kind n.estimate q) n.kind n.estimate p in
+          let visit = followed (shape_layout m (shape_of m.decoration p.settings n.kind n.estimate trees) p) (continued m (own n.kind n.estimate q)) in
+          subst (λ w. Opened (followed (followed visit (λ r. Some (record r { text = s.text }))) (continued m item))
+          (option_and_then (λ w. keeping m item s.text w) w)) (kind-opened n.kind n.estimate trees q p kept)
+          (kept-opened visit kept item s.text (kind-stands n.kind n.estimate trees q p)))
 
-  -- where it interrupts no block
-  bare-opened : (n : RenderNode) (trees : Forest RenderNode) (s : State) → Opened (layout_of m n trees s) (item_opened m n trees None s)
-  bare-opened n trees s =
-      subst (λ v. Opened v (item_opened m n trees None s)) (followed-some (layout_of m n trees s)) (node-kept n trees s NoBlock)
+  -- a text keeps nothing
+  pub texts_pass : (n : RenderNode) (t : List ℕ) (trees : Forest RenderNode) (s : State) → n.kind ≡ Text t →
+      opened_in m NoBlock n trees s ≡ text_opened m t n.style s
+  texts_pass n t trees s is =
+      subst (λ k. opened_in m NoBlock (record n { kind = k }) trees s ≡ text_opened m t n.style s) (sym is)
+      (by (perform_all m s (style_steps m.decoration n.style) s))
     where
-      some : (x : Option State) → option_and_then (λ r. Some r) x ≡ x
-      some None = refl
-      some (Some r) = refl
+      written : (o : Option State) → option_and_then (λ w. keeping m NoBlock s.text w) (past o)
+          ≡ option_and_then (λ (r : State). Some (Past (record r { text = s.text }))) o
+      written None = refl
+      written (Some r) = refl
 
-      followed-some : (v : Visit State) → followed v (λ r. Some r) ≡ v
-      followed-some (Leaf behind) = ap Leaf (some behind)
-      followed-some (Inner before places after) = λ j. Inner before places (λ r. some (after r) j)
+      by : (o : Option State) →
+          option_and_then (λ (q : State). option_and_then (λ w. keeping m NoBlock s.text w) (past (write m (chars t) q))) o
+          ≡ option_and_then (λ (q : State). option_and_then (λ (r : State). Some (Past (record r { text = s.text }))) (write m (chars t) q)) o
+      by None = refl
+      by (Some q) = written (write m (chars t) q)
 
-  item-opened : (n : RenderNode) (trees : Forest RenderNode) (prefix : List ℕ) (columns least : ℕ) (s : State) →
-      Opened (placed (item_place m prefix columns least s) (layout_of m n trees) s) (item_opened m n trees (Some (item prefix columns least)) s)
-  item-opened n trees prefix columns least s = by (m.operations.sub_block s.block columns least)
-    where
-      i : Interruption S T B
-      i = Indented (interrupted m s (padded columns prefix) columns)
-
-      by : (b : Option B) →
-          Opened (from_state (option_map (λ c. within m c s) b) (λ q.
-          followed (layout_of m n trees q) (appended m s (padded columns prefix) columns)))
-          (option_and_then (λ (q : State). opened_in m i n trees q) (option_map (λ c. within m c s) b))
-      by None = record { told = λ children. refl; asked = refl }
-      by (Some c) = node-kept n trees (within m c s) i
+  block-opened : (b : OwnBlock) (n : RenderNode) (trees : Forest RenderNode) (s : State) →
+      Opened (placed (block_place m b s) (layout_of m n trees) s) (block_opened m n trees b s)
+  block-opened b n trees s =
+      in-block b s (layout_of m n trees) (λ v. v) refl (λ q. opened_in m (block_kept m b s) n trees q) (λ q. node-kept n trees (block_kept m b s) q)
 
   cell-opened : (n : RenderNode) (trees : Forest RenderNode) (s : State) (b : Option B) →
       Opened (placed (cell_place m b s) (layout_of m n trees) s) (cell_opened m n trees b s)
   cell-opened n trees s None = record { told = λ children. refl; asked = refl }
-  cell-opened n trees s (Some cell) = node-kept n trees (within m cell s) (Cell (record { decorator = s.decorator; block = s.block }))
+  cell-opened n trees s (Some cell) = node-kept n trees (Cell (record { decorator = s.decorator; block = s.block })) (within m cell s)
 
   -- THE LAW: a node is opened so in its place, its children come, and it is closed
   pub layout-opened : (parent : Option (Closing S T B)) (number : ℕ) (n : RenderNode) (trees : Forest RenderNode) (s : State) →
       Opened (placed (places_in (below m) parent number s) (layout_of m n trees) s) (opened m parent number n trees s)
-  layout-opened None number n trees s = bare-opened n trees s
+  layout-opened None number n trees s = block-opened Shared n trees s
   layout-opened (Some c) number n trees s = by c.kind
     where
       by : (k : KindClosing S T B) → Opened (placed (kind_below m k number s) (layout_of m n trees) s) (opened_below m k number n trees s)
-      by (Bullets columns least) = item-opened n trees (m.decoration.unordered_item_prefix s.decorator) columns least s
-      by (Numbers first columns least) =
-          item-opened n trees (m.decoration.ordered_item_prefix s.decorator (number_from first number)) columns least s
       by EndRow = cell-opened n trees s (m.operations.cell_block s.block)
-      by k = bare-opened n trees s
+      by k = block-opened (child_block m s.decorator k number) n trees s

@@ -9,65 +9,71 @@ use Rattle.html_render_values.specs.Forest.{Forest}
 use Rattle.html_render_parts.specs.Decoration.{Decoration}
 use Rattle.html_render_lines.specs.Line.{Line, AllWithinWidth}
 use Rattle.html_render_nodes.specs.declared.tree.RenderNode.{RenderNode}
-use Rattle.html_render_layout.specs.declared.settings.LayoutSettings.{LayoutSettings}
+use Rattle.html_render_estimates.specs.declared.settings.LayoutSettings.{LayoutSettings}
+use Rattle.html_render_blocks.specs.declared.block.BlockSetting.{BlockSetting}
 use Rattle.html_render_layout.specs.Kept.{visited_nodes, KeepsTexts}
 use Rattle.html_render_layout.specs.Layout.{layout_lines, mark_names, unannotated}
 use Rattle.html_render_layout.specs.Promises.{AreLines, Lines, HasLines, LeavesTexts}
 use Rattle.html_render_layout.specs.laws.LayoutLaws.{layout_within, layout_succeeds, layout_same, names_same, same_answer}
 use Rattle.html_render_layout.specs.laws.LayoutVisible.{layout_keeps_texts, layout_leaves}
 
-module _ {S A : Type 0} (d : Decoration S A) (settings : LayoutSettings) (tree : Forest RenderNode) (decorator : S) (width : ℕ)
-    (overflow : Bool) where
-  pub are-lines : (lines : List (Line (List A) ℕ)) → layout_lines d settings tree decorator width overflow ≡ Some lines →
-      AreLines d settings tree decorator width overflow lines
+module _ {S A : Type 0} (d : Decoration S A) (settings : LayoutSettings) (tree : Forest RenderNode) (decorator : S)
+    (block : BlockSetting) where
+  -- the lines with overflow on or off
+  abbrev in_overflow : Bool → Option (List (Line (List A) ℕ))
+  in_overflow o = layout_lines d settings tree decorator (record block { overflow = o })
+
+  pub are-lines : (lines : List (Line (List A) ℕ)) → layout_lines d settings tree decorator block ≡ Some lines →
+      AreLines d settings tree decorator block lines
   are-lines lines e =
       record {
         are = e;
-        within = λ off wrapped. subst (λ o. IfSome o (AllWithinWidth width)) (ap (layout_lines d settings tree decorator width) (sym off) ∙ e)
-            (layout_within d settings tree decorator width wrapped);
-        same = same_answer (layout_lines d settings tree decorator width) (layout_same d settings tree decorator width) overflow lines e;
-        kept = subst (λ o. IfSome o (KeepsTexts (visited_nodes d settings tree decorator width overflow))) e
-            (layout_keeps_texts d settings tree decorator width overflow);
+        within = λ off wrapped. subst (λ o. IfSome o (AllWithinWidth block.width)) (ap in_overflow (sym off) ∙ e)
+            (layout_within d settings tree decorator block wrapped);
+        same = same_answer in_overflow (layout_same d settings tree decorator block) block.overflow lines e;
+        kept = subst (λ o. IfSome o (KeepsTexts (visited_nodes d settings tree decorator block))) e
+            (layout_keeps_texts d settings tree decorator block);
       }
 
-  pub lines_promised : IfSome (layout_lines d settings tree decorator width overflow) (AreLines d settings tree decorator width overflow)
-  lines_promised = by (layout_lines d settings tree decorator width overflow) are-lines
+  pub lines_promised : IfSome (layout_lines d settings tree decorator block) (AreLines d settings tree decorator block)
+  lines_promised = by (layout_lines d settings tree decorator block) are-lines
     where
       by : (o : Option (List (Line (List A) ℕ))) → ((lines : List (Line (List A) ℕ)) → o ≡ Some lines →
-          AreLines d settings tree decorator width overflow lines) → IfSome o (AreLines d settings tree decorator width overflow)
+          AreLines d settings tree decorator block lines) → IfSome o (AreLines d settings tree decorator block)
       by None are = tt
       by (Some lines) are = are lines refl
 
   -- the names of their marks, where overflow off gives names
-  pub same-names : (names : List (List ℕ)) → mark_names d settings tree decorator width overflow ≡ Some names →
-      IfSome (mark_names d settings tree decorator width false) (λ others. names ≡ others)
-  same-names names e = same_answer (mark_names d settings tree decorator width) (names_same d settings tree decorator width) overflow names e
+  pub same-names : (names : List (List ℕ)) → mark_names d settings tree decorator block ≡ Some names →
+      IfSome (mark_names d settings tree decorator (record block { overflow = false })) (λ others. names ≡ others)
+  same-names names e =
+      same_answer (λ o. mark_names d settings tree decorator (record block { overflow = o })) (names_same d settings tree decorator block)
+      block.overflow names e
 
   -- the lines of those without annotations
   pub unannotated-are-lines : (bare : List (Line (Unit {0}) ℕ)) →
-      option_map unannotated (layout_lines d settings tree decorator width overflow) ≡ Some bare →
-      Lines d settings tree decorator width overflow (λ lines. bare ≡ unannotated lines)
-  unannotated-are-lines bare e = by (layout_lines d settings tree decorator width overflow) are-lines e
+      option_map unannotated (layout_lines d settings tree decorator block) ≡ Some bare →
+      Lines d settings tree decorator block (λ lines. bare ≡ unannotated lines)
+  unannotated-are-lines bare e = by (layout_lines d settings tree decorator block) are-lines e
     where
       by : (o : Option (List (Line (List A) ℕ))) → ((lines : List (Line (List A) ℕ)) → o ≡ Some lines →
-          AreLines d settings tree decorator width overflow lines) → option_map unannotated o ≡ Some bare →
-          Lines d settings tree decorator width overflow (λ lines. bare ≡ unannotated lines)
+          AreLines d settings tree decorator block lines) → option_map unannotated o ≡ Some bare →
+          Lines d settings tree decorator block (λ lines. bare ≡ unannotated lines)
       by None are e = cc
       by (Some lines) are e = (lines, are lines refl, sym (same_Some (unannotated lines) bare e))
 
   -- with overflow on there are lines
-  pub lines_there : HasLines d settings tree decorator width overflow
+  pub lines_there : HasLines d settings tree decorator block
   lines_there on some =
-      subst (λ o. IsSome (layout_lines d settings tree decorator width o)) (sym on)
-      (layout_succeeds d settings tree decorator width (omega (arith, some)))
+      subst (λ o. IsSome (in_overflow o)) (sym on) (layout_succeeds d settings tree decorator block (omega (arith, some)))
 
   -- so it isn't too narrow
-  pub wide_enough : {X : Type 0} (r : Result X Error) → IfErr r (λ e. Refuses e (layout_lines d settings tree decorator width overflow)) →
-      0 < width → overflow ≡ true → r ≢ Err TooNarrow
+  pub wide_enough : {X : Type 0} (r : Result X Error) → IfErr r (λ e. Refuses e (layout_lines d settings tree decorator block)) →
+      0 < block.width → block.overflow ≡ true → r ≢ Err TooNarrow
   wide_enough (Ok v) h positive on e = cc
   wide_enough {X} (Err x) h positive on e =
-      by (layout_lines d settings tree decorator width overflow) (lines_there on (omega (arith, positive)))
-      (subst (λ (y : Error). Refuses y (layout_lines d settings tree decorator width overflow)) (same_error x e) h)
+      by (layout_lines d settings tree decorator block) (lines_there on (omega (arith, positive)))
+      (subst (λ (y : Error). Refuses y (layout_lines d settings tree decorator block)) (same_error x e) h)
     where
       same_error : (x : Error) → ◌≡◌ {A = Result X Error} (Err x) (Err TooNarrow) → x ≡ TooNarrow
       same_error x e = cc

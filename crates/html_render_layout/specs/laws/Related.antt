@@ -8,6 +8,8 @@ use Rattle.std.proofs.Common.{Option, Some, None, refl, sym, ap, ◌∙◌, subs
 use Rattle.std.specs.Str.{chars}
 use Rattle.html_render_values.specs.Forest.{Forest, none, node}
 use Rattle.html_render_values.specs.declared.white_space.WhiteSpace.TheVariants.{Normal}
+use Rattle.html_render_nodes.specs.declared.tree.Estimate.{Estimate}
+use Rattle.html_render_nodes.specs.declared.tree.NodeKind.{NodeKind}
 use Rattle.html_render_nodes.specs.declared.tree.RenderNode.{RenderNode}
 use Rattle.html_render_estimates.specs.Estimates.{prefix_columns}
 use Rattle.html_render_nodes.specs.Pass.{Place, Bare, Skipped, Within, Places, bare, Visit, Leaf, Inner, through_visit, inside, followed}
@@ -16,14 +18,16 @@ use Rattle.html_render_nodes.specs.laws.Visits.{from, from_state}
 use Rattle.html_render_paragraphs.specs.laws.Answers.{Both, Both-then, Both-map, Both-weaken}
 use Rattle.html_render_blocks.specs.Operations.{Operations, DocumentEnd}
 use Rattle.html_render_blocks.specs.laws.Related.{Relates, RelatesEnds}
+use Rattle.html_render_layout.specs.declared.layout.nesting.OwnBlock.{OwnBlock}
+use Rattle.html_render_layout.specs.declared.layout.nesting.OwnBlock.TheVariants.{Shared, Prefixed, Indented}
 use Rattle.html_render_layout.specs.declared.layout.state.LayoutState.{LayoutState}
 use Rattle.html_render_layout.specs.declared.layout.state.TextContext.{TextContext}
 use Rattle.html_render_layout.specs.Ending.{closing_texts, ended}
 use Rattle.html_render_layout.specs.Layout.{Means, Step, Write, WriteNumber, Annotate, Treat, Strike, Unstrike, Restore, NewLine, NewLineHard}
-use Rattle.html_render_layout.specs.Layout.{StartBlock, EndBlock, Fence, BeginTable, EndTable, AddTarget, AddMark, Shape, Steps, Around, Prefixed}
-use Rattle.html_render_layout.specs.Layout.{Indented, Items, Cells, spaces, padded, shape_of, style_steps, struck, white_space_in, on_block}
+use Rattle.html_render_layout.specs.Layout.{StartBlock, EndBlock, Fence, BeginTable, EndTable, AddTarget, AddMark, Shape, Steps, Around, Items}
+use Rattle.html_render_layout.specs.Layout.{Cells, spaces, padded, block_of, shape_of, style_steps, struck, white_space_in, on_block}
 use Rattle.html_render_layout.specs.Layout.{text_style, add_styled, write, annotated, fence, perform, perform_all, within, nested, joined, appended}
-use Rattle.html_render_layout.specs.Layout.{appended_block, cell_place, shape_layout, layout_of, shown_after}
+use Rattle.html_render_layout.specs.Layout.{appended_block, block_place, cell_place, shape_layout, kind_layout, layout_of, shown_after}
 
 -- how texts are treated, under another tag
 abbrev pub context : {T U : Type 0} → TextContext T → U → TextContext U
@@ -429,6 +433,15 @@ module _ {S A K T B L U C I : Type 0} (m : Means S A K T B) (pull : L → U → 
     ),
   )
 
+  block_place-related : (x : OwnBlock) (i : I) (s : State) (v : Different) → Holds i s v →
+      PlaceRelated i (stacks_of s v) (block_place m x s) (block_place n x (with_other s v))
+  block_place-related Shared i s v k = tt
+  block_place-related (Prefixed prefix least) i s v k =
+      deeper-related i (stacks_of s v) _ _ (joined m (appended_block m s.text.tag prefix) s) (joined n (appended_block n v.tag prefix) (with_other s v))
+      (nested-related (prefix_columns prefix) least i s v k) (λ j r u l z.
+      joined-related (appended_block m s.text.tag prefix) (appended_block n v.tag prefix) i j s v k (block-related prefix i s v k) r u l z)
+  block_place-related (Indented prefix columns least) i s v k = indent-related prefix columns least i s v k
+
   shape-related : (x : Shape S A) (i : I) (s : State) (v : Different) → Holds i s v →
       Related i (stacks_of s v) (shape_layout m x s) (shape_layout n x (with_other s v))
   shape-related (Steps xs) i s v k = steps-related xs s v i s v k.0 k
@@ -438,14 +451,6 @@ module _ {S A K T B L U C I : Type 0} (m : Means S A K T B) (pull : L → U → 
         steps-related ys s v i r u (tags_later (stacks_of s v) (stacks_of r u) s.text.tag v.tag k.0 l) z),
     bare-related,
   )
-  shape-related (Prefixed prefix least) i s v k =
-      let text = prefix s.decorator in (
-        deeper-related i (stacks_of s v) _ _ (joined m (appended_block m s.text.tag text) s) (joined n (appended_block n v.tag text) (with_other s v))
-            (nested-related (prefix_columns text) least i s v k) (λ j r u l z.
-            joined-related (appended_block m s.text.tag text) (appended_block n v.tag text) i j s v k (block-related text i s v k) r u l z),
-        bare-related,
-      )
-  shape-related (Indented columns least) i s v k = (indent-related (spaces columns) columns least i s v k, bare-related)
   shape-related (Items prefix columns least) i s v k = (
     around-related i (stacks_of s v) (Some s) (Some (with_other s v)) (λ r. Some r) (λ r. Some r) (here i s v k) (λ r u l z. here i r u z),
     λ number j r u z. let c = columns s.decorator in indent-related (padded c (prefix r.decorator number)) c least j r u z,
@@ -462,6 +467,15 @@ module _ {S A K T B L U C I : Type 0} (m : Means S A K T B) (pull : L → U → 
 
   -- ---- each node
 
+  kind-related : (kind : NodeKind) (e : Estimate) (trees : Forest RenderNode) (i : I) (s : State) (v : Different) → Holds i s v →
+      Related i (stacks_of s v) (kind_layout m kind e trees s) (kind_layout n kind e trees (with_other s v))
+  kind-related kind e trees i s v k =
+      let b = block_of m.decoration s.settings s.decorator kind e in
+      placed-related (λ q. shape_layout m (shape_of m.decoration q.settings kind e trees) q)
+      (λ q. shape_layout n (shape_of m.decoration q.settings kind e trees) q)
+      (λ j q u z. shape-related (shape_of m.decoration q.settings kind e trees) j q u z)
+      (block_place m b s) (block_place n b (with_other s v)) i s v k (block_place-related b i s v k)
+
   layout-related : (x : RenderNode) (trees : Forest RenderNode) (i : I) (s : State) (v : Different) → Holds i s v →
       Related i (stacks_of s v) (layout_of m x trees s) (layout_of n x trees (with_other s v))
   layout-related x trees i s v k =
@@ -471,11 +485,10 @@ module _ {S A K T B L U C I : Type 0} (m : Means S A K T B) (pull : L → U → 
       xs = style_steps m.decoration x.style
 
       f : State → Visit State
-      f q = followed (shape_layout m (shape_of m.decoration q.settings x.kind x.estimate trees) q) (λ r. Some (record r { text = s.text }))
+      f q = followed (kind_layout m x.kind x.estimate trees q) (λ r. Some (record r { text = s.text }))
 
       g : OtherState → Visit OtherState
-      g q = followed (shape_layout n (shape_of m.decoration q.settings x.kind x.estimate trees) q)
-          (λ r. Some (record r { text = context s.text v.tag }))
+      g q = followed (kind_layout n x.kind x.estimate trees q) (λ r. Some (record r { text = context s.text v.tag }))
 
       by : (a : Option State) (b : Option OtherState) → Both N M (Reached i (stacks_of s v)) a b → Related i (stacks_of s v) (from_state a f) (from_state b g)
       by None None c = c
@@ -485,7 +498,7 @@ module _ {S A K T B L U C I : Type 0} (m : Means S A K T B) (pull : L → U → 
           let w = stacks_of q c.other in
           since-related i (stacks_of s v) q c.other (f q) (g e) c.later
           (subst (λ x. Related i w (f q) (g x)) (sym c.is)
-          (followed-related i i w _ _ _ _ (shape-related (shape_of m.decoration q.settings x.kind x.estimate trees) i q c.other c.holds) (λ r u l z.
+          (followed-related i i w _ _ _ _ (kind-related x.kind x.estimate trees i q c.other c.holds) (λ r u l z.
           here i (record r { text = s.text }) (record u { tag = v.tag })
           (tags_later (stacks_of s v) (stacks_of r u) s.text.tag v.tag k.0 (goes (stacks_of s v) w (stacks_of r u) c.later l), z.1))))
 

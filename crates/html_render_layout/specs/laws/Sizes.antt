@@ -1,13 +1,13 @@
 -- Sizes that are left out: trees without a table are laid out the same without them, as tables alone ask for sizes.
-use Rattle.std.proofs.Common.{◌≡◌, ◌||◌, true, false, ℕ, ◌+◌, max, length, Option, Some, None, Result, OnOk, option_and_then}
-use Rattle.std.proofs.Common.{refl, ap, ◌∙◌, ◌≤◌, subst, arith, length-append}
+use Rattle.std.proofs.Common.{◌≡◌, ◌||◌, true, false, ℕ, ◌+◌, max, length, Option, Some, Result, OnOk, option_and_then}
+use Rattle.std.proofs.Common.{refl, ap, ◌≤◌, subst, arith, length-append}
 use Rattle.std.proofs.lemmas.Bool.{or_parts, true≢false}
 use Rattle.html_render_values.specs.Forest.{Forest, none, node, count, depth}
 use Rattle.html_render_parts.specs.declared.widths.Meter.{Meter}
 use Rattle.html_render_lines.specs.laws.Cases.{if_cases}
 use Rattle.html_render_nodes.specs.declared.tree.Estimate.{Estimate}
 use Rattle.html_render_nodes.specs.declared.tree.NodeKind.{NodeKind}
-use Rattle.html_render_nodes.specs.declared.tree.NodeKind.TheVariants.{Superscript, Table}
+use Rattle.html_render_nodes.specs.declared.tree.NodeKind.TheVariants.{BlockQuote, Superscript, Table}
 use Rattle.html_render_nodes.specs.declared.tree.RenderNode.{RenderNode}
 use Rattle.html_render_nodes.specs.Counts.{CountsNodes}
 use Rattle.html_render_nodes.specs.Pass.{Place, Bare, Skipped, Within, Places, bare, through_visit, inside, followed}
@@ -16,8 +16,9 @@ use Rattle.html_render_nodes.specs.laws.Visits.{from, from_state, count_from, le
 use Rattle.html_render_estimates.specs.Passes.{is_table, has_table, without_size, without_sizes, with_needed_sizes}
 use Rattle.html_render_blocks.specs.Operations.{DocumentEnd}
 use Rattle.html_render_layout.specs.declared.layout.state.LayoutState.{LayoutState}
-use Rattle.html_render_layout.specs.declared.settings.LayoutSettings.{LayoutSettings}
-use Rattle.html_render_layout.specs.Layout.{Means, digits_of, superscript, shape_of, style_steps, perform_all, shape_layout, layout_of, shown_after}
+use Rattle.html_render_estimates.specs.declared.settings.LayoutSettings.{LayoutSettings}
+use Rattle.html_render_layout.specs.Layout.{Means, digits_of, superscript, block_of, shape_of, style_steps, perform_all, block_place, shape_layout}
+use Rattle.html_render_layout.specs.Layout.{kind_layout, layout_of, shown_after}
 
 -- a node without its size
 abbrev unsized : RenderNode → RenderNode
@@ -49,10 +50,20 @@ module _ {S A K T B : Type 0} (m : Means S A K T B) where
   kind-same settings Superscript e trees plain = ap (superscript m.decoration) (digits-same trees)
   kind-same settings kind e trees plain = refl
 
+  block-same : (settings : LayoutSettings) (x : S) (kind : NodeKind) (e : Estimate) →
+      block_of m.decoration settings x kind (without_size e) ≡ block_of m.decoration settings x kind e
+  block-same settings x BlockQuote e = refl
+  block-same settings x kind e = refl
+
+  kind_layout-same : (kind : NodeKind) (e : Estimate) (trees : Forest RenderNode) (s : State) → is_table kind ≡ false →
+      kind_layout m kind (without_size e) (without_sizes trees) s ≡ kind_layout m kind e trees s
+  kind_layout-same kind e trees s plain = λ i. placed (block_place m (block-same s.settings s.decorator kind e i) s)
+      (λ q. shape_layout m (kind-same q.settings kind e trees plain i) q) s
+
   node-same : (n : RenderNode) (trees : Forest RenderNode) (s : State) → is_table n.kind ≡ false →
       layout_of m (unsized n) (without_sizes trees) s ≡ layout_of m n trees s
   node-same n trees s plain = λ i. from_state (perform_all m s (style_steps m.decoration n.style) s) (λ q.
-      followed (shape_layout m (kind-same q.settings n.kind n.estimate trees plain i) q) (λ r. Some (record r { text = s.text })))
+      followed (kind_layout-same n.kind n.estimate trees q plain i) (λ r. Some (record r { text = s.text })))
 
   placed-same : (p : Place State) (n : RenderNode) (trees : Forest RenderNode) (s : State) → is_table n.kind ≡ false →
       placed p (layout_of m (unsized n) (without_sizes trees)) s ≡ placed p (layout_of m n trees) s

@@ -8,8 +8,8 @@ ghost use Rattle.html_render_layout.specs.Working.{by_tags};
 
 use super::emphasis::begin;
 use super::working::State;
-use crate::settings::ImageRenderMode;
 use crate::tagging::Tagging;
+use html_render_estimates::settings::ImageRenderMode;
 use html_render_parts::decorate::TextDecorator;
 use html_render_values::Error;
 use std::alloc::Global;

@@ -1,10 +1,11 @@
-//! The items of a list: what each stands behind.
+//! The items of a list: the block of each.
 
 ghost use Rattle.std.specs.Prelude.{◌≡◌, IfOk, IfErr, string_bytes};
-ghost use Rattle.html_render_layout.specs.Opening.{number_from};
-ghost use Rattle.html_render_layout.specs.Opening.{item, item_of};
+ghost use Rattle.html_render_layout.specs.Layout.{padded};
+ghost use Rattle.html_render_layout.specs.Opening.{number_from, child_block};
 ghost use Rattle.html_render_layout.specs.Working.{by_tags};
 
+use super::nesting::OwnBlock;
 use super::spaces::padded;
 use super::state::KindClosing;
 use super::working::KindKept;
@@ -14,24 +15,13 @@ use html_render_values::Error;
 use html_render_values::text::Text;
 use std::alloc::Global;
 
-/// An item of a list.
-#[derive(Drop)]
-pub struct Item {
-    /// What its first line stands behind.
-    pub prefix: Text,
-    /// The columns of that, and how many spaces the later ones stand behind.
-    pub columns: usize,
-    /// The columns that it needs behind them.
-    pub least: usize,
-}
-
-/// An item behind a prefix that is padded to `columns` columns.
-fn padded_item(prefix: String, columns: usize, least: usize) -> Result<Item, Error>
-    ensures ok { IfOk result (λ i. i ≡ item (string_bytes prefix) columns least) }
+/// The block of an item behind a prefix, which is padded to `columns` columns.
+fn item_block(prefix: String, columns: usize, least: usize) -> Result<OwnBlock, Error>
+    ensures ok { IfOk result (λ b. b ≡ OwnBlock.Indented (padded columns (string_bytes prefix)) columns least) }
     ensures err { IfErr result (λ e. e ≡ Error.OutOfMemory) }
 {
     let prefix = padded(prefix, columns)?;
-    Ok(Item {
+    Ok(OwnBlock::Indented {
         prefix: Text::from(prefix),
         columns,
         least,
@@ -45,24 +35,24 @@ fn number_from(first: i64, number: usize) -> i64
     first.saturating_add_unsigned(number as u64)
 }
 
-/// The item that the child of this number is, below a node that keeps this, if it is one.
+/// The block of the child of this number, below a node that keeps this: one of its own, if it is an item of a list.
 ///
 /// # Errors
 ///
 /// `OutOfMemory`.
-pub fn item_of<D: TextDecorator, G: Tagging<D::Annotation>>(
+pub fn child_block<D: TextDecorator, G: Tagging<D::Annotation>>(
     alloc: Global,
     decorator: &D,
     parent: &KindKept<D, G>,
     number: usize,
-) -> Result<Option<Item>, Error>
-    ensures ok { IfOk result (λ i. i ≡ item_of (by_tags D.decoration G.annotated) decorator.now parent.now number) }
+) -> Result<OwnBlock, Error>
+    ensures ok { IfOk result (λ b. b ≡ child_block (by_tags D.decoration G.annotated) decorator.now parent.now number) }
     ensures err { IfErr result (λ e. e ≡ Error.OutOfMemory) }
 {
     match parent {
         KindClosing::Bullets { columns, least } => {
             let bullet = decorator.unordered_item_prefix(alloc)?;
-            Ok(Some(padded_item(bullet, *columns, *least)?))
+            item_block(bullet, *columns, *least)
         }
         KindClosing::Numbers {
             first,
@@ -70,8 +60,8 @@ pub fn item_of<D: TextDecorator, G: Tagging<D::Annotation>>(
             least,
         } => {
             let prefix = decorator.ordered_item_prefix(alloc, number_from(*first, number))?;
-            Ok(Some(padded_item(prefix, *columns, *least)?))
+            item_block(prefix, *columns, *least)
         }
-        _ => Ok(None),
+        _ => Ok(OwnBlock::Shared),
     }
 }

@@ -5,14 +5,15 @@ ghost use Rattle.std.specs.Str.{chars};
 ghost use Rattle.html_render_values.specs.Outcome.{Refuses};
 ghost use Rattle.html_render_blocks.specs.Machine as machine;
 ghost use Rattle.html_render_layout.specs.Layout.{nested, spaces};
-ghost use Rattle.html_render_layout.specs.Opening.{interrupted, indent_closed, quote_closed};
+ghost use Rattle.html_render_layout.specs.Opening.{interrupted, indent_closed, quote_closed, block_begun, block_kept};
 ghost use Rattle.html_render_layout.specs.Working.{by_tags};
 
 use super::spaces::many_spaces;
-use super::state::{Interrupted, Outer};
+use super::state::{Interrupted, Interruption, Outer};
 use super::working::State;
 use crate::tagging::Tagging;
 use html_render_blocks::block::Block;
+use html_render_estimates::text::columns;
 use html_render_lines::tag::Tag;
 use html_render_parts::decorate::TextDecorator;
 use html_render_pictures::fillers::{FEW, few_spaces};
@@ -21,6 +22,29 @@ use html_render_values::text::Text;
 use std::alloc::Global;
 use std::mem;
 
+/// The block in which a node stands.
+#[derive(Drop)]
+pub enum OwnBlock {
+    /// That of the nodes beside it.
+    Shared,
+    /// One of its own, each of whose lines stands behind a prefix.
+    Prefixed {
+        /// What they stand behind.
+        prefix: Text,
+        /// The columns that the node needs behind it.
+        least: usize,
+    },
+    /// One of its own, whose first line stands behind a prefix, and the others behind spaces.
+    Indented {
+        /// What the first line stands behind.
+        prefix: Text,
+        /// How many spaces the others stand behind.
+        columns: usize,
+        /// The columns that the node needs behind them.
+        least: usize,
+    },
+}
+
 /// Begins an empty block inside the state's, behind a prefix of `columns` columns and with at least `least` of its own, and
 /// answers what it interrupts.
 ///
@@ -28,7 +52,7 @@ use std::mem;
 ///
 /// `TooNarrow`, where these columns aren't there, with overflow off. `OutOfMemory`.
 #[tactic(auto, using(html_render_values::specs::laws::Outcome::refusals))]
-pub fn nest<D: TextDecorator, G: Tagging<D::Annotation>>(
+fn nest<D: TextDecorator, G: Tagging<D::Annotation>>(
     alloc: Global,
     prefix: Text,
     columns: usize,
@@ -49,6 +73,57 @@ pub fn nest<D: TextDecorator, G: Tagging<D::Annotation>>(
         tag: state.text.tag,
     };
     Interrupted::new(alloc, outer)
+}
+
+/// Begins the block of a node, if it has one of its own, and answers what that interrupts.
+#[inline(never)]
+#[tactic(auto, using(html_render_values::specs::laws::Outcome::refusals))]
+fn begin_own<D: TextDecorator, G: Tagging<D::Annotation>>(
+    alloc: Global,
+    block: OwnBlock,
+    state: &mut State<D, G>,
+) -> Result<Interruption<D, G::Tag, Block<G::Tag, usize>>, Error>
+    ensures ok { OnOk result (block_begun (by_tags D.decoration G.annotated) block state.old ≡ Some state.new) }
+    ensures kept { IfOk result (λ i. i ≡ block_kept (by_tags D.decoration G.annotated) block state.old) }
+    ensures err { IfErr result (λ e. Refuses e (block_begun (by_tags D.decoration G.annotated) block state.old)) }
+{
+    match block {
+        OwnBlock::Shared => Ok(Interruption::NoBlock),
+        OwnBlock::Prefixed { prefix, least } => {
+            let columns = columns(prefix.as_str());
+            let outer = nest(alloc, prefix, columns, least, state)?;
+            Ok(Interruption::Quoted(outer))
+        }
+        OwnBlock::Indented {
+            prefix,
+            columns,
+            least,
+        } => {
+            let outer = nest(alloc, prefix, columns, least, state)?;
+            Ok(Interruption::Indented(outer))
+        }
+    }
+}
+
+/// Begins the block of a node, if it has one of its own, and answers what that interrupts. Most nodes have none.
+///
+/// # Errors
+///
+/// `TooNarrow`, where there are fewer columns behind a prefix than the node needs, with overflow off. `OutOfMemory`.
+#[inline(always)]
+pub fn begin_block<D: TextDecorator, G: Tagging<D::Annotation>>(
+    alloc: Global,
+    block: OwnBlock,
+    state: &mut State<D, G>,
+) -> Result<Interruption<D, G::Tag, Block<G::Tag, usize>>, Error>
+    ensures ok { OnOk result (block_begun (by_tags D.decoration G.annotated) block state.old ≡ Some state.new) }
+    ensures kept { IfOk result (λ i. i ≡ block_kept (by_tags D.decoration G.annotated) block state.old) }
+    ensures err { IfErr result (λ e. Refuses e (block_begun (by_tags D.decoration G.annotated) block state.old)) }
+{
+    if let OwnBlock::Shared = block {
+        return Ok(Interruption::NoBlock);
+    }
+    begin_own(alloc, block, state)
 }
 
 /// Adds the lines of a block, the first behind a prefix and the later ones behind `columns` spaces.

@@ -2,7 +2,7 @@
 
 ghost use Rattle.std.specs.Prelude.{◌≡◌, ◌↔◌, [], ◌∷◌, ◌++◌, length, IsTrue, IfOk, IfErr, OnOk};
 
-use crate::settings::LayoutSettings;
+use html_render_estimates::settings::LayoutSettings;
 use html_render_nodes::tree::Emphasis;
 use html_render_values::Error;
 use html_render_values::text::Text;
@@ -207,9 +207,11 @@ impl<D: Drop, B: Drop> InterruptedTable<D, B> {
 /// What an open node interrupts.
 #[derive(Drop)]
 pub enum Interruption<D, T, B> {
-    /// No block: it is laid out into the one that stands round it.
+    /// No block: it is laid out into that of the nodes beside it.
     NoBlock,
-    /// The block that it is an item of a list in.
+    /// One behind whose prefix each line of the node stands.
+    Quoted(Interrupted<D, T, B>),
+    /// One in which it is indented, its first line behind a prefix.
     Indented(Interrupted<D, T, B>),
     /// The block that it is a cell of a table in.
     Cell(InterruptedTable<D, B>),
@@ -218,7 +220,7 @@ pub enum Interruption<D, T, B> {
 /// What is to be done once the children of an open node are laid out.
 #[derive(Drop)]
 pub struct Closing<D, T, B> {
-    /// What the node interrupts.
+    /// What it interrupts as a child of the node above it: as an item of a list, or as a cell of a table.
     pub item: Interruption<D, T, B>,
     /// How texts were treated before the node.
     pub text: TextContext<T>,
@@ -229,8 +231,8 @@ pub struct Closing<D, T, B> {
 /// What a kind of node does once its children are laid out.
 #[derive(Drop)]
 pub enum KindClosing<D, T, B> {
-    /// Nothing.
-    Nothing,
+    /// Nothing but that a block goes on which the node interrupts with one of its own.
+    Nothing(Interruption<D, T, B>),
     /// The block is at its end.
     EndBlock,
     /// A new line begins.
@@ -253,18 +255,14 @@ pub enum KindClosing<D, T, B> {
         /// The columns that an item needs behind it.
         least: usize,
     },
-    /// The heading or quote ends, and the block that it interrupted goes on.
-    EndQuote(Interrupted<D, T, B>),
-    /// The same, with what was indented.
-    EndIndent(Interrupted<D, T, B>),
     /// The part that is struck out ends; whether what follows is struck out.
     EndStrikeout(bool),
     /// The superscript ends.
     EndSuperscript,
     /// The link of this number ends; how texts were treated before it.
     EndLink(TextContext<T>, usize),
-    /// The table ends; whether it stands in another one.
-    EndTable(bool),
+    /// The table ends: what it interrupts with a block of its own, and whether it stands in another table.
+    EndTable(Interruption<D, T, B>, bool),
     /// The row of a table ends. Each child is a cell.
     EndRow,
 }

@@ -1,24 +1,24 @@
 //! What a layout does as it opens and closes a node.
 
-ghost use Rattle.std.specs.Prelude.{◌≡◌, ◌+◌, ◌-◌, ◌++◌, ◌∷◌, [], length, Some, OnOk, IfOk, IfErr, option_copied, string_bytes};
+ghost use Rattle.std.specs.Prelude.{◌≡◌, ◌+◌, ◌-◌, ◌++◌, ◌∷◌, [], length, Some, OnOk, IfOk, IfErr, option_copied};
 ghost use Rattle.html_render_values.specs.Outcome.{Refuses};
 ghost use Rattle.html_render_blocks.specs.Machine as machine;
 ghost use Rattle.html_render_nodes.specs.Pass.{way};
 ghost use Rattle.html_render_nodes.specs.Preorder.{flatten, forest_of};
 ghost use Rattle.html_render_parts.specs.Decoration.{link};
-ghost use Rattle.html_render_estimates.specs.Estimates.{prefix_columns, prefix_of};
-ghost use Rattle.html_render_layout.specs.Layout.{AddTarget, BeginTable, Fence, NewLine, StartBlock, Strike, nested, perform_all};
-ghost use Rattle.html_render_layout.specs.Layout.{spaces, start};
-ghost use Rattle.html_render_layout.specs.Opening.{interrupted, item_of, item_begun, item_kept, item_closed};
-ghost use Rattle.html_render_layout.specs.Opening.{kind_opened, kind_closed, node_opened, opened_in, cell_opened, item_opened, opened_below};
+ghost use Rattle.html_render_estimates.specs.Estimates.{prefix_columns, number_columns};
+ghost use Rattle.html_render_layout.specs.Layout.{AddTarget, BeginTable, Fence, NewLine, StartBlock, Strike, inner_least, block_of, perform_all};
+ghost use Rattle.html_render_layout.specs.Layout.{start};
+ghost use Rattle.html_render_layout.specs.Opening.{child_block, continued};
+ghost use Rattle.html_render_layout.specs.Opening.{kind_opened, kind_closed, opened_in, text_opened, cell_opened, block_opened, opened_below};
 ghost use Rattle.html_render_layout.specs.Opening.{opened, closed};
 ghost use Rattle.html_render_layout.specs.Working.{by_tags};
 
 use super::emphasis::{begin_emphasis, begin_strikeout, begin_superscript, end_of};
 use super::images::add_image;
-use super::items::{Item, item_of};
+use super::items::child_block;
 use super::links::{add_mark, begin_link, close_link};
-use super::nesting::{close_indent, close_quote, nest};
+use super::nesting::{OwnBlock, begin_block, close_indent, close_quote};
 use super::state::{Closing, Interruption, KindClosing};
 use super::styles::begin_style;
 use super::superscripts::{digits_of, write_raised};
@@ -29,7 +29,7 @@ use crate::tagging::Tagging;
 use html_render_blocks::block::Block;
 use html_render_estimates::estimate::number_columns;
 use html_render_estimates::text::columns;
-use html_render_nodes::tree::{Emphasis, Entry, Estimate, Grid, NodeKind, RenderNode};
+use html_render_nodes::tree::{Emphasis, Entry, Estimate, Grid, NodeKind, NodeStyle, RenderNode};
 use html_render_parts::decorate::TextDecorator;
 use html_render_values::Error;
 use html_render_values::text::Text;
@@ -37,28 +37,9 @@ use std::alloc::Global;
 
 /// The columns that a node needs behind its prefix.
 fn inner_least(estimate: &Estimate) -> usize
-    ensures { result ≡ estimate.now.least - estimate.now.prefix }
+    ensures { result ≡ inner_least estimate.now }
 {
     estimate.least.saturating_sub(estimate.prefix)
-}
-
-/// A heading or a quote begins in a block of its own, each of whose lines stands behind this prefix.
-#[tactic(auto, using(html_render_values::specs::laws::Outcome::refusals))]
-fn open_quote<D: TextDecorator, G: Tagging<D::Annotation>>(
-    alloc: Global,
-    prefix: String,
-    estimate: &Estimate,
-    state: &mut State<D, G>,
-) -> Result<Option<KindKept<D, G>>, Error>
-    ensures ok { OnOk result (nested (by_tags D.decoration G.annotated) (prefix_columns (string_bytes prefix)) (estimate.now.least - estimate.now.prefix) state.old ≡ Some state.new) }
-    ensures kept { IfOk result (λ c. c ≡ Some (KindClosing.EndQuote
-        (interrupted (by_tags D.decoration G.annotated) state.old (string_bytes prefix) (prefix_columns (string_bytes prefix))))) }
-    ensures err { IfErr result (λ e. Refuses e (nested (by_tags D.decoration G.annotated) (prefix_columns (string_bytes prefix)) (estimate.now.least - estimate.now.prefix) state.old)) }
-{
-    let columns = columns(prefix.as_str());
-    let prefix = Text::from(prefix);
-    let outer = nest(alloc, prefix, columns, inner_least(estimate), state)?;
-    Ok(Some(KindClosing::EndQuote(outer)))
 }
 
 /// The items of an unordered list come.
@@ -68,7 +49,7 @@ fn open_bullets<D: TextDecorator, G: Tagging<D::Annotation>>(
     estimate: &Estimate,
 ) -> Result<Option<KindKept<D, G>>, Error>
     ensures ok { IfOk result (λ c. c ≡ Some (KindClosing.Bullets
-        (prefix_columns (D.decoration.unordered_item_prefix decorator.now)) (estimate.now.least - estimate.now.prefix))) }
+        (prefix_columns (D.decoration.unordered_item_prefix decorator.now)) (inner_least estimate.now))) }
     ensures err { IfErr result (λ e. e ≡ Error.OutOfMemory) }
 {
     let bullet = decorator.unordered_item_prefix(alloc)?;
@@ -86,7 +67,7 @@ fn open_numbers<D: TextDecorator, G: Tagging<D::Annotation>>(
     estimate: &Estimate,
 ) -> Result<Option<KindKept<D, G>>, Error>
     ensures ok { IfOk result (λ c. c ≡ Some (KindClosing.Numbers first
-        (prefix_of D.decoration decorator.now (NodeKind.Ol first) estimate.now.children) (estimate.now.least - estimate.now.prefix))) }
+        (number_columns D.decoration decorator.now first estimate.now.children) (inner_least estimate.now))) }
     ensures err { IfErr result (λ e. e ≡ Error.OutOfMemory) }
 {
     let columns = number_columns(alloc, decorator, first, estimate.children)?;
@@ -110,22 +91,6 @@ fn begin_term<D: TextDecorator, G: Tagging<D::Annotation>>(
     begin_emphasis(alloc, Emphasis::Em, state)
 }
 
-/// A description begins in a block of its own, behind two spaces.
-#[tactic(auto, using(html_render_values::specs::laws::Outcome::refusals))]
-fn open_description<D: TextDecorator, G: Tagging<D::Annotation>>(
-    alloc: Global,
-    estimate: &Estimate,
-    state: &mut State<D, G>,
-) -> Result<Option<KindKept<D, G>>, Error>
-    ensures ok { OnOk result (nested (by_tags D.decoration G.annotated) 2 (estimate.now.least - estimate.now.prefix) state.old ≡ Some state.new) }
-    ensures kept { IfOk result (λ c. c ≡ Some (KindClosing.EndIndent (interrupted (by_tags D.decoration G.annotated) state.old (spaces 2) 2))) }
-    ensures err { IfErr result (λ e. Refuses e (nested (by_tags D.decoration G.annotated) 2 (estimate.now.least - estimate.now.prefix) state.old)) }
-{
-    let prefix = Text::from_str(alloc, "  ")?;
-    let outer = nest(alloc, prefix, 2, inner_least(estimate), state)?;
-    Ok(Some(KindClosing::EndIndent(outer)))
-}
-
 /// A part that is struck out begins.
 #[tactic(auto, using(html_render_values::specs::laws::Outcome::refusals))]
 fn strike<D: TextDecorator, G: Tagging<D::Annotation>>(
@@ -146,14 +111,15 @@ fn strike<D: TextDecorator, G: Tagging<D::Annotation>>(
 #[tactic(auto, using(html_render_values::specs::laws::Outcome::refusals))]
 fn open_superscript<D: TextDecorator, G: Tagging<D::Annotation>>(
     alloc: Global,
+    own: Interruption<D, G::Tag, Block<G::Tag, usize>>,
     estimate: &Estimate,
     children: &[Entry<RenderNode>],
     state: &mut State<D, G>,
 ) -> Result<Option<KindKept<D, G>>, Error>
     requires { flatten (forest_of children.now) ≡ children.now }
-    ensures ok { IfOk result (λ c. kind_opened (by_tags D.decoration G.annotated) NodeKind.Superscript estimate.now (forest_of children.now) state.old
+    ensures ok { IfOk result (λ c. kind_opened (by_tags D.decoration G.annotated) own NodeKind.Superscript estimate.now (forest_of children.now) state.old
         ≡ Some (way state.new c)) }
-    ensures err { IfErr result (λ e. Refuses e (kind_opened (by_tags D.decoration G.annotated) NodeKind.Superscript estimate.now (forest_of children.now) state.old)) }
+    ensures err { IfErr result (λ e. Refuses e (kind_opened (by_tags D.decoration G.annotated) own NodeKind.Superscript estimate.now (forest_of children.now) state.old)) }
 {
     match digits_of(children) {
         Some(digits) => {
@@ -189,18 +155,19 @@ fn open_link<D: TextDecorator, G: Tagging<D::Annotation>>(
 #[inline(never)]
 #[tactic(auto, using(html_render_values::specs::laws::Outcome::refusals))]
 fn open_table<D: TextDecorator, G: Tagging<D::Annotation>>(
+    own: Interruption<D, G::Tag, Block<G::Tag, usize>>,
     grid: &Grid,
     state: &mut State<D, G>,
 ) -> Result<Option<KindKept<D, G>>, Error>
     ensures ok { OnOk result (perform_all (by_tags D.decoration G.annotated) state.old
         (StartBlock ∷ (Fence ∷ (BeginTable grid.now.cells grid.now.needs ∷ []))) state.old ≡ Some state.new) }
-    ensures kept { IfOk result (λ c. c ≡ Some (KindClosing.EndTable state.old.in_table)) }
+    ensures kept { IfOk result (λ c. c ≡ Some (KindClosing.EndTable own state.old.in_table)) }
     ensures err { IfErr result (λ e. Refuses e (perform_all (by_tags D.decoration G.annotated) state.old
         (StartBlock ∷ (Fence ∷ (BeginTable grid.now.cells grid.now.needs ∷ []))) state.old)) }
 {
     let in_table = state.in_table;
     begin_table(grid, state)?;
-    Ok(Some(KindClosing::EndTable(in_table)))
+    Ok(Some(KindClosing::EndTable(own, in_table)))
 }
 
 /// The next row of a table begins.
@@ -215,19 +182,51 @@ fn open_row<D: TextDecorator, G: Tagging<D::Annotation>>(
     Ok(Some(KindClosing::EndRow))
 }
 
-/// Opens a node of a kind over these trees. With nothing kept the state becomes the one behind it.
+/// The block in which a node of a kind stands.
+#[inline(always)]
+fn block_of<D: TextDecorator, G: Tagging<D::Annotation>>(
+    alloc: Global,
+    kind: &NodeKind,
+    estimate: &Estimate,
+    state: &State<D, G>,
+) -> Result<OwnBlock, Error>
+    ensures ok { IfOk result (λ b. b ≡ block_of D.decoration state.now.settings state.now.decorator kind.now estimate.now) }
+    ensures err { IfErr result (λ e. e ≡ Error.OutOfMemory) }
+{
+    let least = inner_least(estimate);
+    match kind {
+        NodeKind::Header(level) => {
+            let prefix = Text::from(state.decorator.header_prefix(alloc, *level)?);
+            Ok(OwnBlock::Prefixed { prefix, least })
+        }
+        NodeKind::BlockQuote => {
+            let prefix = Text::from(state.decorator.quote_prefix(alloc)?);
+            Ok(OwnBlock::Prefixed { prefix, least })
+        }
+        NodeKind::Dd => Ok(OwnBlock::Indented {
+            prefix: Text::from_str(alloc, "  ")?,
+            columns: 2,
+            least,
+        }),
+        _ => Ok(OwnBlock::Shared),
+    }
+}
+
+/// Opens a node of a kind over these trees, in its block, which interrupts this if it is its own. With nothing kept the state
+/// becomes the one behind it.
 #[tactic(auto, using(html_render_values::specs::laws::Outcome::refusals))]
 fn open_kind<D: TextDecorator, G: Tagging<D::Annotation>>(
     alloc: Global,
+    own: Interruption<D, G::Tag, Block<G::Tag, usize>>,
     kind: &NodeKind,
     estimate: &Estimate,
     children: &[Entry<RenderNode>],
     state: &mut State<D, G>,
 ) -> Result<Option<KindKept<D, G>>, Error>
     requires { flatten (forest_of children.now) ≡ children.now }
-    ensures ok { IfOk result (λ c. kind_opened (by_tags D.decoration G.annotated) kind.now estimate.now (forest_of children.now)
+    ensures ok { IfOk result (λ c. kind_opened (by_tags D.decoration G.annotated) own kind.now estimate.now (forest_of children.now)
         state.old ≡ Some (way state.new c)) }
-    ensures err { IfErr result (λ e. Refuses e (kind_opened (by_tags D.decoration G.annotated) kind.now estimate.now (forest_of children.now)
+    ensures err { IfErr result (λ e. Refuses e (kind_opened (by_tags D.decoration G.annotated) own kind.now estimate.now (forest_of children.now)
         state.old)) }
 {
     match kind {
@@ -235,8 +234,12 @@ fn open_kind<D: TextDecorator, G: Tagging<D::Annotation>>(
             add_text(alloc, text.as_str(), state)?;
             Ok(None)
         }
-        NodeKind::Container | NodeKind::TableCell => { Ok(Some(KindClosing::Nothing)) }
-        NodeKind::Table(grid) => open_table(grid, state),
+        NodeKind::Container
+        | NodeKind::Header(_)
+        | NodeKind::BlockQuote
+        | NodeKind::Dd
+        | NodeKind::TableCell => Ok(Some(KindClosing::Nothing(own))),
+        NodeKind::Table(grid) => open_table(own, grid, state),
         NodeKind::TableRow => open_row(state),
         NodeKind::Break => {
             state.block.new_line_hard()?;
@@ -254,31 +257,22 @@ fn open_kind<D: TextDecorator, G: Tagging<D::Annotation>>(
             begin_emphasis(alloc, *emphasis, state)?;
             Ok(Some(KindClosing::EndEmphasis(*emphasis)))
         }
-        NodeKind::Header(level) => {
-            let prefix = state.decorator.header_prefix(alloc, *level)?;
-            open_quote(alloc, prefix, estimate, state)
-        }
-        NodeKind::BlockQuote => {
-            let prefix = state.decorator.quote_prefix(alloc)?;
-            open_quote(alloc, prefix, estimate, state)
-        }
         NodeKind::Ul => open_bullets::<D, G>(alloc, &state.decorator, estimate),
         NodeKind::Ol(first) => open_numbers::<D, G>(alloc, &state.decorator, *first, estimate),
         NodeKind::Dl => {
             state.block.start_block()?;
-            Ok(Some(KindClosing::Nothing))
+            Ok(Some(KindClosing::Nothing(own)))
         }
         NodeKind::Dt => {
             begin_term(alloc, state)?;
             Ok(Some(KindClosing::EndEmphasis(Emphasis::Em)))
         }
-        NodeKind::Dd => open_description(alloc, estimate, state),
         NodeKind::Strikeout => {
             let before = state.text.struck_out;
             strike(alloc, state)?;
             Ok(Some(KindClosing::EndStrikeout(before)))
         }
-        NodeKind::Superscript => open_superscript(alloc, estimate, children, state),
+        NodeKind::Superscript => open_superscript(alloc, own, estimate, children, state),
         NodeKind::Link(target) => open_link(alloc, target.as_str(), state),
         NodeKind::Image(image) => {
             add_image(
@@ -300,6 +294,41 @@ fn open_kind<D: TextDecorator, G: Tagging<D::Annotation>>(
     }
 }
 
+/// A block that a node interrupts goes on.
+#[inline(never)]
+#[tactic(auto, using(html_render_values::specs::laws::Outcome::refusals))]
+fn end_block<D: TextDecorator, G: Tagging<D::Annotation>>(
+    alloc: Global,
+    interrupted: Interruption<D, G::Tag, Block<G::Tag, usize>>,
+    state: &mut State<D, G>,
+) -> Result<(), Error>
+    ensures ok { OnOk result (continued (by_tags D.decoration G.annotated) interrupted state.old ≡ Some state.new) }
+    ensures err { IfErr result (λ e. Refuses e (continued (by_tags D.decoration G.annotated) interrupted state.old)) }
+{
+    match interrupted {
+        Interruption::NoBlock => Ok(()),
+        Interruption::Quoted(outer) => close_quote(outer, state),
+        Interruption::Indented(outer) => close_indent(alloc, outer, state),
+        Interruption::Cell(outer) => end_cell(outer, state),
+    }
+}
+
+/// What a node interrupts goes on. Most nodes interrupt nothing.
+#[inline(always)]
+fn go_on<D: TextDecorator, G: Tagging<D::Annotation>>(
+    alloc: Global,
+    interrupted: Interruption<D, G::Tag, Block<G::Tag, usize>>,
+    state: &mut State<D, G>,
+) -> Result<(), Error>
+    ensures ok { OnOk result (continued (by_tags D.decoration G.annotated) interrupted state.old ≡ Some state.new) }
+    ensures err { IfErr result (λ e. Refuses e (continued (by_tags D.decoration G.annotated) interrupted state.old)) }
+{
+    if let Interruption::NoBlock = interrupted {
+        return Ok(());
+    }
+    end_block(alloc, interrupted, state)
+}
+
 /// Does what is left of a node of a kind.
 #[tactic(auto, using(html_render_values::specs::laws::Outcome::refusals))]
 fn close_kind<D: TextDecorator, G: Tagging<D::Annotation>>(
@@ -311,7 +340,8 @@ fn close_kind<D: TextDecorator, G: Tagging<D::Annotation>>(
     ensures err { IfErr result (λ e. Refuses e (kind_closed (by_tags D.decoration G.annotated) closing state.old)) }
 {
     match closing {
-        KindClosing::Nothing | KindClosing::Bullets { .. } | KindClosing::Numbers { .. } => Ok(()),
+        KindClosing::Nothing(own) => go_on(alloc, own, state),
+        KindClosing::Bullets { .. } | KindClosing::Numbers { .. } => Ok(()),
         KindClosing::EndBlock => {
             state.block.end_block();
             Ok(())
@@ -324,8 +354,6 @@ fn close_kind<D: TextDecorator, G: Tagging<D::Annotation>>(
             let end = end_of(alloc, &state.decorator, emphasis)?;
             add_text(alloc, end.as_str(), state)
         }
-        KindClosing::EndQuote(outer) => close_quote(outer, state),
-        KindClosing::EndIndent(outer) => close_indent(alloc, outer, state),
         KindClosing::EndStrikeout(struck_out) => {
             let end = state.decorator.decorate_strikeout_end(alloc)?;
             state.text.struck_out = struck_out;
@@ -336,7 +364,10 @@ fn close_kind<D: TextDecorator, G: Tagging<D::Annotation>>(
             add_text(alloc, end.as_str(), state)
         }
         KindClosing::EndLink(text, number) => close_link(alloc, text, number, state),
-        KindClosing::EndTable(in_table) => end_table(in_table, state),
+        KindClosing::EndTable(own, in_table) => {
+            end_table(in_table, state)?;
+            go_on(alloc, own, state)
+        }
         KindClosing::EndRow => {
             state.block.end_row()?;
             Ok(())
@@ -344,63 +375,8 @@ fn close_kind<D: TextDecorator, G: Tagging<D::Annotation>>(
     }
 }
 
-/// An item of a list begins in a block of its own, and what it interrupts is answered. A node that is no item stands
-/// where it is.
-#[tactic(auto, using(html_render_values::specs::laws::Outcome::refusals))]
-fn begin_item<D: TextDecorator, G: Tagging<D::Annotation>>(
-    alloc: Global,
-    item: Option<Item>,
-    state: &mut State<D, G>,
-) -> Result<Interruption<D, G::Tag, Block<G::Tag, usize>>, Error>
-    ensures ok { OnOk result (item_begun (by_tags D.decoration G.annotated) item state.old ≡ Some state.new) }
-    ensures kept { IfOk result (λ i. i ≡ item_kept (by_tags D.decoration G.annotated) item state.old) }
-    ensures err { IfErr result (λ e. Refuses e (item_begun (by_tags D.decoration G.annotated) item state.old)) }
-{
-    let Some(item) = item else {
-        return Ok(Interruption::NoBlock);
-    };
-    let outer = nest(alloc, item.prefix, item.columns, item.least, state)?;
-    Ok(Interruption::Indented(outer))
-}
-
-/// What the node interrupts goes on.
-#[inline]
-#[tactic(auto, using(html_render_values::specs::laws::Outcome::refusals))]
-fn end_item<D: TextDecorator, G: Tagging<D::Annotation>>(
-    alloc: Global,
-    item: Interruption<D, G::Tag, Block<G::Tag, usize>>,
-    state: &mut State<D, G>,
-) -> Result<(), Error>
-    ensures ok { OnOk result (item_closed (by_tags D.decoration G.annotated) item state.old ≡ Some state.new) }
-    ensures err { IfErr result (λ e. Refuses e (item_closed (by_tags D.decoration G.annotated) item state.old)) }
-{
-    match item {
-        Interruption::NoBlock => Ok(()),
-        Interruption::Indented(outer) => close_indent(alloc, outer, state),
-        Interruption::Cell(outer) => end_cell(outer, state),
-    }
-}
-
-/// Opens a node, in its style.
-#[inline]
-#[tactic(auto, using(html_render_values::specs::laws::Outcome::refusals))]
-fn open_in_style<D: TextDecorator, G: Tagging<D::Annotation>>(
-    alloc: Global,
-    node: &RenderNode,
-    children: &[Entry<RenderNode>],
-    state: &mut State<D, G>,
-) -> Result<Option<KindKept<D, G>>, Error>
-    requires { flatten (forest_of children.now) ≡ children.now }
-    ensures ok { IfOk result (λ c. node_opened (by_tags D.decoration G.annotated) node.now (forest_of children.now) state.old
-        ≡ Some (way state.new c)) }
-    ensures err { IfErr result (λ e. Refuses e (node_opened (by_tags D.decoration G.annotated) node.now (forest_of children.now)
-        state.old)) }
-{
-    begin_style(alloc, &node.style, state)?;
-    open_kind(alloc, &node.kind, &node.estimate, children, state)
-}
-
-/// Opens a node in the state's block, and keeps what it interrupts, and how texts were treated before it.
+/// Opens a node in its style and in its block, which stands in the state's, and keeps what it interrupts, and how texts were
+/// treated before it.
 #[inline]
 #[tactic(auto, using(html_render_values::specs::laws::Outcome::refusals))]
 fn open_in<D: TextDecorator, G: Tagging<D::Annotation>>(
@@ -417,14 +393,57 @@ fn open_in<D: TextDecorator, G: Tagging<D::Annotation>>(
         state.old)) }
 {
     let text = state.text;
-    match open_in_style(alloc, node, children, state)? {
+    begin_style(alloc, &node.style, state)?;
+    let block = block_of(alloc, &node.kind, &node.estimate, state)?;
+    let own = begin_block(alloc, block, state)?;
+    match open_kind(alloc, own, &node.kind, &node.estimate, children, state)? {
         Some(kind) => Ok(Some(Closing { item, text, kind })),
         None => {
             state.text = text;
-            end_item(alloc, item, state)?;
+            go_on(alloc, item, state)?;
             Ok(None)
         }
     }
+}
+
+/// Opens a text, in its style. Nothing is kept of it: the state becomes the one behind it.
+#[inline(always)]
+#[tactic(auto, using(html_render_values::specs::laws::Outcome::refusals))]
+fn open_text<D: TextDecorator, G: Tagging<D::Annotation>>(
+    alloc: Global,
+    text: &str,
+    style: &NodeStyle,
+    state: &mut State<D, G>,
+) -> Result<Option<Kept<D, G>>, Error>
+    ensures ok { IfOk result (λ c. text_opened (by_tags D.decoration G.annotated) text.now style.now state.old ≡ Some (way state.new c)) }
+    ensures err { IfErr result (λ e. Refuses e (text_opened (by_tags D.decoration G.annotated) text.now style.now state.old)) }
+{
+    let context = state.text;
+    begin_style(alloc, style, state)?;
+    add_text(alloc, text, state)?;
+    state.text = context;
+    Ok(None)
+}
+
+/// Opens a node among others in the state's block. Most nodes are texts, which take a shorter way.
+#[inline(always)]
+#[tactic(auto, using(html_render_values::specs::laws::Outcome::refusals))]
+fn open_shared<D: TextDecorator, G: Tagging<D::Annotation>>(
+    alloc: Global,
+    node: &RenderNode,
+    children: &[Entry<RenderNode>],
+    state: &mut State<D, G>,
+) -> Result<Option<Kept<D, G>>, Error>
+    requires { flatten (forest_of children.now) ≡ children.now }
+    ensures ok { IfOk result (λ c. opened_in (by_tags D.decoration G.annotated) Interruption.NoBlock node.now (forest_of children.now) state.old
+        ≡ Some (way state.new c)) }
+    ensures err { IfErr result (λ e. Refuses e (opened_in (by_tags D.decoration G.annotated) Interruption.NoBlock node.now (forest_of children.now)
+        state.old)) }
+{
+    if let NodeKind::Text(text) = &node.kind {
+        return open_text(alloc, text.as_str(), &node.style, state);
+    }
+    open_in(alloc, Interruption::NoBlock, node, children, state)
 }
 
 /// Opens a node as the next cell of a row. Where that is skipped, so is all that stands in it.
@@ -464,14 +483,14 @@ fn open_listed<D: TextDecorator, G: Tagging<D::Annotation>>(
     state: &mut State<D, G>,
 ) -> Result<Option<Kept<D, G>>, Error>
     requires { flatten (forest_of children.now) ≡ children.now }
-    ensures ok { IfOk result (λ c. item_opened (by_tags D.decoration G.annotated) node.now (forest_of children.now)
-        (item_of (by_tags D.decoration G.annotated) state.old.decorator list.now number) state.old ≡ Some (way state.new c)) }
-    ensures err { IfErr result (λ e. Refuses e (item_opened (by_tags D.decoration G.annotated) node.now (forest_of children.now)
-        (item_of (by_tags D.decoration G.annotated) state.old.decorator list.now number) state.old)) }
+    ensures ok { IfOk result (λ c. block_opened (by_tags D.decoration G.annotated) node.now (forest_of children.now)
+        (child_block (by_tags D.decoration G.annotated) state.old.decorator list.now number) state.old ≡ Some (way state.new c)) }
+    ensures err { IfErr result (λ e. Refuses e (block_opened (by_tags D.decoration G.annotated) node.now (forest_of children.now)
+        (child_block (by_tags D.decoration G.annotated) state.old.decorator list.now number) state.old)) }
 {
-    let item = item_of::<D, G>(alloc, &state.decorator, list, number)?;
-    let interrupts = begin_item(alloc, item, state)?;
-    open_in(alloc, interrupts, node, children, state)
+    let block = child_block::<D, G>(alloc, &state.decorator, list, number)?;
+    let item = begin_block(alloc, block, state)?;
+    open_in(alloc, item, node, children, state)
 }
 
 /// Opens a node, as what it stands below says, and keeps how texts were treated before it: the state becomes that of its
@@ -504,7 +523,7 @@ pub fn open<D: TextDecorator, G: Tagging<D::Annotation>>(
             _ => {}
         }
     }
-    open_in(alloc, Interruption::NoBlock, node, children, state)
+    open_shared(alloc, node, children, state)
 }
 
 /// Closes a node: the state becomes the one behind it.
@@ -524,5 +543,5 @@ pub fn close<D: TextDecorator, G: Tagging<D::Annotation>>(
 {
     close_kind(alloc, closing.kind, state)?;
     state.text = closing.text;
-    end_item(alloc, closing.item, state)
+    go_on(alloc, closing.item, state)
 }

@@ -4,10 +4,10 @@ ghost use Rattle.std.specs.Prelude.{◌≡◌, [], ◌∷◌, Some, OnOk, IfOk, 
 ghost use Rattle.std.specs.Str.{chars};
 ghost use Rattle.html_render_values.specs.Outcome.{Refuses};
 ghost use Rattle.html_render_layout.specs.Layout.{StartBlock, Fence, BeginTable, fence, perform, perform_all, within};
-ghost use Rattle.html_render_layout.specs.Opening.{cell_closed, kind_closed};
+ghost use Rattle.html_render_layout.specs.Opening.{cell_closed, table_closed};
 ghost use Rattle.html_render_layout.specs.Working.{by_tags};
 
-use super::state::{InterruptedTable, KindClosing, OuterTable};
+use super::state::{InterruptedTable, OuterTable};
 use super::working::State;
 use crate::tagging::Tagging;
 use html_render_blocks::block::Block;
@@ -106,8 +106,8 @@ pub fn end_table<D: TextDecorator, G: Tagging<D::Annotation>>(
     in_table: bool,
     state: &mut State<D, G>,
 ) -> Result<(), Error>
-    ensures ok { OnOk result (kind_closed (by_tags D.decoration G.annotated) (KindClosing.EndTable in_table) state.old ≡ Some state.new) }
-    ensures err { IfErr result (λ e. Refuses e (kind_closed (by_tags D.decoration G.annotated) (KindClosing.EndTable in_table) state.old)) }
+    ensures ok { OnOk result (table_closed (by_tags D.decoration G.annotated) in_table state.old ≡ Some state.new) }
+    ensures err { IfErr result (λ e. Refuses e (table_closed (by_tags D.decoration G.annotated) in_table state.old)) }
 {
     state.block.end_table()?;
     state.in_table = in_table;

@@ -9,13 +9,14 @@ use Rattle.html_render_lines.specs.declared.line.Element.TheVariants.{Character,
 use Rattle.html_render_lines.specs.Line.{Line, text_bytes}
 use Rattle.html_render_lines.specs.Tags.{line_with, lines_with}
 use Rattle.html_render_nodes.specs.declared.tree.RenderNode.{RenderNode}
-use Rattle.html_render_layout.specs.declared.settings.LayoutSettings.{LayoutSettings}
+use Rattle.html_render_estimates.specs.declared.settings.LayoutSettings.{LayoutSettings}
 use Rattle.html_render_nodes.specs.Pass.{run}
+use Rattle.html_render_blocks.specs.declared.block.BlockSetting.{BlockSetting}
 use Rattle.html_render_layout.specs.Layout.{layout_lines, mark_names, Defined, defined, estimated, empty_state, unannotated}
 use Rattle.html_render_layout.specs.Promises.{AreLines}
 use Rattle.html_render_layout.specs.laws.Promises.{same-names}
 use Rattle.html_render_tagged.specs.Grouping.{Piece, grouped}
-use Rattle.html_render_tree.specs.Rendering.{Options, rendered_lines, rendered_names, rendered_strings, Rendered, AreStrings}
+use Rattle.html_render_tree.specs.Rendering.{document_block, Options, rendered_lines, rendered_names, rendered_strings, Rendered, AreStrings}
 use Rattle.html_render_tree.specs.Texts.{line_bytes, text_of}
 
 -- ---- texts
@@ -45,11 +46,11 @@ together {X} {Y} {L} {M} false (Some x) g f h = by (g x)
     by None = (λ e. refl, λ e. refl)
     by (Some y) = (λ e. cc, λ e. cc)
 
-pub none_together : {S A : Type 0} (d : Decoration S A) (settings : LayoutSettings) (tree : Forest RenderNode) (decorator : S) (width : ℕ)
-    (overflow : Bool) →
-    (layout_lines d settings tree decorator width overflow ≡ None) ↔ (mark_names d settings tree decorator width overflow ≡ None)
-none_together {S} {A} d settings tree decorator width overflow =
-    together {X = Defined S A} {Y = Defined S A} (width == 0) (run (defined d) (estimated d settings decorator tree) (empty_state d settings decorator width overflow))
+pub none_together : {S A : Type 0} (d : Decoration S A) (settings : LayoutSettings) (tree : Forest RenderNode) (decorator : S)
+    (block : BlockSetting) →
+    (layout_lines d settings tree decorator block ≡ None) ↔ (mark_names d settings tree decorator block ≡ None)
+none_together {S} {A} d settings tree decorator block =
+    together {X = Defined S A} {Y = Defined S A} (block.width == 0) (run (defined d) (estimated d settings decorator tree) (empty_state d settings decorator block))
     _ (λ (s : Defined S A). s.block.lines) (λ (s : Defined S A). s.names)
 
 -- ---- what is promised of lines
@@ -68,7 +69,7 @@ text-answered d options tree width bytes h = ap (option_map text_of) h.1.are ∙
 -- the strings of lines with the names of their marks
 pub strings-rendered : {S A : Type 0} (d : Decoration S A) (options : Options S) (tree : Forest RenderNode) (width : ℕ) (eq : A → A → Bool)
     (strings : List (List (Piece (List A)))) (lines : List (Line (List A) ℕ)) (names : List (List ℕ)) →
-    AreLines d options.settings tree options.decorator width options.overflow lines → rendered_names d options tree width ≡ Some names →
+    AreLines d options.settings tree options.decorator (document_block options width) lines → rendered_names d options tree width ≡ Some names →
     strings ≡ map (grouped (pointwise eq) names) lines → Rendered d options tree width (AreStrings d options tree width eq strings)
 strings-rendered d options tree width eq strings lines names are there grouped = (
   lines,
@@ -76,7 +77,7 @@ strings-rendered d options tree width eq strings lines names are there grouped =
   record {
     names = names;
     are_names = there;
-    same_names = same-names d options.settings tree options.decorator width options.overflow names there;
+    same_names = same-names d options.settings tree options.decorator (document_block options width) names there;
     are = grouped;
   },
 )

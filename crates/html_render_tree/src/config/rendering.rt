@@ -8,11 +8,12 @@ ghost use Rattle.html_render_layout.specs.Promises.{HasLines, LeavesTexts};
 ghost use Rattle.html_render_tagged.specs.Colouring.{IsColoured};
 ghost use Rattle.html_render_tagged.specs.Grouping.{Piece, lines_of};
 ghost use Rattle.html_render_tagged.specs.TaggedLine.{AllTaggedWithinWidth};
-ghost use Rattle.html_render_tree.specs.Rendering.{rendered_lines, rendered_strings, AreStrings, Rendered};
+ghost use Rattle.html_render_tree.specs.Rendering.{document_block, rendered_lines, rendered_strings, AreStrings, Rendered};
 ghost use Rattle.html_render_tree.specs.Texts.{text_of};
 
 use crate::config::Config;
 use crate::texts::string_of;
+use html_render_blocks::block::BlockSetting;
 use html_render_dom::Error;
 use html_render_layout::layout::{lay_out, lay_out_untagged};
 use html_render_nodes::tree::RenderTree;
@@ -24,6 +25,17 @@ use html_render_tagged::line::TaggedLine;
 use std::alloc::Global;
 
 impl<D: TextDecorator> Config<D> {
+    /// The block that a document stands in, in a width.
+    fn block(&self, width: usize) -> BlockSetting
+        ensures { result ≡ document_block self.now width }
+    {
+        BlockSetting {
+            width,
+            max_wrap_width: self.max_wrap_width,
+            overflow: self.overflow,
+        }
+    }
+
     /// The text of a render tree, wrapped to a width in columns: each line's characters and a newline. The tree is
     /// consumed, also by a refusal.
     ///
@@ -48,15 +60,14 @@ impl<D: TextDecorator> Config<D> {
 
         // with overflow on nothing is too narrow but width 0; and a tree that is laid out leaves the texts that follow as they were
         ensures wide { self.now.overflow ≡ true → 1 ≤ width → result ≢ Err Error.TooNarrow }
-        ensures there { HasLines D.decoration self.now.settings tree self.now.decorator width self.now.overflow }
+        ensures there { HasLines D.decoration self.now.settings tree self.now.decorator (document_block self.now width) }
         ensures stacks { LeavesTexts D.decoration }
     {
         let lines = lay_out_untagged(
             alloc,
             &self.decorator,
             tree,
-            width,
-            self.overflow,
+            self.block(width),
             &self.settings,
         )?;
         Ok(string_of(alloc, &lines)?)
@@ -87,7 +98,7 @@ impl<D: TextDecorator> Config<D> {
         ensures within { self.now.overflow ≡ false → self.now.settings.wrap_links ≡ true
             → IfOk result (λ lines. AllTaggedWithinWidth width lines.items) }
         ensures wide { self.now.overflow ≡ true → 1 ≤ width → result ≢ Err Error.TooNarrow }
-        ensures there { HasLines D.decoration self.now.settings tree self.now.decorator width self.now.overflow }
+        ensures there { HasLines D.decoration self.now.settings tree self.now.decorator (document_block self.now width) }
         ensures stacks { LeavesTexts D.decoration }
     {
         let mut meter = Meter::default();
@@ -118,20 +129,19 @@ impl<D: TextDecorator> Config<D> {
         ensures within { self.now.overflow ≡ false → self.now.settings.wrap_links ≡ true
             → IfOk result (λ lines. AllTaggedWithinWidth width lines.items) }
         ensures wide { self.now.overflow ≡ true → 1 ≤ width → result ≢ Err Error.TooNarrow }
-        ensures there { HasLines D.decoration self.now.settings tree self.now.decorator width self.now.overflow }
+        ensures there { HasLines D.decoration self.now.settings tree self.now.decorator (document_block self.now width) }
         ensures stacks { LeavesTexts D.decoration }
 
         // what was counted, where there are lines, and where there are none
         ensures counts { CountsNodes result (defined D.decoration)
             (estimated D.decoration self.now.settings self.now.decorator tree)
-            (empty_state D.decoration self.now.settings self.now.decorator width self.now.overflow) meter.old meter.new }
+            (empty_state D.decoration self.now.settings self.now.decorator (document_block self.now width)) meter.old meter.new }
     {
         let laid_out = lay_out(
             alloc,
             &self.decorator,
             tree,
-            width,
-            self.overflow,
+            self.block(width),
             &self.settings,
             meter,
         )?;
@@ -170,7 +180,7 @@ impl<D: TextDecorator> Config<D> {
             × Rendered D.decoration self.now tree width (AreStrings D.decoration self.now tree width D.Annotation.eq strings)
             × IsColoured (F.post colour_map) strings (string_bytes text)) }
         ensures wide { self.now.overflow ≡ true → 1 ≤ width → result ≢ Err Error.TooNarrow }
-        ensures there { HasLines D.decoration self.now.settings tree self.now.decorator width self.now.overflow }
+        ensures there { HasLines D.decoration self.now.settings tree self.now.decorator (document_block self.now width) }
         ensures stacks { LeavesTexts D.decoration }
     {
         let lines = self.render_to_lines(alloc, tree, width)?;

@@ -7,7 +7,7 @@ use Rattle.html_render_estimates.proofs.estimate.measure_with_sizes.Goals as goa
 
 pub loop-at-init : goal.loop-at-init
 loop-at-init g c =
-    Measuring-start (sized g.D.TextDecorator.decoration c.args.decorator.now c.args.min_wrap_width) (forest_of c.args.entries.now.items)
+    Measuring-start (sized g.D.TextDecorator.decoration c.args.decorator.now c.args.settings.now) (forest_of c.args.entries.now.items)
     c.args.entries.now.items c.len-at.result (sym c.requires) (omega (arith, c.len-at.ensures, c.args.entries.now.ok.0))
 
 pub overflow_add-below-in-loop-at : goal.overflow_add-below-in-loop-at
@@ -43,11 +43,11 @@ loop-at-preserved g c =
     rw c.note.ensures
     (Found-next _ _ _ _ _ _ e c.index_mut.result.now (λ n. record n { kind = with_needs m.needs.items n.kind; estimate = m.estimate }) f
     c.as_slice-all.ensures.value (omega arith)
-    (noted g.D.TextDecorator.decoration c.args.decorator.now c.args.min_wrap_width e.node m.needs.items m.estimate _
+    (noted g.D.TextDecorator.decoration c.args.decorator.now c.args.settings.now e.node m.needs.items m.estimate _
     c.in_ok-measure.ensures.needs c.in_ok-measure.ensures.estimate)
     c.index-all-at.is c.index_mut.ensures.value)
 
 pub returns-clause-ok : goal.returns-clause-ok
 returns-clause-ok g c =
     Measuring-done _ _ _ _ c.loop-at.invariant (omega arith)
-    ∙ ap flatten (after_sized g.D.TextDecorator.decoration c.args.decorator.now c.args.min_wrap_width (forest_of c.args.entries.now.items))
+    ∙ ap flatten (after_sized g.D.TextDecorator.decoration c.args.decorator.now c.args.settings.now (forest_of c.args.entries.now.items))

@@ -5,7 +5,7 @@ use Rattle.html_render_estimates.proofs.estimate.measure_without_sizes.Given as 
 
 abbrev pub invariant-loop-at : goal.invariant-loop-at
 invariant-loop-at g l =
-    Measuring (unsized g.D.TextDecorator.decoration l.decorator l.min_wrap_width) (forest_of l.fn.entries.items) l.entries.items l.at
+    Measuring (unsized g.D.TextDecorator.decoration l.decorator l.settings) (forest_of l.fn.entries.items) l.entries.items l.at
 
 abbrev pub decreases-loop-at : goal.decreases-loop-at
 decreases-loop-at g l = l.at

@@ -12,8 +12,8 @@ use Rattle.html_render_layout.proofs.layout.lay_out.Given.{Over}
 
 -- the state in which the layout begins
 empty : (g : Over) (c : goal.After-drop-tree-inside-2 g) →
-    c.begin_with-state.result ≡ empty_worked g.D.TextDecorator.decoration c.args.settings.now c.args.decorator.now c.args.width c.args.overflow
-empty g c = cc (c.begin_with-state.ensures, c.in_ok-own.ensures.ok, c.in_ok-inner.ensures.ok, c.new.ensures, c.outermost-block.ensures)
+    c.begin_with-state.result ≡ empty_worked g.D.TextDecorator.decoration c.args.settings.now c.args.decorator.now c.args.block
+empty g c = cc (c.begin_with-state.ensures, c.in_ok-own.ensures.ok, c.in_ok-inner.ensures.ok, c.new.ensures, c.new-block.ensures)
 
 -- the tree that is laid out is the measured one, with the sizes that are needed
 measured : (g : Over) (c : goal.After-drop-tree-inside-2 g) →
@@ -23,57 +23,57 @@ measured g c = cc (c.in_ok-tree.ensures.ok, c.in_ok-inner.ensures.ok)
 -- what the code does is what is defined
 works : (g : Over) (c : goal.After-drop-tree-inside-2 g) →
     work_lines g.D.TextDecorator.decoration c.in_ok-tree.tree c.begin_with-state.result
-    ≡ layout_lines g.D.TextDecorator.decoration c.args.settings.now c.args.tree c.args.decorator.now c.args.width c.args.overflow
+    ≡ layout_lines g.D.TextDecorator.decoration c.args.settings.now c.args.tree c.args.decorator.now c.args.block
 works g c =
-    layout_lines-works g.D.TextDecorator.decoration c.args.settings.now c.args.tree _ c.args.decorator.now c.args.width c.args.overflow
-    c.begin_with-state.result c.if-width-eq0.false (measured g c) (empty g c)
+    layout_lines-works g.D.TextDecorator.decoration c.args.settings.now c.args.tree _ c.args.decorator.now c.args.block
+    c.begin_with-state.result c.if-block-eq0.false (measured g c) (empty g c)
 
 pub returns-clause-ok : goal.returns-clause-ok
 returns-clause-ok g c =
     IfOk-weaker c.lines_from.result _ _
-    (λ lines e. are-lines g.D.TextDecorator.decoration c.args.settings.now c.args.tree c.args.decorator.now c.args.width c.args.overflow
+    (λ lines e. are-lines g.D.TextDecorator.decoration c.args.settings.now c.args.tree c.args.decorator.now c.args.block
     (laid_out lines) (sym (works g c) ∙ e)) c.lines_from.ensures.ok
 
 pub returns-clause-names : goal.returns-clause-names
 returns-clause-names g c =
     subst (λ o. IfOk c.lines_from.result (λ lines. o ≡ Some lines.names))
-    (mark_names-works g.D.TextDecorator.decoration c.args.settings.now c.args.tree _ c.args.decorator.now c.args.width c.args.overflow
-    c.begin_with-state.result c.if-width-eq0.false (measured g c) (empty g c)) c.lines_from.ensures.names
+    (mark_names-works g.D.TextDecorator.decoration c.args.settings.now c.args.tree _ c.args.decorator.now c.args.block
+    c.begin_with-state.result c.if-block-eq0.false (measured g c) (empty g c)) c.lines_from.ensures.names
 
 pub returns-clause-err : goal.returns-clause-err
 returns-clause-err g c = subst (λ o. IfErr c.lines_from.result (λ e. Refuses e o)) (works g c) c.lines_from.ensures.err
 
 pub returns-clause-wide : goal.returns-clause-wide
 returns-clause-wide g c =
-    wide_enough g.D.TextDecorator.decoration c.args.settings.now c.args.tree c.args.decorator.now c.args.width c.args.overflow c.lines_from.result
+    wide_enough g.D.TextDecorator.decoration c.args.settings.now c.args.tree c.args.decorator.now c.args.block c.lines_from.result
     (returns-clause-err g c)
 
 -- what was counted
 pub returns-clause-counts : goal.returns-clause-counts
 returns-clause-counts g c =
-    counts-work g.D.TextDecorator.decoration c.args.settings.now c.lines_from.result c.args.tree _ c.args.decorator.now c.args.width c.args.overflow
+    counts-work g.D.TextDecorator.decoration c.args.settings.now c.lines_from.result c.args.tree _ c.args.decorator.now c.args.block
     c.begin_with-state.result _ _ _ (measured g c) (empty g c) refl c.lines_from.ensures.counts
 
-pub returns-then-width-eq0-clause-counts : goal.returns-then-width-eq0-clause-counts
-returns-then-width-eq0-clause-counts g c =
+pub returns-then-block-eq0-clause-counts : goal.returns-then-block-eq0-clause-counts
+returns-then-block-eq0-clause-counts g c =
     none-counted _ (λ e. Unit {0}) tt (defined g.D.TextDecorator.decoration)
     (estimated g.D.TextDecorator.decoration c.args.settings.now c.args.decorator.now c.args.tree)
-    (empty_state g.D.TextDecorator.decoration c.args.settings.now c.args.decorator.now c.args.width c.args.overflow) _ _ refl refl refl refl
+    (empty_state g.D.TextDecorator.decoration c.args.settings.now c.args.decorator.now c.args.block) _ _ refl refl refl refl
 
 pub returns-in_err-own-clause-counts : goal.returns-in_err-own-clause-counts
 returns-in_err-own-clause-counts g c =
     none-counted _ _ c.from_residual.ensures.1 (defined g.D.TextDecorator.decoration)
     (estimated g.D.TextDecorator.decoration c.args.settings.now c.args.decorator.now c.args.tree)
-    (empty_state g.D.TextDecorator.decoration c.args.settings.now c.args.decorator.now c.args.width c.args.overflow) _ _ refl refl refl refl
+    (empty_state g.D.TextDecorator.decoration c.args.settings.now c.args.decorator.now c.args.block) _ _ refl refl refl refl
 
 pub returns-in_err-inner-clause-counts : goal.returns-in_err-inner-clause-counts
 returns-in_err-inner-clause-counts g c =
     none-counted _ _ c.from_residual-in_err-inner.ensures.1 (defined g.D.TextDecorator.decoration)
     (estimated g.D.TextDecorator.decoration c.args.settings.now c.args.decorator.now c.args.tree)
-    (empty_state g.D.TextDecorator.decoration c.args.settings.now c.args.decorator.now c.args.width c.args.overflow) _ _ refl refl refl refl
+    (empty_state g.D.TextDecorator.decoration c.args.settings.now c.args.decorator.now c.args.block) _ _ refl refl refl refl
 
 pub returns-in_err-tree-clause-counts : goal.returns-in_err-tree-clause-counts
 returns-in_err-tree-clause-counts g c =
     none-counted _ _ c.from_residual-in_err-tree.ensures.1 (defined g.D.TextDecorator.decoration)
     (estimated g.D.TextDecorator.decoration c.args.settings.now c.args.decorator.now c.args.tree)
-    (empty_state g.D.TextDecorator.decoration c.args.settings.now c.args.decorator.now c.args.width c.args.overflow) _ _ refl refl refl refl
+    (empty_state g.D.TextDecorator.decoration c.args.settings.now c.args.decorator.now c.args.block) _ _ refl refl refl refl

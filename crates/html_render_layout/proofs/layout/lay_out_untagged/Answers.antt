@@ -15,21 +15,21 @@ use Rattle.html_render_layout.proofs.layout.lay_out_untagged.Given.{Over}
 works : (g : Over) (c : goal.After-drop-tree-inside-2 g) →
     untagged_work {K = Nothing} g.D.TextDecorator.decoration c.in_ok-tree.tree c.begin_with-state.result
     ≡ option_map unannotated
-    (layout_lines g.D.TextDecorator.decoration c.args.settings.now c.args.tree c.args.decorator.now c.args.width c.args.overflow)
+    (layout_lines g.D.TextDecorator.decoration c.args.settings.now c.args.tree c.args.decorator.now c.args.block)
 works g c =
     let empty : c.begin_with-state.result
-    ≡ empty_untagged g.D.TextDecorator.decoration c.args.settings.now (record {}) c.args.decorator.now c.args.width c.args.overflow =
-    cc (c.begin_with-state.ensures, c.in_ok-own.ensures.ok, c.in_ok-inner.ensures.ok, c.outermost-block.ensures) in
+    ≡ empty_untagged g.D.TextDecorator.decoration c.args.settings.now (record {}) c.args.decorator.now c.args.block =
+    cc (c.begin_with-state.ensures, c.in_ok-own.ensures.ok, c.in_ok-inner.ensures.ok, c.new-block.ensures) in
     let measured : c.in_ok-tree.tree
     ≡ with_needed_sizes (estimated g.D.TextDecorator.decoration c.args.settings.now c.args.decorator.now c.args.tree) =
     cc (c.in_ok-tree.ensures.ok, c.in_ok-inner.ensures.ok) in
-    untagged_lines-works g.D.TextDecorator.decoration c.args.settings.now c.args.tree _ c.args.decorator.now c.args.width c.args.overflow
-    (record {}) c.begin_with-state.result c.if-width-eq0.false measured empty
+    untagged_lines-works g.D.TextDecorator.decoration c.args.settings.now c.args.tree _ c.args.decorator.now c.args.block
+    (record {}) c.begin_with-state.result c.if-block-eq0.false measured empty
 
 pub returns-clause-ok : goal.returns-clause-ok
 returns-clause-ok g c =
     IfOk-weaker c.untagged_lines_from.result _ _
-    (λ lines e. unannotated-are-lines g.D.TextDecorator.decoration c.args.settings.now c.args.tree c.args.decorator.now c.args.width c.args.overflow
+    (λ lines e. unannotated-are-lines g.D.TextDecorator.decoration c.args.settings.now c.args.tree c.args.decorator.now c.args.block
     lines.items (sym (works g c) ∙ e)) c.untagged_lines_from.ensures.ok
 
 pub returns-clause-err : goal.returns-clause-err
@@ -37,12 +37,11 @@ returns-clause-err g c = by c.untagged_lines_from.result c.untagged_lines_from.e
   where
     by : {X : Type 0} (r : Result X Error) →
         IfErr r (λ e. Refuses e (untagged_work {K = Nothing} g.D.TextDecorator.decoration c.in_ok-tree.tree c.begin_with-state.result)) →
-        IfErr r (λ e. Refuses e (layout_lines g.D.TextDecorator.decoration c.args.settings.now c.args.tree c.args.decorator.now c.args.width
-        c.args.overflow))
+        IfErr r (λ e. Refuses e (layout_lines g.D.TextDecorator.decoration c.args.settings.now c.args.tree c.args.decorator.now c.args.block))
     by (Ok v) h = h
     by (Err e) h = refuses-mapped unannotated e _ (subst (Refuses e) (works g c) h)
 
 pub returns-clause-wide : goal.returns-clause-wide
 returns-clause-wide g c =
-    wide_enough g.D.TextDecorator.decoration c.args.settings.now c.args.tree c.args.decorator.now c.args.width c.args.overflow
+    wide_enough g.D.TextDecorator.decoration c.args.settings.now c.args.tree c.args.decorator.now c.args.block
     c.untagged_lines_from.result (returns-clause-err g c)

@@ -54,8 +54,6 @@ pub struct LayoutSettings {
     pub wrap_links: bool,
     /// Whether the lines of paragraphs are filled with spaces up to the width of their block.
     pub pad_block_width: bool,
-    /// The columns that a line of a paragraph has at most, where its block is wider.
-    pub max_wrap_width: Option<usize>,
     /// The columns that a text needs at least behind what its lines stand behind, unless its own are fewer.
     pub min_wrap_width: usize,
     /// Whether the cells of every table stand one below another.
@@ -68,13 +66,12 @@ pub struct LayoutSettings {
 
 impl Default for LayoutSettings {
     ghost use Rattle.std.specs.Prelude.{◌≡◌};
-    ghost use Rattle.html_render_layout.specs.Settings.{default_settings};
+    ghost use Rattle.html_render_estimates.specs.Settings.{default_settings};
 
     ghost is_default = { λ s. s ≡ default_settings };
 
     /// No numbers behind links; characters that are struck out have U+0336 behind them; images without a title aren't shown;
-    /// the lines that close the document are cut; lines aren't filled with spaces, and are as wide as their block; a text needs
-    /// 3 columns; tables have borders and no fences, and their cells stand side by side where they can.
+    /// the lines that close the document are cut; lines aren't filled with spaces; a text needs 3 columns; tables have borders and no fences, and their cells stand side by side where they can.
     fn default() -> LayoutSettings {
         LayoutSettings {
             link_footnotes: false,
@@ -82,7 +79,6 @@ impl Default for LayoutSettings {
             empty_images: ImageRenderMode::IgnoreEmpty,
             wrap_links: true,
             pad_block_width: false,
-            max_wrap_width: None,
             min_wrap_width: 3,
             raw_mode: false,
             table_borders: true,
@@ -107,7 +103,6 @@ impl LayoutSettings {
             empty_images: self.empty_images.try_clone(alloc)?,
             wrap_links: self.wrap_links,
             pad_block_width: self.pad_block_width,
-            max_wrap_width: self.max_wrap_width,
             min_wrap_width: self.min_wrap_width,
             raw_mode: self.raw_mode,
             table_borders: self.table_borders,
