@@ -1,6 +1,6 @@
 //! Finished lines: marks at their ends, spaces that fill them, and room for what comes beside them.
 
-ghost use Rattle.std.specs.Prelude.{◌≡◌, ◌-◌, ◌++◌, length, Some, OnOk};
+ghost use Rattle.std.specs.Prelude.{◌≡◌, ◌-◌, ◌++◌, Some, OnOk};
 ghost use Rattle.html_render_lines.specs.Line.{columns, marks_line};
 ghost use Rattle.html_render_pictures.specs.Marked.{marked_before, marked_behind};
 ghost use Rattle.html_render_pictures.specs.Padding.{repeated, filled};
@@ -58,19 +58,6 @@ pub fn fill_all<T: Tag, M: Copy>(
     for line in lines.iter_mut() {
         fill(line, width, tag)?;
     }
-    Ok(())
-}
-
-/// Fills each line with spaces up to `width` columns, under a tag; there stay as many lines, whatever comes.
-pub(crate) fn fill_lines<T: Tag, M: Copy>(
-    lines: &mut Vec<Line<T, M>>,
-    width: usize,
-    tag: T,
-) -> Result<(), AllocError>
-    ensures as_many { length lines.new.items ≡ length lines.old.items }
-    ensures ok { OnOk result (lines.new.items ≡ filled (Some tag) width lines.old.items) }
-{
-    fill_all(lines.as_mut_slice(), width, tag)?;
     Ok(())
 }
 

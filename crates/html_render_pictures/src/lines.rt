@@ -7,7 +7,7 @@ ghost use Rattle.html_render_pictures.specs.Marked.{marked_before, marked_behind
 ghost use Rattle.html_render_pictures.specs.Padding.{filled};
 ghost use Rattle.html_render_pictures.specs.Stretch.{lines_of};
 
-use crate::finished::{fill_lines, mark_before, mark_behind};
+use crate::finished::{fill_all, mark_before, mark_behind};
 use html_render_lines::line::Line;
 use html_render_lines::tag::Tag;
 use std::alloc::{AllocError, Global};
@@ -134,9 +134,9 @@ fn whole<T: Tag, M: Copy>(
     let Some(first) = others.next() else {
         return Ok(last);
     };
-    let mut lines = first.into_vec()?;
+    let mut lines = first.into_vec();
     for piece in others {
-        let mut more = piece.into_vec()?;
+        let mut more = piece.into_vec();
         lines.append(&mut more)?;
     }
     lines.append(&mut last)?;
@@ -301,7 +301,7 @@ impl<T: Tag, M: Copy> Lines<T, M> {
         ensures { OnOk result (self.new ≡ filled (Some tag) width self.old) }
     {
         if self.pieces.is_empty() && self.last.len() <= FEW {
-            fill_lines(&mut self.last, width, tag)?;
+            fill_all(self.last.as_mut_slice(), width, tag)?;
             return Ok(());
         }
         settle(&mut self.pieces, &mut self.last)?;

@@ -1,7 +1,8 @@
-use Rattle.std.proofs.Common.{sym, subst}
-use Rattle.html_render_pictures.specs.Stretch.{IsStretch}
-use Rattle.html_render_pictures.proofs.Stretches.{marked_behind_stretch}
+use Rattle.std.proofs.Common.{arith}
+use Rattle.html_render_lines.specs.laws.Columns.{columns-append}
+use Rattle.html_render_pictures.proofs.Stretches.{stretch_set}
 use Rattle.html_render_pictures.proofs.lines.stretch.Stretch.mark_last.Goals as goal
 
 pub invariant_of-self-2 : goal.invariant_of-self-2
-invariant_of-self-2 g c = subst (λ ls. IsStretch c.self.inside.least ls) (sym c.in_ok-mark_last_of_both.ensures.ok) (marked_behind_stretch c.self.inside.least c.args.marks.now _ c.self.invariant)
+invariant_of-self-2 g c =
+    stretch_set _ _ _ _ _ c.self.invariant (omega arith) c.index_mut.ensures.value (rw (c.in_ok-push_marks.ensures, columns-append) (omega arith))
