@@ -6,7 +6,7 @@ ghost use Rattle.std.proofs.Common.{rules};
 ghost use Rattle.std.specs.List.{repeat};
 ghost use Rattle.test_calls.specs.Places.{annotated, before_quotes};
 
-use html_render_scripts::building::built;
+use crate::rendering::lines;
 use html_render_tree::Error;
 use html_render_tree::block::TaggedLine;
 use html_render_tree::config::with_decorator;
@@ -106,9 +106,8 @@ fn shown(alloc: Global, strong: char, script: &str) -> Result<String, Fail> {
         changes: Letters { strong, blocks: 0 },
     };
     let config = with_decorator(alloc, decorator);
-    let tree = config.dom_to_render_tree(alloc, &built(alloc, script)?)?;
     let mut text = String::new(alloc);
-    for line in &config.render_to_lines(alloc, tree, 20)? {
+    for line in &lines(alloc, &config, script, 20)? {
         push_line(&mut text, line)?;
     }
     Ok(text)

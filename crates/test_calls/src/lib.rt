@@ -5,11 +5,11 @@
 #![tactic(auto)]
 
 #[cfg(test)]
-mod images;
-#[cfg(test)]
 mod letters;
 #[cfg(test)]
 mod lines;
+#[cfg(test)]
+mod rendering;
 #[cfg(test)]
 mod streams;
 #[cfg(test)]

@@ -1,5 +1,6 @@
 //! What a tagged line answers beside its elements, and what a text is where its colour map refuses.
 
+use crate::rendering::lines;
 use html_render_scripts::building::built;
 use html_render_tree::Error;
 use html_render_tree::block::{TaggedLine, TaggedLineElement};
@@ -7,13 +8,6 @@ use html_render_tree::config::rich;
 use html_render_tree::decorate::RichAnnotation;
 use std::alloc::Global;
 use std::test::Fail;
-
-/// The lines of a script's document in 20 columns.
-fn lines(alloc: Global, script: &str) -> Result<Vec<TaggedLine<Vec<RichAnnotation>>>, Fail> {
-    let config = rich(alloc);
-    let tree = config.dom_to_render_tree(alloc, &built(alloc, script)?)?;
-    Ok(config.render_to_lines(alloc, tree, 20)?)
-}
 
 /// A paragraph of a mark, a text, emphasis, another mark, and wide and combining characters; and another paragraph.
 const DOCUMENT: &str = "\
@@ -54,7 +48,7 @@ fn shown(alloc: Global, line: &TaggedLine<Vec<RichAnnotation>>) -> Result<String
 #[test]
 fn lines_have_columns_strings_and_elements(rt: HostRuntime) -> Result<(), Fail> {
     let alloc = rt.alloc();
-    let lines = lines(alloc, DOCUMENT)?;
+    let lines = lines(alloc, &rich(alloc), DOCUMENT, 20)?;
     let wanted = ["5 false ab 世 e\u{301} 5 2", "0 true 0 0", "1 false c 1 0"];
     assert_eq!(rt; lines.len(), wanted.len());
     for (line, wanted) in lines.iter().zip(wanted) {

@@ -1,10 +1,10 @@
 //! A terminal viewer: how lines become what a terminal shows, and where a link to a part of the document leads.
 
-use html_render_scripts::building::built;
+use crate::rendering::lines;
 use html_render_tree::block::{TaggedLine, TaggedLineElement};
 use html_render_tree::config::rich;
 use html_render_tree::decorate::RichAnnotation;
-use std::alloc::{AllocError, Global};
+use std::alloc::AllocError;
 use std::test::Fail;
 
 /// What a terminal is told where a text with this annotation begins: a link is underlined, emphasis is slanted.
@@ -56,17 +56,6 @@ fn line_of(lines: &[TaggedLine<Vec<RichAnnotation>>], name: &str) -> Option<usiz
     None
 }
 
-/// The lines of a script's document in some columns.
-fn lines(
-    alloc: Global,
-    script: &str,
-    columns: usize,
-) -> Result<Vec<TaggedLine<Vec<RichAnnotation>>>, Fail> {
-    let config = rich(alloc);
-    let tree = config.dom_to_render_tree(alloc, &built(alloc, script)?)?;
-    Ok(config.render_to_lines(alloc, tree, columns)?)
-}
-
 /// A link to another paragraph.
 const DOCUMENT: &str = "\
 <p
@@ -87,7 +76,7 @@ const DOCUMENT: &str = "\
 #[test]
 fn a_terminal_shows_a_document(rt: HostRuntime) -> Result<(), Fail> {
     let alloc = rt.alloc();
-    let lines = lines(alloc, DOCUMENT, 9)?;
+    let lines = lines(alloc, &rich(alloc), DOCUMENT, 9)?;
     let mut screen = String::new(alloc);
     for line in &lines {
         push_line(&mut screen, line)?;

@@ -9,7 +9,7 @@ use case_calls::pages::Page;
 use case_calls::seen::seen;
 use case_calls::texts::split_word;
 use case_calls::watch::Watch;
-use case_calls::{answers, styles, tables};
+use case_calls::{answers, decorators, styles, tables};
 use html_render_tree::Error;
 use std::alloc::{AllocError, Global};
 use std::mem;
@@ -221,7 +221,7 @@ impl<'a> Case<'a> {
             "cut_fits" | "check_cut" | "column_widths" | "column_widths_metered" => {
                 tables::cut(alloc, asked, given, watch)
             }
-            "decorator" => decorator_calls::answer(alloc, given, watch),
+            "decorator" => decorators::answer(alloc, given, watch),
             "htree" => programs::answer(alloc, given, input),
             _ => answers::answer(alloc, &self.page, asked, given, watch),
         }

@@ -1,10 +1,10 @@
 //! Questions for what a decorator answers, by the names of its calls.
 
-use crate::shown::{Shown, annotated_line, annotation_line, line_of_lines, text_line};
-use case_calls::faults::Fault;
-use case_calls::rules::colour;
-use case_calls::texts::{number, split_word};
-use case_calls::watch::Watch;
+use crate::annotations::{Shown, annotated_line, annotation_line, line_of_lines, text_line};
+use crate::faults::Fault;
+use crate::rules::colour;
+use crate::texts::{number, split_word};
+use crate::watch::Watch;
 use html_render_parts::decorate::{PlainDecorator, RichDecorator, TextDecorator};
 use html_render_values::Error;
 use html_render_values::text::Text;

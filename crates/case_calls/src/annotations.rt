@@ -1,6 +1,6 @@
 //! What decorators answer, as cases show it.
 
-use case_calls::texts::push_escaped;
+use crate::texts::push_escaped;
 use html_render_parts::decorate::RichAnnotation;
 use std::alloc::{AllocError, Global};
 
