@@ -22,7 +22,7 @@ ghost use Rattle.html_render_blocks.specs.Machine.{machine};
 use html_render_lines::character::{TextStyle, is_collapsible};
 use html_render_lines::line::{Line, text_columns};
 use html_render_lines::tag::Tag;
-use html_render_paragraphs::paragraph::Paragraph;
+use html_render_paragraphs::paragraph::{Paragraph, line_fits};
 use html_render_pictures::finished::{mark_behind, put_marks_front};
 use html_render_pictures::lines::Lines;
 use html_render_pictures::picture::Picture;
@@ -566,19 +566,6 @@ fn put_front<T: Tag, M: Copy>(
     }
 }
 
-/// Whether a line is within the width, or may be wider.
-fn fits<T: Tag, M: Copy>(line: &Line<T, M>, setting: BlockSetting) -> bool
-    ensures { result ≡ (setting.overflow || nat_le (columns line.now) setting.width) }
-{
-    if setting.overflow {
-        return true;
-    }
-    match line.columns() {
-        Some(columns) => columns <= setting.width,
-        None => false,
-    }
-}
-
 /// Moves lines behind others, each behind its prefix, and the first one behind marks too. With overflow off none may
 /// pass the width.
 #[tactic(auto, using(html_render_values::specs::laws::Outcome::refusals))]
@@ -598,7 +585,7 @@ fn move_lines<T: Tag, M: Copy>(
     let mut is_first = true;
     for mut line in from {
         put_front(&mut line, is_first, marks, first, later)?;
-        if !fits(&line, setting) {
+        if !line_fits(&line, setting.width, setting.overflow) {
             return Err(Error::TooNarrow);
         }
         to.push(line)?;

@@ -4,6 +4,7 @@
 //! `Hello wide` and `world` at a width of 11.
 
 ghost use Rattle.std.specs.Prelude.{◌≡◌, [], ◌∷◌, ◌++◌, Some, None, OnOk, IfErr, option_map, if◌then◌else◌};
+ghost use Rattle.std.specs.Bool.{OnTrue};
 ghost use Rattle.std.specs.Str.{chars};
 ghost use Rattle.html_render_values.specs.Outcome.{Refuses};
 ghost use Rattle.html_render_lines.specs.Line.{is_empty};
@@ -24,6 +25,7 @@ mod page;
 mod word;
 
 pub use cut::push_cut_text;
+pub use page::line_fits;
 
 /// Whether a word is open, and how the white space of its text is treated.
 #[derive(Clone, Copy)]
@@ -169,6 +171,19 @@ impl<T: Tag, M: Copy> Paragraph<T, M> {
         self.clear_word();
     }
 
+    /// Whether nothing but marks was fed since the paragraph began.
+    #[inline]
+    fn is_blank(&self) -> bool
+        ensures { OnTrue result (self.now ≡ start self.now.setting self.now.page.waiting) }
+    {
+        matches!(self.open_word, OpenWord::Closed)
+            && self.word.is_empty()
+            && self.pending.is_none()
+            && self.line.is_empty()
+            && !self.continues
+            && self.lines.is_empty()
+    }
+
     /// Adds the lines of all that was fed, and begins anew with the marks that no character followed.
     ///
     /// # Errors
@@ -180,6 +195,9 @@ impl<T: Tag, M: Copy> Paragraph<T, M> {
         ensures ok { OnOk result (option_map (flushed_to self.old.setting lines.old.items) (finished self.old) ≡ Some (lines.new.items, self.new)) }
         ensures err { IfErr result (λ e. Refuses e (finished self.old)) }
     {
+        if self.is_blank() {
+            return Ok(());
+        }
         self.end_word()?;
         self.move_lines(lines)?;
         self.move_line(lines)?;

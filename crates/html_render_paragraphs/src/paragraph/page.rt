@@ -1,6 +1,6 @@
 //! What is placed on a page: characters with the marks that wait for them, spaces that are due, and ends of lines.
 
-ghost use Rattle.std.specs.Prelude.{IfErr, fold, map, replicate, ◌≡◌, ◌+◌, ◌-◌, ◌%◌, [], ◌∷◌, ◌++◌, Some, None, OnOk, if◌then◌else◌};
+ghost use Rattle.std.specs.Prelude.{IfErr, fold, map, nat_le, replicate, ◌≡◌, ◌+◌, ◌-◌, ◌%◌, ◌||◌, [], ◌∷◌, ◌++◌, Some, None, OnOk, if◌then◌else◌};
 ghost use Rattle.html_render_values.specs.Outcome.{Refuses};
 ghost use Rattle.html_render_lines.specs.Character.{width_of, tag_on};
 ghost use Rattle.html_render_lines.specs.Line.{columns};
@@ -17,6 +17,19 @@ use html_render_lines::tag::Tag;
 use html_render_values::Error;
 use std::alloc::AllocError;
 use std::mem;
+
+/// Whether a line is within `width` columns, or may be wider with `overflow`.
+pub fn line_fits<T: Tag, M: Copy>(line: &Line<T, M>, width: usize, overflow: bool) -> bool
+    ensures { result ≡ (overflow || nat_le (columns line.now) width) }
+{
+    if overflow {
+        return true;
+    }
+    match line.columns() {
+        Some(columns) => columns <= width,
+        None => false,
+    }
+}
 
 impl<T: Tag, M: Copy> Paragraph<T, M> {
     /// Whether `more` columns fit on the line.
