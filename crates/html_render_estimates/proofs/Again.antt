@@ -16,7 +16,7 @@ use Rattle.html_render_nodes.specs.Preorder.{flatten, forest_of}
 use Rattle.html_render_nodes.specs.laws.Preorder.{forest_of-flatten, IsForest, IsForest-flatten}
 use Rattle.html_render_estimates.specs.declared.settings.LayoutSettings.{LayoutSettings}
 use Rattle.html_render_estimates.specs.Estimates.{trees, greatest_least, measured_kind, estimate_of, measured}
-use Rattle.html_render_estimates.specs.Passes.{is_table, has_table, with_needs, without_size, without_sizes, with_needed_sizes}
+use Rattle.html_render_estimates.specs.Passes.{is_table, has_table, with_needs, sized_if, without_sizes, with_needed_sizes}
 use Rattle.html_render_estimates.specs.laws.Least.{tables-measured}
 use Rattle.html_render_estimates.proofs.Measuring.{after, Found}
 
@@ -32,50 +32,40 @@ any_table-flatten (node n children beside) =
     ∙ ap (λ b. b || any_table (flatten beside)) (any_table-flatten children)
     ∙ ap (λ b. has_table children || b) (any_table-flatten beside))
 
-found_table : (t : Forest RenderNode) (i : ℕ) (e : Entry RenderNode) (es : List (Entry RenderNode)) → drop i (flatten t) ≡ e ∷ es →
+table_in : (t : Forest RenderNode) (i : ℕ) (e : Entry RenderNode) (es : List (Entry RenderNode)) → drop i (flatten t) ≡ e ∷ es →
     is_table e.node.kind ≡ true → has_table t ≡ true
-found_table t i e es behind table =
+table_in t i e es behind table =
     let before = any_table (take i (flatten t)) in
     sym (any_table-flatten t) ∙ ap any_table (sym (take-append-drop i (flatten t)))
     ∙ list_any-append (λ e. is_table e.node.kind) (take i (flatten t)) (drop i (flatten t))
     ∙ ap (λ l. before || any_table l) behind ∙ ap (λ b. before || (b || any_table es)) table ∙ or_right before true refl
 
 module _ {D A : Type 0} (decoration : Decoration D A) (decorator : D) (settings : LayoutSettings) where
-  abbrev with_sizes : Forest RenderNode → Forest RenderNode
-  with_sizes t = measured decoration decorator settings t
+  abbrev all_sized : Forest RenderNode → Forest RenderNode
+  all_sized t = measured decoration decorator settings t
 
-  -- what each pass makes of a node
-  abbrev pub sized : RenderNode → (children : Forest RenderNode) → RenderNode
-  sized n children = record n { kind = measured_kind n.kind children; estimate = estimate_of decoration decorator settings n.kind children }
-
-  abbrev unsized_estimate : NodeKind → (children : Forest RenderNode) → Estimate
-  unsized_estimate kind children = without_size (estimate_of decoration decorator settings kind children)
-
-  abbrev pub unsized : RenderNode → (children : Forest RenderNode) → RenderNode
-  unsized n children = record n { estimate = unsized_estimate n.kind children }
+  -- what is made of a node over its children
+  abbrev pub found : (with_sizes : Bool) → RenderNode → (children : Forest RenderNode) → RenderNode
+  found with_sizes n children =
+      record n { kind = measured_kind n.kind children; estimate = sized_if with_sizes (estimate_of decoration decorator settings n.kind children) }
 
   -- a node that keeps what was found out of it
-  pub noted : (n : RenderNode) (needs : List ColumnNeed) (e : Estimate) (f : Forest RenderNode) → with_needs needs n.kind ≡ measured_kind n.kind f →
-      e ≡ estimate_of decoration decorator settings n.kind f → record n { kind = with_needs needs n.kind; estimate = e } ≡ sized n f
-  noted n needs e f is_needs is_estimate =
+  pub noted : (b : Bool) (n : RenderNode) (needs : List ColumnNeed) (e : Estimate) (f : Forest RenderNode) →
+      with_needs needs n.kind ≡ measured_kind n.kind f → e ≡ sized_if b (estimate_of decoration decorator settings n.kind f) →
+      record n { kind = with_needs needs n.kind; estimate = e } ≡ found b n f
+  noted b n needs e f is_needs is_estimate =
       ap (λ x. record n { kind = x; estimate = e }) is_needs ∙ ap (λ x. record n { kind = measured_kind n.kind f; estimate = x }) is_estimate
 
-  pub after_sized : (t : Forest RenderNode) → after sized t ≡ with_sizes t
+  after_sized : (t : Forest RenderNode) → after (found true) t ≡ all_sized t
   after_sized none = refl
   after_sized (node n children beside) =
-      ap (λ f. node (sized n f) f (after sized beside)) (after_sized children)
-      ∙ ap (node (sized n (with_sizes children)) (with_sizes children)) (after_sized beside)
+      ap (λ f. node (found true n f) f (after (found true) beside)) (after_sized children)
+      ∙ ap (node (found true n (all_sized children)) (all_sized children)) (after_sized beside)
 
-  abbrev without : Forest RenderNode → Forest RenderNode
-  without t = after unsized t
-
-  -- where there is no table, no node that is found is one
-  pub found_plain : (t : Forest RenderNode) (now : List (Entry RenderNode)) (at : ℕ) (e : Entry RenderNode) → Found unsized t now at e →
-      has_table t ≡ false → is_table e.node.kind ≡ false
-  found_plain t now at e f plain = elim (cases_Bool (is_table e.node.kind)) [
-    | inl table ↦ absurd (true≢false (sym (found_table t at e (drop (at + 1) (flatten t)) f.entry table) ∙ plain))
-    | inr none_is ↦ none_is
-  ]
+  -- where a table is found, there is one
+  pub found_table : (b : Bool) (t : Forest RenderNode) (now : List (Entry RenderNode)) (at : ℕ) (e : Entry RenderNode) →
+      Found (found b) t now at e → b ≡ has_table t → is_table e.node.kind ≡ true → b ≡ true
+  found_table b t now at e f is table = is ∙ table_in t at e (drop (at + 1) (flatten t)) f.entry table
 
   -- where no node is a table, the first pass leaves the sizes out of the measured trees
   leasts-same : (t : Forest RenderNode) → greatest_least (without_sizes t) ≡ greatest_least t
@@ -86,46 +76,41 @@ module _ {D A : Type 0} (decoration : Decoration D A) (decorator : D) (settings 
   trees-same none = refl
   trees-same (node n children beside) = ap (λ k. k + 1) (trees-same beside)
 
-  unsized-same : (kind : NodeKind) (t : Forest RenderNode) → is_table kind ≡ false →
-      unsized_estimate kind (without_sizes t) ≡ unsized_estimate kind t
-  unsized-same (Table grid) t plain = absurd (true≢false plain)
-  unsized-same (Text text) t plain = refl
-  unsized-same Break t plain = refl
-  unsized-same (Image image) t plain = refl
-  unsized-same (Svg title) t plain = refl
-  unsized-same (FragmentStart name) t plain = refl
-  unsized-same kind t plain = cc (leasts-same t, trees-same t)
+  unsized-same : (n : RenderNode) (k : NodeKind) (t : Forest RenderNode) → is_table k ≡ false →
+      found false (record n { kind = k }) (without_sizes t) ≡ found false (record n { kind = k }) t
+  unsized-same n (Table grid) t plain = absurd (true≢false plain)
+  unsized-same n (Text text) t plain = refl
+  unsized-same n Break t plain = refl
+  unsized-same n (Image image) t plain = refl
+  unsized-same n (Svg title) t plain = refl
+  unsized-same n (FragmentStart name) t plain = refl
+  unsized-same n kind t plain = cc (leasts-same t, trees-same t)
 
-  kept-same : (kind : NodeKind) (t : Forest RenderNode) → is_table kind ≡ false → measured_kind kind t ≡ kind
-  kept-same (Table grid) t plain = absurd (true≢false plain)
-  kept-same kind t plain = refl
-
-  pub after_unsized : (t : Forest RenderNode) → has_table t ≡ false → without t ≡ without_sizes (with_sizes t)
+  after_unsized : (t : Forest RenderNode) → has_table t ≡ false → after (found false) t ≡ without_sizes (all_sized t)
   after_unsized none plain = refl
   after_unsized (node n children beside) plain =
       let front = or_parts (is_table n.kind) (has_table children || has_table beside) plain in
       let rest = or_parts (has_table children) (has_table beside) front.1 in
-      let below = without_sizes (with_sizes children) in
-      ap (λ f. node (unsized n f) f (without beside)) (after_unsized children rest.0)
-      ∙ ap (node (unsized n below) below) (after_unsized beside rest.1)
-      ∙ ap (λ e. node (record n { estimate = e }) below (without_sizes (with_sizes beside)))
-      (unsized-same n.kind (with_sizes children) front.0)
-      ∙ ap (λ k. node (record { kind = k; style = n.style; estimate = unsized_estimate n.kind (with_sizes children) }) below
-      (without_sizes (with_sizes beside))) (sym (kept-same n.kind (with_sizes children) front.0))
+      let below = without_sizes (all_sized children) in
+      ap (λ f. node (found false n f) f (after (found false) beside)) (after_unsized children rest.0)
+      ∙ ap (node (found false n below) below) (after_unsized beside rest.1)
+      ∙ ap (λ m. node m below (without_sizes (all_sized beside))) (unsized-same n n.kind (all_sized children) front.0)
 
   -- ---- the whole tree
 
   abbrev all_measured : Forest RenderNode → Forest RenderNode
-  all_measured t = with_needed_sizes (with_sizes t)
+  all_measured t = with_needed_sizes (all_sized t)
 
   -- with their sizes, where a node is a table, and else without
-  pub with_table : (t : Forest RenderNode) → has_table t ≡ true → all_measured t ≡ with_sizes t
-  with_table t table = ap (λ b. if b then with_sizes t else without_sizes (with_sizes t))
-      (tables-measured decoration decorator settings t ∙ table)
-
-  pub without_table : (t : Forest RenderNode) → has_table t ≡ false → all_measured t ≡ without_sizes (with_sizes t)
-  without_table t plain = ap (λ b. if b then with_sizes t else without_sizes (with_sizes t))
-      (tables-measured decoration decorator settings t ∙ plain)
+  pub after_all : (t : Forest RenderNode) → after (found (has_table t)) t ≡ all_measured t
+  after_all t = elim (cases_Bool (has_table t)) [
+    | inl table ↦ ap (λ b. after (found b) t) table ∙ after_sized t ∙ sym (needed true (tables-measured decoration decorator settings t ∙ table))
+    | inr plain ↦
+        ap (λ b. after (found b) t) plain ∙ after_unsized t plain ∙ sym (needed false (tables-measured decoration decorator settings t ∙ plain))
+  ]
+    where
+      needed : (b : Bool) → has_table (all_sized t) ≡ b → all_measured t ≡ if b then all_sized t else without_sizes (all_sized t)
+      needed b is = ap (λ c. if c then all_sized t else without_sizes (all_sized t)) is
 
   pub done : (t : Forest RenderNode) (old es : List (Entry RenderNode)) → old ≡ flatten t → es ≡ flatten (all_measured (forest_of old)) →
       IsForest es (all_measured t)

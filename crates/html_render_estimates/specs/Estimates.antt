@@ -32,13 +32,17 @@ abbrev pub total_size : Forest RenderNode → ℕ
 total_size none = 0
 total_size (node n children beside) = saturated (n.estimate.size + total_size beside)
 
+-- the estimate of what has this least width and this size behind a prefix
+abbrev pub behind : (prefix least size children : ℕ) → Estimate
+behind prefix least size children =
+    record { least = saturated (least + prefix); size = saturated (size + prefix); prefix = prefix; children = children }
+
 -- THE ESTIMATE OF A TABLE: at least each column has what it needs; of the size of a cell each of its columns has an equal part, rounded
 -- down, and a column's size is that of all its parts; one column of text stands between any two columns, and a prefix before all
 abbrev pub table_estimate : (columns : ℕ) → List CellNeed → (prefix children : ℕ) → Estimate
 table_estimate columns cells prefix children =
-    let least = saturated (sum_by (λ n. n.least) (column_needs columns cells) + (columns - 1) + prefix) in
-    let size = saturated (sum_by (λ c. c.size / c.count * c.count) cells + (columns - 1) + prefix) in
-    record { least = least; size = size; prefix = prefix; children = children }
+    let least = sum_by (λ n. n.least) (column_needs columns cells) + (columns - 1) in
+    behind prefix least (sum_by (λ c. c.size / c.count * c.count) cells + (columns - 1)) children
 
 -- WHAT THE COLUMNS of a table NEED for its measured cells is kept in its node, for the layout
 abbrev pub measured_kind : NodeKind → (children : Forest RenderNode) → NodeKind
@@ -53,15 +57,15 @@ abbrev pub prefix_columns : List ℕ → ℕ
 prefix_columns text = saturated (text_columns (chars text))
 
 module _ {D A : Type 0} (decoration : Decoration D A) (decorator : D) where
-  -- the columns of the prefixes of so many items, numbered from the first on: those of the first one's or of the last one's, if these
-  -- are more; numbers stop at the ends of their type
+  -- the columns of the prefixes of items, numbered from the first on: those of the first one's or of the last one's, if these are more;
+  -- numbers stop at the ends of their type
   abbrev pub number_columns : (first : ℤ) → (items : ℕ) → ℕ
   number_columns first items =
       let last = saturate_signed w64 (first +ℤ pos items -ℤ pos 1) in
       max (prefix_columns (decoration.ordered_item_prefix decorator first)) (prefix_columns (decoration.ordered_item_prefix decorator last))
 
   module _ (settings : LayoutSettings) where
-    -- the columns of what stands before the lines of a node with so many children
+    -- the columns of what stands before the lines of a node with this number of children
     abbrev pub prefix_of : NodeKind → (children : ℕ) → ℕ
     prefix_of (Header level) children = prefix_columns (decoration.header_prefix decorator level)
     prefix_of BlockQuote children = prefix_columns (decoration.quote_prefix decorator)
@@ -84,13 +88,8 @@ module _ {D A : Type 0} (decoration : Decoration D A) (decorator : D) where
     estimate_of (Link target) children =
         record { least = max (greatest_least children) 5; size = saturated (total_size children + 5); prefix = 0; children = trees children }
     estimate_of (Table grid) children =
-        let prefix = prefix_of (Table grid) (trees children) in
-        table_estimate (columns_of grid.cells) (cell_needs grid.cells.rows children) prefix (trees children)
-    estimate_of kind children =
-        let prefix = prefix_of kind (trees children) in
-        let least = saturated (greatest_least children + prefix) in
-        let size = saturated (total_size children + prefix) in
-        record { least = least; size = size; prefix = prefix; children = trees children }
+        table_estimate (columns_of grid.cells) (cell_needs grid.cells.rows children) (prefix_of (Table grid) (trees children)) (trees children)
+    estimate_of kind children = behind (prefix_of kind (trees children)) (greatest_least children) (total_size children) (trees children)
 
     -- THE MEASURED TREES: each node with its estimate
     abbrev pub measured : Forest RenderNode → Forest RenderNode

@@ -25,6 +25,9 @@ with_needs needs kind = kind
 abbrev pub without_size : Estimate → Estimate
 without_size e = record e { size = 0 }
 
+abbrev pub sized_if : (with_sizes : Bool) → Estimate → Estimate
+sized_if with_sizes e = if with_sizes then e else without_size e
+
 abbrev pub without_sizes : Forest RenderNode → Forest RenderNode
 without_sizes none = none
 without_sizes (node n children beside) =

@@ -9,7 +9,7 @@ ghost use Rattle.html_render_nodes.specs.Preorder.{flatten, forest_of};
 ghost use Rattle.html_render_estimates.specs.Estimates.{trees, greatest_least, text_size, number_columns, prefix_of};
 ghost use Rattle.html_render_estimates.specs.TextSize.{saturated};
 ghost use Rattle.html_render_estimates.specs.Estimates.{measured_kind, estimate_of, measured};
-ghost use Rattle.html_render_estimates.specs.Passes.{is_table, has_table, with_needs, without_size, without_sizes, with_needed_sizes};
+ghost use Rattle.html_render_estimates.specs.Passes.{is_table, has_table, with_needs, without_size, sized_if, with_needed_sizes};
 
 use crate::settings::LayoutSettings;
 use crate::sized::{Measure, measure_table, total_size};
@@ -190,20 +190,24 @@ fn estimate_of<D: TextDecorator>(
     }
 }
 
-/// The estimate of a node that isn't a table over measured ones that have their sizes.
+/// The estimate of a node that isn't a table over measured ones, with its size if these have theirs.
 fn sized_estimate_of<D: TextDecorator>(
     alloc: Global,
     decorator: &D,
     settings: &LayoutSettings,
+    with_sizes: bool,
     kind: &NodeKind,
     below: &[Entry<RenderNode>],
 ) -> Result<Estimate, Error>
     requires { flatten (forest_of below.now) ≡ below.now }
     ensures ok { IfOk result (λ e. is_table kind.now ≡ false →
-        e ≡ estimate_of D.decoration decorator.now settings.now kind.now (forest_of below.now)) }
+        e ≡ sized_if with_sizes (estimate_of D.decoration decorator.now settings.now kind.now (forest_of below.now))) }
     ensures err { IfErr result (λ e. e ≡ Error.OutOfMemory) }
 {
     let estimate = estimate_of(alloc, decorator, settings, kind, below)?;
+    if !with_sizes {
+        return Ok(estimate);
+    }
     let size = match kind {
         NodeKind::Text(text) | NodeKind::Svg(text) => size_within(text.as_str(), usize::MAX),
         NodeKind::Break => 1,
@@ -215,16 +219,20 @@ fn sized_estimate_of<D: TextDecorator>(
     Ok(Estimate { size, ..estimate })
 }
 
-/// What is found out of a node over measured ones that have their sizes.
+/// What is found out of a node over measured ones, with its size if these have theirs, as they do below a table.
+#[inline]
 fn measure_of<D: TextDecorator>(
     alloc: Global,
     decorator: &D,
     settings: &LayoutSettings,
+    with_sizes: bool,
     kind: &NodeKind,
     below: &[Entry<RenderNode>],
 ) -> Result<Measure, Error>
-    requires { flatten (forest_of below.now) ≡ below.now }
-    ensures estimate { IfOk result (λ m. m.estimate ≡ estimate_of D.decoration decorator.now settings.now kind.now (forest_of below.now)) }
+    requires kept { flatten (forest_of below.now) ≡ below.now }
+    requires sized { is_table kind.now ≡ true → with_sizes ≡ true }
+    ensures estimate { IfOk result (λ m. m.estimate
+        ≡ sized_if with_sizes (estimate_of D.decoration decorator.now settings.now kind.now (forest_of below.now))) }
     ensures needs { IfOk result (λ m. with_needs m.needs.items kind.now ≡ measured_kind kind.now (forest_of below.now)) }
     ensures err { IfErr result (λ e. e ≡ Error.OutOfMemory) }
 {
@@ -233,7 +241,7 @@ fn measure_of<D: TextDecorator>(
         let prefix = prefix_of(alloc, decorator, settings, kind, children)?;
         return measure_table(alloc, grid.cells(), prefix, children, below);
     }
-    let estimate = sized_estimate_of(alloc, decorator, settings, kind, below)?;
+    let estimate = sized_estimate_of(alloc, decorator, settings, with_sizes, kind, below)?;
     Ok(Measure {
         estimate,
         needs: Vec::new(alloc),
@@ -241,6 +249,7 @@ fn measure_of<D: TextDecorator>(
 }
 
 /// Keeps what was found out of a node.
+#[inline]
 fn note(node: &mut RenderNode, measure: Measure)
     ensures { node.new ≡ record node.old { kind = with_needs measure.needs.items node.old.kind; estimate = measure.estimate } }
 {
@@ -271,55 +280,7 @@ fn any_table(entries: &[Entry<RenderNode>]) -> bool
     false
 }
 
-/// Gives nodes of which none is a table their estimates without sizes, from the last node to the first.
-fn measure_without_sizes<D: TextDecorator>(
-    alloc: Global,
-    decorator: &D,
-    settings: &LayoutSettings,
-    entries: &mut Vec<Entry<RenderNode>>,
-) -> Result<(), Error>
-    requires kept { flatten (forest_of entries.old.items) ≡ entries.old.items }
-    requires plain { has_table (forest_of entries.old.items) ≡ false }
-    ensures ok { OnOk result (entries.new.items
-        ≡ flatten (without_sizes (measured D.decoration decorator.now settings.now (forest_of entries.old.items)))) }
-    ensures err { IfErr result (λ e. e ≡ Error.OutOfMemory) }
-{
-    let mut at = entries.len();
-    while at > 0 {
-        at -= 1;
-        let all = entries.as_slice();
-        let entry = &all[at];
-        let below = &all[at + 1..at + entry.size];
-        let estimate = estimate_of(alloc, decorator, settings, &entry.node.kind, below)?;
-        entries[at].node.estimate = estimate;
-    }
-    Ok(())
-}
-
-/// Gives nodes their estimates with sizes, from the last node to the first.
-fn measure_with_sizes<D: TextDecorator>(
-    alloc: Global,
-    decorator: &D,
-    settings: &LayoutSettings,
-    entries: &mut Vec<Entry<RenderNode>>,
-) -> Result<(), Error>
-    requires { flatten (forest_of entries.old.items) ≡ entries.old.items }
-    ensures ok { OnOk result (entries.new.items ≡ flatten (measured D.decoration decorator.now settings.now (forest_of entries.old.items))) }
-    ensures err { IfErr result (λ e. e ≡ Error.OutOfMemory) }
-{
-    let mut at = entries.len();
-    while at > 0 {
-        at -= 1;
-        let all = entries.as_slice();
-        let entry = &all[at];
-        let below = &all[at + 1..at + entry.size];
-        let measure = measure_of(alloc, decorator, settings, &entry.node.kind, below)?;
-        note(&mut entries[at].node, measure);
-    }
-    Ok(())
-}
-
-/// Gives nodes their estimates: with sizes if one of them is a table.
+/// Gives nodes their estimates, from the last node to the first: with sizes if one of them is a table.
 fn measure_nodes<D: TextDecorator>(
     alloc: Global,
     decorator: &D,
@@ -331,10 +292,18 @@ fn measure_nodes<D: TextDecorator>(
         ≡ flatten (with_needed_sizes (measured D.decoration decorator.now settings.now (forest_of entries.old.items)))) }
     ensures err { IfErr result (λ e. e ≡ Error.OutOfMemory) }
 {
-    if any_table(entries) {
-        return measure_with_sizes(alloc, decorator, settings, entries);
+    let with_sizes = any_table(entries);
+    let mut at = entries.len();
+    while at > 0 {
+        at -= 1;
+        let all = entries.as_slice();
+        let entry = &all[at];
+        let below = &all[at + 1..at + entry.size];
+        let kind = &entry.node.kind;
+        let measure = measure_of(alloc, decorator, settings, with_sizes, kind, below)?;
+        note(&mut entries[at].node, measure);
     }
-    measure_without_sizes(alloc, decorator, settings, entries)
+    Ok(())
 }
 
 /// The tree with each node's estimate. Without a table in the tree its size is left out, as 0.

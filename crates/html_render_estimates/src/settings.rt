@@ -71,7 +71,8 @@ impl Default for LayoutSettings {
     ghost is_default = { λ s. s ≡ default_settings };
 
     /// No numbers behind links; characters that are struck out have U+0336 behind them; images without a title aren't shown;
-    /// the lines that close the document are cut; lines aren't filled with spaces; a text needs 3 columns; tables have borders and no fences, and their cells stand side by side where they can.
+    /// the lines that close the document are cut; lines aren't filled with spaces; a text needs 3 columns; tables have borders
+    /// and no fences, and their cells stand side by side where they can.
     fn default() -> LayoutSettings {
         LayoutSettings {
             link_footnotes: false,

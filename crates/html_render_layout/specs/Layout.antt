@@ -21,9 +21,9 @@ use Rattle.html_render_lines.specs.Tags.{lines_with}
 use Rattle.html_render_nodes.specs.declared.tree.Emphasis.{Emphasis as TheEmphasis}
 use Rattle.html_render_nodes.specs.declared.tree.Emphasis.TheVariants.{Em, Strong, Code}
 use Rattle.html_render_nodes.specs.declared.tree.NodeKind.{NodeKind}
-use Rattle.html_render_nodes.specs.declared.tree.NodeKind.TheVariants.{Text, Container, Break, Block, Div, Emphasis, Header, BlockQuote, Ul, Ol}
+use Rattle.html_render_nodes.specs.declared.tree.NodeKind.TheVariants.{Text, Break, Block, Div, Emphasis, Header, BlockQuote, Ul, Ol}
 use Rattle.html_render_nodes.specs.declared.tree.NodeKind.TheVariants.{ListItem, Dl, Dt, Dd, Strikeout, Superscript, Link, Image, Svg, FragmentStart}
-use Rattle.html_render_nodes.specs.declared.tree.NodeKind.TheVariants.{Table, TableRow, TableCell}
+use Rattle.html_render_nodes.specs.declared.tree.NodeKind.TheVariants.{Table, TableRow}
 use Rattle.html_render_nodes.specs.declared.tree.NodeStyle.{NodeStyle}
 use Rattle.html_render_nodes.specs.declared.tree.Estimate.{Estimate}
 use Rattle.html_render_nodes.specs.declared.tree.RenderNode.{RenderNode}
@@ -77,10 +77,6 @@ pub data Shape (S A : Type 0) : Type 0 where
   Items : (S → ℕ → List ℕ) → (S → ℕ) → (least : ℕ) → Shape S A  -- each in a block of its own: the first line behind its prefix, by its number
   Cells : Shape S A  -- each as a cell of the table's next row
 
--- the columns that a node needs behind its prefix
-abbrev pub inner_least : Estimate → ℕ
-inner_least e = e.least - e.prefix
-
 abbrev pub spaces : ℕ → List ℕ
 spaces count = replicate count 32
 
@@ -126,30 +122,26 @@ module _ {S A : Type 0} (d : Decoration S A) where
   image source None = []
   image source (Some title) = start (record { start = λ x. d.image x source title; end = λ x. [] })
 
-  -- THE BLOCK in which each stands, by this decorator
+  -- THE BLOCK in which each stands, by this decorator: behind a prefix it needs the columns that are left
   abbrev pub block_of : LayoutSettings → S → NodeKind → Estimate → OwnBlock
-  block_of settings x (Header level) e = Prefixed (d.header_prefix x level) (inner_least e)
-  block_of settings x BlockQuote e = Prefixed (d.quote_prefix x) (inner_least e)
-  block_of settings x Dd e = Indented (spaces 2) 2 (inner_least e)
+  block_of settings x (Header level) e = Prefixed (d.header_prefix x level) (e.least - e.prefix)
+  block_of settings x BlockQuote e = Prefixed (d.quote_prefix x) (e.least - e.prefix)
+  block_of settings x Dd e = Indented (spaces 2) 2 (e.least - e.prefix)
   block_of settings x kind e = Shared
 
   -- THE TABLE, over these trees: the numbers of items stop at the ends of their type
   abbrev pub shape_of : LayoutSettings → NodeKind → Estimate → (trees : Forest RenderNode) → Shape S A
   shape_of settings (Text t) e trees = Steps (Write (λ x. chars t) ∷ [])
-  shape_of settings Container e trees = Around [] []
   shape_of settings Break e trees = Steps (NewLineHard ∷ [])
   shape_of settings Block e trees = Around (StartBlock ∷ []) (EndBlock ∷ [])
   shape_of settings Div e trees = Around (NewLine ∷ []) (NewLine ∷ [])
   shape_of settings (Emphasis m) e trees = Around (start (emphasis_decoration m)) (end (emphasis_decoration m) ∷ [])
-  shape_of settings (Header level) e trees = Around [] []
-  shape_of settings BlockQuote e trees = Around [] []
-  shape_of settings Ul e trees = Items (λ x n. d.unordered_item_prefix x) (λ x. prefix_columns (d.unordered_item_prefix x)) (inner_least e)
+  shape_of settings Ul e trees = Items (λ x n. d.unordered_item_prefix x) (λ x. prefix_columns (d.unordered_item_prefix x)) (e.least - e.prefix)
   shape_of settings (Ol first) e trees =
-      Items (λ x n. d.ordered_item_prefix x (saturate_signed w64 (first +ℤ pos n))) (λ x. number_columns d x first e.children) (inner_least e)
+      Items (λ x n. d.ordered_item_prefix x (saturate_signed w64 (first +ℤ pos n))) (λ x. number_columns d x first e.children) (e.least - e.prefix)
   shape_of settings ListItem e trees = Around (StartBlock ∷ []) (EndBlock ∷ [])
   shape_of settings Dl e trees = Around (StartBlock ∷ []) []
   shape_of settings Dt e trees = Around (NewLine ∷ start d.em) (end d.em ∷ [])
-  shape_of settings Dd e trees = Around [] []
   shape_of settings Strikeout e trees = Around (start d.strikeout ++ Strike ∷ []) (Unstrike ∷ (end d.strikeout ∷ []))
   shape_of settings Superscript e trees = superscript (digits_of trees)
   shape_of settings (Link target) e trees = Around (AddTarget target ∷ start (link d target)) (end (link d target) ∷ (Restore ∷ (WriteNumber ∷ [])))
@@ -158,7 +150,7 @@ module _ {S A : Type 0} (d : Decoration S A) where
   shape_of settings (FragmentStart name) e trees = Steps (AddMark name ∷ [])
   shape_of settings (Table grid) e trees = Around (StartBlock ∷ (Fence ∷ (BeginTable grid.cells grid.needs ∷ []))) (EndTable ∷ (Fence ∷ []))
   shape_of settings TableRow e trees = Cells
-  shape_of settings TableCell e trees = Around [] []
+  shape_of settings kind e trees = Around [] []
 
   -- what a style gives the texts: its colour, then that of its background, and its white space
   abbrev pub style_steps : NodeStyle → List (Step S A)

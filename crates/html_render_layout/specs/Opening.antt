@@ -1,5 +1,5 @@
 -- What the walk does as it opens a node and closes it.
-use Rattle.std.specs.Prelude.{Bool, ℕ, ℤ, pos, ◌+◌, ◌+ℤ◌, List, length, Option, Some, None, option_map}
+use Rattle.std.specs.Prelude.{Bool, ℕ, ℤ, pos, ◌+◌, ◌-◌, ◌+ℤ◌, List, length, Option, Some, None, option_map}
 use Rattle.std.specs.Int.{saturate_signed, w64}
 use Rattle.std.specs.Str.{chars}
 use Rattle.html_render_values.specs.Forest.{Forest}
@@ -25,7 +25,7 @@ use Rattle.html_render_layout.specs.declared.layout.state.KindClosing.TheVariant
 use Rattle.html_render_layout.specs.declared.layout.state.Outer.{Outer}
 use Rattle.html_render_layout.specs.declared.layout.state.OuterTable.{OuterTable}
 use Rattle.html_render_layout.specs.declared.layout.state.TextContext.{TextContext}
-use Rattle.html_render_layout.specs.Layout.{Means, State, inner_least, write_number, spaces, padded, emphasis_decoration}
+use Rattle.html_render_layout.specs.Layout.{Means, State, write_number, spaces, padded, emphasis_decoration}
 use Rattle.html_render_layout.specs.Layout.{block_of, shape_of, style_steps}
 use Rattle.html_render_layout.specs.Layout.{on_block, write, within, nested, appended_block, block_place, cell_place, Fence, perform, shape_layout, perform_all}
 
@@ -89,8 +89,8 @@ module _ {S A K T B : Type 0} (m : Means S A K T B) where
   kind_kept own ListItem e s = EndBlock
   kind_kept own Div e s = NewLine
   kind_kept own (Emphasis x) e s = EndEmphasis x
-  kind_kept own Ul e s = Bullets (prefix_columns (m.decoration.unordered_item_prefix s.decorator)) (inner_least e)
-  kind_kept own (Ol first) e s = Numbers first (number_columns m.decoration s.decorator first e.children) (inner_least e)
+  kind_kept own Ul e s = Bullets (prefix_columns (m.decoration.unordered_item_prefix s.decorator)) (e.least - e.prefix)
+  kind_kept own (Ol first) e s = Numbers first (number_columns m.decoration s.decorator first e.children) (e.least - e.prefix)
   kind_kept own Dt e s = EndEmphasis Em
   kind_kept own Strikeout e s = EndStrikeout s.text.struck_out
   kind_kept own Superscript e s = EndSuperscript

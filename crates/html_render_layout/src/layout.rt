@@ -1,6 +1,7 @@
 //! The layout of a render tree into lines.
 //!
-//! `lay_out(alloc, &decorator, tree, block, &settings, &mut meter)?` answers the lines of the tree, wrapped to the columns of a block.
+//! `lay_out(alloc, &decorator, tree, block, &settings, &mut meter)?` answers the lines of the tree, wrapped to the columns of
+//! a block.
 
 ghost use Rattle.std.specs.Prelude.{◌≡◌, ◌≢◌, ◌≤◌, ◌<◌, Some, ℕ, true, Err, OnOk, OnErr, IfOk, IfErr};
 ghost use Rattle.html_render_values.specs.Outcome.{Refuses};
@@ -8,7 +9,6 @@ ghost use Rattle.html_render_blocks.specs.Block.{empty_block};
 ghost use Rattle.html_render_blocks.specs.Machine as machine;
 ghost use Rattle.html_render_blocks.specs.Machine.{machine};
 ghost use Rattle.html_render_nodes.specs.Counts.{CountsNodes};
-ghost use Rattle.html_render_estimates.specs.Estimates.{measured};
 ghost use Rattle.html_render_estimates.specs.Passes.{with_needed_sizes};
 ghost use Rattle.html_render_layout.specs.Layout.{layout_of, begin_with, shown_after, defined, empty_state};
 ghost use Rattle.html_render_layout.specs.Layout.{estimated, layout_lines, mark_names, unannotated};
@@ -192,19 +192,36 @@ fn lines_from<D: TextDecorator>(
     })
 }
 
-/// A tree with the estimate of each node, whose prefixes are those of a sub-block of this sub-block's decorator. Sizes are left
-/// out of a tree without a table.
-fn estimated<D: TextDecorator>(
+/// What a layout takes as its own.
+#[derive(Drop)]
+struct Prepared<D> {
+    settings: LayoutSettings,
+    /// The decorator of a sub-block.
+    decorator: D,
+    /// The tree with the estimate of each node, whose prefixes are those of a sub-block of that sub-block. Sizes are left out
+    /// of a tree without a table.
+    tree: Flat<RenderNode>,
+}
+
+/// What the layout of a tree takes as its own.
+fn prepare<D: TextDecorator>(
     alloc: Global,
-    inner: &D,
+    decorator: &D,
     settings: &LayoutSettings,
     tree: RenderTree,
-) -> Result<Flat<RenderNode>, Error>
-    ensures ok { IfOk result (λ t. t ≡ with_needed_sizes (measured D.decoration (D.decoration.subblock inner.now) settings.now tree)) }
+) -> Result<Prepared<D>, Error>
+    ensures settings { IfOk result (λ own. own.settings ≡ settings.now) }
+    ensures decorator { IfOk result (λ own. own.decorator ≡ D.decoration.subblock decorator.now) }
+    ensures tree { IfOk result (λ own. own.tree ≡ with_needed_sizes (estimated D.decoration settings.now decorator.now tree)) }
     ensures err { IfErr result (λ e. e ≡ Error.OutOfMemory) }
 {
+    let inner = decorator.make_subblock_decorator(alloc)?;
     let innermost = inner.make_subblock_decorator(alloc)?;
-    measure(alloc, &innermost, settings, tree.into_nodes())
+    Ok(Prepared {
+        settings: settings.try_clone(alloc)?,
+        decorator: inner,
+        tree: measure(alloc, &innermost, settings, tree.into_nodes())?,
+    })
 }
 
 /// The tag of the spaces that lines are filled with, if they are.
@@ -218,10 +235,10 @@ fn padding<T: Tag>(settings: &LayoutSettings, tag: T) -> Option<T>
     }
 }
 
-/// The lines of a tree in a block, with what a sub-block of the decorator's writes. Behind them stand the lines that close the document: the
-/// number of each link and its target with `settings.link_footnotes`, and what the decorator answers for all targets; they
-/// are wrapped with `settings.wrap_links`. The meter's `entered`, `left` and `frames` count from 0,
-/// also where the call refuses; `probes` stays.
+/// The lines of a tree in a block, with what a sub-block of the decorator's writes. Behind them stand the lines that close the
+/// document: the number of each link and its target with `settings.link_footnotes`, and what the decorator answers for all
+/// targets; they are wrapped with `settings.wrap_links`. With `block.overflow` a character or a prefix that has no room passes
+/// the width. The meter's `entered`, `left` and `frames` count from 0, also where the call refuses; `probes` stays.
 ///
 /// # Errors
 ///
@@ -259,12 +276,17 @@ pub fn lay_out<D: TextDecorator>(
     if block.width == 0 {
         return Err(Error::TooNarrow);
     }
-    let own = settings.try_clone(alloc)?;
-    let inner = decorator.make_subblock_decorator(alloc)?;
-    let tree = estimated(alloc, &inner, settings, tree)?;
+    let own = prepare(alloc, decorator, settings, tree)?;
     let block = Block::new(alloc, block, padding(settings, 0));
-    let state = begin_with(alloc, own, inner, Stacks::new(alloc), 0, block);
-    lines_from(alloc, &tree, state, meter)
+    let state = begin_with(
+        alloc,
+        own.settings,
+        own.decorator,
+        Stacks::new(alloc),
+        0,
+        block,
+    );
+    lines_from(alloc, &own.tree, state, meter)
 }
 
 /// The lines of a tree from a state without annotations.
@@ -308,10 +330,8 @@ pub fn lay_out_untagged<D: TextDecorator>(
     if block.width == 0 {
         return Err(Error::TooNarrow);
     }
-    let own = settings.try_clone(alloc)?;
-    let inner = decorator.make_subblock_decorator(alloc)?;
-    let tree = estimated(alloc, &inner, settings, tree)?;
+    let own = prepare(alloc, decorator, settings, tree)?;
     let block = Block::new(alloc, block, padding(settings, ()));
-    let state = begin_with(alloc, own, inner, Untagged, (), block);
-    untagged_lines_from(alloc, &tree, state)
+    let state = begin_with(alloc, own.settings, own.decorator, Untagged, (), block);
+    untagged_lines_from(alloc, &own.tree, state)
 }

@@ -25,8 +25,7 @@ pub record Options (S : Type 0) : Type 0 where
 
 -- the settings that a configuration begins with
 abbrev pub initial_options : {S : Type 0} → S → Options S
-initial_options decorator =
-    record { decorator = decorator; rules = []; overflow = false; max_wrap_width = None; settings = default_settings }
+initial_options decorator = record { decorator = decorator; rules = []; overflow = false; max_wrap_width = None; settings = default_settings }
 
 -- the block that a document stands in, in a width
 abbrev pub document_block : {S : Type 0} → Options S → (width : ℕ) → BlockSetting

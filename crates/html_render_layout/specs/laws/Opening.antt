@@ -1,6 +1,6 @@
 -- What the walk does at a node is what is defined.
 use Rattle.std.specs.Prelude.{◌≡◌, ℕ, List, [], ◌∷◌, map, Option, Some, None, option_and_then, option_map, refl}
-use Rattle.std.proofs.Common.{ap, sym, subst}
+use Rattle.std.proofs.Common.{ap, sym, subst, ◌∙◌}
 use Rattle.std.specs.Str.{chars}
 use Rattle.html_render_values.specs.Forest.{Forest}
 use Rattle.html_render_nodes.specs.declared.tree.Estimate.{Estimate}
@@ -155,6 +155,21 @@ module _ {S A K T B : Type 0} (m : Means S A K T B) where
           subst (λ w. Opened (followed (followed visit (λ r. Some (record r { text = s.text }))) (continued m item))
           (option_and_then (λ w. keeping m item s.text w) w)) (kind-opened n.kind n.estimate trees q p kept)
           (kept-opened visit kept item s.text (kind-stands n.kind n.estimate trees q p)))
+
+  -- a node is opened once its style, its block and its kind are, with whatever its block interrupts
+  pub opened-by : (item before : Interruption S T B) (n : RenderNode) (trees : Forest RenderNode) (s q p : State) (b : OwnBlock) →
+      perform_all m s (style_steps m.decoration n.style) s ≡ Some q → b ≡ block_of m.decoration q.settings q.decorator n.kind n.estimate →
+      block_begun m b q ≡ Some p → before ≡ block_kept m b q →
+      opened_in m item n trees s ≡ option_and_then (λ w. keeping m item s.text w) (kind_opened m before n.kind n.estimate trees p)
+  opened-by item before n trees s q p b style block begun kept =
+      let next : Interruption S T B → State → Option (Way State (Closing S T B)) =
+      λ i p. option_and_then (λ w. keeping m item s.text w) (kind_opened m i n.kind n.estimate trees p) in
+      ap (option_and_then (λ (q : State). option_and_then (λ (p : State).
+      option_and_then (λ w. keeping m item s.text w)
+      (kind_opened m (block_kept m (block_of m.decoration q.settings q.decorator n.kind n.estimate) q) n.kind n.estimate trees p))
+      (block_begun m (block_of m.decoration q.settings q.decorator n.kind n.estimate) q))) style
+      ∙ ap (λ (c : OwnBlock). option_and_then (λ p. next (block_kept m c q) p) (block_begun m c q)) (sym block)
+      ∙ ap (option_and_then (λ p. next (block_kept m b q) p)) begun ∙ ap (λ i. next i p) (sym kept)
 
   -- a text keeps nothing
   pub texts_pass : (n : RenderNode) (t : List ℕ) (trees : Forest RenderNode) (s : State) → n.kind ≡ Text t →

@@ -7,7 +7,7 @@ ghost use Rattle.html_render_nodes.specs.Pass.{way};
 ghost use Rattle.html_render_nodes.specs.Preorder.{flatten, forest_of};
 ghost use Rattle.html_render_parts.specs.Decoration.{link};
 ghost use Rattle.html_render_estimates.specs.Estimates.{prefix_columns, number_columns};
-ghost use Rattle.html_render_layout.specs.Layout.{AddTarget, BeginTable, Fence, NewLine, StartBlock, Strike, inner_least, block_of, perform_all};
+ghost use Rattle.html_render_layout.specs.Layout.{AddTarget, BeginTable, Fence, NewLine, StartBlock, Strike, block_of, perform_all};
 ghost use Rattle.html_render_layout.specs.Layout.{start};
 ghost use Rattle.html_render_layout.specs.Opening.{child_block, continued};
 ghost use Rattle.html_render_layout.specs.Opening.{kind_opened, kind_closed, opened_in, text_opened, cell_opened, block_opened, opened_below};
@@ -37,7 +37,7 @@ use std::alloc::Global;
 
 /// The columns that a node needs behind its prefix.
 fn inner_least(estimate: &Estimate) -> usize
-    ensures { result ≡ inner_least estimate.now }
+    ensures { result ≡ estimate.now.least - estimate.now.prefix }
 {
     estimate.least.saturating_sub(estimate.prefix)
 }
@@ -49,7 +49,7 @@ fn open_bullets<D: TextDecorator, G: Tagging<D::Annotation>>(
     estimate: &Estimate,
 ) -> Result<Option<KindKept<D, G>>, Error>
     ensures ok { IfOk result (λ c. c ≡ Some (KindClosing.Bullets
-        (prefix_columns (D.decoration.unordered_item_prefix decorator.now)) (inner_least estimate.now))) }
+        (prefix_columns (D.decoration.unordered_item_prefix decorator.now)) (estimate.now.least - estimate.now.prefix))) }
     ensures err { IfErr result (λ e. e ≡ Error.OutOfMemory) }
 {
     let bullet = decorator.unordered_item_prefix(alloc)?;
@@ -67,7 +67,7 @@ fn open_numbers<D: TextDecorator, G: Tagging<D::Annotation>>(
     estimate: &Estimate,
 ) -> Result<Option<KindKept<D, G>>, Error>
     ensures ok { IfOk result (λ c. c ≡ Some (KindClosing.Numbers first
-        (number_columns D.decoration decorator.now first estimate.now.children) (inner_least estimate.now))) }
+        (number_columns D.decoration decorator.now first estimate.now.children) (estimate.now.least - estimate.now.prefix))) }
     ensures err { IfErr result (λ e. e ≡ Error.OutOfMemory) }
 {
     let columns = number_columns(alloc, decorator, first, estimate.children)?;

@@ -2,7 +2,6 @@ use Rattle.std.proofs.Common.{◌≡◌, Some, IfOk, IfErr, refl, sym, ◌∙◌
 use Rattle.std.proofs.lemmas.Result.{IfOk-weaker}
 use Rattle.html_render_values.specs.Outcome.{Refuses}
 use Rattle.html_render_nodes.specs.laws.Counts.{none-counted}
-use Rattle.html_render_estimates.specs.Passes.{with_needed_sizes}
 use Rattle.html_render_layout.specs.Layout.{defined, empty_state, estimated, layout_lines}
 use Rattle.html_render_layout.specs.laws.LayoutWorks.{empty_worked, layout_lines-works, mark_names-works, counts-work}
 use Rattle.html_render_layout.specs.laws.Promises.{are-lines, wide_enough}
@@ -11,22 +10,17 @@ use Rattle.html_render_layout.proofs.layout.lay_out.Goals as goal
 use Rattle.html_render_layout.proofs.layout.lay_out.Given.{Over}
 
 -- the state in which the layout begins
-empty : (g : Over) (c : goal.After-drop-tree-inside-2 g) →
+empty : (g : Over) (c : goal.After-drop-own g) →
     c.begin_with-state.result ≡ empty_worked g.D.TextDecorator.decoration c.args.settings.now c.args.decorator.now c.args.block
-empty g c = cc (c.begin_with-state.ensures, c.in_ok-own.ensures.ok, c.in_ok-inner.ensures.ok, c.new.ensures, c.new-block.ensures)
-
--- the tree that is laid out is the measured one, with the sizes that are needed
-measured : (g : Over) (c : goal.After-drop-tree-inside-2 g) →
-    c.in_ok-tree.tree ≡ with_needed_sizes (estimated g.D.TextDecorator.decoration c.args.settings.now c.args.decorator.now c.args.tree)
-measured g c = cc (c.in_ok-tree.ensures.ok, c.in_ok-inner.ensures.ok)
+empty g c = cc (c.begin_with-state.ensures, c.in_ok-own.ensures.settings, c.in_ok-own.ensures.decorator, c.new.ensures, c.new-block.ensures)
 
 -- what the code does is what is defined
-works : (g : Over) (c : goal.After-drop-tree-inside-2 g) →
-    work_lines g.D.TextDecorator.decoration c.in_ok-tree.tree c.begin_with-state.result
+works : (g : Over) (c : goal.After-drop-own g) →
+    work_lines g.D.TextDecorator.decoration c.in_ok-own.own.tree c.begin_with-state.result
     ≡ layout_lines g.D.TextDecorator.decoration c.args.settings.now c.args.tree c.args.decorator.now c.args.block
 works g c =
     layout_lines-works g.D.TextDecorator.decoration c.args.settings.now c.args.tree _ c.args.decorator.now c.args.block
-    c.begin_with-state.result c.if-block-eq0.false (measured g c) (empty g c)
+    c.begin_with-state.result c.if-block-eq0.false c.in_ok-own.ensures.tree (empty g c)
 
 pub returns-clause-ok : goal.returns-clause-ok
 returns-clause-ok g c =
@@ -38,7 +32,7 @@ pub returns-clause-names : goal.returns-clause-names
 returns-clause-names g c =
     subst (λ o. IfOk c.lines_from.result (λ lines. o ≡ Some lines.names))
     (mark_names-works g.D.TextDecorator.decoration c.args.settings.now c.args.tree _ c.args.decorator.now c.args.block
-    c.begin_with-state.result c.if-block-eq0.false (measured g c) (empty g c)) c.lines_from.ensures.names
+    c.begin_with-state.result c.if-block-eq0.false c.in_ok-own.ensures.tree (empty g c)) c.lines_from.ensures.names
 
 pub returns-clause-err : goal.returns-clause-err
 returns-clause-err g c = subst (λ o. IfErr c.lines_from.result (λ e. Refuses e o)) (works g c) c.lines_from.ensures.err
@@ -52,7 +46,7 @@ returns-clause-wide g c =
 pub returns-clause-counts : goal.returns-clause-counts
 returns-clause-counts g c =
     counts-work g.D.TextDecorator.decoration c.args.settings.now c.lines_from.result c.args.tree _ c.args.decorator.now c.args.block
-    c.begin_with-state.result _ _ _ (measured g c) (empty g c) refl c.lines_from.ensures.counts
+    c.begin_with-state.result _ _ _ c.in_ok-own.ensures.tree (empty g c) refl c.lines_from.ensures.counts
 
 pub returns-then-block-eq0-clause-counts : goal.returns-then-block-eq0-clause-counts
 returns-then-block-eq0-clause-counts g c =
@@ -63,17 +57,5 @@ returns-then-block-eq0-clause-counts g c =
 pub returns-in_err-own-clause-counts : goal.returns-in_err-own-clause-counts
 returns-in_err-own-clause-counts g c =
     none-counted _ _ c.from_residual.ensures.1 (defined g.D.TextDecorator.decoration)
-    (estimated g.D.TextDecorator.decoration c.args.settings.now c.args.decorator.now c.args.tree)
-    (empty_state g.D.TextDecorator.decoration c.args.settings.now c.args.decorator.now c.args.block) _ _ refl refl refl refl
-
-pub returns-in_err-inner-clause-counts : goal.returns-in_err-inner-clause-counts
-returns-in_err-inner-clause-counts g c =
-    none-counted _ _ c.from_residual-in_err-inner.ensures.1 (defined g.D.TextDecorator.decoration)
-    (estimated g.D.TextDecorator.decoration c.args.settings.now c.args.decorator.now c.args.tree)
-    (empty_state g.D.TextDecorator.decoration c.args.settings.now c.args.decorator.now c.args.block) _ _ refl refl refl refl
-
-pub returns-in_err-tree-clause-counts : goal.returns-in_err-tree-clause-counts
-returns-in_err-tree-clause-counts g c =
-    none-counted _ _ c.from_residual-in_err-tree.ensures.1 (defined g.D.TextDecorator.decoration)
     (estimated g.D.TextDecorator.decoration c.args.settings.now c.args.decorator.now c.args.tree)
     (empty_state g.D.TextDecorator.decoration c.args.settings.now c.args.decorator.now c.args.block) _ _ refl refl refl refl
