@@ -1,13 +1,22 @@
-//! Tests of what no text shows: decorators of a caller's own, streams that fail, and what lines answer. What a text shows is
-//! a case of `test_cases`, and what needs no layout stands in `test_parts`.
+//! Tests of what no text shows: decorators of a caller's own, streams that fail, what lines answer, values, many moves in a
+//! document and deep ones, column cuts by single units, and drafts with insertions at several depths. What a text shows is a
+//! case of `test_cases`.
 //!
 //! There is nothing to call here.
 #![tactic(auto)]
 
 #[cfg(test)]
+mod cuts;
+#[cfg(test)]
+mod deep;
+#[cfg(test)]
+mod drafts;
+#[cfg(test)]
 mod letters;
 #[cfg(test)]
 mod lines;
+#[cfg(test)]
+mod moves;
 #[cfg(test)]
 mod rendering;
 #[cfg(test)]
@@ -16,5 +25,7 @@ mod streams;
 mod table_printer;
 #[cfg(test)]
 mod underscores;
+#[cfg(test)]
+mod values;
 #[cfg(test)]
 mod viewer;
