@@ -20,23 +20,23 @@ pub fn answer(
 ) -> Result<String, Fault> {
     match asked {
         "as_dom_string" => {
-            watch.begin(asked)?;
+            watch.begin(asked);
             let came = page.dom.as_dom_string(alloc);
-            watch.end(&came)?;
+            watch.end(&came);
             printed(alloc, &came?)
         }
         "errors" => errors(alloc, &page.dom, watch),
         "quirks_mode" => {
-            watch.begin(asked)?;
+            watch.begin(asked);
             let mode = page.dom.quirks_mode();
-            watch.end(&Ok(()))?;
+            watch.end(&Ok(()));
             printed(alloc, quirks_mode_name(mode))
         }
         "get_node_by_path" => {
             let path = numbers(alloc, given)?;
-            watch.begin(asked)?;
+            watch.begin(asked);
             let found = page.dom.get_node_by_path(path.as_slice());
-            watch.end(&Ok(()))?;
+            watch.end(&Ok(()));
             printed(alloc, name_in(page, found))
         }
         _ => {
@@ -63,31 +63,31 @@ fn node_answer(
     let dom = &page.dom;
     match asked {
         "node_as_dom_string" => {
-            watch.begin(asked)?;
+            watch.begin(asked);
             let came = dom.node_as_dom_string(alloc, node);
-            watch.end(&came)?;
+            watch.end(&came);
             printed(alloc, &came?)
         }
         "children" => children(alloc, dom, node, watch),
         "data" => data(alloc, dom, node, watch),
         "element_name" => element_name(alloc, dom, node, watch),
         "get_parent" => {
-            watch.begin(asked)?;
+            watch.begin(asked);
             let found = dom.get_parent(node);
-            watch.end(&Ok(()))?;
+            watch.end(&Ok(()));
             printed(alloc, name_in(page, found))
         }
         "nth_child" => {
             let index = number(more)?;
-            watch.begin(asked)?;
+            watch.begin(asked);
             let found = dom.nth_child(node, index);
-            watch.end(&Ok(()))?;
+            watch.end(&Ok(()));
             printed(alloc, name_in(page, found))
         }
         _ => {
-            watch.begin(asked)?;
+            watch.begin(asked);
             let holds = holds(page, asked, node, more)?;
-            watch.end(&Ok(()))?;
+            watch.end(&Ok(()));
             printed(alloc, if holds { "true" } else { "false" })
         }
     }
@@ -125,9 +125,9 @@ fn name_in(page: &Page, node: Option<Handle>) -> &str {
 fn children(alloc: Global, dom: &RcDom, node: Handle, watch: Watch) -> Result<String, Fault>
     requires { IsNode dom.now node }
 {
-    watch.begin("children")?;
+    watch.begin("children");
     let came = dom.children(alloc, node);
-    watch.end(&came)?;
+    watch.end(&came);
     let mut shown = String::new(alloc);
     for child in &came? {
         if dom.is_node(*child) {
@@ -144,9 +144,9 @@ fn data(alloc: Global, dom: &RcDom, node: Handle, watch: Watch) -> Result<String
     requires { IsNode dom.now node }
 {
     let mut shown = String::new(alloc);
-    watch.begin("data")?;
+    watch.begin("data");
     let data = dom.data(node);
-    watch.end(&Ok(()))?;
+    watch.end(&Ok(()));
     push_data(&mut shown, data)?;
     printed(alloc, &shown)
 }
@@ -155,9 +155,9 @@ fn data(alloc: Global, dom: &RcDom, node: Handle, watch: Watch) -> Result<String
 fn element_name(alloc: Global, dom: &RcDom, node: Handle, watch: Watch) -> Result<String, Fault>
     requires { IsNode dom.now node }
 {
-    watch.begin("element_name")?;
+    watch.begin("element_name");
     let came = dom.element_name(alloc, node);
-    watch.end(&came)?;
+    watch.end(&came);
     match came? {
         Some(name) if dom.is_element(node) && dom.elem_name(node).local == name => printed(
             alloc, &name,
@@ -170,9 +170,9 @@ fn element_name(alloc: Global, dom: &RcDom, node: Handle, watch: Watch) -> Resul
 /// The parser's messages.
 fn errors(alloc: Global, dom: &RcDom, watch: Watch) -> Result<String, Fault> {
     let mut shown = String::new(alloc);
-    watch.begin("errors")?;
+    watch.begin("errors");
     let messages = dom.errors();
-    watch.end(&Ok(()))?;
+    watch.end(&Ok(()));
     for message in messages {
         write!(shown, "|{message}\n")?;
     }

@@ -82,11 +82,11 @@ fn create_element(
     watch: Watch,
 ) -> Result<(), Fault> {
     let tag = Tag::read(alloc, tag)?;
-    watch.begin("create_element")?;
+    watch.begin("create_element");
     let came = page
         .dom
         .create_element(alloc, tag.name, tag.attributes, flags);
-    watch.end(&came)?;
+    watch.end(&came);
     page.put_made(came)
 }
 
@@ -106,9 +106,9 @@ fn create_flagged(alloc: Global, page: &mut Page, given: &str, watch: Watch) -> 
 fn create_comment(alloc: Global, page: &mut Page, given: &str, watch: Watch) -> Result<(), Fault> {
     let (name, text) = split_word(given);
     let text = unescaped(alloc, text)?;
-    watch.begin("create_comment")?;
+    watch.begin("create_comment");
     let came = page.dom.create_comment(alloc, text);
-    watch.end(&came)?;
+    watch.end(&came);
     page.put_made(came)?;
     page.name_made(alloc, name)
 }
@@ -117,9 +117,9 @@ fn create_comment(alloc: Global, page: &mut Page, given: &str, watch: Watch) -> 
 fn create_pi(alloc: Global, page: &mut Page, given: &str, watch: Watch) -> Result<(), Fault> {
     let (name, target) = split_word(given);
     let target = unescaped(alloc, target)?;
-    watch.begin("create_pi")?;
+    watch.begin("create_pi");
     let came = page.dom.create_pi(alloc, target, String::new(alloc));
-    watch.end(&came)?;
+    watch.end(&came);
     page.put_made(came)?;
     page.name_made(alloc, name)
 }
@@ -133,9 +133,9 @@ fn name_contents(alloc: Global, page: &mut Page, given: &str, watch: Watch) -> R
     if !page.dom.is_template(node) {
         return Err(Fault::Malformed("the node is no template"));
     }
-    watch.begin("get_template_contents")?;
+    watch.begin("get_template_contents");
     let contents = page.dom.get_template_contents(node);
-    watch.end(&Ok(()))?;
+    watch.end(&Ok(()));
     page.put_made(Ok(contents))?;
     page.name_made(alloc, name)
 }
@@ -143,9 +143,9 @@ fn name_contents(alloc: Global, page: &mut Page, given: &str, watch: Watch) -> R
 /// Notes a message of the parser.
 fn parse_error(alloc: Global, dom: &mut RcDom, message: &str, watch: Watch) -> Result<(), Fault> {
     let message = String::from_str(alloc, message)?;
-    watch.begin("parse_error")?;
+    watch.begin("parse_error");
     let came = dom.parse_error(alloc, message);
-    watch.end(&came)?;
+    watch.end(&came);
     Ok(came?)
 }
 
@@ -162,17 +162,18 @@ fn quirks_mode(name: &str) -> Result<QuirksMode, Fault> {
 /// Sets the quirks mode of a name.
 fn set_quirks_mode(dom: &mut RcDom, name: &str, watch: Watch) -> Result<(), Fault> {
     let mode = quirks_mode(name)?;
-    watch.begin("set_quirks_mode")?;
+    watch.begin("set_quirks_mode");
     dom.set_quirks_mode(mode);
-    watch.end(&Ok(()))
+    watch.end(&Ok(()));
+    Ok(())
 }
 
 /// Puts a doctype last.
 fn append_doctype(alloc: Global, dom: &mut RcDom, name: &str, watch: Watch) -> Result<(), Fault> {
     let name = String::from_str(alloc, name)?;
-    watch.begin("append_doctype_to_document")?;
+    watch.begin("append_doctype_to_document");
     let came = dom.append_doctype_to_document(alloc, name, String::new(alloc), String::new(alloc));
-    watch.end(&came)?;
+    watch.end(&came);
     Ok(came?)
 }
 
@@ -199,9 +200,9 @@ fn append(
     };
     if let Some(text) = child.strip_prefix('"') {
         let text = NodeOrText::AppendText(unescaped(alloc, text)?);
-        watch.begin("append")?;
+        watch.begin("append");
         let came = page.dom.append(alloc, parent, text);
-        watch.end(&came)?;
+        watch.end(&came);
         return Ok(came?);
     }
     let Some(child) = page.find(child) else {
@@ -210,11 +211,11 @@ fn append(
     if !can_append(&page.dom, parent, child) {
         return Err(Fault::Malformed("the node can't be appended"));
     }
-    watch.begin("append")?;
+    watch.begin("append");
     let came = page
         .dom
         .append(alloc, parent, NodeOrText::AppendNode(child));
-    watch.end(&came)?;
+    watch.end(&came);
     Ok(came?)
 }
 
@@ -234,9 +235,9 @@ fn append_before(
     }
     if let Some(text) = child.strip_prefix('"') {
         let text = NodeOrText::AppendText(unescaped(alloc, text)?);
-        watch.begin("append_before_sibling")?;
+        watch.begin("append_before_sibling");
         let came = page.dom.append_before_sibling(alloc, sibling, text);
-        watch.end(&came)?;
+        watch.end(&came);
         return Ok(came?);
     }
     let Some(child) = page.find(child) else {
@@ -259,9 +260,9 @@ fn put_before(
     {
         return Err(Fault::Malformed("the node can't be put there"));
     }
-    watch.begin("append_before_sibling")?;
+    watch.begin("append_before_sibling");
     let came = dom.append_before_sibling(alloc, sibling, NodeOrText::AppendNode(child));
-    watch.end(&came)?;
+    watch.end(&came);
     Ok(came?)
 }
 
@@ -282,11 +283,11 @@ fn append_by_parent(
     };
     if let Some(text) = child.strip_prefix('"') {
         let text = NodeOrText::AppendText(unescaped(alloc, text)?);
-        watch.begin("append_based_on_parent_node")?;
+        watch.begin("append_based_on_parent_node");
         let came = page
             .dom
             .append_based_on_parent_node(alloc, element, other, text);
-        watch.end(&came)?;
+        watch.end(&came);
         return Ok(came?);
     }
     let Some(child) = page.find(child) else {
@@ -315,9 +316,9 @@ fn put_by_parent(
         return Err(Fault::Malformed("the node can't be put there"));
     }
     let child = NodeOrText::AppendNode(child);
-    watch.begin("append_based_on_parent_node")?;
+    watch.begin("append_based_on_parent_node");
     let came = dom.append_based_on_parent_node(alloc, element, other, child);
-    watch.end(&came)?;
+    watch.end(&came);
     Ok(came?)
 }
 
@@ -338,9 +339,9 @@ fn reparent(
     if page.dom.is_inclusive_ancestor(from, to) {
         return Err(Fault::Malformed("the children can't be moved there"));
     }
-    watch.begin("reparent_children")?;
+    watch.begin("reparent_children");
     let came = page.dom.reparent_children(alloc, from, to);
-    watch.end(&came)?;
+    watch.end(&came);
     Ok(came?)
 }
 
@@ -349,9 +350,10 @@ fn remove(page: &mut Page, node: &str, watch: Watch) -> Result<(), Fault> {
     let Some(node) = page.find(node) else {
         return Err(UNKNOWN);
     };
-    watch.begin("remove_from_parent")?;
+    watch.begin("remove_from_parent");
     page.dom.remove_from_parent(node);
-    watch.end(&Ok(()))
+    watch.end(&Ok(()));
+    Ok(())
 }
 
 /// `add_attrs_if_missing NODE @NAME=VALUE@NAME=VALUE`.
@@ -372,8 +374,8 @@ fn add_attributes(
     if !page.dom.is_element(node) {
         return Err(Fault::Malformed("the node is no element"));
     }
-    watch.begin("add_attrs_if_missing")?;
+    watch.begin("add_attrs_if_missing");
     let came = page.dom.add_attrs_if_missing(alloc, node, given);
-    watch.end(&came)?;
+    watch.end(&came);
     Ok(came?)
 }

@@ -74,7 +74,7 @@ where
 
 /// What a call answered, after it is told of.
 fn told<T: Drop>(watch: Watch, came: Result<T, Error>) -> Result<T, Fault> {
-    watch.end(&came)?;
+    watch.end(&came);
     Ok(came?)
 }
 
@@ -90,7 +90,7 @@ where
     D::Annotation: Shown,
 {
     let (source, title) = split_word(given);
-    watch.begin(name)?;
+    watch.begin(name);
     let came = match name {
         "decorate_link_start" => decorator.decorate_link_start(alloc, given),
         "decorate_em_start" => decorator.decorate_em_start(alloc),
@@ -114,7 +114,7 @@ fn written<D: TextDecorator>(
 ) -> Result<String, Fault> {
     let number = if given.is_empty() { 0 } else { number(given)? };
     let item = i64::try_from(number).unwrap_or(i64::MAX);
-    watch.begin(name)?;
+    watch.begin(name);
     let came = match name {
         "decorate_link_end" => decorator.decorate_link_end(alloc),
         "decorate_em_end" => decorator.decorate_em_end(alloc),
@@ -142,7 +142,7 @@ fn preformatted<D: TextDecorator>(
 where
     D::Annotation: Shown,
 {
-    watch.begin(name)?;
+    watch.begin(name);
     let came = if name == "decorate_preformat_first" {
         decorator.decorate_preformat_first(alloc)
     } else {
@@ -164,7 +164,7 @@ where
     D::Annotation: Shown,
 {
     let colour = colour(given)?;
-    watch.begin(name)?;
+    watch.begin(name);
     let came = if name == "push_colour" {
         decorator.push_colour(alloc, colour)
     } else {
@@ -179,12 +179,12 @@ where
 /// A text of a string that another text gave back.
 fn text(alloc: Global, word: &str, watch: Watch) -> Result<Text, Fault> {
     let string = String::from_str(alloc, word)?;
-    watch.begin("Text::from")?;
+    watch.begin("Text::from");
     let text = Text::from(string);
-    watch.end(&Ok(()))?;
-    watch.begin("Text::into_string")?;
+    watch.end(&Ok(()));
+    watch.begin("Text::into_string");
     let string = text.into_string();
-    watch.end(&Ok(()))?;
+    watch.end(&Ok(()));
     Ok(Text::from(string))
 }
 
@@ -205,7 +205,7 @@ fn finalised<D: TextDecorator>(
     watch: Watch,
 ) -> Result<String, Fault> {
     let links = places(alloc, given, watch)?;
-    watch.begin("finalise")?;
+    watch.begin("finalise");
     let lines = told(watch, decorator.finalise(alloc, &links))?;
     Ok(line_of_lines(alloc, &lines)?)
 }

@@ -38,9 +38,9 @@ pub struct Page {
 /// A new document.
 fn new_dom(alloc: Global, watch: Watch) -> Result<RcDom, Fault> {
     for _ in 0..TRIES {
-        watch.begin("RcDom::new")?;
+        watch.begin("RcDom::new");
         let came = RcDom::new(alloc);
-        watch.end(&came)?;
+        watch.end(&came);
         match came {
             Err(Error::OutOfMemory) if watch.is_told() => {}
             came => return Ok(came?),

@@ -19,9 +19,9 @@ pub fn answer(alloc: Global, calls: &[&str], given: &str, watch: Watch) -> Resul
         }
     }
     let tag = Tag::read(alloc, given)?;
-    watch.begin("computed_style")?;
+    watch.begin("computed_style");
     let came = computed_style(alloc, rules.as_slice(), &tag.name.local, &tag.attributes);
-    watch.end(&came)?;
+    watch.end(&came);
     let mut shown = String::new(alloc);
     push_style(&mut shown, &came?)?;
     Ok(shown)
@@ -36,17 +36,17 @@ pub fn specificity(alloc: Global, given: &str, watch: Watch) -> Result<String, F
 /// How specific a rule for an element's name is.
 pub fn for_element(alloc: Global, name: &str, watch: Watch) -> Result<String, Fault> {
     let name = String::from_str(alloc, name)?;
-    watch.begin("for_element")?;
+    watch.begin("for_element");
     let rule = StyleRule::for_element(alloc, StyleOrigin::Author, name, None, Vec::new(alloc));
-    watch.end(&Ok(()))?;
+    watch.end(&Ok(()));
     shown_specificity(alloc, &rule, watch)
 }
 
 /// How specific a rule is.
 fn shown_specificity(alloc: Global, rule: &StyleRule, watch: Watch) -> Result<String, Fault> {
-    watch.begin("specificity")?;
+    watch.begin("specificity");
     let specificity = rule.specificity();
-    watch.end(&Ok(()))?;
+    watch.end(&Ok(()));
     let (id, class, typ) = (specificity.id, specificity.class, specificity.typ);
     Ok(format!(in alloc; "|id {id}, class {class}, typ {typ}\n")?)
 }

@@ -66,9 +66,9 @@ pub fn grid(alloc: Global, given: &str, watch: Watch) -> Result<String, Fault> {
     if !spans_are_valid(rows.as_slice()) {
         return Err(Fault::Malformed("a span is 0"));
     }
-    watch.begin("table_grid")?;
+    watch.begin("table_grid");
     let came = table_grid(alloc, rows.as_slice());
-    watch.end(&came)?;
+    watch.end(&came);
     let grid = came?;
     let mut shown = String::from_str(alloc, "|edges")?;
     for edge in &grid.edges {
@@ -107,9 +107,9 @@ pub fn cut(alloc: Global, asked: &str, given: &str, watch: Watch) -> Result<Stri
     };
     match asked {
         "cut_fits" => {
-            watch.begin(asked)?;
+            watch.begin(asked);
             let fits = cut_fits(&columns.minimums, &columns.shares, columns.width);
-            watch.end(&Ok(()))?;
+            watch.end(&Ok(()));
             printed_truth(alloc, fits)
         }
         "check_cut" => {
@@ -118,9 +118,9 @@ pub fn cut(alloc: Global, asked: &str, given: &str, watch: Watch) -> Result<Stri
                 level: number(next(&mut fields)?)?,
                 lowered: number(next(&mut fields)?)?,
             };
-            watch.begin(asked)?;
+            watch.begin(asked);
             let is_it = check_cut(&columns.minimums, &columns.shares, columns.width, &cut);
-            watch.end(&Ok(()))?;
+            watch.end(&Ok(()));
             printed_truth(alloc, is_it)
         }
         _ => widths(alloc, &columns, asked == "column_widths_metered", watch),
@@ -149,13 +149,13 @@ fn widths(
         (Watch::nobody(), watch)
     };
     let mut meter = Meter::default();
-    metered_watch.begin("column_widths_metered")?;
+    metered_watch.begin("column_widths_metered");
     let came = column_widths_metered(alloc, minimums, shares, width, &mut meter);
-    metered_watch.end(&came)?;
+    metered_watch.end(&came);
     let cut = came?;
-    plain_watch.begin("column_widths")?;
+    plain_watch.begin("column_widths");
     let came = column_widths(alloc, minimums, shares, width);
-    plain_watch.end(&came)?;
+    plain_watch.end(&came);
     if cut != came? {
         return Err(Fault::Malformed("two calls answer two cuts"));
     }

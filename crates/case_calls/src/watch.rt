@@ -1,6 +1,5 @@
 //! Who is told of each call of the library before it is made, and what it answered.
 
-use crate::faults::Fault;
 use html_render_dom::Error;
 use std::io::{Stdout, Write};
 
@@ -13,12 +12,9 @@ pub struct Watch {
     output: Option<Stdout>,
 }
 
-/// Writes a part of a line.
-fn write(mut output: Stdout, text: &str) -> Result<(), Fault> {
-    match output.write_all(text.as_bytes()) {
-        Ok(()) => Ok(()),
-        Err(_) => Err(Fault::Malformed("standard output takes nothing")),
-    }
+/// Writes a part of a line. Whoever listens misses one that can't be written.
+fn write(mut output: Stdout, text: &str) {
+    let _ = output.write_all(text.as_bytes());
 }
 
 impl Watch {
@@ -45,26 +41,28 @@ impl Watch {
     }
 
     /// Tells that a call begins.
-    pub fn begin(self, call: &str) -> Result<(), Fault> {
-        let Some(output) = self.output else {
-            return Ok(());
-        };
-        write(output, "call ")?;
-        write(output, call)?;
-        write(output, "\n")
+    pub fn begin(self, call: &str) {
+        if let Some(output) = self.output {
+            write(output, "call ");
+            write(output, call);
+            write(output, "\n");
+        }
     }
 
     /// Tells what the call answered.
-    pub fn end<T>(self, came: &Result<T, Error>) -> Result<(), Fault> {
-        let Some(output) = self.output else {
-            return Ok(());
-        };
-        let line = match came {
-            Ok(_) => "came answer\n",
-            Err(Error::TooNarrow) => "came TooNarrow\n",
-            Err(Error::Fail) => "came Fail\n",
-            Err(Error::OutOfMemory) => "came OutOfMemory\n",
-        };
-        write(output, line)
+    pub fn end<T>(self, came: &Result<T, Error>) {
+        if let Some(output) = self.output {
+            write(output, line_of(came));
+        }
+    }
+}
+
+/// The line that tells what a call answered.
+fn line_of<T>(came: &Result<T, Error>) -> &'static str {
+    match came {
+        Ok(_) => "came answer\n",
+        Err(Error::TooNarrow) => "came TooNarrow\n",
+        Err(Error::Fail) => "came Fail\n",
+        Err(Error::OutOfMemory) => "came OutOfMemory\n",
     }
 }

@@ -66,9 +66,9 @@ fn image_mode(alloc: Global, given: &str) -> Result<ImageRenderMode, Fault> {
 
 /// A copy of a mode.
 fn copy(alloc: Global, mode: &ImageRenderMode, watch: Watch) -> Result<ImageRenderMode, Fault> {
-    watch.begin("ImageRenderMode::try_clone")?;
+    watch.begin("ImageRenderMode::try_clone");
     let came = mode.try_clone(alloc);
-    watch.end(&came)?;
+    watch.end(&came);
     Ok(came?)
 }
 

@@ -67,9 +67,9 @@ pub fn answer(
     match preset(first)? {
         Preset::Plain => {
             let watch = question.watch.only_if(question.asked == "preset");
-            watch.begin("plain")?;
+            watch.begin("plain");
             let came = plain(alloc);
-            watch.end(&came)?;
+            watch.end(&came);
             answer_under(alloc, came?, settings, dom, question)
         }
         Preset::PlainNoDecorate => {
@@ -121,18 +121,18 @@ where
     D::Annotation: Shown,
 {
     let watch = question.watch.only_if(question.asked == "settings");
-    watch.begin("with_settings")?;
+    watch.begin("with_settings");
     let came = with_settings(alloc, config, settings);
-    watch.end(&came)?;
+    watch.end(&came);
     let config = came?;
     match question.asked {
         "preset" | "settings" => Ok(String::new(alloc)),
         "sweep" => sweep(alloc, config, dom, Kept::Texts),
         "sweep_shown" => sweep(alloc, config, dom, Kept::Shown),
         "dom_to_render_tree" => {
-            question.watch.begin("dom_to_render_tree")?;
+            question.watch.begin("dom_to_render_tree");
             let came = config.dom_to_render_tree(alloc, dom);
-            question.watch.end(&came)?;
+            question.watch.end(&came);
             displayed(alloc, &came?, question.watch)
         }
         _ => {
@@ -164,13 +164,13 @@ where
 
 /// What a copy of a render tree is displayed as, once the tree itself is dropped.
 fn copy(alloc: Global, tree: RenderTree, watch: Watch) -> Result<String, Fault> {
-    watch.begin("try_clone")?;
+    watch.begin("try_clone");
     let came = tree.try_clone(alloc);
-    watch.end(&came)?;
+    watch.end(&came);
     let copy = came?;
-    watch.begin("drop")?;
+    watch.begin("drop");
     drop(tree);
-    watch.end(&Ok(()))?;
+    watch.end(&Ok(()));
     displayed(alloc, &copy, watch)
 }
 
@@ -187,9 +187,9 @@ fn text<D: TextDecorator>(
     width: usize,
     watch: Watch,
 ) -> Result<String, Fault> {
-    watch.begin(at_width("render_to_string", "render_to_string 0", width))?;
+    watch.begin(at_width("render_to_string", "render_to_string 0", width));
     let came = config.render_to_string(alloc, tree, width);
-    watch.end(&came)?;
+    watch.end(&came);
     printed(alloc, &came?)
 }
 
@@ -231,9 +231,9 @@ fn lines<D: TextDecorator>(
 where
     D::Annotation: Shown,
 {
-    watch.begin(at_width("render_to_lines", "render_to_lines 0", width))?;
+    watch.begin(at_width("render_to_lines", "render_to_lines 0", width));
     let came = config.render_to_lines(alloc, tree, width);
-    watch.end(&came)?;
+    watch.end(&came);
     let mut shown = String::new(alloc);
     for line in &came? {
         push_line(&mut shown, line)?;
@@ -254,9 +254,9 @@ fn metered<D: TextDecorator>(
         "render_to_lines_metered",
         "render_to_lines_metered 0",
         width,
-    ))?;
+    ));
     let came = config.render_to_lines_metered(alloc, tree, width, &mut meter);
-    watch.end(&came)?;
+    watch.end(&came);
     let _lines = came?;
     let (entered, left, frames) = (meter.entered, meter.left, meter.frames);
     Ok(format!(in alloc; "|entered {entered}, left {left}, frames {frames}\n")?)
@@ -292,13 +292,13 @@ fn coloured<D: TextDecorator>(
         return Err(Fault::Malformed("no map has this name"));
     }
     let width = number(width)?;
-    watch.begin(at_width("render_coloured", "render_coloured 0", width))?;
+    watch.begin(at_width("render_coloured", "render_coloured 0", width));
     let came = config.render_coloured(
         alloc,
         tree,
         width,
         |annotations: &[D::Annotation], text: &str| in_angles(alloc, annotations, text, refused),
     );
-    watch.end(&came)?;
+    watch.end(&came);
     printed(alloc, &came?)
 }
