@@ -112,7 +112,7 @@ fn push_signed(shown: &mut String, sign: &str, text: &str) -> Result<(), AllocEr
 pub fn push_data(shown: &mut String, data: &NodeData) -> Result<(), AllocError> {
     push_label(shown, data)?;
     if let NodeData::Element { attrs, .. } = data {
-        push_attributes(shown, attrs)?;
+        push_attributes(shown, attrs.as_slice())?;
     }
     Ok(())
 }

@@ -2,7 +2,7 @@
 
 ghost use Rattle.std.specs.Prelude.{◌≡◌, ◌||◌, ◌≤◌, ◌∷◌, ◌++◌, List, [], length, Some, None, IfSome, IfNone, IfOk, OnOk, IfErr, map, option_map, false, true};
 ghost use Rattle.html_render_dom.specs.Dom.{IsForest, IsNode};
-ghost use Rattle.html_render_dom.specs.NameKeys.{Tells};
+ghost use Rattle.html_render_dom.specs.RuleIndex.{Finds};
 ghost use Rattle.html_render_dom.specs.Rules.{rule_of};
 ghost use Rattle.html_render_conversion.specs.Outlines.{outline_at};
 ghost use Rattle.html_render_conversion.specs.Results.{render_tree_of};
@@ -27,7 +27,7 @@ use crate::spans::{Gathered, PartRows, RowCells, grid_over};
 use html_render_conversion::mapping::{IfEmpty, Outline, outline_of};
 use html_render_conversion::tables::CellSpan;
 use html_render_dom::dom::{Handle, NodeData, RcDom};
-use html_render_dom::style::{SelectedNames, StyleRule};
+use html_render_dom::style::{RuleIndex, StyleRule};
 use html_render_insertions::drafts::{Draft, Drafts, Inserted};
 use html_render_nodes::text::NodeText;
 use html_render_nodes::tree::{Flat, Grid, NodeKind, NodeStyle, RenderNode};
@@ -726,13 +726,13 @@ fn open_element(
 fn open_node(
     alloc: Global,
     rules: &[StyleRule],
-    names: &SelectedNames,
+    index: &RuleIndex,
     dom: &RcDom,
     handle: Handle,
     elements: &mut Vec<Open>,
     drafts: &mut Drafts,
 ) -> Result<(), Error>
-    requires names { Tells names.now (map rule_of rules.now) }
+    requires index { Finds index.now (map rule_of rules.now) }
     requires forest { IsForest dom.now }
     requires node { IsNode dom.now handle }
     ensures ok { OnOk result (IsOpened dom.now handle (outline_at (map rule_of rules.now) dom.now handle)
@@ -744,7 +744,7 @@ fn open_node(
         let text = NodeText::from_str(alloc, contents.as_str())?;
         return put_alone(Draft::from(NodeKind::Text(text)), elements, drafts);
     }
-    match outline_of(alloc, rules, names, dom, handle)? {
+    match outline_of(alloc, rules, index, dom, handle)? {
         Outline::Nothing => Ok(()),
         Outline::Alone(node) => put_alone(Draft::from(node), elements, drafts),
         Outline::Over {
@@ -830,13 +830,13 @@ fn drafts_of(alloc: Global, rules: &[StyleRule], dom: &RcDom) -> Result<Drafts, 
     ensures ok { IfOk result (λ drafts. render_tree_of (map rule_of rules.now) dom.now ≡ Some (expanded drafts)) }
     ensures err { IfErr result (λ e. Fails e (render_tree_of (map rule_of rules.now) dom.now)) }
 {
-    let names = SelectedNames::of(alloc, rules)?;
+    let index = RuleIndex::of(alloc, rules)?;
     let mut elements = Vec::new(alloc);
     let mut drafts = Drafts::with_capacity(alloc, dom.node_count())?;
     open_other(dom, dom.get_document(), 0, true, document(), &mut elements)?;
     'converting: loop {
         if let Some(child) = next_child(dom, &mut elements) {
-            open_node(alloc, rules, &names, dom, child, &mut elements, &mut drafts)?;
+            open_node(alloc, rules, &index, dom, child, &mut elements, &mut drafts)?;
         } else if let Some(open) = elements.pop() {
             let start = open.start;
             let element = open.into_element();

@@ -1,15 +1,11 @@
--- What the style of an element says where no rule selects it, where it is preformatted, and where it isn't displayed.
-use Rattle.std.proofs.Common.{◌≡◌, ℕ, Bool, true, false, if◌then◌else◌, List, [], ◌∷◌, ◌++◌, map, Option, is_some, option_to_list, sym, ap, ◌∙◌}
-use Rattle.html_render_dom.specs.Content.{Name, Property}
+-- What the style of an element says where it is preformatted, and where it isn't displayed.
+use Rattle.std.proofs.Common.{◌≡◌, ℕ, Bool, true, false, if◌then◌else◌, List, [], ◌∷◌, ◌++◌, Option, is_some, option_to_list, sym, ap, ◌∙◌}
 use Rattle.html_render_dom.specs.Cascade.{value_of, winner}
-use Rattle.html_render_dom.specs.ElementStyle.{ElementStyle, element_style, is_selected, style_by}
-use Rattle.html_render_dom.specs.Rules.{rule_of}
+use Rattle.html_render_dom.specs.ElementStyle.{ElementStyle}
 use Rattle.html_render_dom.specs.Specificities.{no_specificity}
 use Rattle.html_render_values.specs.declared.white_space.WhiteSpace.{WhiteSpace}
-use Rattle.html_render_dom.specs.declared.style.rules.StyleRule.{StyleRule}
 use Rattle.html_render_dom.specs.declared.style.specificities.Specificity.{Specificity}
 use Rattle.html_render_dom.specs.declared.style.updates.Update.{Update}
-use Rattle.html_render_dom.specs.laws.Unselected.{unselected-style}
 use Rattle.html_render_dom.specs.laws.Winners.{winner-one}
 use Rattle.html_render_conversion.specs.declared.mapping.ElementKind.{ElementKind}
 use Rattle.html_render_conversion.specs.declared.mapping.ElementKind.TheVariants.{Node}
@@ -19,19 +15,8 @@ use Rattle.html_render_conversion.specs.declared.mapping.Mapping.{Mapping}
 use Rattle.html_render_conversion.specs.declared.mapping.Mapping.TheVariants.{Nothing, Leaf, Parent}
 use Rattle.html_render_conversion.specs.declared.mapping.Outline.TheVariants.{Over}
 use Rattle.html_render_conversion.specs.declared.mapping.Outline.TheVariants as outline
-use Rattle.html_render_conversion.specs.Conversion.{last_white_space, preformatted_style, own_style, node_style}
-use Rattle.html_render_conversion.specs.Marks.{is_html}
-use Rattle.std.specs.Prelude.{◌&&◌, codes}
-use Rattle.std.specs.Str.{bytes_eq}
+use Rattle.html_render_conversion.specs.Conversion.{last_white_space, preformatted_style, node_style}
 use Rattle.html_render_conversion.specs.Outlines.{mark_alone, displayed_outline, styled_outline}
-
-pub unselected : (rules : List StyleRule) (name : Name) (properties : List Property) →
-    is_selected (map rule_of rules) name.local properties ≡ false →
-    (is_html name.space && bytes_eq name.local (codes "pre")) ≡ false → own_style (map rule_of rules) name properties ≡ style_by []
-unselected rules name properties e other =
-    let style = element_style (map rule_of rules) name.local properties in
-    ap (λ b. if b then preformatted_style style else style) other
-    ∙ unselected-style (map rule_of rules) name.local properties e
 
 -- `pre` gives its style an update of the least specificity behind those of all rules
 pub preformatted : (style : ElementStyle) (least : Specificity) (new : Option (Update WhiteSpace)) → least ≡ no_specificity →

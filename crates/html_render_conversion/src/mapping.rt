@@ -6,7 +6,7 @@ ghost use Rattle.html_render_dom.specs.Cascade.{value_of};
 ghost use Rattle.html_render_dom.specs.Content.{name_of, property_of, space_of};
 ghost use Rattle.html_render_dom.specs.Dom.{IsForest, IsNode, children_at, trees_of};
 ghost use Rattle.html_render_dom.specs.ElementStyle.{style_by, style_of};
-ghost use Rattle.html_render_dom.specs.NameKeys.{Tells};
+ghost use Rattle.html_render_dom.specs.RuleIndex.{Finds};
 ghost use Rattle.html_render_dom.specs.Rules.{rule_of};
 ghost use Rattle.html_render_dom.specs.Selectors.{first_value, is_filled};
 ghost use Rattle.html_render_nodes.specs.RenderNodes.{without_style};
@@ -22,8 +22,7 @@ use crate::tables::Part;
 use html_render_dom::Error;
 use html_render_dom::dom::{Attribute, Handle, Namespace, NodeData, QualName, RcDom};
 use html_render_dom::style::{
-    ComputedStyle, SelectedNames, Specificity, StyleOrigin, StyleRule, WhiteSpace, WithSpec,
-    computed_style,
+    ComputedStyle, RuleIndex, Specificity, StyleOrigin, StyleRule, WhiteSpace, WithSpec,
 };
 use html_render_nodes::text::NodeText;
 use html_render_nodes::tree::{Emphasis, Image, NodeKind, NodeStyle, RenderNode};
@@ -322,22 +321,22 @@ fn unstyled_outline(mapping: Mapping, mark: Option<NodeText>) -> Outline
 fn element_outline(
     alloc: Global,
     rules: &[StyleRule],
-    names: &SelectedNames,
+    index: &RuleIndex,
     mapping: Mapping,
     name: &QualName,
     attributes: &[Attribute],
 ) -> Result<Outline, Error>
-    requires { Tells names.now (map rule_of rules.now) }
+    requires { Finds index.now (map rule_of rules.now) }
     ensures ok { IfOk result (λ outline. outline ≡ styled_outline mapping (mark_of (name_of name.now) (map property_of attributes.now))
         (own_style (map rule_of rules.now) (name_of name.now) (map property_of attributes.now))) }
     ensures err { IfErr result (λ e. e ≡ Error.OutOfMemory) }
 {
     let mark = mark_of(alloc, name, attributes)?;
     let preformatted = is_preformatted(name);
-    if !preformatted && !names.is_selected(rules, name.local.as_str(), attributes) {
+    if !preformatted && !index.may_select(name.local.as_str(), attributes) {
         return Ok(unstyled_outline(mapping, mark));
     }
-    let mut style = computed_style(alloc, rules, name.local.as_str(), attributes)?;
+    let mut style = index.computed_style(alloc, rules, name.local.as_str(), attributes)?;
     if preformatted {
         preformat(&mut style);
     }
@@ -353,7 +352,7 @@ fn text_node(alloc: Global, contents: &str) -> Result<RenderNode, Error>
     Ok(RenderNode::from(NodeKind::Text(text)))
 }
 
-/// What becomes of a node of a document, its children aside, where `names` are those that the rules state.
+/// What becomes of a node of a document, its children aside, where `index` is that of the rules.
 ///
 /// # Errors
 ///
@@ -361,11 +360,11 @@ fn text_node(alloc: Global, contents: &str) -> Result<RenderNode, Error>
 pub fn outline_of(
     alloc: Global,
     rules: &[StyleRule],
-    names: &SelectedNames,
+    index: &RuleIndex,
     dom: &RcDom,
     node: Handle,
 ) -> Result<Outline, Error>
-    requires names { Tells names.now (map rule_of rules.now) }
+    requires index { Finds index.now (map rule_of rules.now) }
     requires forest { IsForest dom.now }
     requires node { IsNode dom.now node }
     ensures ok { IfOk result (λ outline. outline ≡ outline_at (map rule_of rules.now) dom.now node) }
@@ -384,7 +383,7 @@ pub fn outline_of(
         NodeData::Text { contents } => Ok(Outline::Alone(text_node(alloc, contents.as_str())?)),
         NodeData::Element { name, attrs, .. } => {
             let mapping = element_mapping(alloc, dom, node, name, attrs.as_slice())?;
-            element_outline(alloc, rules, names, mapping, name, attrs.as_slice())
+            element_outline(alloc, rules, index, mapping, name, attrs.as_slice())
         }
         NodeData::Doctype { .. }
         | NodeData::Comment { .. }

@@ -5,8 +5,9 @@ pub mod Forests
 pub mod Keeps
 pub mod Lists
 pub mod Moves
-pub mod NameKeys
 pub mod Names
 pub mod Outcomes
+pub mod Places
+pub mod RuleIndex
 pub mod Words
 pub mod Writes

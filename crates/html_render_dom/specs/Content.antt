@@ -50,5 +50,5 @@ content_of (Doctype name public_id system_id) = doctype (string_bytes name) (str
 content_of (Text contents) = text (string_bytes contents)
 content_of (Comment contents) = comment (string_bytes contents)
 content_of (Element name attrs template_contents integration_point) =
-    element (name_of name) (map property_of attrs.items) template_contents integration_point
+    element (name_of name) (map property_of attrs) template_contents integration_point
 content_of (ProcessingInstruction target contents) = instruction (string_bytes target) (string_bytes contents)

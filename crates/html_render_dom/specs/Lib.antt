@@ -16,9 +16,10 @@ pub mod Rules
 pub mod Selectors
 pub mod TextUpdates
 pub mod ElementStyle
-pub mod NameKeys
+pub mod RuleIndex
 -- what the functions inside the crate promise each other
 pub mod Room
+pub mod Places
 pub mod Frames
 pub mod Keeping
 -- what holds of all of them

@@ -5,4 +5,3 @@ pub mod Names
 pub mod Orders
 pub mod Trees
 pub mod Winners
-pub mod Unselected

@@ -3,6 +3,7 @@
 //! [`RcDom`] owns the nodes, and a [`Handle`] names one of them; `RcDom::new(alloc)?.get_document()` is the
 //! document, the node that all others hang from.
 
+mod attributes;
 mod contents;
 mod documents;
 mod dump;
@@ -17,6 +18,7 @@ mod paths;
 mod queries;
 mod settings;
 
+pub use attributes::Attributes;
 pub use contents::{NodeData, NodeOrText};
 pub use documents::RcDom;
 pub use handles::Handle;

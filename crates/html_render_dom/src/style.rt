@@ -7,8 +7,8 @@
 //! are selected as Selectors Level 3 has it.
 
 mod computed;
+mod index;
 mod laws;
-mod names;
 mod origins;
 mod rules;
 mod selectors;
@@ -16,10 +16,10 @@ mod specificities;
 mod updates;
 mod winners;
 
-pub use computed::{ComputedStyle, computed_style, is_selected};
+pub use computed::{ComputedStyle, computed_style};
 pub use html_render_values::colours::Colour;
 pub use html_render_values::white_space::WhiteSpace;
-pub use names::SelectedNames;
+pub use index::RuleIndex;
 pub use origins::StyleOrigin;
 pub use rules::{Declaration, Display, PseudoElement, Style, StyleRule};
 pub use specificities::Specificity;

@@ -1,7 +1,8 @@
 //! What a node holds, and what can be put into a list of children.
 
+use super::attributes::Attributes;
 use super::handles::Handle;
-use super::names::{Attribute, QualName};
+use super::names::QualName;
 
 /// What a node holds, beside its place among the others.
 #[derive(Drop)]
@@ -32,7 +33,7 @@ pub enum NodeData {
         /// The element's name.
         name: QualName,
         /// The attributes, in the order in which they were given.
-        attrs: Vec<Attribute>,
+        attrs: Attributes,
         /// The node that holds a template's contents, for an HTML `template`.
         template_contents: Option<Handle>,
         /// Whether the element is an HTML integration point of MathML's `annotation-xml`.

@@ -4,11 +4,9 @@ ghost use Rattle.std.specs.Cmp.{on_equiv, partial_equiv_from_equiv};
 ghost use Rattle.html_render_dom.specs.Content.{name_of, property_of, space_of};
 ghost use Rattle.html_render_dom.specs.Names.{name_eq, property_eq, space_eq};
 ghost use Rattle.html_render_dom.specs.laws.Names.{name_eq_equiv, property_eq_equiv, space_eq_equiv};
-ghost use Rattle.std.specs.Prelude.{◌≡◌, map, OnOk, OnErr, string_bytes};
-ghost use Rattle.html_render_dom.specs.Elements.{has_name, with_missing};
+ghost use Rattle.std.specs.Prelude.{◌≡◌, map, string_bytes};
+ghost use Rattle.html_render_dom.specs.Elements.{has_name};
 ghost use Rattle.html_render_dom.specs.Content as content;
-
-use std::alloc::AllocError;
 
 /// The namespace of a name.
 #[derive(Debug, Drop)]
@@ -105,19 +103,8 @@ impl Eq for Attribute {
 }
 
 /// Whether one of the attributes has the name.
-fn has_name(attrs: &[Attribute], name: &QualName) -> bool
+pub(super) fn has_name(attrs: &[Attribute], name: &QualName) -> bool
     ensures { result ≡ has_name (map property_of attrs.now) (name_of name.now) }
 {
     attrs.iter().any(|a| a.name == *name)
-}
-
-/// Adds, in order, those given whose name none of the attributes has.
-pub fn add_missing(attrs: &mut Vec<Attribute>, mut given: Vec<Attribute>) -> Result<(), AllocError>
-    ensures ok { OnOk result (map property_of attrs.new.items
-        ≡ with_missing (map property_of attrs.old.items) (map property_of given.items)) }
-    ensures err { OnErr result (map property_of attrs.new.items ≡ map property_of attrs.old.items) }
-{
-    let present = attrs.as_slice();
-    given.retain(|a| !has_name(present, &a.name));
-    attrs.append(&mut given)
 }

@@ -9,9 +9,10 @@ ghost use Rattle.html_render_dom.specs.Nodes.{node_of, nodes_of};
 ghost use Rattle.html_render_dom.specs.Room.{KeepsRoom};
 ghost use Rattle.html_render_dom.specs.Edits.{attached, attached_new, element_created, joined, with_children, text_put, with_content, with_parent};
 
+use super::attributes::Attributes;
 use super::contents::NodeData;
 use super::handles::Handle;
-use super::names::{self, Attribute, QualName};
+use super::names::{Attribute, QualName};
 use super::settings::ElementFlags;
 use smallvec::SmallVec;
 use std::alloc::{AllocError, Global};
@@ -152,7 +153,7 @@ pub fn push_element(
         alloc,
         NodeData::Element {
             name,
-            attrs,
+            attrs: Attributes::of(attrs),
             template_contents,
             mathml_annotation_xml_integration_point: flags.mathml_annotation_xml_integration_point,
         },
@@ -176,7 +177,7 @@ pub fn complete(
     ensures err { OnErr result (nodes_of nodes.new.items ≡ nodes_of nodes.old.items) }
 {
     if let NodeData::Element { attrs, .. } = &mut nodes[node.number()].data {
-        names::add_missing(attrs, given)?;
+        attrs.add_missing(given)?;
     }
     Ok(())
 }

@@ -1,11 +1,15 @@
 //! The style of an element, computed from rules.
 
-ghost use Rattle.std.specs.Prelude.{◌≡◌, [], ◌∷◌, ◌++◌, IfErr, IfOk, None, OnOk, Some, map, option_map, option_to_list, string_bytes};
+ghost use Rattle.std.specs.Prelude.{◌≡◌, [], ◌∷◌, ◌++◌, IfErr, IfOk, None, OnOk, Some, filter, map, option_copied, option_map, option_to_list, string_bytes};
+ghost use Rattle.std.specs.List.{flat_map};
+ghost use Rattle.std.specs.List.Sorted.{IsNonDecreasing};
 ghost use Rattle.html_render_values.specs.declared.errors.Error.TheVariants.{OutOfMemory};
 ghost use Rattle.html_render_dom.specs.Content.{property_of};
 ghost use Rattle.html_render_dom.specs.Cascade.{winner};
-ghost use Rattle.html_render_dom.specs.ElementStyle.{applied, element_style, is_selected, style_by, style_of, with_declarations};
+ghost use Rattle.html_render_dom.specs.ElementStyle.{applied, element_style, style_by, style_of, with_declarations};
+ghost use Rattle.html_render_dom.specs.RuleIndex.{HasSelected};
 ghost use Rattle.html_render_dom.specs.Rules.{declared_of, rule_of};
+ghost use Rattle.html_render_dom.specs.Selectors.{selects};
 ghost use Rattle.html_render_dom.specs.TextUpdates.{text_update};
 
 use super::origins::StyleOrigin;
@@ -210,17 +214,30 @@ pub fn computed_style(
     Ok(style)
 }
 
-/// Whether one of the rules selects an element of this local name and these attributes. Where none does, its style is that
-/// of no declaration.
-pub fn is_selected(rules: &[StyleRule], element: &str, attrs: &[Attribute]) -> bool
-    ensures { result ≡ is_selected (map rule_of rules.now) element.now (map property_of attrs.now) }
+/// The style of an element of this local name, id and classes, computed from the rules of these numbers, which ascend and are
+/// those of all rules that select it; others are asked as well.
+pub(super) fn style_of_rules(
+    rules: &[StyleRule],
+    numbers: &[usize],
+    element: &str,
+    id: Option<&str>,
+    classes: Option<&str>,
+) -> Result<ComputedStyle, AllocError>
+    requires ascending { IsNonDecreasing numbers.now }
+    requires all { HasSelected (selects element.now (option_copied id) (option_copied classes)) (map rule_of rules.now) 0 numbers.now }
+    ensures { IfOk result (λ style. style_of style
+        ≡ style_by (flat_map applied (filter (selects element.now (option_copied id.entry) (option_copied classes.entry)) (map rule_of rules.now)))) }
 {
-    let id = first_value(attrs, "id");
-    let classes = first_value(attrs, "class");
-    for rule in rules {
-        if rule.selects(element, id, classes) {
-            return true;
+    let mut style = ComputedStyle::unset();
+    // the number of the first rule that isn't done
+    let mut next = 0;
+    for number in numbers {
+        if let Some(rule) = rules.get(*number) {
+            if next <= *number && rule.selects(element, id, classes) {
+                style.update_all(rule)?;
+                next = *number + 1;
+            }
         }
     }
-    false
+    Ok(style)
 }

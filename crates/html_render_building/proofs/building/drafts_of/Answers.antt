@@ -52,8 +52,8 @@ next_child-requires c = λ below o is.
 pub open_node-requires-clause-forest : goal.open_node-requires-clause-forest
 open_node-requires-clause-forest c = c.get_document.ensures.forest
 
-pub open_node-requires-clause-names : goal.open_node-requires-clause-names
-open_node-requires-clause-names c = c.in_ok-names.ensures.ok
+pub open_node-requires-clause-index : goal.open_node-requires-clause-index
+open_node-requires-clause-index c = c.in_ok-index.ensures.ok
 
 pub open_node-requires-clause-node : goal.open_node-requires-clause-node
 open_node-requires-clause-node c = (opening-child (goal.at.open_node-requires-clause-node c).In-Some).is_node

@@ -1,0 +1,62 @@
+use Rattle.std.proofs.Common.{◌≡◌, ◌<◌, Bool, true, false, not, [], ◌∷◌, List, Vec, Global, length, map, get_or, inl, inr, refl, sym, ap, subst, ◌∙◌, arith, ◌==◌}
+use Rattle.std.proofs.lemmas.List.{get_or_default}
+use Rattle.std.proofs.lemmas.Bool.Decides.{nat_tests}
+use Rattle.std.proofs.lemmas.Grind.{common_steps}
+use Rattle.std.specs.Bool.{OnFalse}
+use Rattle.std.specs.Vec.{vec_len}
+use Rattle.html_render_dom.specs.declared.dom.names.Attribute.{Attribute}
+use Rattle.html_render_dom.specs.Content.{property_of}
+use Rattle.html_render_dom.specs.ElementStyle.{element_style, style_by}
+use Rattle.html_render_dom.specs.RuleIndex.{Finds, is_told, key_of}
+use Rattle.html_render_dom.specs.Rules.{Rule}
+use Rattle.html_render_dom.proofs.RuleIndex.{none_selects}
+use Rattle.html_render_dom.proofs.style.index.RuleIndex.may_select.Goals as goal
+use Rattle.html_render_dom.proofs.style.index.RuleIndex.may_select.Goals.{Else-not-is_empty, then-index, else-index}
+
+empty : {X : Type 0} (xs : Vec X Global) → (vec_len xs == 0) ≡ true → length xs.items ≡ 0
+empty xs e = grind (arith, nat_tests, common_steps)
+
+not_false : (b : Bool) → not b ≡ false → b ≡ true
+not_false true e = refl
+not_false false e = sym e
+
+no_items : (xs : List Attribute) → (length xs == 0) ≡ true → map property_of xs ≡ []
+no_items [] e = refl
+no_items (x ∷ xs) e = grind (arith, nat_tests)
+
+-- the name isn't told, and each rule states a text
+both : (c : Else-not-is_empty) → (is_told c.args.self.now.keys.items c.args.element.now ≡ false) × (length c.args.self.now.general.items ≡ 0)
+both c = elim c.if-index.branch [
+  | then-index w ↦ (let no : true ≡ false = sym w.if-index.true ∙ sym w.value-is ∙ c.if-not-is_empty.false in absurd (cc))
+  | else-index w ↦ (
+      let keys = c.args.self.now.keys.items in
+      let key = key_of c.args.element.now in
+      let within : key < length keys = omega (arith, c.key_of.ensures.key, c.key_of.ensures.small, c.requires) in (
+        get_or_default keys key true c.index.result.now within
+            ∙ ap (λ k. get_or keys k c.index.result.now) (sym c.key_of.ensures.key)
+            ∙ sym c.index.ensures
+            ∙ w.if-index.false,
+        empty c.args.self.now.general (sym w.is_empty.ensures ∙ not_false w.is_empty.result (sym w.value-is ∙ c.if-not-is_empty.false)),
+      )
+      )
+]
+
+pub returns-then-self : goal.returns-then-self
+returns-then-self c = by c.is_empty-then-self.result refl
+  where
+    All : Type 0
+    All = (rules : List Rule) → Finds c.args.self.now rules → element_style rules c.args.element.now (map property_of c.args.attrs.now) ≡ style_by []
+
+    by : (b : Bool) → c.is_empty-then-self.result ≡ b → OnFalse (not b) All
+    by false e = tt
+    by true e = λ rules finds.
+        let known = both (goal.at.returns-then-self c).Else-not-is_empty in
+        none_selects c.args.self.now rules c.args.element.now (map property_of c.args.attrs.now) finds known.0 known.1
+        (inr (no_items c.args.attrs.now (sym c.is_empty-then-self.ensures ∙ e)))
+
+pub returns-else-self : goal.returns-else-self
+returns-else-self c =
+    let known = both (goal.at.returns-else-self c).Else-not-is_empty in
+    subst (λ b. OnFalse b ((rules : List Rule) → Finds c.args.self.now rules →
+    element_style rules c.args.element.now (map property_of c.args.attrs.now) ≡ style_by [])) (sym c.if-self.false)
+    (λ rules finds. none_selects c.args.self.now rules c.args.element.now (map property_of c.args.attrs.now) finds known.0 known.1 (inl c.if-self.false))

@@ -1,0 +1,225 @@
+//! Which rules may select an element, found by the texts that rules state: an element asks these rules alone.
+
+ghost use Rattle.std.specs.Prelude.{◌≡◌, ◌<◌, [], ◌∷◌, ◌++◌, filter, if◌then◌else◌, IfErr, IfOk, length, List, ℕ, map, OnOk, option_copied, option_map, set, string_bytes, true};
+ghost use Rattle.std.specs.Borrow.{Bor};
+ghost use Rattle.std.specs.List.{Contains};
+ghost use Rattle.std.specs.List.Sorted.{IsNonDecreasing};
+ghost use Rattle.std.specs.Bool.{OnFalse};
+ghost use Rattle.std.specs.Str.{bytes_eq};
+ghost use Rattle.html_render_dom.specs.Content.{property_of};
+ghost use Rattle.html_render_dom.specs.ElementStyle.{element_style, style_by, style_of};
+ghost use Rattle.html_render_dom.specs.RuleIndex.{asks_attributes, Finds, is_told, key_of, numbers_under, stated_text, texts_of};
+ghost use Rattle.html_render_dom.specs.Rules.{Rule, rule_of};
+
+use super::computed::{ComputedStyle, computed_style, style_of_rules};
+use super::rules::StyleRule;
+use super::selectors::first_value;
+use crate::dom::Attribute;
+use html_render_values::Error;
+use std::alloc::{AllocError, Global};
+use std::collections::BTreeMap;
+
+/// So few rules are asked one by one.
+const FEW: usize = 16;
+
+/// How many keys there are.
+const KEYS: usize = 64;
+
+/// The key of a text, by its length and its first byte.
+fn key_of(text: &str) -> usize
+    ensures key { result ≡ key_of text.now }
+    ensures small { result < 64 }
+{
+    let first = match text.as_bytes().first() {
+        Some(byte) => *byte as usize,
+        None => 0,
+    };
+    (text.len() % KEYS * 3 + first) % KEYS
+}
+
+impl StyleRule {
+    /// Whether the rule states an id or a class.
+    fn asks_attributes(&self) -> bool
+        ensures { result ≡ asks_attributes (rule_of self.now) }
+    {
+        self.id.is_some() || !self.classes.is_empty()
+    }
+
+    /// The text that the rule is found under: its first class, else its id, else the name of its elements.
+    ///
+    /// An element that the rule selects has this text as a class, as its id or as its name.
+    fn stated_text(&self) -> Option<&String>
+        ensures { option_map (λ text. string_bytes text.now) result ≡ stated_text (rule_of self.now) }
+    {
+        match self.classes.first() {
+            Some(class) => Some(class),
+            None => match &self.id {
+                Some(id) => Some(id),
+                None => self.element.as_ref(),
+            },
+        }
+    }
+}
+
+/// The rules of a conversion by the texts that they state, so that an element asks few of many rules.
+#[derive(Drop)]
+pub struct RuleIndex {
+    /// For each key of a text whether a rule is found under a text that has it; for most elements none is.
+    keys: Vec<bool>,
+    /// The numbers of the rules that are found under a text, ascending.
+    by_text: BTreeMap<String, Vec<usize>>,
+    /// The numbers of the rules that state no text.
+    general: Vec<usize>,
+    /// Whether a rule states an id or a class.
+    asks_attributes: bool,
+}
+
+impl RuleIndex {
+    /// The index of these rules.
+    ///
+    /// # Errors
+    ///
+    /// `OutOfMemory`.
+    pub fn of(alloc: Global, rules: &[StyleRule]) -> Result<RuleIndex, Error>
+        ensures ok { IfOk result (λ index. Finds index (map rule_of rules.now)) }
+        ensures err { IfErr result (λ e. e ≡ Error.OutOfMemory) }
+    {
+        let mut index = RuleIndex {
+            keys: vec![in alloc; false; KEYS]?,
+            by_text: BTreeMap::new(alloc),
+            general: Vec::new(alloc),
+            asks_attributes: false,
+        };
+        for (number, rule) in rules.iter().enumerate() {
+            index.asks_attributes = index.asks_attributes | rule.asks_attributes();
+            match rule.stated_text() {
+                Some(text) => index.put(text, number)?,
+                None => index.general.push(number)?,
+            }
+        }
+        Ok(index)
+    }
+
+    /// Puts a rule under a text.
+    fn put(&mut self, text: &String, number: usize) -> Result<(), AllocError>
+        requires { length self.old.keys.items ≡ 64 }
+        ensures keys { OnOk result (self.new.keys.items ≡ set self.old.keys.items (key_of (string_bytes text.now)) true) }
+        ensures numbers { OnOk result ((t : List ℕ) → numbers_under self.new t
+            ≡ (if bytes_eq t (string_bytes text.now) then numbers_under self.old t ++ number ∷ [] else numbers_under self.old t)) }
+        ensures general { OnOk result (self.new.general.items ≡ self.old.general.items) }
+        ensures asks { self.new.asks_attributes ≡ self.old.asks_attributes }
+    {
+        self.keys[key_of(text.as_str())] = true;
+        let numbers = self.by_text.entry(text.clone()?)?.or_default();
+        numbers.push(number)?;
+        Ok(())
+    }
+
+    /// Adds a text that a rule may be found under; any other is left out.
+    fn add_told<'a>(&self, text: &'a str, texts: &mut Vec<&'a str>) -> Result<(), AllocError>
+        requires { length self.now.keys.items ≡ 64 }
+        ensures { OnOk result (map (λ t. t.now) texts.new.items
+            ≡ map (λ t. t.now) texts.old.items ++ filter (is_told self.now.keys.items) (text.now ∷ [])) }
+    {
+        if self.keys[key_of(text)] {
+            texts.push(text)?;
+        }
+        Ok(())
+    }
+
+    /// The texts of an element of this name, id and classes that a rule may be found under.
+    fn texts<'a>(
+        &self,
+        alloc: Global,
+        element: &'a str,
+        id: Option<&'a str>,
+        classes: Option<&'a str>,
+    ) -> Result<Vec<&'a str>, AllocError>
+        requires { length self.now.keys.items ≡ 64 }
+        ensures { IfOk result (λ texts. map (λ text. text.now) texts.items
+            ≡ filter (is_told self.now.keys.items) (texts_of element.now (option_copied id.entry) (option_copied classes.entry))) }
+    {
+        let mut texts = Vec::new(alloc);
+        self.add_told(element, &mut texts)?;
+        if let Some(id) = id {
+            self.add_told(id, &mut texts)?;
+        }
+        if let Some(classes) = classes {
+            let mut words = classes.split_ascii_whitespace();
+            while let Some(word) = words.next() {
+                self.add_told(word, &mut texts)?;
+            }
+        }
+        Ok(texts)
+    }
+
+    /// Adds the numbers of the rules that are found under a text.
+    fn add_numbers(&self, text: &str, numbers: &mut Vec<usize>) -> Result<(), AllocError>
+        ensures { OnOk result (numbers.new.items ≡ numbers.old.items ++ numbers_under self.now text.now) }
+    {
+        if let Some(found) = self.by_text.get(text) {
+            numbers.extend_from_slice(found.as_slice())?;
+        }
+        Ok(())
+    }
+
+    /// The numbers of the rules that are found under one of these texts, or state none, ascending.
+    fn numbers(&self, alloc: Global, mut texts: Vec<&str>) -> Result<Vec<usize>, AllocError>
+        ensures found { IfOk result (λ numbers. (text : Bor (List ℕ)) (number : ℕ) → Contains texts.entry.items text →
+            Contains (numbers_under self.now text.now) number → Contains numbers.items number) }
+        ensures general { IfOk result (λ numbers. (number : ℕ) → Contains self.now.general.items number → Contains numbers.items number) }
+        ensures ascending { IfOk result (λ numbers. IsNonDecreasing numbers.items) }
+    {
+        let mut numbers = Vec::new(alloc);
+        numbers.extend_from_slice(self.general.as_slice())?;
+        // a class that an element has twice is looked up once
+        texts.sort_unstable();
+        for (place, text) in texts.iter().enumerate() {
+            if place == 0 || texts[place - 1] != *text {
+                self.add_numbers(*text, &mut numbers)?;
+            }
+        }
+        numbers.sort_unstable();
+        Ok(numbers)
+    }
+
+    /// Whether one of the rules of which this is the index may select an element of this local name and these attributes. Where none
+    /// may, its style is that of no declaration.
+    #[inline]
+    pub fn may_select(&self, element: &str, attrs: &[Attribute]) -> bool
+        requires { length self.now.keys.items ≡ 64 }
+        ensures { OnFalse result ((rules : List Rule) → Finds self.now rules →
+            element_style rules element.now (map property_of attrs.now) ≡ style_by []) }
+    {
+        self.keys[key_of(element)]
+            || !self.general.is_empty()
+            || (self.asks_attributes && !attrs.is_empty())
+    }
+
+    /// The style that these rules, of which this is the index, give an element of this local name and these attributes.
+    ///
+    /// # Errors
+    ///
+    /// `OutOfMemory`.
+    #[inline(never)]
+    pub fn computed_style(
+        &self,
+        alloc: Global,
+        rules: &[StyleRule],
+        element: &str,
+        attrs: &[Attribute],
+    ) -> Result<ComputedStyle, Error>
+        requires { Finds self.now (map rule_of rules.now) }
+        ensures ok { IfOk result (λ style. style_of style ≡ element_style (map rule_of rules.now) element.now (map property_of attrs.now)) }
+        ensures err { IfErr result (λ e. e ≡ Error.OutOfMemory) }
+    {
+        if rules.len() <= FEW {
+            return computed_style(alloc, rules, element, attrs);
+        }
+        let id = first_value(attrs, "id");
+        let classes = first_value(attrs, "class");
+        let texts = self.texts(alloc, element, id, classes)?;
+        let numbers = self.numbers(alloc, texts)?;
+        Ok(style_of_rules(rules, numbers.as_slice(), element, id, classes)?)
+    }
+}
