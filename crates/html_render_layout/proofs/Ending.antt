@@ -10,8 +10,8 @@ use Rattle.html_render_values.specs.declared.errors.Error.TheVariants.{TooNarrow
 use Rattle.html_render_values.specs.Outcome.{Refuses}
 use Rattle.html_render_parts.specs.Decoration.{Decoration}
 use Rattle.html_render_blocks.specs.Operations.{DocumentEnd}
-use Rattle.html_render_layout.specs.declared.layout.state.LayoutState.{LayoutState}
-use Rattle.html_render_layout.specs.Ending.{footnotes, closing_texts, ended}
+use Rattle.html_render_states.specs.declared.state.LayoutState.{LayoutState}
+use Rattle.html_render_states.specs.Ending.{footnotes, closing_texts, ended}
 
 pub ruleset joined = (append_assoc)
 

@@ -13,7 +13,7 @@ use Rattle.html_render_blocks.specs.declared.block.BlockSetting.{BlockSetting}
 use Rattle.html_render_blocks.specs.Visible.{visible_in_text}
 use Rattle.html_render_pictures.specs.Visible.{count}
 use Rattle.html_render_estimates.specs.declared.settings.LayoutSettings.{LayoutSettings}
-use Rattle.html_render_layout.specs.Layout.{defined, estimated, empty_state}
+use Rattle.html_render_states.specs.Layout.{defined, estimated, empty_state}
 
 -- the nodes that a layout visits, in order, without the cells that it skips
 abbrev pub visited_nodes : {S A : Type 0} → Decoration S A → LayoutSettings → Forest RenderNode → S → BlockSetting → List RenderNode

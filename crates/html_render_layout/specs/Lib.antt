@@ -1,11 +1,6 @@
--- the layout: the definition, and what the code computes
-pub mod Stacks
-pub mod Images
-pub mod Ending
-pub mod Layout
+-- what is laid out, and what of a document its lines keep
+pub mod LaidOut
 pub mod Kept
-pub mod Opening
-pub mod Working
 -- laws of the definitions
 pub mod laws
 pub mod Promises

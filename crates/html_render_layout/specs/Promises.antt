@@ -8,7 +8,7 @@ use Rattle.html_render_nodes.specs.Pass.{run}
 use Rattle.html_render_estimates.specs.declared.settings.LayoutSettings.{LayoutSettings}
 use Rattle.html_render_blocks.specs.declared.block.BlockSetting.{BlockSetting}
 use Rattle.html_render_layout.specs.Kept.{visited_nodes, KeepsTexts}
-use Rattle.html_render_layout.specs.Layout.{layout_lines, Defined, defined}
+use Rattle.html_render_states.specs.Layout.{layout_lines, Defined, defined}
 
 -- of the lines that it answers: they are those of the tree in a block; with overflow off and links wrapped none passes the width;
 -- where overflow off gives lines, they are these; and each visible character of the texts that are visited stands in them

@@ -1,4 +1,3 @@
-pub mod Stacks
 pub mod Opening
 pub mod Sizes
 pub mod Related

@@ -2,5 +2,3 @@
 #![tactic(auto)]
 
 pub mod layout;
-pub mod stacks;
-pub mod tagging;

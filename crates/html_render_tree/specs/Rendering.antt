@@ -9,7 +9,7 @@ use Rattle.html_render_parts.specs.Decoration.{Decoration}
 use Rattle.html_render_nodes.specs.declared.tree.RenderNode.{RenderNode}
 use Rattle.html_render_estimates.specs.declared.settings.LayoutSettings.{LayoutSettings}
 use Rattle.html_render_blocks.specs.declared.block.BlockSetting.{BlockSetting}
-use Rattle.html_render_layout.specs.Layout.{layout_lines, mark_names}
+use Rattle.html_render_states.specs.Layout.{layout_lines, mark_names}
 use Rattle.html_render_layout.specs.Promises.{Lines}
 use Rattle.html_render_estimates.specs.Settings.{default_settings}
 use Rattle.html_render_tagged.specs.Grouping.{Piece, grouped}

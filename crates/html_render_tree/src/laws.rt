@@ -5,7 +5,7 @@ ghost use Rattle.html_render_dom.specs.Selectors.{specificity_of};
 ghost use Rattle.html_render_dom.specs.declared.style.origins.StyleOrigin.TheVariants as origin;
 ghost use Rattle.html_render_values.specs.Forest.{Forest};
 ghost use Rattle.html_render_blocks.specs.declared.block.BlockSetting.{BlockSetting};
-ghost use Rattle.html_render_layout.specs.Layout.{layout_lines, mark_names};
+ghost use Rattle.html_render_states.specs.Layout.{layout_lines, mark_names};
 ghost use Rattle.html_render_layout.specs.Promises.{AreLines};
 ghost use Rattle.html_render_tree.specs.Decorations.{decorations, decoration_specificity};
 

@@ -22,8 +22,8 @@ use Rattle.html_render_blocks.specs.laws.Beside.{Holds, Blocks, operations-besid
 use Rattle.html_render_blocks.specs.laws.BlockHolds.{OwnWithin, PictureWithin, within, answers, refines}
 use Rattle.html_render_blocks.specs.laws.TableWithin.{OpenWithin}
 use Rattle.html_render_estimates.specs.declared.settings.LayoutSettings.{LayoutSettings}
-use Rattle.html_render_layout.specs.Layout.{by_stacks, shown_after, Defined, empty_state, estimated, layout_lines, mark_names}
-use Rattle.html_render_layout.specs.Working.{padding}
+use Rattle.html_render_states.specs.Layout.{by_stacks, shown_after, Defined, empty_state, estimated, layout_lines, mark_names}
+use Rattle.html_render_states.specs.Working.{padding}
 use Rattle.html_render_layout.specs.laws.Related.{Other, with_other, shown-related}
 
 -- a layout beside one that may have overflow on: stacks are the same, and what is said of the block's lines is said of those that are shown

@@ -11,22 +11,22 @@ use Rattle.html_render_nodes.specs.Pass.{Visit, Leaf, Inner, followed, placed, p
 use Rattle.html_render_nodes.specs.Pass.{Way, Past, past, opened_with, IsOpened}
 use Rattle.html_render_nodes.specs.laws.Visits.{from_state}
 use Rattle.html_render_estimates.specs.Estimates.{prefix_columns}
-use Rattle.html_render_layout.specs.declared.layout.nesting.OwnBlock.{OwnBlock}
-use Rattle.html_render_layout.specs.declared.layout.nesting.OwnBlock.TheVariants.{Shared, Prefixed, Indented}
-use Rattle.html_render_layout.specs.declared.layout.state.Closing.{Closing}
-use Rattle.html_render_layout.specs.declared.layout.state.Interruption.{Interruption}
-use Rattle.html_render_layout.specs.declared.layout.state.Interruption.TheVariants as interruption
-use Rattle.html_render_layout.specs.declared.layout.state.Interruption.TheVariants.{NoBlock, Quoted, Cell}
-use Rattle.html_render_layout.specs.declared.layout.state.KindClosing.{KindClosing}
-use Rattle.html_render_layout.specs.declared.layout.state.KindClosing.TheVariants.{EndRow}
-use Rattle.html_render_layout.specs.declared.layout.state.LayoutState.{LayoutState}
-use Rattle.html_render_layout.specs.declared.layout.state.TextContext.{TextContext}
-use Rattle.html_render_layout.specs.Layout.{Write, NewLineHard, raised, image, write, perform}
-use Rattle.html_render_layout.specs.Layout.{Means, superscript, digits_of, block_of, shape_of, style_steps, perform_all, within}
-use Rattle.html_render_layout.specs.Layout.{block_place, cell_place, shape_layout, kind_layout, layout_of}
-use Rattle.html_render_layout.specs.Images.{shown_title}
-use Rattle.html_render_layout.specs.Opening.{interrupted, continued, keeping, block_begun, block_kept, kind_kept, kind_opened, kind_closed, child_block, kind_below}
-use Rattle.html_render_layout.specs.Opening.{opened_in, text_opened, cell_opened, block_opened, opened_below, opened, below, closed}
+use Rattle.html_render_states.specs.declared.nesting.OwnBlock.{OwnBlock}
+use Rattle.html_render_states.specs.declared.nesting.OwnBlock.TheVariants.{Shared, Prefixed, Indented}
+use Rattle.html_render_states.specs.declared.state.Closing.{Closing}
+use Rattle.html_render_states.specs.declared.state.Interruption.{Interruption}
+use Rattle.html_render_states.specs.declared.state.Interruption.TheVariants as interruption
+use Rattle.html_render_states.specs.declared.state.Interruption.TheVariants.{NoBlock, Quoted, Cell}
+use Rattle.html_render_states.specs.declared.state.KindClosing.{KindClosing}
+use Rattle.html_render_states.specs.declared.state.KindClosing.TheVariants.{EndRow}
+use Rattle.html_render_states.specs.declared.state.LayoutState.{LayoutState}
+use Rattle.html_render_states.specs.declared.state.TextContext.{TextContext}
+use Rattle.html_render_states.specs.Layout.{Write, NewLineHard, raised, image, write, perform}
+use Rattle.html_render_states.specs.Layout.{Means, superscript, digits_of, block_of, shape_of, style_steps, perform_all, within}
+use Rattle.html_render_states.specs.Layout.{block_place, cell_place, shape_layout, kind_layout, layout_of}
+use Rattle.html_render_states.specs.Images.{shown_title}
+use Rattle.html_render_states.specs.Opening.{interrupted, continued, keeping, block_begun, block_kept, kind_kept, kind_opened, kind_closed, child_block, kind_below}
+use Rattle.html_render_states.specs.Opening.{opened_in, text_opened, cell_opened, block_opened, opened_below, opened, below, closed}
 
 -- nothing done behind a visit
 module _ {S : Type 0} where

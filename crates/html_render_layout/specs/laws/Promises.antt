@@ -12,7 +12,7 @@ use Rattle.html_render_nodes.specs.declared.tree.RenderNode.{RenderNode}
 use Rattle.html_render_estimates.specs.declared.settings.LayoutSettings.{LayoutSettings}
 use Rattle.html_render_blocks.specs.declared.block.BlockSetting.{BlockSetting}
 use Rattle.html_render_layout.specs.Kept.{visited_nodes, KeepsTexts}
-use Rattle.html_render_layout.specs.Layout.{layout_lines, mark_names, unannotated}
+use Rattle.html_render_states.specs.Layout.{layout_lines, mark_names, unannotated}
 use Rattle.html_render_layout.specs.Promises.{AreLines, Lines, HasLines, LeavesTexts}
 use Rattle.html_render_layout.specs.laws.LayoutLaws.{layout_within, layout_succeeds, layout_same, names_same, same_answer}
 use Rattle.html_render_layout.specs.laws.LayoutVisible.{layout_keeps_texts, layout_leaves}

@@ -18,16 +18,16 @@ use Rattle.html_render_nodes.specs.laws.Visits.{from, from_state}
 use Rattle.html_render_paragraphs.specs.laws.Answers.{Both, Both-then, Both-map, Both-weaken}
 use Rattle.html_render_blocks.specs.Operations.{Operations, DocumentEnd}
 use Rattle.html_render_blocks.specs.laws.Related.{Relates, RelatesEnds}
-use Rattle.html_render_layout.specs.declared.layout.nesting.OwnBlock.{OwnBlock}
-use Rattle.html_render_layout.specs.declared.layout.nesting.OwnBlock.TheVariants.{Shared, Prefixed, Indented}
-use Rattle.html_render_layout.specs.declared.layout.state.LayoutState.{LayoutState}
-use Rattle.html_render_layout.specs.declared.layout.state.TextContext.{TextContext}
-use Rattle.html_render_layout.specs.Ending.{closing_texts, ended}
-use Rattle.html_render_layout.specs.Layout.{Means, Step, Write, WriteNumber, Annotate, Treat, Strike, Unstrike, Restore, NewLine, NewLineHard}
-use Rattle.html_render_layout.specs.Layout.{StartBlock, EndBlock, Fence, BeginTable, EndTable, AddTarget, AddMark, Shape, Steps, Around, Items}
-use Rattle.html_render_layout.specs.Layout.{Cells, spaces, padded, block_of, shape_of, style_steps, struck, white_space_in, on_block}
-use Rattle.html_render_layout.specs.Layout.{text_style, add_styled, write, annotated, fence, perform, perform_all, within, nested, joined, appended}
-use Rattle.html_render_layout.specs.Layout.{appended_block, block_place, cell_place, shape_layout, kind_layout, layout_of, shown_after}
+use Rattle.html_render_states.specs.declared.nesting.OwnBlock.{OwnBlock}
+use Rattle.html_render_states.specs.declared.nesting.OwnBlock.TheVariants.{Shared, Prefixed, Indented}
+use Rattle.html_render_states.specs.declared.state.LayoutState.{LayoutState}
+use Rattle.html_render_states.specs.declared.state.TextContext.{TextContext}
+use Rattle.html_render_states.specs.Ending.{closing_texts, ended}
+use Rattle.html_render_states.specs.Layout.{Means, Step, Write, WriteNumber, Annotate, Treat, Strike, Unstrike, Restore, NewLine, NewLineHard}
+use Rattle.html_render_states.specs.Layout.{StartBlock, EndBlock, Fence, BeginTable, EndTable, AddTarget, AddMark, Shape, Steps, Around, Items}
+use Rattle.html_render_states.specs.Layout.{Cells, spaces, padded, block_of, shape_of, style_steps, struck, white_space_in, on_block}
+use Rattle.html_render_states.specs.Layout.{text_style, add_styled, write, annotated, fence, perform, perform_all, within, nested, joined, appended}
+use Rattle.html_render_states.specs.Layout.{appended_block, block_place, cell_place, shape_layout, kind_layout, layout_of, shown_after}
 
 -- how texts are treated, under another tag
 abbrev pub context : {T U : Type 0} → TextContext T → U → TextContext U

@@ -13,9 +13,9 @@ use Rattle.html_render_blocks.specs.Machine as machine
 use Rattle.html_render_blocks.specs.Machine.{MachineBlock}
 use Rattle.html_render_paragraphs.specs.laws.Answers.{Both}
 use Rattle.html_render_blocks.specs.laws.BlockSeen.{Tags, Blocks, operations-seen, ends-seen, later-seen, lines-seen}
-use Rattle.html_render_layout.specs.declared.layout.state.LayoutState.{LayoutState}
-use Rattle.html_render_layout.specs.Layout.{by_stacks, layout_of, shown_after, Defined, defined}
-use Rattle.html_render_layout.specs.Working.{by_tags}
+use Rattle.html_render_states.specs.declared.state.LayoutState.{LayoutState}
+use Rattle.html_render_states.specs.Layout.{by_stacks, layout_of, shown_after, Defined, defined}
+use Rattle.html_render_states.specs.Working.{by_tags}
 use Rattle.html_render_layout.specs.laws.Related.{Other, with_other, walked-related, shown-related}
 
 -- push puts an annotation onto a tag of what is kept, shown is what is seen of a tag and seen of a stack; Later says how

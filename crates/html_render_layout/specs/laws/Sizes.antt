@@ -15,10 +15,10 @@ use Rattle.html_render_nodes.specs.Pass.{placed, run_at, run, nodes_at, open_at}
 use Rattle.html_render_nodes.specs.laws.Visits.{from, from_state, count_from, length-from}
 use Rattle.html_render_estimates.specs.Passes.{is_table, has_table, without_size, without_sizes, with_needed_sizes}
 use Rattle.html_render_blocks.specs.Operations.{DocumentEnd}
-use Rattle.html_render_layout.specs.declared.layout.state.LayoutState.{LayoutState}
+use Rattle.html_render_states.specs.declared.state.LayoutState.{LayoutState}
 use Rattle.html_render_estimates.specs.declared.settings.LayoutSettings.{LayoutSettings}
-use Rattle.html_render_layout.specs.Layout.{Means, digits_of, superscript, block_of, shape_of, style_steps, perform_all, block_place, shape_layout}
-use Rattle.html_render_layout.specs.Layout.{kind_layout, layout_of, shown_after}
+use Rattle.html_render_states.specs.Layout.{Means, digits_of, superscript, block_of, shape_of, style_steps, perform_all, block_place, shape_layout}
+use Rattle.html_render_states.specs.Layout.{kind_layout, layout_of, shown_after}
 
 -- a node without its size
 abbrev unsized : RenderNode → RenderNode

@@ -3,14 +3,14 @@
 ghost use Rattle.std.specs.Prelude.{◌≡◌, Some, OnOk, IfOk, IfErr, string_bytes};
 ghost use Rattle.std.specs.Str.{chars};
 ghost use Rattle.html_render_values.specs.Outcome.{Refuses};
-ghost use Rattle.html_render_layout.specs.Layout.{emphasis_decoration, start, annotated, write, perform_all};
-ghost use Rattle.html_render_layout.specs.Working.{by_tags};
+ghost use Rattle.html_render_states.specs.Layout.{emphasis_decoration, start, annotated, write, perform_all};
+ghost use Rattle.html_render_states.specs.Working.{by_tags};
 
 use super::texts::add_text;
-use super::working::State;
-use crate::tagging::Tagging;
 use html_render_nodes::tree::Emphasis;
 use html_render_parts::decorate::TextDecorator;
+use html_render_states::tagging::Tagging;
+use html_render_states::working::State;
 use html_render_values::Error;
 use std::alloc::Global;
 

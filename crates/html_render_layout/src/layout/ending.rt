@@ -5,11 +5,11 @@ ghost use Rattle.std.specs.Fmt.{decimal};
 ghost use Rattle.std.specs.Prelude.{OnOk, IfOk, IfErr};
 ghost use Rattle.html_render_values.specs.Outcome.{Refuses};
 ghost use Rattle.html_render_blocks.specs.Machine as machine;
-ghost use Rattle.html_render_layout.specs.Ending.{footnotes, closing_texts, ended};
+ghost use Rattle.html_render_states.specs.Ending.{footnotes, closing_texts, ended};
 
-use super::working::State;
-use crate::tagging::Tagging;
 use html_render_parts::decorate::TextDecorator;
+use html_render_states::tagging::Tagging;
+use html_render_states::working::State;
 use html_render_values::Error;
 use html_render_values::text::Text;
 use std::alloc::{AllocError, Global};

@@ -2,15 +2,15 @@
 
 ghost use Rattle.std.specs.Prelude.{◌≡◌, Some, OnOk, IfErr, option_map};
 ghost use Rattle.html_render_values.specs.Outcome.{Refuses};
-ghost use Rattle.html_render_layout.specs.Images.{file_name, shown_title};
-ghost use Rattle.html_render_layout.specs.Layout.{image, perform_all};
-ghost use Rattle.html_render_layout.specs.Working.{by_tags};
+ghost use Rattle.html_render_states.specs.Images.{file_name, shown_title};
+ghost use Rattle.html_render_states.specs.Layout.{image, perform_all};
+ghost use Rattle.html_render_states.specs.Working.{by_tags};
 
 use super::emphasis::begin;
-use super::working::State;
-use crate::tagging::Tagging;
 use html_render_estimates::settings::ImageRenderMode;
 use html_render_parts::decorate::TextDecorator;
+use html_render_states::tagging::Tagging;
+use html_render_states::working::State;
 use html_render_values::Error;
 use std::alloc::Global;
 

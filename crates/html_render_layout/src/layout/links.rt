@@ -3,16 +3,16 @@
 ghost use Rattle.std.specs.Prelude.{◌≡◌, ◌∷◌, Some, OnOk, IfErr};
 ghost use Rattle.html_render_values.specs.Outcome.{Refuses};
 ghost use Rattle.html_render_parts.specs.Decoration.{link};
-ghost use Rattle.html_render_layout.specs.Layout.{AddTarget, AddMark, start, perform, perform_all, write_number};
-ghost use Rattle.html_render_layout.specs.Opening.{kind_closed};
-ghost use Rattle.html_render_layout.specs.Working.{by_tags};
+ghost use Rattle.html_render_states.specs.Layout.{AddTarget, AddMark, start, perform, perform_all, write_number};
+ghost use Rattle.html_render_states.specs.Opening.{kind_closed};
+ghost use Rattle.html_render_states.specs.Working.{by_tags};
 
 use super::emphasis::begin;
-use super::state::{KindClosing, TextContext};
 use super::texts::add_text;
-use super::working::State;
-use crate::tagging::Tagging;
 use html_render_parts::decorate::TextDecorator;
+use html_render_states::state::{KindClosing, TextContext};
+use html_render_states::tagging::Tagging;
+use html_render_states::working::State;
 use html_render_values::Error;
 use std::alloc::Global;
 

@@ -7,30 +7,30 @@ ghost use Rattle.html_render_nodes.specs.Pass.{way};
 ghost use Rattle.html_render_nodes.specs.Preorder.{flatten, forest_of};
 ghost use Rattle.html_render_parts.specs.Decoration.{link};
 ghost use Rattle.html_render_estimates.specs.Estimates.{prefix_columns, number_columns};
-ghost use Rattle.html_render_layout.specs.Layout.{AddTarget, BeginTable, Fence, NewLine, StartBlock, Strike, block_of, perform_all};
-ghost use Rattle.html_render_layout.specs.Layout.{start};
-ghost use Rattle.html_render_layout.specs.Opening.{child_block, continued};
-ghost use Rattle.html_render_layout.specs.Opening.{kind_opened, kind_closed, opened_in, text_opened, cell_opened, block_opened, opened_below};
-ghost use Rattle.html_render_layout.specs.Opening.{opened, closed};
-ghost use Rattle.html_render_layout.specs.Working.{by_tags};
+ghost use Rattle.html_render_states.specs.Layout.{AddTarget, BeginTable, Fence, NewLine, StartBlock, Strike, block_of, perform_all};
+ghost use Rattle.html_render_states.specs.Layout.{start};
+ghost use Rattle.html_render_states.specs.Opening.{child_block, continued};
+ghost use Rattle.html_render_states.specs.Opening.{kind_opened, kind_closed, opened_in, text_opened, cell_opened, block_opened, opened_below};
+ghost use Rattle.html_render_states.specs.Opening.{opened, closed};
+ghost use Rattle.html_render_states.specs.Working.{by_tags};
 
 use super::emphasis::{begin_emphasis, begin_strikeout, begin_superscript, end_of};
 use super::images::add_image;
-use super::items::child_block;
 use super::links::{add_mark, begin_link, close_link};
-use super::nesting::{OwnBlock, begin_block, close_indent, close_quote};
-use super::state::{Closing, Interruption, KindClosing};
-use super::styles::begin_style;
 use super::superscripts::{digits_of, write_raised};
 use super::tables::{begin_cell, begin_table, end_cell, end_table};
 use super::texts::add_text;
-use super::working::{Kept, KindKept, State};
-use crate::tagging::Tagging;
 use html_render_blocks::block::Block;
 use html_render_estimates::estimate::number_columns;
 use html_render_estimates::text::columns;
 use html_render_nodes::tree::{Emphasis, Entry, Estimate, Grid, NodeKind, NodeStyle, RenderNode};
 use html_render_parts::decorate::TextDecorator;
+use html_render_states::items::child_block;
+use html_render_states::nesting::{OwnBlock, begin_block, close_indent, close_quote};
+use html_render_states::state::{Closing, Interruption, KindClosing};
+use html_render_states::styles::begin_style;
+use html_render_states::tagging::Tagging;
+use html_render_states::working::{Kept, KindKept, State};
 use html_render_values::Error;
 use html_render_values::text::Text;
 use std::alloc::Global;
@@ -392,8 +392,7 @@ fn open_in<D: TextDecorator, G: Tagging<D::Annotation>>(
     ensures err { IfErr result (λ e. Refuses e (opened_in (by_tags D.decoration G.annotated) item node.now (forest_of children.now)
         state.old)) }
 {
-    let text = state.text;
-    begin_style(alloc, &node.style, state)?;
+    let text = begin_style(alloc, &node.style, state)?;
     let block = block_of(alloc, &node.kind, &node.estimate, state)?;
     let own = begin_block(alloc, block, state)?;
     match open_kind(alloc, own, &node.kind, &node.estimate, children, state)? {
@@ -418,8 +417,7 @@ fn open_text<D: TextDecorator, G: Tagging<D::Annotation>>(
     ensures ok { IfOk result (λ c. text_opened (by_tags D.decoration G.annotated) text.now style.now state.old ≡ Some (way state.new c)) }
     ensures err { IfErr result (λ e. Refuses e (text_opened (by_tags D.decoration G.annotated) text.now style.now state.old)) }
 {
-    let context = state.text;
-    begin_style(alloc, style, state)?;
+    let context = begin_style(alloc, style, state)?;
     add_text(alloc, text, state)?;
     state.text = context;
     Ok(None)

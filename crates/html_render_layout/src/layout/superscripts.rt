@@ -6,14 +6,14 @@ ghost use Rattle.std.specs.List.{list_all};
 ghost use Rattle.std.specs.Str.{chars};
 ghost use Rattle.html_render_values.specs.Outcome.{Refuses};
 ghost use Rattle.html_render_nodes.specs.Preorder.{flatten, forest_of};
-ghost use Rattle.html_render_layout.specs.Layout.{write, digits_of_kind, digits_of, raised};
-ghost use Rattle.html_render_layout.specs.Working.{by_tags};
+ghost use Rattle.html_render_states.specs.Layout.{write, digits_of_kind, digits_of, raised};
+ghost use Rattle.html_render_states.specs.Working.{by_tags};
 
 use super::texts::add_text;
-use super::working::State;
-use crate::tagging::Tagging;
 use html_render_nodes::tree::{Entry, NodeKind, RenderNode};
 use html_render_parts::decorate::TextDecorator;
+use html_render_states::tagging::Tagging;
+use html_render_states::working::State;
 use html_render_values::Error;
 use std::alloc::{AllocError, Global};
 

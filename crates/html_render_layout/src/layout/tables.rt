@@ -3,17 +3,17 @@
 ghost use Rattle.std.specs.Prelude.{◌≡◌, [], ◌∷◌, Some, OnOk, IfOk, IfErr, codes};
 ghost use Rattle.std.specs.Str.{chars};
 ghost use Rattle.html_render_values.specs.Outcome.{Refuses};
-ghost use Rattle.html_render_layout.specs.Layout.{StartBlock, Fence, BeginTable, fence, perform, perform_all, within};
-ghost use Rattle.html_render_layout.specs.Opening.{cell_closed, table_closed};
-ghost use Rattle.html_render_layout.specs.Working.{by_tags};
+ghost use Rattle.html_render_states.specs.Layout.{StartBlock, Fence, BeginTable, fence, perform, perform_all, within};
+ghost use Rattle.html_render_states.specs.Opening.{cell_closed, table_closed};
+ghost use Rattle.html_render_states.specs.Working.{by_tags};
 
-use super::state::{InterruptedTable, OuterTable};
-use super::working::State;
-use crate::tagging::Tagging;
 use html_render_blocks::block::Block;
 use html_render_lines::character::TextStyle;
 use html_render_nodes::tree::Grid;
 use html_render_parts::decorate::TextDecorator;
+use html_render_states::state::{InterruptedTable, OuterTable};
+use html_render_states::tagging::Tagging;
+use html_render_states::working::State;
 use html_render_values::Error;
 use html_render_values::white_space::WhiteSpace;
 use std::alloc::Global;

@@ -4,13 +4,13 @@ ghost use Rattle.std.specs.Prelude.{◌≡◌, [], ◌∷◌, ◌++◌, true, So
 ghost use Rattle.std.specs.Str.{chars, encode_utf8_all};
 ghost use Rattle.html_render_values.specs.Outcome.{Refuses};
 ghost use Rattle.html_render_blocks.specs.Machine as machine;
-ghost use Rattle.html_render_layout.specs.Layout.{struck, on_block, text_style, add_styled, write};
-ghost use Rattle.html_render_layout.specs.Working.{by_tags};
+ghost use Rattle.html_render_states.specs.Layout.{struck, on_block, text_style, add_styled, write};
+ghost use Rattle.html_render_states.specs.Working.{by_tags};
 
-use super::working::State;
-use crate::tagging::Tagging;
 use html_render_lines::character::{TextStyle, is_collapsible};
 use html_render_parts::decorate::TextDecorator;
+use html_render_states::tagging::Tagging;
+use html_render_states::working::State;
 use html_render_values::Error;
 use std::alloc::{AllocError, Global};
 

@@ -12,7 +12,7 @@ use Rattle.html_render_nodes.specs.declared.tree.RenderNode.{RenderNode}
 use Rattle.html_render_estimates.specs.declared.settings.LayoutSettings.{LayoutSettings}
 use Rattle.html_render_nodes.specs.Pass.{run}
 use Rattle.html_render_blocks.specs.declared.block.BlockSetting.{BlockSetting}
-use Rattle.html_render_layout.specs.Layout.{layout_lines, mark_names, Defined, defined, estimated, empty_state, unannotated}
+use Rattle.html_render_states.specs.Layout.{layout_lines, mark_names, Defined, defined, estimated, empty_state, unannotated}
 use Rattle.html_render_layout.specs.Promises.{AreLines}
 use Rattle.html_render_layout.specs.laws.Promises.{same-names}
 use Rattle.html_render_tagged.specs.Grouping.{Piece, grouped}

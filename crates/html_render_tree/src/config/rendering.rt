@@ -3,7 +3,7 @@
 ghost use Rattle.std.specs.Prelude.{◌≡◌, ◌≢◌, ◌≤◌, List, true, false, Some, Err, IfOk, IfErr, option_map, string_bytes};
 ghost use Rattle.html_render_values.specs.Outcome.{Refuses};
 ghost use Rattle.html_render_nodes.specs.Counts.{CountsNodes};
-ghost use Rattle.html_render_layout.specs.Layout.{defined, estimated, empty_state};
+ghost use Rattle.html_render_states.specs.Layout.{defined, estimated, empty_state};
 ghost use Rattle.html_render_layout.specs.Promises.{HasLines, LeavesTexts};
 ghost use Rattle.html_render_tagged.specs.Colouring.{IsColoured};
 ghost use Rattle.html_render_tagged.specs.Grouping.{Piece, lines_of};

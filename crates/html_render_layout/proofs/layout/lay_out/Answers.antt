@@ -2,10 +2,11 @@ use Rattle.std.proofs.Common.{◌≡◌, Some, IfOk, IfErr, refl, sym, ◌∙◌
 use Rattle.std.proofs.lemmas.Result.{IfOk-weaker}
 use Rattle.html_render_values.specs.Outcome.{Refuses}
 use Rattle.html_render_nodes.specs.laws.Counts.{none-counted}
-use Rattle.html_render_layout.specs.Layout.{defined, empty_state, estimated, layout_lines}
+use Rattle.html_render_states.specs.Layout.{defined, empty_state, estimated, layout_lines}
 use Rattle.html_render_layout.specs.laws.LayoutWorks.{empty_worked, layout_lines-works, mark_names-works, counts-work}
 use Rattle.html_render_layout.specs.laws.Promises.{are-lines, wide_enough}
-use Rattle.html_render_layout.specs.Working.{work_lines, laid_out}
+use Rattle.html_render_states.specs.Working.{work_lines}
+use Rattle.html_render_layout.specs.LaidOut.{laid_out}
 use Rattle.html_render_layout.proofs.layout.lay_out.Goals as goal
 use Rattle.html_render_layout.proofs.layout.lay_out.Given.{Over}
 

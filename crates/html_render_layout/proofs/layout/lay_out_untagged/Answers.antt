@@ -2,11 +2,11 @@ use Rattle.std.proofs.Common.{◌≡◌, IfErr, Result, Ok, Err, option_map, sym
 use Rattle.std.proofs.lemmas.Result.{IfOk-weaker}
 use Rattle.html_render_values.specs.declared.errors.Error.{Error}
 use Rattle.html_render_values.specs.Outcome.{Refuses}
-use Rattle.html_render_layout.specs.declared.tagging.Untagged.{Untagged as Nothing}
-use Rattle.html_render_layout.specs.Layout.{layout_lines, unannotated}
+use Rattle.html_render_states.specs.declared.tagging.Untagged.{Untagged as Nothing}
+use Rattle.html_render_states.specs.Layout.{layout_lines, unannotated}
 use Rattle.html_render_layout.specs.laws.LayoutWorks.{empty_untagged, untagged_lines-works}
 use Rattle.html_render_layout.specs.laws.Promises.{unannotated-are-lines, refuses-mapped, wide_enough}
-use Rattle.html_render_layout.specs.Working.{untagged_work}
+use Rattle.html_render_states.specs.Working.{untagged_work}
 use Rattle.html_render_layout.proofs.layout.lay_out_untagged.Goals as goal
 use Rattle.html_render_layout.proofs.layout.lay_out_untagged.Given.{Over}
 

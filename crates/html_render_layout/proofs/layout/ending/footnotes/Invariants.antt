@@ -1,6 +1,6 @@
 use Rattle.std.proofs.Common.{◌≡◌, ◌+◌, ◌++◌, map, drop}
 use Rattle.std.specs.Prelude.{string_bytes}
-use Rattle.html_render_layout.specs.Ending.{footnotes}
+use Rattle.html_render_states.specs.Ending.{footnotes}
 use Rattle.html_render_layout.proofs.layout.ending.footnotes.Given as goal
 
 -- the footnotes so far, and those of the links that are left

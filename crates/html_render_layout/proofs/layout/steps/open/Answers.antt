@@ -4,11 +4,11 @@ use Rattle.html_render_values.specs.Outcome.{Refuses}
 use Rattle.html_render_nodes.specs.declared.tree.RenderNode.{RenderNode}
 use Rattle.html_render_nodes.specs.Pass.{way}
 use Rattle.html_render_nodes.specs.Preorder.{forest_of}
-use Rattle.html_render_layout.specs.declared.layout.state.KindClosing.{KindClosing}
-use Rattle.html_render_layout.specs.declared.layout.state.KindClosing.TheVariants.{Bullets, Numbers}
-use Rattle.html_render_layout.specs.Layout.{Means, State}
-use Rattle.html_render_layout.specs.Opening.{child_block, block_opened, opened_below}
-use Rattle.html_render_layout.specs.Working.{by_tags}
+use Rattle.html_render_states.specs.declared.state.KindClosing.{KindClosing}
+use Rattle.html_render_states.specs.declared.state.KindClosing.TheVariants.{Bullets, Numbers}
+use Rattle.html_render_states.specs.Layout.{Means, State}
+use Rattle.html_render_states.specs.Opening.{child_block, block_opened, opened_below}
+use Rattle.html_render_states.specs.Working.{by_tags}
 use Rattle.html_render_layout.proofs.layout.steps.open.Goals as goal
 
 -- below a list a node is opened in a block of its own

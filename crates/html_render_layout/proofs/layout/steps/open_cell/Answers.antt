@@ -2,10 +2,10 @@ use Rattle.std.proofs.Common.{◌≡◌, ◌∙◌, Some, IfOk, IfErr, sym, subs
 use Rattle.html_render_values.specs.Outcome.{Refuses}
 use Rattle.html_render_nodes.specs.Pass.{way}
 use Rattle.html_render_nodes.specs.Preorder.{forest_of}
-use Rattle.html_render_layout.specs.declared.layout.state.Interruption.TheVariants.{Cell}
-use Rattle.html_render_layout.specs.Layout.{within}
-use Rattle.html_render_layout.specs.Opening.{cell_opened, opened_in}
-use Rattle.html_render_layout.specs.Working.{by_tags}
+use Rattle.html_render_states.specs.declared.state.Interruption.TheVariants.{Cell}
+use Rattle.html_render_states.specs.Layout.{within}
+use Rattle.html_render_states.specs.Opening.{cell_opened, opened_in}
+use Rattle.html_render_states.specs.Working.{by_tags}
 use Rattle.html_render_layout.proofs.layout.steps.open_cell.Goals as goal
 
 pub returns-clause-ok : goal.returns-clause-ok
