@@ -49,6 +49,6 @@ content_of Document = document
 content_of (Doctype name public_id system_id) = doctype (string_bytes name) (string_bytes public_id) (string_bytes system_id)
 content_of (Text contents) = text (string_bytes contents)
 content_of (Comment contents) = comment (string_bytes contents)
-content_of (Element name attrs template_contents integration_point) =
+content_of (Element integration_point name attrs template_contents) =
     element (name_of name) (map property_of attrs) template_contents integration_point
 content_of (ProcessingInstruction target contents) = instruction (string_bytes target) (string_bytes contents)

@@ -30,14 +30,15 @@ pub enum NodeData {
     },
     /// An element.
     Element {
+        /// Whether the element is an HTML integration point of MathML's `annotation-xml`. It comes first, where it makes no node
+        /// larger.
+        mathml_annotation_xml_integration_point: bool,
         /// The element's name.
         name: QualName,
         /// The attributes, in the order in which they were given.
         attrs: Attributes,
         /// The node that holds a template's contents, for an HTML `template`.
         template_contents: Option<Handle>,
-        /// Whether the element is an HTML integration point of MathML's `annotation-xml`.
-        mathml_annotation_xml_integration_point: bool,
     },
     /// A processing instruction.
     ProcessingInstruction {
