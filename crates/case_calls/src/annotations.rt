@@ -1,7 +1,7 @@
 //! What decorators answer, as cases show it.
 
 use crate::texts::push_escaped;
-use html_render_parts::decorate::RichAnnotation;
+use html_render_decorators::decorate::RichAnnotation;
 use std::alloc::{AllocError, Global};
 
 /// An annotation that a case can show.

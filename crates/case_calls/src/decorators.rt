@@ -5,7 +5,7 @@ use crate::faults::Fault;
 use crate::rules::colour;
 use crate::texts::{number, split_word};
 use crate::watch::Watch;
-use html_render_parts::decorate::{PlainDecorator, RichDecorator, TextDecorator};
+use html_render_decorators::decorate::{PlainDecorator, RichDecorator, TextDecorator};
 use html_render_values::Error;
 use html_render_values::text::Text;
 use std::alloc::Global;

@@ -1,7 +1,7 @@
 -- WHAT A DECORATOR ANSWERS that changes some answers of another one, and leaves the others as they are. S are the values of
 -- what changes them, B the annotations of the decorator below, and A those above. Texts are in UTF-8.
 use Rattle.std.specs.Prelude.{ℕ, List, Option, Some, None}
-use Rattle.html_render_parts.specs.Decoration.{Decoration, Start, Round}
+use Rattle.html_render_decorators.specs.Decoration.{Decoration, Start, Round}
 use Rattle.html_render_alterations.specs.declared.place.Place.{Place}
 use Rattle.html_render_alterations.specs.declared.place.Place.TheVariants.{LinkStart, LinkEnd, EmStart, EmEnd, StrongStart, StrongEnd, StrikeoutStart}
 use Rattle.html_render_alterations.specs.declared.place.Place.TheVariants.{StrikeoutEnd, CodeStart, CodeEnd, SuperscriptStart, SuperscriptEnd, Image}

@@ -5,7 +5,7 @@ ghost use Rattle.html_render_alterations.specs.Alteration.{altered, coloured};
 
 use crate::changes::Changes;
 use crate::place::{Given, Place};
-use html_render_parts::decorate::TextDecorator;
+use html_render_decorators::decorate::TextDecorator;
 use html_render_values::Error;
 use html_render_values::colours::Colour;
 use html_render_values::text::Text;

@@ -42,7 +42,7 @@ mod rows;
 mod tables;
 
 /// How wide a block is, and whether what is wider is laid out nevertheless.
-#[derive(Clone, Copy, Debug)]
+#[derive(Clone, Copy)]
 pub struct BlockSetting {
     /// The columns of a line.
     pub width: usize,

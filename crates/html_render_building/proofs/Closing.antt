@@ -17,8 +17,8 @@ use Rattle.html_render_insertions.specs.declared.drafts.Draft.{Draft}
 use Rattle.html_render_building.specs.declared.building.Open.{Open}
 use Rattle.html_render_building.specs.Building.{Arrival, Holding, arrivals, arrive_any, closed, closed_by, closed_into, document_drafts, document_of, is_captioned, rows_of, table_stands}
 use Rattle.html_render_building.specs.Opened.{Closed, IsAfter, IsLast}
-use Rattle.html_render_building.specs.declared.order.Pick.TheVariants.{All}
-use Rattle.html_render_building.specs.Order.{children_in}
+use Rattle.html_render_orders.specs.declared.order.Pick.TheVariants.{All}
+use Rattle.html_render_orders.specs.Order.{children_in}
 use Rattle.html_render_building.specs.Spans.{spans_of_parts}
 use Rattle.html_render_building.proofs.Coming.{arrive-before, before}
 use Rattle.html_render_building.proofs.Paths.{AreSound, Converting, Converting-after, Path, Step, ahead_of, elements_of, holding, made_of_path}

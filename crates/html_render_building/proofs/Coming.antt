@@ -9,11 +9,11 @@ use Rattle.html_render_dom.specs.Rules.{Rule as StyleRule}
 use Rattle.html_render_nodes.specs.laws.Splits.{followed_by-followed_by}
 use Rattle.html_render_insertions.specs.declared.drafts.Draft.{Draft}
 use Rattle.html_render_conversion.specs.Outlines.{outline_of}
-use Rattle.html_render_building.specs.declared.order.Pick.{Pick}
-use Rattle.html_render_building.specs.declared.order.Pick.TheVariants.{All}
+use Rattle.html_render_orders.specs.declared.order.Pick.{Pick}
+use Rattle.html_render_orders.specs.declared.order.Pick.TheVariants.{All}
 use Rattle.html_render_building.specs.Building.{Arrival, Holding, arrive, come, arrivals}
 use Rattle.html_render_building.specs.Elements.{keeps}
-use Rattle.html_render_building.specs.Order.{picks, picked}
+use Rattle.html_render_orders.specs.Order.{picks, picked}
 
 -- ---- one after the other
 

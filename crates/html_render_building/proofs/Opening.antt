@@ -21,12 +21,12 @@ use Rattle.html_render_building.specs.declared.building.Open.{Open}
 use Rattle.html_render_building.specs.declared.elements.Element.{Element}
 use Rattle.html_render_building.specs.declared.elements.OpenKind.{OpenKind}
 use Rattle.html_render_building.specs.declared.elements.OpenKind.TheVariants.{Captioned}
-use Rattle.html_render_building.specs.declared.order.Pick.{Pick}
-use Rattle.html_render_building.specs.declared.order.Pick.TheVariants.{All as Every, Captions, Feet, Others}
+use Rattle.html_render_orders.specs.declared.order.Pick.{Pick}
+use Rattle.html_render_orders.specs.declared.order.Pick.TheVariants.{All as Every, Captions, Feet, Others}
 use Rattle.html_render_building.specs.Building.{Holding, arrive, arrivals, closed_into, come, come_of, document_drafts, document_of, document_start, fresh, leaf_arrival, table_start}
 use Rattle.html_render_building.specs.Elements.{opened_kind}
-use Rattle.html_render_building.specs.Opened.{IsAfter, IsOpened, opened_elements, other_elements, own_count, table_elements}
-use Rattle.html_render_building.specs.Order.{caption_order, has_own_order, is_named, listed_in, part_order, picked, picks}
+use Rattle.html_render_building.specs.Opened.{IsAfter, IsOpened, opened_elements, other_elements, table_elements}
+use Rattle.html_render_orders.specs.Order.{caption_order, has_own_order, is_named, listed_in, own_count, part_order, picked, picks}
 use Rattle.html_render_building.proofs.Coming.{arrivals-followed_by, arrivals-picked, arrive-before, before, bind-bind, bind-same, chain, trees_of-append}
 use Rattle.html_render_building.proofs.Paths.{AreSound, Converting, Converting-after, Opening, Path, Step, ahead_of, come_at, elements_of, holding}
 use Rattle.html_render_building.proofs.Paths.{made_of_path, resumed_from}

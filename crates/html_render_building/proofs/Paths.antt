@@ -10,10 +10,10 @@ use Rattle.html_render_dom.specs.Rules.{Rule as StyleRule}
 use Rattle.html_render_dom.specs.laws.Trees.{below-children}
 use Rattle.html_render_insertions.specs.declared.drafts.Draft.{Draft}
 use Rattle.html_render_building.specs.declared.building.Open.{Open}
-use Rattle.html_render_building.specs.declared.order.Pick.TheVariants.{All}
+use Rattle.html_render_orders.specs.declared.order.Pick.TheVariants.{All}
 use Rattle.html_render_building.specs.Building.{Holding, arrivals, come, closed_into, document_drafts, document_of}
 use Rattle.html_render_building.specs.Opened.{IsAfter}
-use Rattle.html_render_building.specs.Order.{children_in}
+use Rattle.html_render_orders.specs.Order.{children_in}
 use Rattle.html_render_conversion.specs.Outlines.{outline_at, outline_of}
 use Rattle.html_render_building.proofs.Coming.{arrivals-followed_by, before, bind-bind, trees_of-append}
 

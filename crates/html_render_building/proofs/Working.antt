@@ -13,11 +13,11 @@ use Rattle.html_render_conversion.specs.declared.mapping.Outline.{Outline}
 use Rattle.html_render_conversion.specs.declared.mapping.Outline.TheVariants.{Nothing, Alone, Over}
 use Rattle.html_render_building.specs.declared.building.Open.{Open}
 use Rattle.html_render_building.specs.declared.elements.Element.{Element}
-use Rattle.html_render_building.specs.declared.order.Pick.TheVariants.{Captions, Feet, Others}
+use Rattle.html_render_orders.specs.declared.order.Pick.TheVariants.{Captions, Feet, Others}
 use Rattle.html_render_building.specs.Building.{arrive, fresh, is_captioned, leaf_arrival}
 use Rattle.html_render_building.specs.Elements.{opened_kind}
-use Rattle.html_render_building.specs.Opened.{IsOpened, opened_elements, other_elements, own_count, table_elements}
-use Rattle.html_render_building.specs.Order.{children_in, has_own_order, is_named, listed_in, picked}
+use Rattle.html_render_building.specs.Opened.{IsOpened, opened_elements, other_elements, table_elements}
+use Rattle.html_render_orders.specs.Order.{children_in, has_own_order, is_named, listed_in, own_count, picked}
 use Rattle.html_render_building.specs.laws.Parting.{one_name}
 use Rattle.html_render_building.proofs.Coming.{trees_of-append}
 use Rattle.html_render_building.proofs.Paths.{remaining}

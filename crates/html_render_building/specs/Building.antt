@@ -28,10 +28,10 @@ use Rattle.html_render_building.specs.declared.elements.OpenKind.{OpenKind}
 use Rattle.html_render_building.specs.declared.elements.OpenKind.TheVariants.{Node, Captioned, Table, Rows, Row, Cell, Caption}
 use Rattle.html_render_conversion.specs.Results.{Role}
 use Rattle.html_render_conversion.specs.Results as role
-use Rattle.html_render_building.specs.declared.order.Pick.{Pick}
-use Rattle.html_render_building.specs.declared.order.Pick.TheVariants.{All, Captions, Feet, Others}
+use Rattle.html_render_orders.specs.declared.order.Pick.{Pick}
+use Rattle.html_render_orders.specs.declared.order.Pick.TheVariants.{All, Captions, Feet, Others}
 use Rattle.html_render_building.specs.Elements.{keeps, opened_kind, received, told_of_table}
-use Rattle.html_render_building.specs.Order.{picks}
+use Rattle.html_render_orders.specs.Order.{picks}
 use Rattle.html_render_building.specs.Spans.{spans_of_parts}
 
 -- ---- what comes to an element

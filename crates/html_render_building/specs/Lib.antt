@@ -1,8 +1,6 @@
 -- the nodes of a document, made in one pass
 pub mod Spans
 pub mod Elements
-pub mod ChildLists
-pub mod Order
 pub mod Building
 pub mod Opened
 -- what follows from the definitions

@@ -11,12 +11,7 @@ use Rattle.html_render_building.specs.declared.elements.Element.{Element}
 use Rattle.html_render_building.specs.Elements.{opened_kind}
 use Rattle.html_render_building.specs.declared.building.Open.{Open}
 use Rattle.html_render_building.specs.Building.{Holding, arrive, fresh, is_captioned, leaf_arrival, table_start}
-use Rattle.html_render_building.specs.Order.{caption_order, children_in, listed_in, part_order}
-
--- how many children are in an order of their own, if there is one
-abbrev pub own_count : Option (List ℕ) → ℕ
-own_count None = 0
-own_count (Some own) = length own
+use Rattle.html_render_orders.specs.Order.{caption_order, children_in, listed_in, own_count, part_order}
 
 -- a table within its wrapper: its children come apart, the captions after what is below it
 abbrev pub table_elements : Dom → (handle start : ℕ) → (around : Element) → List Open

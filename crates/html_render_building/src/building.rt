@@ -6,7 +6,7 @@ ghost use Rattle.html_render_dom.specs.RuleIndex.{Finds};
 ghost use Rattle.html_render_dom.specs.Rules.{rule_of};
 ghost use Rattle.html_render_conversion.specs.Outlines.{outline_at};
 ghost use Rattle.html_render_conversion.specs.Results.{render_tree_of};
-ghost use Rattle.html_render_building.specs.Order.{children_in};
+ghost use Rattle.html_render_orders.specs.Order.{children_in};
 ghost use Rattle.html_render_nodes.specs.Splits.{SplitAt};
 ghost use Rattle.html_render_nodes.specs.RenderNodes.{no_style};
 ghost use Rattle.html_render_nodes.specs.declared.tree.NodeKind.TheVariants as kind;
@@ -22,7 +22,6 @@ ghost use Rattle.html_render_building.specs.declared.building.Open.{Open};
 ghost use Rattle.html_render_conversion.specs.Results as role;
 
 use crate::elements::{Element, OpenKind, Role};
-use crate::order::{Children, table_orders};
 use crate::spans::{Gathered, PartRows, RowCells, grid_over};
 use html_render_conversion::mapping::{IfEmpty, Outline, outline_of};
 use html_render_conversion::tables::CellSpan;
@@ -31,6 +30,7 @@ use html_render_dom::style::{RuleIndex, StyleRule};
 use html_render_insertions::drafts::{Draft, Drafts, Inserted};
 use html_render_nodes::text::NodeText;
 use html_render_nodes::tree::{Flat, Grid, NodeKind, NodeStyle, RenderNode};
+use html_render_orders::order::{Children, table_orders};
 use html_render_values::Error;
 use std::alloc::Global;
 

@@ -4,5 +4,4 @@
 pub mod building;
 pub mod elements;
 mod kinds;
-pub mod order;
 pub mod spans;

@@ -10,7 +10,7 @@ use Rattle.html_render_values.specs.declared.white_space.WhiteSpace.TheVariants.
 use Rattle.html_render_dom.specs.declared.style.origins.StyleOrigin.TheVariants.{Agent}
 use Rattle.html_render_dom.specs.declared.style.updates.Update.{Update}
 use Rattle.html_render_dom.specs.Cascade.{value_of, winner}
-use Rattle.html_render_dom.specs.Content.{Name, Property, Space, html, svg, Content}
+use Rattle.html_render_dom.specs.Content.{Name, Property, Space, html, svg, Content, is_html}
 use Rattle.html_render_dom.specs.ElementStyle.{ElementStyle, element_style}
 use Rattle.html_render_values.specs.Forest.{Forest}
 use Rattle.html_render_dom.specs.Rules.{Rule as StyleRule}
@@ -27,7 +27,6 @@ use Rattle.html_render_conversion.specs.declared.mapping.Mapping.{Mapping}
 use Rattle.html_render_conversion.specs.declared.mapping.Mapping.TheVariants.{Nothing, Leaf, Parent}
 use Rattle.html_render_conversion.specs.declared.tables.Part.TheVariants as part
 use Rattle.html_render_conversion.specs.Images.{image_parts, drawing_title}
-use Rattle.html_render_conversion.specs.Marks.{is_html}
 use Rattle.html_render_conversion.specs.Tables.{numeral_of, span_of}
 
 abbrev pub is_one_of : List ℕ → List (List ℕ) → Bool

@@ -3,7 +3,7 @@
 ghost use Rattle.std.specs.Prelude.{◌≡◌, ◌&&◌, [], IfOk, IfErr, codes, if◌then◌else◌, map, option_map, string_bytes};
 ghost use Rattle.std.specs.Str.{bytes_eq};
 ghost use Rattle.html_render_dom.specs.Cascade.{value_of};
-ghost use Rattle.html_render_dom.specs.Content.{name_of, property_of, space_of};
+ghost use Rattle.html_render_dom.specs.Content.{name_of, property_of, space_of, is_html};
 ghost use Rattle.html_render_dom.specs.Dom.{IsForest, IsNode, children_at, trees_of};
 ghost use Rattle.html_render_dom.specs.ElementStyle.{style_by, style_of};
 ghost use Rattle.html_render_dom.specs.RuleIndex.{Finds};
@@ -11,7 +11,7 @@ ghost use Rattle.html_render_dom.specs.Rules.{rule_of};
 ghost use Rattle.html_render_dom.specs.Selectors.{first_value, is_filled};
 ghost use Rattle.html_render_nodes.specs.RenderNodes.{without_style};
 ghost use Rattle.html_render_conversion.specs.Images.{image_parts};
-ghost use Rattle.html_render_conversion.specs.Marks.{is_html, mark_of};
+ghost use Rattle.html_render_conversion.specs.Marks.{mark_of};
 ghost use Rattle.html_render_conversion.specs.Conversion.{html_mapping, html_element_mapping, element_mapping, link_mapping};
 ghost use Rattle.html_render_conversion.specs.Conversion.{preformatted_style, own_style, node_style};
 ghost use Rattle.html_render_conversion.specs.Outlines.{mark_alone, styled_outline, outline_at};
@@ -29,7 +29,7 @@ use html_render_nodes::tree::{Emphasis, Image, NodeKind, NodeStyle, RenderNode};
 use std::alloc::Global;
 
 /// What becomes of an element whose children have no results that count.
-#[derive(Clone, Copy, Debug, PartialEq, Eq)]
+#[derive(Clone, Copy)]
 pub enum IfEmpty {
     /// A node without children.
     Stands,

@@ -1,7 +1,7 @@
 //! What the elements of tables are, as HTML has them.
 
 /// A part of a table, as an element of HTML makes it.
-#[derive(Clone, Copy, Debug, PartialEq, Eq)]
+#[derive(Clone, Copy)]
 pub enum Part {
     /// A table: of `table`.
     Table,
@@ -18,7 +18,7 @@ pub enum Part {
 }
 
 /// What a cell asks for.
-#[derive(Clone, Copy, Debug, PartialEq, Eq)]
+#[derive(Clone, Copy)]
 pub struct CellSpan {
     /// How many columns: 0 stands for as many as its row has left, in its part of the table.
     pub colspan: usize,

@@ -1,5 +1,5 @@
 -- What a node of the document object model holds, with each text as its list of bytes.
-use Rattle.std.specs.Prelude.{ℕ, Bool, List, Option, map, string_bytes}
+use Rattle.std.specs.Prelude.{ℕ, Bool, true, false, List, Option, map, string_bytes}
 use Rattle.html_render_dom.specs.declared.dom.names.Namespace.{Namespace}
 use Rattle.html_render_dom.specs.declared.dom.names.Namespace.TheVariants.{None, Html, Svg, MathMl, Other}
 use Rattle.html_render_dom.specs.declared.dom.names.QualName.{QualName}
@@ -37,6 +37,10 @@ space_of Html = html
 space_of Svg = svg
 space_of MathMl = mathml
 space_of (Other address) = other (string_bytes address)
+
+abbrev pub is_html : Space → Bool
+is_html html = true
+is_html _ = false
 
 abbrev pub name_of : QualName → Name
 name_of n = record { space = space_of n.ns; local = string_bytes n.local }

@@ -1,6 +1,6 @@
 -- The style of an element: for each property the winner among the declarations of the rules that select it.
 use Rattle.std.specs.Prelude.{ℕ, Bool, false, List, ◌++◌, codes, Option, Some, None, map, filter, option_map, option_to_list}
-use Rattle.std.specs.List.{filter_map, flat_map, list_any}
+use Rattle.std.specs.List.{filter_map, flat_map}
 use Rattle.html_render_values.specs.declared.colours.Colour.{Colour}
 use Rattle.html_render_dom.specs.declared.style.origins.StyleOrigin.{StyleOrigin}
 use Rattle.html_render_dom.specs.declared.style.specificities.Specificity.{Specificity}
@@ -67,10 +67,6 @@ pub record ElementStyle : Type 0 where
   pub content_before : Option (Update (List ℕ))
   pub content_after : Option (Update (List ℕ))
   pub internal_pre : Bool
-
--- whether one of these rules selects an element of this local name and these attributes
-abbrev pub is_selected : List Rule → (name : List ℕ) → List Property → Bool
-is_selected rules name properties = list_any (selects name (first_value (codes "id") properties) (first_value (codes "class") properties)) rules
 
 -- the style that declarations give
 abbrev pub style_by : List Applied → ElementStyle

@@ -15,8 +15,8 @@ use crate::settings::LayoutSettings;
 use crate::sized::{Measure, measure_table, total_size};
 use crate::text::{columns, size_within};
 use crate::trees::first_tree;
+use html_render_decorators::decorate::TextDecorator;
 use html_render_nodes::tree::{Entry, Estimate, Flat, NodeKind, RenderNode};
-use html_render_parts::decorate::TextDecorator;
 use html_render_values::Error;
 use std::alloc::Global;
 

@@ -8,7 +8,7 @@ ghost use Rattle.html_render_estimates.specs.declared.settings.LayoutSettings.{L
 ghost use Rattle.html_render_estimates.specs.Estimates.{measured};
 ghost use Rattle.html_render_estimates.specs.Passes.{has_table, with_needed_sizes};
 
-use html_render_parts::decorate::TextDecorator;
+use html_render_decorators::decorate::TextDecorator;
 
 /// Each node's least width is at most its size, in all trees, for each decorator and all settings.
 #[tactic(auto, using(crate::specs::laws::Least::each_within))]

@@ -42,7 +42,7 @@ impl ImageRenderMode {
 }
 
 /// How the nodes of a document are laid out.
-#[derive(Debug, Drop)]
+#[derive(Drop)]
 pub struct LayoutSettings {
     /// Whether a link is followed by its number, and a line for each closes the document.
     pub link_footnotes: bool,

@@ -8,7 +8,7 @@ use Rattle.std.specs.Str.{chars}
 use Rattle.html_render_values.specs.declared.errors.Error.{Error}
 use Rattle.html_render_values.specs.declared.errors.Error.TheVariants.{TooNarrow, Fail, OutOfMemory}
 use Rattle.html_render_values.specs.Outcome.{Refuses}
-use Rattle.html_render_parts.specs.Decoration.{Decoration}
+use Rattle.html_render_decorators.specs.Decoration.{Decoration}
 use Rattle.html_render_blocks.specs.Operations.{DocumentEnd}
 use Rattle.html_render_states.specs.declared.state.LayoutState.{LayoutState}
 use Rattle.html_render_states.specs.Ending.{footnotes, closing_texts, ended}

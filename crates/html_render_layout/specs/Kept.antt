@@ -2,7 +2,7 @@
 use Rattle.std.specs.Prelude.{ℕ, ◌≤◌, false, List, [], flat_map}
 use Rattle.std.specs.Str.{chars}
 use Rattle.html_render_values.specs.Forest.{Forest}
-use Rattle.html_render_parts.specs.Decoration.{Decoration}
+use Rattle.html_render_decorators.specs.Decoration.{Decoration}
 use Rattle.html_render_lines.specs.Line.{Line}
 use Rattle.html_render_lines.specs.Visible.{visible_in_lines}
 use Rattle.html_render_nodes.specs.declared.tree.NodeKind.{NodeKind}

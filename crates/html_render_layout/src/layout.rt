@@ -19,13 +19,13 @@ ghost use Rattle.html_render_states.specs.Working.{padding, by_tags, tabled, wor
 ghost use Rattle.html_render_layout.specs.LaidOut.{laid_out};
 
 use html_render_blocks::block::{Block, BlockSetting};
+use html_render_decorators::decorate::TextDecorator;
 use html_render_estimates::estimate::measure;
 use html_render_estimates::settings::LayoutSettings;
 use html_render_lines::line::Line;
 use html_render_lines::tag::Tag;
 use html_render_nodes::tree::{Entry, Flat, RenderNode, RenderTree};
 use html_render_nodes::walk::{Pass, walk};
-use html_render_parts::decorate::TextDecorator;
 use html_render_parts::widths::Meter;
 use html_render_states::stacks::Stacks;
 use html_render_states::state::{LayoutState, TextContext, TextList};

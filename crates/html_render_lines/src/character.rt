@@ -9,7 +9,7 @@ use html_render_values::white_space::WhiteSpace;
 use unicode_width::UnicodeWidthChar;
 
 /// A character that a paragraph is fed.
-#[derive(Clone, Copy, Debug)]
+#[derive(Clone, Copy)]
 pub struct Character<T> {
     /// The character.
     pub code: char,
@@ -22,7 +22,7 @@ pub struct Character<T> {
 }
 
 /// How the characters of a text are placed: their mode, and their tags.
-#[derive(Clone, Copy, Debug)]
+#[derive(Clone, Copy)]
 pub struct TextStyle<T> {
     /// How white space is treated.
     pub mode: WhiteSpace,
@@ -33,7 +33,7 @@ pub struct TextStyle<T> {
 }
 
 /// What a paragraph is fed.
-#[derive(Clone, Copy, Debug)]
+#[derive(Clone, Copy)]
 pub enum Item<T, M> {
     /// A character.
     Character(Character<T>),
@@ -42,7 +42,7 @@ pub enum Item<T, M> {
 }
 
 /// What a character is to the wrapping.
-#[derive(Clone, Copy, Debug, PartialEq, Eq)]
+#[derive(Clone, Copy, PartialEq, Eq)]
 pub enum Kind {
     /// A part of a word.
     Letter,
@@ -65,7 +65,7 @@ pub enum Kind {
 }
 
 /// What a character is to the wrapping, and how wide it is.
-#[derive(Clone, Copy, Debug)]
+#[derive(Clone, Copy)]
 pub struct Class {
     /// What it is.
     pub kind: Kind,

@@ -14,7 +14,7 @@ pub use line_of_text::{Line, Parts, counted_on, text_columns};
 pub use tagged_text::{Run, TaggedText, TextParts, style_tag};
 
 /// What a line holds.
-#[derive(Clone, Copy, Debug, PartialEq, Eq)]
+#[derive(Clone, Copy)]
 pub enum Element<T, M> {
     /// A character with its tag.
     Character(char, T),

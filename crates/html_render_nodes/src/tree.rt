@@ -71,7 +71,7 @@ impl<N> Flat<N> {
 }
 
 /// How a part of a line is emphasised.
-#[derive(Clone, Copy, Debug, PartialEq, Eq)]
+#[derive(Clone, Copy)]
 pub enum Emphasis {
     /// Stressed: HTML's `em`, and what is shown like it.
     Em,
@@ -246,7 +246,7 @@ impl Image {
 
 /// What the style of an element gives the node that it becomes. [`NodeStyle::default`] is the one of texts, and of what
 /// is inserted: it gives nothing.
-#[derive(Clone, Copy, Debug, Default, PartialEq, Eq)]
+#[derive(Clone, Copy, Default, PartialEq, Eq)]
 pub struct NodeStyle {
     /// The colour of the text.
     pub colour: Option<Colour>,
@@ -259,7 +259,7 @@ pub struct NodeStyle {
 }
 
 /// What the layout of a node is given room for. [`Estimate::default`] is that of a node that isn't measured.
-#[derive(Clone, Copy, Debug, Default, PartialEq, Eq)]
+#[derive(Clone, Copy, Default)]
 pub struct Estimate {
     /// The least width in which the node can be laid out well.
     pub least: usize,

@@ -1,6 +1,5 @@
-//! The parts that a layout of a render tree is put together from.
+//! Tables: the grid that their cells stand on, and the widths of their columns.
 #![tactic(auto)]
 
-pub mod decorate;
 pub mod table;
 pub mod widths;

@@ -12,7 +12,7 @@ use html_render_lines::tag::Tag;
 use std::alloc::AllocError;
 
 /// A character that stands many times in a row. It takes one column.
-#[derive(Clone, Copy, Debug)]
+#[derive(Clone, Copy)]
 pub enum Filler {
     /// A space.
     Space,

@@ -24,7 +24,7 @@ use std::marker::Model;
 use std::mem;
 
 /// How a table is framed.
-#[derive(Clone, Copy, Debug)]
+#[derive(Clone, Copy)]
 pub struct Frame<T> {
     /// Whether borders are drawn.
     pub borders: bool,

@@ -9,7 +9,7 @@ use memchr::memchr;
 use std::alloc::{AllocError, Global};
 
 /// What a line of a script asks for. Texts are plain: their escapes are resolved.
-#[derive(Debug, Drop)]
+#[derive(Drop)]
 pub enum Call<'a> {
     /// `<name`: an HTML element is appended and becomes the current node.
     Open(&'a str),

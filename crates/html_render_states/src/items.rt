@@ -10,7 +10,7 @@ use crate::spaces::padded;
 use crate::state::KindClosing;
 use crate::tagging::Tagging;
 use crate::working::KindKept;
-use html_render_parts::decorate::TextDecorator;
+use html_render_decorators::decorate::TextDecorator;
 use html_render_values::Error;
 use html_render_values::text::Text;
 use std::alloc::Global;

@@ -11,7 +11,7 @@ use std::alloc::Global;
 use std::marker::Model;
 
 /// How the texts that come are treated. A node that is laid out leaves it as it was.
-#[derive(Clone, Copy, Debug)]
+#[derive(Clone, Copy)]
 pub struct TextContext<T> {
     /// Their tag.
     pub tag: T,

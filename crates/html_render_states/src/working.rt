@@ -3,7 +3,7 @@
 use crate::state::{Closing, KindClosing, LayoutState};
 use crate::tagging::Tagging;
 use html_render_blocks::block::Block;
-use html_render_parts::decorate::TextDecorator;
+use html_render_decorators::decorate::TextDecorator;
 
 /// What stands for a character's annotations under the tagging `G`.
 type TagOf<D, G> = <G as Tagging<<D as TextDecorator>::Annotation>>::Tag;

@@ -24,8 +24,8 @@ pub use Rattle.html_render_tagged.specs.Colouring
 pub use Rattle.html_render_nodes.specs.Kinds
 pub use Rattle.html_render_nodes.specs.Dump
 -- what a decorator answers, and what those of plain and of rich text do, for callers that implement one
-pub use Rattle.html_render_parts.specs.Decoration
-pub use Rattle.html_render_parts.specs.Decorators
+pub use Rattle.html_render_decorators.specs.Decoration
+pub use Rattle.html_render_decorators.specs.Decorators
 -- what a decorator answers that changes some answers of another one
 pub use Rattle.html_render_alterations.specs.Alteration
 pub use Rattle.html_render_alterations.specs.declared.place.Place

@@ -5,7 +5,7 @@ use Rattle.html_render_values.specs.Forest.{Forest}
 use Rattle.html_render_values.specs.Outcome.{◌>>=◌}
 use Rattle.html_render_dom.specs.Rules.{Rule}
 use Rattle.html_render_lines.specs.Line.{Line}
-use Rattle.html_render_parts.specs.Decoration.{Decoration}
+use Rattle.html_render_decorators.specs.Decoration.{Decoration}
 use Rattle.html_render_nodes.specs.declared.tree.RenderNode.{RenderNode}
 use Rattle.html_render_estimates.specs.declared.settings.LayoutSettings.{LayoutSettings}
 use Rattle.html_render_blocks.specs.declared.block.BlockSetting.{BlockSetting}

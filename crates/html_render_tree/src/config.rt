@@ -13,13 +13,13 @@ ghost use Rattle.html_render_tree.specs.Decorations.{decorations};
 ghost use Rattle.html_render_tree.specs.Rendering.{initial_options};
 
 use html_render_building::building;
+use html_render_decorators::decorate::{PlainDecorator, RichDecorator, TextDecorator};
 use html_render_dom::Error;
 use html_render_dom::dom::RcDom;
 use html_render_dom::style::StyleRule;
 pub use html_render_estimates::settings::ImageRenderMode;
 use html_render_estimates::settings::LayoutSettings;
 use html_render_nodes::tree::RenderTree;
-use html_render_parts::decorate::{PlainDecorator, RichDecorator, TextDecorator};
 use std::alloc::Global;
 use std::marker::Model;
 

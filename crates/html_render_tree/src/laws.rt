@@ -9,11 +9,11 @@ ghost use Rattle.html_render_states.specs.Layout.{layout_lines, mark_names};
 ghost use Rattle.html_render_layout.specs.Promises.{AreLines};
 ghost use Rattle.html_render_tree.specs.Decorations.{decorations, decoration_specificity};
 
+use html_render_decorators::decorate::{RichAnnotation, TextDecorator};
 use html_render_dom::Error;
 use html_render_dom::dom::Handle;
 use html_render_estimates::settings::{ImageRenderMode, LayoutSettings};
 use html_render_nodes::tree::RenderNode;
-use html_render_parts::decorate::{RichAnnotation, TextDecorator};
 
 /// The decorations are ten rules of the agent, each as specific as an element's name and a pseudo-element.
 fn decorations_are_ten_rules_of_the_agent()

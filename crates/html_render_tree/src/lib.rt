@@ -15,7 +15,7 @@ pub use html_render_values::text;
 /// What is written round the parts of a document, and what its characters are annotated with.
 pub mod decorate {
     pub use html_render_alterations::{Altered, Changes, Given, Place};
-    pub use html_render_parts::decorate::{
+    pub use html_render_decorators::decorate::{
         PlainDecorator, RichAnnotation, RichDecorator, TextDecorator,
     };
 }

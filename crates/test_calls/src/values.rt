@@ -1,10 +1,12 @@
 //! Values of the library's types: which are equal, how they are ordered, and what they are where nothing is said.
 
+use html_render_decorators::decorate::{
+    PlainDecorator, RichAnnotation, RichDecorator, TextDecorator,
+};
 use html_render_dom::dom::{Attribute, Namespace, QualName};
 use html_render_dom::style::{
     PseudoElement, Specificity, StyleOrigin, StyleRule, WhiteSpace, WithSpec,
 };
-use html_render_parts::decorate::{PlainDecorator, RichAnnotation, RichDecorator, TextDecorator};
 use html_render_parts::table::{Span, spans_are_valid};
 use html_render_values::Error;
 use html_render_values::text::Text;

@@ -12,7 +12,7 @@ use std::alloc::{AllocError, Global};
 use std::marker::Model;
 
 /// A place in a row: whether a cell of the row itself stands there, and its columns, unless it is skipped.
-#[derive(Clone, Copy, Debug)]
+#[derive(Clone, Copy)]
 struct RowPlace {
     is_cell: bool,
     width: Option<usize>,

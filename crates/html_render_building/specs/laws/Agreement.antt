@@ -4,7 +4,7 @@ use Rattle.std.proofs.Common.{◌≡◌, Bool, true, false, if◌then◌else◌,
 use Rattle.std.specs.Prelude.{filter, option_to_list, ◌&&◌, codes}
 use Rattle.html_render_values.specs.Forest.{Forest, none, node}
 use Rattle.html_render_values.specs.Outcome.{◌>>=◌}
-use Rattle.html_render_dom.specs.Content.{Content, document, text, element}
+use Rattle.html_render_dom.specs.Content.{Content, document, text, element, is_html}
 use Rattle.html_render_dom.specs.Dom as documents
 use Rattle.html_render_dom.specs.Dom.{Dom, IsForest, node_count, children_at, below}
 use Rattle.html_render_dom.specs.laws.Trees.{below-children}
@@ -17,12 +17,12 @@ use Rattle.html_render_insertions.specs.laws.Drafts.{wrapped-none}
 use Rattle.html_render_conversion.specs.declared.mapping.IfEmpty.TheVariants.{Stands}
 use Rattle.html_render_conversion.specs.Conversion.{element_mapping, own_style}
 use Rattle.html_render_conversion.specs.Outlines.{outline_of}
-use Rattle.html_render_conversion.specs.Marks.{mark_of, is_html}
+use Rattle.html_render_conversion.specs.Marks.{mark_of}
 use Rattle.html_render_conversion.specs.Results.{Nodes, Result, over, render_tree_of, result_of, results, trees_of}
 use Rattle.html_render_building.specs.declared.elements.OpenKind.TheVariants.{Node}
-use Rattle.html_render_building.specs.declared.order.Pick.{Pick}
-use Rattle.html_render_building.specs.declared.order.Pick.TheVariants.{All, Captions, Feet, Others}
-use Rattle.html_render_building.specs.Order.{picks}
+use Rattle.html_render_orders.specs.declared.order.Pick.{Pick}
+use Rattle.html_render_orders.specs.declared.order.Pick.TheVariants.{All, Captions, Feet, Others}
+use Rattle.html_render_orders.specs.Order.{picks}
 use Rattle.html_render_building.specs.Building.{Arrival, arrivals, closed, document_drafts, document_of, document_start, fresh}
 use Rattle.html_render_building.specs.laws.Arrivals.{all_arrive, all_came, arrivals_told, came}
 use Rattle.html_render_building.specs.laws.Closing.{ShowsIn, close-gives, node_closed, together-alone}

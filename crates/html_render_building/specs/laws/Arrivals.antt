@@ -25,10 +25,10 @@ use Rattle.html_render_conversion.specs.Outlines.{outline_of}
 use Rattle.html_render_building.specs.declared.elements.Element.{Element}
 use Rattle.html_render_building.specs.declared.elements.OpenKind.{OpenKind}
 use Rattle.html_render_building.specs.declared.elements.OpenKind.TheVariants.{Captioned, Table, Rows, Row}
-use Rattle.html_render_building.specs.declared.order.Pick.{Pick}
-use Rattle.html_render_building.specs.declared.order.Pick.TheVariants.{All, Captions, Feet, Others}
+use Rattle.html_render_orders.specs.declared.order.Pick.{Pick}
+use Rattle.html_render_orders.specs.declared.order.Pick.TheVariants.{All, Captions, Feet, Others}
 use Rattle.html_render_building.specs.Elements.{keeps, gathered, opened_kind}
-use Rattle.html_render_building.specs.Order.{picks}
+use Rattle.html_render_orders.specs.Order.{picks}
 use Rattle.html_render_building.specs.Spans.{spans_of_parts}
 use Rattle.html_render_building.specs.Building.{Arrival, Holding, arrive, arrive_any, leaf_arrival, closed, closed_by, closed_into}
 use Rattle.html_render_building.specs.Building.{rows_of, is_captioned, table_stands, fresh, come_of, come, arrivals}

@@ -30,8 +30,8 @@ use Rattle.html_render_conversion.specs.declared.mapping.Outline.{Outline}
 use Rattle.html_render_conversion.specs.declared.mapping.Outline.TheVariants.{Over}
 use Rattle.html_render_conversion.specs.declared.mapping.Outline.TheVariants as outline
 use Rattle.html_render_building.specs.Elements.{opened_kind}
-use Rattle.html_render_building.specs.declared.order.Pick.{Pick}
-use Rattle.html_render_building.specs.declared.order.Pick.TheVariants.{All, Captions, Feet, Others}
+use Rattle.html_render_orders.specs.declared.order.Pick.{Pick}
+use Rattle.html_render_orders.specs.declared.order.Pick.TheVariants.{All, Captions, Feet, Others}
 use Rattle.html_render_building.specs.laws.Mappings.{fits, fits_kind, stands_as_is}
 use Rattle.html_render_building.specs.laws.PartsShown.{caption-closed, cell-closed, row-closed, rows-closed}
 use Rattle.html_render_building.specs.laws.TableParted.{AllShowAny, AnyShows, Parted, parted-shown, show-elsewhere, table_becomes, table_came}

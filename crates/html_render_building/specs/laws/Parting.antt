@@ -4,14 +4,13 @@ use Rattle.std.specs.Prelude.{codes, option_to_list}
 use Rattle.std.specs.Str.{bytes_eq}
 use Rattle.html_render_values.specs.Forest.{Forest, none, node}
 use Rattle.html_render_values.specs.Outcome.{◌>>=◌}
-use Rattle.html_render_dom.specs.Content.{Content, element}
+use Rattle.html_render_dom.specs.Content.{Content, element, is_html}
 use Rattle.html_render_dom.specs.Rules.{Rule as StyleRule}
 use Rattle.html_render_conversion.specs.Results as new
 use Rattle.html_render_conversion.specs.Results.{Result, result_of, results, of_role}
-use Rattle.html_render_building.specs.Order.{is_named, picks}
-use Rattle.html_render_conversion.specs.Marks.{is_html}
-use Rattle.html_render_building.specs.declared.order.Pick.{Pick}
-use Rattle.html_render_building.specs.declared.order.Pick.TheVariants.{All, Captions, Feet, Others}
+use Rattle.html_render_orders.specs.Order.{is_named, picks}
+use Rattle.html_render_orders.specs.declared.order.Pick.{Pick}
+use Rattle.html_render_orders.specs.declared.order.Pick.TheVariants.{All, Captions, Feet, Others}
 use Rattle.html_render_building.specs.laws.Mappings.{named-once}
 use Rattle.html_render_building.specs.laws.ResultRoles.{FitsAny, fits_role, result-fits}
 use Rattle.html_render_building.specs.laws.TableShown.{parts_of, rows-either}

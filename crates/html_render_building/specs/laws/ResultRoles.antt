@@ -1,7 +1,7 @@
 -- Which results are captions, and which are rows that stand behind all others: only those of elements of that name.
 use Rattle.std.proofs.lemmas.Bool.{cond_both}
 use Rattle.html_render_nodes.specs.declared.tree.NodeKind.TheVariants.{Text}
-use Rattle.html_render_conversion.specs.Marks.{mark_of, is_html}
+use Rattle.html_render_conversion.specs.Marks.{mark_of}
 use Rattle.std.proofs.Common.{◌≡◌, ℕ, Bool, true, false, not, ◌&&◌, ◌||◌, if◌then◌else◌, List, Option, Some, None, is_some, option_map, refl, ◌++◌}
 use Rattle.std.specs.Prelude.{codes, flat_map}
 use Rattle.std.specs.List.{list_any}
@@ -9,7 +9,7 @@ use Rattle.std.specs.Str.{bytes_eq}
 use Rattle.html_render_values.specs.Forest.{Forest}
 use Rattle.html_render_values.specs.Outcome.{◌>>=◌}
 use Rattle.html_render_dom.specs.Cascade.{value_of}
-use Rattle.html_render_dom.specs.Content.{Content, document, text, element}
+use Rattle.html_render_dom.specs.Content.{Content, document, text, element, is_html}
 use Rattle.html_render_dom.specs.ElementStyle.{ElementStyle}
 use Rattle.html_render_dom.specs.Rules.{Rule as StyleRule}
 use Rattle.html_render_nodes.specs.Tables.{TableParts, unmeasured_table}
@@ -26,7 +26,7 @@ use Rattle.html_render_dom.specs.Selectors.{is_filled}
 use Rattle.html_render_conversion.specs.Results as new
 use Rattle.html_render_conversion.specs.Results.{Nodes, Result, built, captioned, completed, inserted, level_in}
 use Rattle.html_render_conversion.specs.Results.{leaf, mapped, of_role, result_of, styled, table_of, table_over}
-use Rattle.html_render_building.specs.Order.{is_named}
+use Rattle.html_render_orders.specs.Order.{is_named}
 use Rattle.html_render_building.specs.laws.Inserting.{fronts}
 use Rattle.html_render_building.specs.laws.Mappings.{element_fits, fits, fits_kind}
 

@@ -1,6 +1,6 @@
 //! Which rules may select an element, found by the texts that rules state: an element asks these rules alone.
 
-ghost use Rattle.std.specs.Prelude.{◌≡◌, ◌<◌, [], ◌∷◌, ◌++◌, filter, if◌then◌else◌, IfErr, IfOk, length, List, ℕ, map, OnOk, option_copied, option_map, set, string_bytes, true};
+ghost use Rattle.std.specs.Prelude.{◌≡◌, ◌<◌, ◌||◌, ◌&&◌, [], ◌∷◌, ◌++◌, filter, if◌then◌else◌, IfErr, IfOk, length, List, ℕ, map, OnOk, option_copied, option_map, set, string_bytes, true};
 ghost use Rattle.std.specs.Borrow.{Bor};
 ghost use Rattle.std.specs.List.{Contains};
 ghost use Rattle.std.specs.List.Sorted.{IsNonDecreasing};
@@ -10,6 +10,7 @@ ghost use Rattle.html_render_dom.specs.Content.{property_of};
 ghost use Rattle.html_render_dom.specs.ElementStyle.{element_style, style_by, style_of};
 ghost use Rattle.html_render_dom.specs.RuleIndex.{asks_attributes, Finds, is_told, key_of, numbers_under, stated_text, texts_of};
 ghost use Rattle.html_render_dom.specs.Rules.{Rule, rule_of};
+ghost use Rattle.html_render_dom.specs.Selectors.{is_filled};
 
 use super::computed::{ComputedStyle, computed_style, style_of_rules};
 use super::rules::StyleRule;
@@ -188,7 +189,9 @@ impl RuleIndex {
     #[inline]
     pub fn may_select(&self, element: &str, attrs: &[Attribute]) -> bool
         requires { length self.now.keys.items ≡ 64 }
-        ensures { OnFalse result ((rules : List Rule) → Finds self.now rules →
+        ensures told { result ≡ is_told self.now.keys.items element.now || is_filled self.now.general.items
+            || self.now.asks_attributes && is_filled attrs.now }
+        ensures unstyled { OnFalse result ((rules : List Rule) → Finds self.now rules →
             element_style rules element.now (map property_of attrs.now) ≡ style_by []) }
     {
         self.keys[key_of(element)]

@@ -3,7 +3,7 @@ use Rattle.std.proofs.Common.{◌≡◌, false, ◌||◌, ◌-◌, ◌^◌, ◌�
 use Rattle.std.specs.Prelude.{All, if◌then◌else◌}
 use Rattle.std.proofs.lemmas.List.Elements.{All-nil, All-cons, All-append}
 use Rattle.html_render_values.specs.Forest.{Forest, none, node}
-use Rattle.html_render_parts.specs.Decoration.{Decoration}
+use Rattle.html_render_decorators.specs.Decoration.{Decoration}
 use Rattle.html_render_nodes.specs.declared.tree.Entry.{Entry}
 use Rattle.html_render_nodes.specs.declared.tree.Estimate.{Estimate}
 use Rattle.html_render_nodes.specs.declared.tree.NodeKind.{NodeKind}

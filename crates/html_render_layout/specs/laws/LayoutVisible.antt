@@ -9,7 +9,7 @@ use Rattle.std.proofs.lemmas.List.Sums.{sum_by-cons, sum_by-append}
 use Rattle.std.proofs.lemmas.Option.{IfSome_then}
 use Rattle.html_render_values.specs.Forest.{Forest, none, node}
 use Rattle.html_render_values.specs.declared.white_space.WhiteSpace.TheVariants.{Normal}
-use Rattle.html_render_parts.specs.Decoration.{Decoration}
+use Rattle.html_render_decorators.specs.Decoration.{Decoration}
 use Rattle.html_render_lines.specs.Character.{is_collapsible}
 use Rattle.html_render_lines.specs.Line.{Line}
 use Rattle.html_render_lines.specs.Visible.{if_visible, visible_in_lines}

@@ -6,7 +6,7 @@ use Rattle.html_render_values.specs.declared.errors.Error.{Error}
 use Rattle.html_render_values.specs.declared.errors.Error.TheVariants.{TooNarrow}
 use Rattle.html_render_values.specs.Outcome.{Refuses}
 use Rattle.html_render_values.specs.Forest.{Forest}
-use Rattle.html_render_parts.specs.Decoration.{Decoration}
+use Rattle.html_render_decorators.specs.Decoration.{Decoration}
 use Rattle.html_render_lines.specs.Line.{Line, AllWithinWidth}
 use Rattle.html_render_nodes.specs.declared.tree.RenderNode.{RenderNode}
 use Rattle.html_render_estimates.specs.declared.settings.LayoutSettings.{LayoutSettings}

@@ -2,7 +2,7 @@
 use Rattle.std.proofs.Common.{◌≡◌, ℕ, List, ◌∷◌, [], ◌++◌, Option, Some, None, refl, ap, ◌∙◌, option_map}
 use Rattle.std.proofs.lemmas.Iterator.Adapters.{option_map_id}
 use Rattle.html_render_values.specs.Forest.{Forest}
-use Rattle.html_render_parts.specs.Decoration.{Decoration}
+use Rattle.html_render_decorators.specs.Decoration.{Decoration}
 use Rattle.html_render_lines.specs.Line.{Line}
 use Rattle.html_render_lines.specs.Tags.{lines_with}
 use Rattle.html_render_nodes.specs.declared.tree.RenderNode.{RenderNode}

@@ -7,8 +7,8 @@ ghost use Rattle.html_render_states.specs.Layout.{emphasis_decoration, start, an
 ghost use Rattle.html_render_states.specs.Working.{by_tags};
 
 use super::texts::add_text;
+use html_render_decorators::decorate::TextDecorator;
 use html_render_nodes::tree::Emphasis;
-use html_render_parts::decorate::TextDecorator;
 use html_render_states::tagging::Tagging;
 use html_render_states::working::State;
 use html_render_values::Error;

@@ -7,7 +7,7 @@ ghost use Rattle.html_render_values.specs.Outcome.{Refuses};
 ghost use Rattle.html_render_blocks.specs.Machine as machine;
 ghost use Rattle.html_render_states.specs.Ending.{footnotes, closing_texts, ended};
 
-use html_render_parts::decorate::TextDecorator;
+use html_render_decorators::decorate::TextDecorator;
 use html_render_states::tagging::Tagging;
 use html_render_states::working::State;
 use html_render_values::Error;

@@ -7,8 +7,8 @@ ghost use Rattle.html_render_states.specs.Layout.{image, perform_all};
 ghost use Rattle.html_render_states.specs.Working.{by_tags};
 
 use super::emphasis::begin;
+use html_render_decorators::decorate::TextDecorator;
 use html_render_estimates::settings::ImageRenderMode;
-use html_render_parts::decorate::TextDecorator;
 use html_render_states::tagging::Tagging;
 use html_render_states::working::State;
 use html_render_values::Error;

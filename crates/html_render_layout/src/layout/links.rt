@@ -2,14 +2,14 @@
 
 ghost use Rattle.std.specs.Prelude.{◌≡◌, ◌∷◌, Some, OnOk, IfErr};
 ghost use Rattle.html_render_values.specs.Outcome.{Refuses};
-ghost use Rattle.html_render_parts.specs.Decoration.{link};
+ghost use Rattle.html_render_decorators.specs.Decoration.{link};
 ghost use Rattle.html_render_states.specs.Layout.{AddTarget, AddMark, start, perform, perform_all, write_number};
 ghost use Rattle.html_render_states.specs.Opening.{kind_closed};
 ghost use Rattle.html_render_states.specs.Working.{by_tags};
 
 use super::emphasis::begin;
 use super::texts::add_text;
-use html_render_parts::decorate::TextDecorator;
+use html_render_decorators::decorate::TextDecorator;
 use html_render_states::state::{KindClosing, TextContext};
 use html_render_states::tagging::Tagging;
 use html_render_states::working::State;

@@ -10,8 +10,8 @@ ghost use Rattle.html_render_states.specs.Layout.{write, digits_of_kind, digits_
 ghost use Rattle.html_render_states.specs.Working.{by_tags};
 
 use super::texts::add_text;
+use html_render_decorators::decorate::TextDecorator;
 use html_render_nodes::tree::{Entry, NodeKind, RenderNode};
-use html_render_parts::decorate::TextDecorator;
 use html_render_states::tagging::Tagging;
 use html_render_states::working::State;
 use html_render_values::Error;

@@ -8,9 +8,9 @@ ghost use Rattle.html_render_states.specs.Opening.{cell_closed, table_closed};
 ghost use Rattle.html_render_states.specs.Working.{by_tags};
 
 use html_render_blocks::block::Block;
+use html_render_decorators::decorate::TextDecorator;
 use html_render_lines::character::TextStyle;
 use html_render_nodes::tree::Grid;
-use html_render_parts::decorate::TextDecorator;
 use html_render_states::state::{InterruptedTable, OuterTable};
 use html_render_states::tagging::Tagging;
 use html_render_states::working::State;

@@ -7,8 +7,8 @@ ghost use Rattle.html_render_blocks.specs.Machine as machine;
 ghost use Rattle.html_render_states.specs.Layout.{struck, on_block, text_style, add_styled, write};
 ghost use Rattle.html_render_states.specs.Working.{by_tags};
 
+use html_render_decorators::decorate::TextDecorator;
 use html_render_lines::character::{TextStyle, is_collapsible};
-use html_render_parts::decorate::TextDecorator;
 use html_render_states::tagging::Tagging;
 use html_render_states::working::State;
 use html_render_values::Error;

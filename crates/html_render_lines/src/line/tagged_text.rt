@@ -21,7 +21,7 @@ use std::marker::Model;
 const SHORT: usize = 256;
 
 /// What stands next in a text.
-#[derive(Clone, Copy, Debug)]
+#[derive(Clone, Copy)]
 pub enum Run<T, M> {
     /// A number of bytes of the text under one tag.
     Text(usize, T),

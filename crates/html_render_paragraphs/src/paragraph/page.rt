@@ -15,6 +15,7 @@ use html_render_lines::character::{Character, Class, Item, Kind, width_of};
 use html_render_lines::line::{Element, Line};
 use html_render_lines::tag::Tag;
 use html_render_values::Error;
+use html_render_values::room::{has_room_behind, may_stand};
 use std::alloc::AllocError;
 use std::mem;
 
@@ -22,12 +23,9 @@ use std::mem;
 pub fn line_fits<T: Tag, M: Copy>(line: &Line<T, M>, width: usize, overflow: bool) -> bool
     ensures { result ≡ (overflow || nat_le (columns line.now) width) }
 {
-    if overflow {
-        return true;
-    }
     match line.columns() {
-        Some(columns) => columns <= width,
-        None => false,
+        Some(columns) => may_stand(columns, width, overflow),
+        None => overflow,
     }
 }
 
@@ -39,7 +37,7 @@ impl<T: Tag, M: Copy> Paragraph<T, M> {
     {
         let width = self.width;
         match self.line.columns() {
-            Some(columns) => columns <= width && more <= width - columns,
+            Some(columns) => has_room_behind(columns, 0, more, width),
             None => false,
         }
     }
@@ -49,12 +47,9 @@ impl<T: Tag, M: Copy> Paragraph<T, M> {
     pub(super) fn fits_behind_gap(&self, more: usize) -> bool
         ensures { result ≡ fits self.now.setting (with_due_space self.now.page self.now.pending) more }
     {
-        let width = self.width;
-        let gap = self.gap_width();
+        let (width, gap) = (self.width, self.gap_width());
         match self.line.columns() {
-            Some(columns) => columns <= width
-                && gap <= width - columns
-                && more <= width - columns - gap,
+            Some(columns) => has_room_behind(columns, gap, more, width),
             None => false,
         }
     }
@@ -202,7 +197,7 @@ impl<T: Tag, M: Copy> Paragraph<T, M> {
         if self.fits(width) {
             self.push_character(character, width)?;
             Ok(())
-        } else if width <= self.width || self.overflow {
+        } else if may_stand(width, self.width, self.overflow) {
             self.continue_line()?;
             self.push_character(character, width)?;
             Ok(())

@@ -19,7 +19,7 @@ use std::alloc::{AllocError, Global};
 use std::marker::Model;
 
 /// A cell of a table on the columns of its grid.
-#[derive(Clone, Copy, Debug, PartialEq, Eq)]
+#[derive(Clone, Copy)]
 pub struct GridCell {
     /// How many rows it spans, its own included, at least 1.
     pub rowspan: u128,

@@ -9,7 +9,7 @@ use html_render_values::Error;
 use std::alloc::{AllocError, Global};
 
 /// What a cell needs over its columns, in columns of text.
-#[derive(Clone, Copy, Debug, PartialEq, Eq)]
+#[derive(Clone, Copy)]
 pub struct CellNeed {
     /// The first of its columns, counted from 0.
     pub start: usize,

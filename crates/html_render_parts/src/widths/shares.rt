@@ -10,7 +10,7 @@ use html_render_values::Error;
 use std::alloc::{AllocError, Global};
 
 /// What a column of a table needs for its content, in columns of text.
-#[derive(Clone, Copy, Debug, PartialEq, Eq)]
+#[derive(Clone, Copy)]
 pub struct ColumnNeed {
     /// As much as its content has.
     pub size: usize,

@@ -8,7 +8,7 @@ use html_render_values::Error;
 use std::alloc::{AllocError, Global};
 
 /// A value over columns beside each other.
-#[derive(Clone, Copy, Debug, PartialEq, Eq)]
+#[derive(Clone, Copy)]
 pub struct Span {
     /// The first of the columns, counted from 0.
     pub start: usize,

@@ -8,7 +8,7 @@ use Rattle.std.specs.Str.{bytes_eq}
 use Rattle.html_render_values.specs.Forest.{Forest, none, node}
 use Rattle.html_render_values.specs.Outcome.{◌>>=◌}
 use Rattle.html_render_dom.specs.Cascade.{value_of}
-use Rattle.html_render_dom.specs.Content.{Content, document, doctype, text, comment, element, instruction}
+use Rattle.html_render_dom.specs.Content.{Content, document, doctype, text, comment, element, instruction, is_html}
 use Rattle.html_render_dom.specs.Dom.{Dom, tree_of}
 use Rattle.html_render_dom.specs.ElementStyle.{ElementStyle}
 use Rattle.html_render_dom.specs.Rules.{Rule as StyleRule}
@@ -30,7 +30,7 @@ use Rattle.html_render_conversion.specs.declared.mapping.IfEmpty.{IfEmpty}
 use Rattle.html_render_conversion.specs.declared.mapping.Mapping.{Mapping}
 use Rattle.html_render_conversion.specs.declared.mapping.Mapping.TheVariants.{Nothing, Leaf, Parent}
 use Rattle.html_render_conversion.specs.Conversion.{element_mapping, own_style, node_style, vanishes}
-use Rattle.html_render_conversion.specs.Marks.{mark_of, is_html}
+use Rattle.html_render_conversion.specs.Marks.{mark_of}
 use Rattle.html_render_conversion.specs.Results.{Nodes, Result, Role, Contents, Caption, Rows, Row, Cell, beside, trees_of, of_role, stands_alone}
 use Rattle.html_render_conversion.specs.Results.{is_caption, are_rows, row_over, rows_over, spans_of, table_over, captioned, table_of, keeps, counts}
 use Rattle.html_render_conversion.specs.Results.{built, mapped, styled, result_of, results, render_tree_of}

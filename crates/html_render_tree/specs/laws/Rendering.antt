@@ -4,7 +4,7 @@ use Rattle.std.proofs.Common.{map, sym, ap, ◌∙◌}
 use Rattle.std.specs.Prelude.{encode_utf8}
 use Rattle.std.specs.Cmp.Lexicographic.{pointwise}
 use Rattle.html_render_values.specs.Forest.{Forest}
-use Rattle.html_render_parts.specs.Decoration.{Decoration}
+use Rattle.html_render_decorators.specs.Decoration.{Decoration}
 use Rattle.html_render_lines.specs.declared.line.Element.TheVariants.{Character, Mark}
 use Rattle.html_render_lines.specs.Line.{Line, text_bytes}
 use Rattle.html_render_lines.specs.Tags.{line_with, lines_with}

@@ -13,7 +13,7 @@ use Rattle.html_render_insertions.specs.declared.drafts.Draft.{Draft}
 use Rattle.html_render_insertions.specs.Drafts.{expanded}
 use Rattle.html_render_building.specs.Building.{document_drafts, document_of}
 use Rattle.html_render_building.specs.Opened.{IsOpened, NextChild}
-use Rattle.html_render_building.specs.Order.{children_in}
+use Rattle.html_render_orders.specs.Order.{children_in}
 use Rattle.html_render_building.specs.laws.Agreement.{tree_of_drafts}
 use Rattle.html_render_building.proofs.Closing.{Ending, Converting-closed, Converting-ending, Converting-none, Converting-top, Ending-fails, Ending-last, Ending-split}
 use Rattle.html_render_building.proofs.Lasts.{last_of}

@@ -1,4 +1,4 @@
-use Rattle.std.proofs.Common.{◌≡◌, ◌<◌, Bool, true, false, not, [], ◌∷◌, List, Vec, Global, length, map, get_or, inl, inr, refl, sym, ap, subst, ◌∙◌, arith, ◌==◌}
+use Rattle.std.proofs.Common.{◌≡◌, ◌<◌, ◌||◌, ◌&&◌, Bool, true, false, not, [], ◌∷◌, List, Vec, Global, length, map, get_or, inl, inr, refl, sym, ap, subst, ◌∙◌, arith, ◌==◌}
 use Rattle.std.proofs.lemmas.List.{get_or_default}
 use Rattle.std.proofs.lemmas.Bool.Decides.{nat_tests}
 use Rattle.std.proofs.lemmas.Grind.{common_steps}
@@ -9,6 +9,7 @@ use Rattle.html_render_dom.specs.Content.{property_of}
 use Rattle.html_render_dom.specs.ElementStyle.{element_style, style_by}
 use Rattle.html_render_dom.specs.RuleIndex.{Finds, is_told, key_of}
 use Rattle.html_render_dom.specs.Rules.{Rule}
+use Rattle.html_render_dom.specs.Selectors.{is_filled}
 use Rattle.html_render_dom.proofs.RuleIndex.{none_selects}
 use Rattle.html_render_dom.proofs.style.index.RuleIndex.may_select.Goals as goal
 use Rattle.html_render_dom.proofs.style.index.RuleIndex.may_select.Goals.{Else-not-is_empty, then-index, else-index}
@@ -41,8 +42,40 @@ both c = elim c.if-index.branch [
       )
 ]
 
-pub returns-then-self : goal.returns-then-self
-returns-then-self c = by c.is_empty-then-self.result refl
+filled : {X : Type 0} (xs : List X) → not (length xs == 0) ≡ is_filled xs
+filled [] = refl
+filled (x ∷ xs) = grind (arith, nat_tests)
+
+not_filled : {X : Type 0} (xs : List X) → length xs ≡ 0 → is_filled xs ≡ false
+not_filled xs e = sym (filled xs) ∙ ap (λ n. not (n == 0)) e
+
+-- what it answers where the name isn't told, and each rule states a text
+by_attributes : (told general asks attrs : Bool) → told ≡ false → general ≡ false → asks && attrs ≡ (told || general) || asks && attrs
+by_attributes false false asks attrs t g = refl
+by_attributes false true asks attrs t g = absurd (cc)
+by_attributes true general asks attrs t g = absurd (cc)
+
+pub returns-then-self-clause-told : goal.returns-then-self-clause-told
+returns-then-self-clause-told c =
+    let known = both (goal.at.returns-then-self-clause-told c).Else-not-is_empty in
+    let self = c.args.self.now in
+    ap not c.is_empty-then-self.ensures
+    ∙ filled c.args.attrs.now
+    ∙ ap (λ asks. asks && is_filled c.args.attrs.now) (sym c.if-self.true)
+    ∙ by_attributes (is_told self.keys.items c.args.element.now) (is_filled self.general.items) self.asks_attributes (is_filled c.args.attrs.now)
+    known.0 (not_filled self.general.items known.1)
+
+pub returns-else-self-clause-told : goal.returns-else-self-clause-told
+returns-else-self-clause-told c =
+    let known = both (goal.at.returns-else-self-clause-told c).Else-not-is_empty in
+    let self = c.args.self.now in
+    c.if-self.false
+    ∙ ap (λ asks. asks && is_filled c.args.attrs.now) (sym c.if-self.false)
+    ∙ by_attributes (is_told self.keys.items c.args.element.now) (is_filled self.general.items) self.asks_attributes (is_filled c.args.attrs.now)
+    known.0 (not_filled self.general.items known.1)
+
+pub returns-then-self-clause-unstyled : goal.returns-then-self-clause-unstyled
+returns-then-self-clause-unstyled c = by c.is_empty-then-self.result refl
   where
     All : Type 0
     All = (rules : List Rule) → Finds c.args.self.now rules → element_style rules c.args.element.now (map property_of c.args.attrs.now) ≡ style_by []
@@ -50,13 +83,13 @@ returns-then-self c = by c.is_empty-then-self.result refl
     by : (b : Bool) → c.is_empty-then-self.result ≡ b → OnFalse (not b) All
     by false e = tt
     by true e = λ rules finds.
-        let known = both (goal.at.returns-then-self c).Else-not-is_empty in
+        let known = both (goal.at.returns-then-self-clause-unstyled c).Else-not-is_empty in
         none_selects c.args.self.now rules c.args.element.now (map property_of c.args.attrs.now) finds known.0 known.1
         (inr (no_items c.args.attrs.now (sym c.is_empty-then-self.ensures ∙ e)))
 
-pub returns-else-self : goal.returns-else-self
-returns-else-self c =
-    let known = both (goal.at.returns-else-self c).Else-not-is_empty in
+pub returns-else-self-clause-unstyled : goal.returns-else-self-clause-unstyled
+returns-else-self-clause-unstyled c =
+    let known = both (goal.at.returns-else-self-clause-unstyled c).Else-not-is_empty in
     subst (λ b. OnFalse b ((rules : List Rule) → Finds c.args.self.now rules →
     element_style rules c.args.element.now (map property_of c.args.attrs.now) ≡ style_by [])) (sym c.if-self.false)
     (λ rules finds. none_selects c.args.self.now rules c.args.element.now (map property_of c.args.attrs.now) finds known.0 known.1 (inl c.if-self.false))

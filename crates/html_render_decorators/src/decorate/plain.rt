@@ -1,7 +1,7 @@
 //! The decorator of plain text.
 
 ghost use Rattle.std.specs.Prelude.{refl};
-ghost use Rattle.html_render_parts.specs.Decorators.{plain};
+ghost use Rattle.html_render_decorators.specs.Decorators.{plain};
 
 use super::TextDecorator;
 use html_render_values::Error;

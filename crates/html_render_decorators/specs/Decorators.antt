@@ -2,10 +2,10 @@
 use Rattle.std.specs.Prelude.{ℕ, ℤ, true, false, List, [], ◌++◌, Some, None, codes}
 use Rattle.std.specs.Fmt.{signed_decimal}
 use Rattle.std.specs.List.{repeat}
-use Rattle.html_render_parts.specs.Decoration.{Decoration, Round}
-use Rattle.html_render_parts.specs.declared.decorate.rich.RichAnnotation.{RichAnnotation}
-use Rattle.html_render_parts.specs.declared.decorate.rich.RichAnnotation.TheVariants.{Default, Link, Image, Emphasis, Strong, Strikeout, Code, Preformat}
-use Rattle.html_render_parts.specs.declared.decorate.rich.RichAnnotation.TheVariants.{Colour, BgColour}
+use Rattle.html_render_decorators.specs.Decoration.{Decoration, Round}
+use Rattle.html_render_decorators.specs.declared.decorate.rich.RichAnnotation.{RichAnnotation}
+use Rattle.html_render_decorators.specs.declared.decorate.rich.RichAnnotation.TheVariants.{Default, Link, Image, Emphasis, Strong, Strikeout, Code, Preformat}
+use Rattle.html_render_decorators.specs.declared.decorate.rich.RichAnnotation.TheVariants.{Colour, BgColour}
 
 -- a text before a part and one behind it, with an annotation
 abbrev pub between : {S A : Type 0} → (start end : List ℕ) → A → Round S A

@@ -4,8 +4,7 @@
 ghost use Rattle.std.specs.Prelude.{◌≡◌, ◌++◌, OnOk, IfOk, IfErr, None, Some};
 ghost use Rattle.html_render_dom.specs.Content.{content_of};
 ghost use Rattle.html_render_dom.specs.Dom.{IsNode, children_at};
-ghost use Rattle.html_render_building.specs.Opened.{own_count};
-ghost use Rattle.html_render_building.specs.Order.{caption_order, children_in, has_own_order, is_named, part_order, picked, picks};
+ghost use Rattle.html_render_orders.specs.Order.{caption_order, children_in, has_own_order, is_named, own_count, part_order, picked, picks};
 
 use html_render_dom::dom::{Handle, Namespace, NodeData, RcDom};
 use html_render_values::Error;
@@ -13,7 +12,7 @@ use std::alloc::Global;
 use std::marker::Model;
 
 /// Some of a table's children.
-#[derive(Clone, Copy, Debug, PartialEq, Eq)]
+#[derive(Clone, Copy)]
 pub enum Pick {
     /// All of them.
     All,
@@ -109,7 +108,7 @@ pub struct Children {
 }
 
 impl Model for Children {
-    ghost use Rattle.html_render_building.specs.ChildLists.{InOrder, in_order};
+    ghost use Rattle.html_render_orders.specs.ChildLists.{InOrder, in_order};
 
     ghost Value = { InOrder };
 

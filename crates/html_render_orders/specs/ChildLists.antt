@@ -1,7 +1,7 @@
 -- Which children of an element are converted, and in which order.
 use Rattle.std.specs.Prelude.{ℕ, List, Option, Some, None}
-use Rattle.html_render_building.specs.declared.order.ChildList.{ChildList}
-use Rattle.html_render_building.specs.declared.order.ChildList.TheVariants.{OfDocument, Own}
+use Rattle.html_render_orders.specs.declared.order.ChildList.{ChildList}
+use Rattle.html_render_orders.specs.declared.order.ChildList.TheVariants.{OfDocument, Own}
 
 -- children of an element in an order of their own, or all of them as in the document
 pub record InOrder : Type 0 where

@@ -1,7 +1,7 @@
 //! The decorator of rich text: text with annotations that say what each part is.
 
 ghost use Rattle.std.proofs.Common.{rules};
-ghost use Rattle.html_render_parts.specs.Decorators.{rich};
+ghost use Rattle.html_render_decorators.specs.Decorators.{rich};
 
 use super::{PlainDecorator, TextDecorator};
 use html_render_values::Error;

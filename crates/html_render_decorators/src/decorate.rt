@@ -6,7 +6,7 @@
 //! target. A sub-block has the same decorator for both.
 
 ghost use Rattle.std.specs.Prelude.{◌≡◌, IfOk, IfErr, map, string_bytes};
-ghost use Rattle.html_render_parts.specs.Decoration.{Decoration};
+ghost use Rattle.html_render_decorators.specs.Decoration.{Decoration};
 
 mod plain;
 mod rich;

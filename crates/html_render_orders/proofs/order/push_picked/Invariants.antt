@@ -1,6 +1,6 @@
 use Rattle.std.proofs.Common.{◌≡◌, ◌++◌, take}
-use Rattle.html_render_building.specs.Order.{picked}
-use Rattle.html_render_building.proofs.order.push_picked.Given as goal
+use Rattle.html_render_orders.specs.Order.{picked}
+use Rattle.html_render_orders.proofs.order.push_picked.Given as goal
 
 -- those so far
 abbrev pub invariant-loop-child : goal.invariant-loop-child

@@ -1,13 +1,12 @@
 -- In which order the children of a table are converted.
-use Rattle.std.specs.Prelude.{ℕ, Bool, true, false, not, ◌&&◌, List, ◌++◌, codes, filter, Option, Some, None, if◌then◌else◌}
+use Rattle.std.specs.Prelude.{ℕ, Bool, true, false, not, ◌&&◌, List, ◌++◌, length, codes, filter, Option, Some, None, if◌then◌else◌}
 use Rattle.std.specs.List.{list_any}
 use Rattle.std.specs.Str.{bytes_eq}
-use Rattle.html_render_dom.specs.Content.{Content, element}
+use Rattle.html_render_dom.specs.Content.{Content, element, is_html}
 use Rattle.html_render_dom.specs.Dom.{Dom, content_at, children_at}
-use Rattle.html_render_building.specs.ChildLists.{InOrder}
-use Rattle.html_render_building.specs.declared.order.Pick.{Pick}
-use Rattle.html_render_building.specs.declared.order.Pick.TheVariants.{All, Captions, Feet, Others}
-use Rattle.html_render_conversion.specs.Marks.{is_html}
+use Rattle.html_render_orders.specs.ChildLists.{InOrder}
+use Rattle.html_render_orders.specs.declared.order.Pick.{Pick}
+use Rattle.html_render_orders.specs.declared.order.Pick.TheVariants.{All, Captions, Feet, Others}
 
 -- whether a node is an element of HTML of this name
 abbrev pub is_named : (name : List ℕ) → Content → Bool
@@ -34,6 +33,11 @@ caption_order dom children = if has_own_order dom children then Some (picked Cap
 
 abbrev pub part_order : Dom → List ℕ → Option (List ℕ)
 part_order dom children = if has_own_order dom children then Some (picked Others dom children ++ picked Feet dom children) else None
+
+-- how many children are in an order of their own, if there is one
+abbrev pub own_count : Option (List ℕ) → ℕ
+own_count None = 0
+own_count (Some own) = length own
 
 -- the children of an element in an order of their own, or, without one, as in the document
 abbrev pub listed_in : Dom → (handle : ℕ) → Option (List ℕ) → List ℕ

@@ -1,6 +1,6 @@
 use Rattle.std.proofs.Common.{◌≡◌, drop}
-use Rattle.html_render_building.specs.Order.{has_own_order}
-use Rattle.html_render_building.proofs.order.has_own_order.Given as goal
+use Rattle.html_render_orders.specs.Order.{has_own_order}
+use Rattle.html_render_orders.proofs.order.has_own_order.Given as goal
 
 -- what is left says it of all
 abbrev pub invariant-loop-child : goal.invariant-loop-child
