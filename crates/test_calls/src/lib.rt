@@ -1,6 +1,5 @@
-//! Tests of what no text shows: decorators of a caller's own, streams that fail, what lines answer, values, many moves in a
-//! document and deep ones, column cuts by single units, and drafts with insertions at several depths. What a text shows is a
-//! case of `test_cases`.
+//! Tests of what no text shows: decorators of a caller's own, streams that fail, what lines answer, values, deep documents,
+//! a cut of many columns, and drafts with insertions at several depths. What a text shows is a case of `test_cases`.
 //!
 //! There is nothing to call here.
 #![tactic(auto)]
@@ -15,8 +14,6 @@ mod drafts;
 mod letters;
 #[cfg(test)]
 mod lines;
-#[cfg(test)]
-mod moves;
 #[cfg(test)]
 mod rendering;
 #[cfg(test)]

@@ -4,9 +4,7 @@ use html_render_decorators::decorate::{
     PlainDecorator, RichAnnotation, RichDecorator, TextDecorator,
 };
 use html_render_dom::dom::{Attribute, Namespace, QualName};
-use html_render_dom::style::{
-    PseudoElement, Specificity, StyleOrigin, StyleRule, WhiteSpace, WithSpec,
-};
+use html_render_dom::style::{Specificity, StyleOrigin, WhiteSpace};
 use html_render_parts::table::{Span, spans_are_valid};
 use html_render_values::Error;
 use html_render_values::text::Text;
@@ -70,39 +68,6 @@ fn specificities_are_ordered_and_added(rt: HostRuntime) {
     assert!(rt; StyleOrigin::None < StyleOrigin::Agent);
     assert!(rt; StyleOrigin::User < StyleOrigin::Author);
     assert_eq!(rt; StyleOrigin::default(), StyleOrigin::None);
-}
-
-#[test]
-fn a_rule_is_as_specific_as_what_it_states(rt: HostRuntime) -> Result<(), Fail> {
-    let alloc = rt.alloc();
-    let name = string(alloc, "p")?;
-    let before = Some(PseudoElement::Before);
-    let mut rule = StyleRule::for_element(alloc, StyleOrigin::Agent, name, before, Vec::new(alloc));
-    assert_eq!(rt; rule.specificity(), counts(0, 0, 2));
-    for _ in 0..2 {
-        rule.classes.push(string(alloc, "x")?)?;
-    }
-    assert_eq!(rt; rule.specificity(), counts(0, 2, 2));
-    Ok(())
-}
-
-#[test]
-fn updates_win_by_importance_origin_specificity_and_order(rt: HostRuntime) {
-    let (agent, user, author) = (StyleOrigin::Agent, StyleOrigin::User, StyleOrigin::Author);
-    let mut value = WithSpec::default();
-    assert_eq!(rt; value.val(), None);
-    value.maybe_update(false, agent, counts(0, 0, 2), 'X');
-    value.maybe_update(false, author, counts(0, 0, 1), 'Y');
-    assert_eq!(rt; value.val().copied(), Some('Y'));
-    value.maybe_update(true, agent, counts(0, 0, 2), 'Z');
-    value.maybe_update(true, author, counts(0, 0, 1), 'W');
-    value.maybe_update(false, author, Specificity::inline(), 'V');
-    assert_eq!(rt; value.into_val(), Some('Z'));
-    let mut value = WithSpec::default();
-    value.maybe_update(false, user, counts(0, 1, 0), 'a');
-    value.maybe_update(false, user, counts(0, 1, 0), 'b');
-    value.maybe_update(false, user, counts(0, 0, 9), 'c');
-    assert_eq!(rt; value.val().copied(), Some('b'));
 }
 
 #[test]
