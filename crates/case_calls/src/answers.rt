@@ -159,9 +159,8 @@ fn element_name(alloc: Global, dom: &RcDom, node: Handle, watch: Watch) -> Resul
     let came = dom.element_name(alloc, node);
     watch.end(&came);
     match came? {
-        Some(name) if dom.is_element(node) && dom.elem_name(node).local == name => printed(
-            alloc, &name,
-        ),
+        Some(name) if dom.is_element(node) && dom.elem_name(node).local.as_str() == name.as_str() =>
+            printed(alloc, &name),
         Some(_) => Err(Fault::Malformed("two calls answer two names")),
         None => printed(alloc, "None"),
     }

@@ -20,7 +20,12 @@ pub fn answer(alloc: Global, calls: &[&str], given: &str, watch: Watch) -> Resul
     }
     let tag = Tag::read(alloc, given)?;
     watch.begin("computed_style");
-    let came = computed_style(alloc, rules.as_slice(), &tag.name.local, &tag.attributes);
+    let came = computed_style(
+        alloc,
+        rules.as_slice(),
+        tag.name.local.as_str(),
+        &tag.attributes,
+    );
     watch.end(&came);
     let mut shown = String::new(alloc);
     push_style(&mut shown, &came?)?;

@@ -2,7 +2,7 @@
 
 use crate::faults::Fault;
 use crate::texts::{push_escaped, unescaped};
-use html_render_dom::dom::{Attribute, Namespace, NodeData, QualName};
+use html_render_dom::dom::{Attribute, LocalName, Namespace, NodeData, QualName};
 use std::alloc::{AllocError, Global};
 
 /// An element's name and its attributes.
@@ -40,7 +40,7 @@ fn element_name(alloc: Global, text: &str) -> Result<QualName, Fault> {
     }
     Ok(QualName {
         ns,
-        local: String::from_str(alloc, local)?,
+        local: LocalName::from_str(alloc, local)?,
     })
 }
 
@@ -52,7 +52,7 @@ pub fn attribute(alloc: Global, text: &str) -> Result<Attribute, Fault> {
     Ok(Attribute {
         name: QualName {
             ns: Namespace::None,
-            local: String::from_str(alloc, name)?,
+            local: LocalName::from_str(alloc, name)?,
         },
         value: unescaped(alloc, value)?,
     })
@@ -90,13 +90,13 @@ fn push_name(shown: &mut String, name: &QualName) -> Result<(), AllocError> {
         Namespace::None => shown.push_str("{none}")?,
         Namespace::Other(other) => write!(shown, "{{{other}}}")?,
     }
-    shown.push_str(&name.local)
+    shown.push_str(name.local.as_str())
 }
 
 /// Puts attributes behind a text.
 fn push_attributes(shown: &mut String, attributes: &[Attribute]) -> Result<(), AllocError> {
     for attribute in attributes {
-        write!(shown, "@{}=", attribute.name.local)?;
+        write!(shown, "@{}=", attribute.name.local.as_str())?;
         push_escaped(shown, &attribute.value)?;
     }
     Ok(())

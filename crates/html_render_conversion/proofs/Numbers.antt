@@ -84,7 +84,7 @@ size_said found = unwrap_or (option_and_then size_of (option_map (λ (p : Proper
 
 -- the last attribute of a name says it
 pub size-last : (attributes : List Attribute) (name : List ℕ) → size_or_one name (map property_of attributes)
-    ≡ size_said (find (λ a. bytes_eq (string_bytes a.name.local) name) (reverse attributes))
+    ≡ size_said (find (λ a. bytes_eq a.name.local name) (reverse attributes))
 size-last attributes name =
     ap (λ ps. unwrap_or (option_and_then size_of (first_value name ps)) 1) (sym (map-reverse property_of attributes))
     ∙ ap (λ o. unwrap_or (option_and_then size_of (option_map (λ (p : Property). p.value) o)) 1)

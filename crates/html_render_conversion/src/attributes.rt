@@ -17,7 +17,7 @@ use std::alloc::Global;
 
 /// The first attribute of a local name.
 fn attribute_named<'a>(attributes: &'a [Attribute], name: &str) -> Option<&'a Attribute>
-    ensures { option_copied result ≡ find (λ a. bytes_eq (string_bytes a.name.local) name.now) attributes.now }
+    ensures { option_copied result ≡ find (λ a. bytes_eq a.name.local name.now) attributes.now }
 {
     attributes
         .iter()
@@ -54,7 +54,7 @@ pub fn start_of(attributes: &[Attribute]) -> i64
 
 /// The last attribute of a local name.
 fn last_named<'a>(attributes: &'a [Attribute], name: &str) -> Option<&'a Attribute>
-    ensures { option_copied result ≡ find (λ a. bytes_eq (string_bytes a.name.local) name.now) (reverse attributes.now) }
+    ensures { option_copied result ≡ find (λ a. bytes_eq a.name.local name.now) (reverse attributes.now) }
 {
     attributes
         .iter()
@@ -92,7 +92,7 @@ pub fn span_of(attributes: &[Attribute]) -> CellSpan
 
 /// Whether an element is an `a` of HTML.
 fn is_anchor(element: &QualName) -> bool
-    ensures { result ≡ (is_html (space_of element.now.ns) && bytes_eq (string_bytes element.now.local) (codes "a")) }
+    ensures { result ≡ (is_html (space_of element.now.ns) && bytes_eq element.now.local (codes "a")) }
 {
     match element.ns {
         Namespace::Html => element.local.as_str() == "a",

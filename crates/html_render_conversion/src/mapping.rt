@@ -207,7 +207,7 @@ fn element_mapping(
 ) -> Result<Mapping, Error>
     requires forest { IsForest dom.now }
     requires node { IsNode dom.now element }
-    ensures ok { IfOk result (λ mapping. mapping ≡ element_mapping (space_of name.now.ns) (string_bytes name.now.local)
+    ensures ok { IfOk result (λ mapping. mapping ≡ element_mapping (space_of name.now.ns) name.now.local
         (map property_of attributes.now) (trees_of dom.now (children_at dom.now element))) }
     ensures err { IfErr result (λ e. e ≡ Error.OutOfMemory) }
 {
@@ -223,7 +223,7 @@ fn element_mapping(
 
 /// Whether an element is a `pre` of HTML.
 fn is_preformatted(name: &QualName) -> bool
-    ensures { result ≡ (is_html (space_of name.now.ns) && bytes_eq (string_bytes name.now.local) (codes "pre")) }
+    ensures { result ≡ (is_html (space_of name.now.ns) && bytes_eq name.now.local (codes "pre")) }
 {
     match name.ns {
         Namespace::Html => name.local.as_str() == "pre",

@@ -18,7 +18,7 @@ first_of-assoc None b c = refl
 pub place_of-append : (local : List ℕ) (start : ℕ) (xs ys : List Attribute) →
     place_of local start (xs ++ ys) ≡ first_of (place_of local start xs) (place_of local (start + length xs) ys)
 place_of-append local start [] ys = let same : start ≡ start + 0 = omega arith in ap (λ n. place_of local n ys) same
-place_of-append local start (x ∷ xs) ys = elim (cases_Bool (bytes_eq local (string_bytes x.name.local))) [
+place_of-append local start (x ∷ xs) ys = elim (cases_Bool (bytes_eq local x.name.local)) [
   | inl e ↦ rw e refl
   | inr e ↦ (
       let rest = place_of-append local (start + 1) xs ys in
@@ -30,7 +30,7 @@ place_of-append local start (x ∷ xs) ys = elim (cases_Bool (bytes_eq local (st
 -- one attribute more
 pub place_of-more : (local : List ℕ) (start : ℕ) (attrs : List Attribute) (i : ℕ) (a : Attribute) (before : Option ℕ) → i < length attrs →
     a ≡ get_or attrs i a → length (take i attrs) ≡ i →
-    first_of (first_of before (place_of local start (take i attrs))) (if bytes_eq local (string_bytes a.name.local) then Some (start + i) else None)
+    first_of (first_of before (place_of local start (take i attrs))) (if bytes_eq local a.name.local then Some (start + i) else None)
     ≡ first_of before (place_of local start (take (i + 1) attrs))
 place_of-more local start attrs i a before lt is long =
     first_of-assoc before (place_of local start (take i attrs)) _
@@ -39,21 +39,21 @@ place_of-more local start attrs i a before lt is long =
     ∙ ap (λ xs. first_of before (place_of local start xs)) (sym (take_more attrs i a lt ∙ ap (λ x. take i attrs ++ x ∷ []) (sym is)))
 
 -- another local name is another name
-other : (name : Name) (a : Attribute) → bytes_eq name.local (string_bytes a.name.local) ≡ false → name_eq (name_of a.name) name ≡ false
+other : (name : Name) (a : Attribute) → bytes_eq name.local a.name.local ≡ false → name_eq (name_of a.name) name ≡ false
 other name a e = by (name_eq (name_of a.name) name) refl
   where
     by : (b : Bool) → name_eq (name_of a.name) name ≡ b → name_eq (name_of a.name) name ≡ false
     by false q = q
     by true q =
-        let both = and_parts (space_eq (name_of a.name).space name.space) (bytes_eq (string_bytes a.name.local) name.local) q in
-        let same = (bytes_eq-Decides (string_bytes a.name.local) name.local).0 both.1 in
-        let yes = (bytes_eq-Decides name.local (string_bytes a.name.local)).1 (sym same) in
+        let both = and_parts (space_eq (name_of a.name).space name.space) (bytes_eq a.name.local name.local) q in
+        let same = (bytes_eq-Decides a.name.local name.local).0 both.1 in
+        let yes = (bytes_eq-Decides name.local a.name.local).1 (sym same) in
         let no : true ≡ false = sym yes ∙ e in absurd (cc)
 
 pub none_named : (name : Name) (start : ℕ) (attrs : List Attribute) → place_of name.local start attrs ≡ None →
     has_name (map property_of attrs) name ≡ false
 none_named name start [] none = refl
-none_named name start (a ∷ attrs) none = elim (cases_Bool (bytes_eq name.local (string_bytes a.name.local))) [
+none_named name start (a ∷ attrs) none = elim (cases_Bool (bytes_eq name.local a.name.local)) [
   | inl e ↦ (let found : Some start ≡ None = rw e at none in absurd (cc))
   | inr e ↦ (
       let no = other name a e in
@@ -65,7 +65,7 @@ none_named name start (a ∷ attrs) none = elim (cases_Bool (bytes_eq name.local
 pub place_within : (local : List ℕ) (start : ℕ) (attrs : List Attribute) (p : ℕ) → place_of local start attrs ≡ Some p →
     (start ≤ p) × (p < start + length attrs)
 place_within local start [] p is = absurd (cc)
-place_within local start (a ∷ attrs) p is = elim (cases_Bool (bytes_eq local (string_bytes a.name.local))) [
+place_within local start (a ∷ attrs) p is = elim (cases_Bool (bytes_eq local a.name.local)) [
   | inl e ↦ (
       let found : Some start ≡ Some p = rw e at is in
       let same : start ≡ p = cc in
@@ -81,7 +81,7 @@ place_within local start (a ∷ attrs) p is = elim (cases_Bool (bytes_eq local (
 pub named_from : (name : Name) (start : ℕ) (attrs : List Attribute) (p : ℕ) → place_of name.local start attrs ≡ Some p →
     has_name (map property_of (drop (p - start) attrs)) name ≡ has_name (map property_of attrs) name
 named_from name start [] p is = absurd (cc)
-named_from name start (a ∷ attrs) p is = elim (cases_Bool (bytes_eq name.local (string_bytes a.name.local))) [
+named_from name start (a ∷ attrs) p is = elim (cases_Bool (bytes_eq name.local a.name.local)) [
   | inl e ↦ (
       let found : Some start ≡ Some p = rw e at is in
       let same : start ≡ p = cc in

@@ -43,7 +43,7 @@ is_html html = true
 is_html _ = false
 
 abbrev pub name_of : QualName → Name
-name_of n = record { space = space_of n.ns; local = string_bytes n.local }
+name_of n = record { space = space_of n.ns; local = n.local }
 
 abbrev pub property_of : Attribute → Property
 property_of a = record { name = name_of a.name; value = string_bytes a.value }

@@ -12,7 +12,7 @@ first_of None other = other
 -- the place of the first attribute of a local name, where the first of all has the place `start`
 abbrev pub place_of : (local : List ℕ) → (start : ℕ) → List Attribute → Option ℕ
 place_of local start [] = None
-place_of local start (a ∷ attrs) = if bytes_eq local (string_bytes a.name.local) then Some start else place_of local (start + 1) attrs
+place_of local start (a ∷ attrs) = if bytes_eq local a.name.local then Some start else place_of local (start + 1) attrs
 
 -- a map has the place of the first attribute of each local name
 abbrev pub TellsPlaces : {A : Type 0} → BTreeMap (String A) ℕ → List Attribute → Type 0

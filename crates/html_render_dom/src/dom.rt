@@ -22,5 +22,5 @@ pub use attributes::Attributes;
 pub use contents::{NodeData, NodeOrText};
 pub use documents::RcDom;
 pub use handles::Handle;
-pub use names::{Attribute, Namespace, QualName};
+pub use names::{Attribute, LocalName, Namespace, QualName};
 pub use settings::{ElementFlags, QuirksMode};

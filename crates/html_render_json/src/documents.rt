@@ -11,7 +11,7 @@ ghost use Rattle.html_render_json.specs.Said.{document_tree, said};
 use crate::answers::{Refusal, answered};
 use crate::reading::{Members, Readable, list, once, read_members, tag};
 use html_render_tree::dom::{
-    Attribute, ElementFlags, Handle, Namespace, NodeData, NodeOrText, QualName, RcDom,
+    Attribute, ElementFlags, Handle, LocalName, Namespace, NodeData, NodeOrText, QualName, RcDom,
 };
 use serde::{Deserialize, Deserializer, Format};
 use std::alloc::Global;
@@ -193,7 +193,7 @@ fn append_node(alloc: Global, dom: &mut RcDom, parent: Handle, node: Node) -> Re
         } => {
             let name = QualName {
                 ns: namespace,
-                local: name,
+                local: LocalName::from(name),
             };
             let element = dom.create_element(alloc, name, attributes, ElementFlags::default())?;
             dom.append(alloc, parent, NodeOrText::AppendNode(element))?;

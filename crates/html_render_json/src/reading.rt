@@ -3,7 +3,7 @@
 //! `list(alloc, from)?` reads an array of what is [`Readable`], as the attributes of an element are.
 
 use html_render_tree::config::ImageRenderMode;
-use html_render_tree::dom::{Attribute, Namespace, QualName};
+use html_render_tree::dom::{Attribute, LocalName, Namespace, QualName};
 use html_render_tree::style::{
     Colour, Declaration, Display, PseudoElement, Style, StyleOrigin, StyleRule, WhiteSpace,
 };
@@ -256,11 +256,11 @@ impl Readable for Attribute {
         from: &mut Deserializer<'_, '_, F>,
     ) -> Result<Attribute, F::Error> {
         from.begin_seq()?;
-        let local = next(alloc, from)?;
+        let local: String = next(alloc, from)?;
         let value = last(alloc, from)?;
         let name = QualName {
             ns: Namespace::None,
-            local,
+            local: LocalName::from(local),
         };
         Ok(Attribute { name, value })
     }

@@ -1,5 +1,3 @@
--- the texts of nodes
-pub mod Texts
 -- the tree: its nodes in one vector, and where it is parted
 pub mod Tables
 pub mod RenderNodes

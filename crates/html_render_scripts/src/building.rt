@@ -10,7 +10,7 @@ ghost use Rattle.html_render_scripts.specs.Scripts.{with_element, with_comment, 
 use crate::script::{Call, Texts, plain_len, split_line};
 use html_render_dom::Error;
 use html_render_dom::dom::{
-    Attribute, ElementFlags, Handle, Namespace, NodeOrText, QualName, RcDom,
+    Attribute, ElementFlags, Handle, LocalName, Namespace, NodeOrText, QualName, RcDom,
 };
 use std::alloc::{AllocError, AllocFailed, Global};
 
@@ -57,7 +57,7 @@ fn open_element(
     ensures number { IfOk result (λ element. element ≡ node_count dom.old) }
     ensures is_node { IfOk result (λ element. IsNode dom.new element) }
 {
-    let local = String::from_str(alloc, name)?;
+    let local = LocalName::from_str(alloc, name)?;
     let name = QualName { ns, local };
     let element = dom.create_element(alloc, name, Vec::new(alloc), ElementFlags::default())?;
     dom.append(alloc, current, NodeOrText::AppendNode(element))?;
@@ -78,7 +78,7 @@ fn set_attribute(
 {
     let name = QualName {
         ns: Namespace::None,
-        local: String::from_str(alloc, name)?,
+        local: LocalName::from_str(alloc, name)?,
     };
     let mut attributes = Vec::new(alloc);
     attributes.push(Attribute { name, value })?;

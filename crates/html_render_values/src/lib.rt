@@ -7,6 +7,7 @@ pub mod colours;
 mod errors;
 mod laws;
 pub mod room;
+pub mod small_text;
 pub mod text;
 pub mod white_space;
 

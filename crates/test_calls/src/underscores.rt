@@ -8,7 +8,7 @@ ghost use Rattle.test_calls.specs.Places.{round_emphasis};
 use html_render_tree::Error;
 use html_render_tree::config::with_decorator;
 use html_render_tree::decorate::{Altered, Changes, Place, PlainDecorator, TextDecorator};
-use html_render_tree::dom::{ElementFlags, NodeOrText, QualName, RcDom};
+use html_render_tree::dom::{ElementFlags, LocalName, NodeOrText, QualName, RcDom};
 use html_render_tree::text::Text;
 use std::alloc::Global;
 use std::test::Fail;
@@ -63,7 +63,7 @@ impl Changes<()> for Underscores {
 /// The document of an `em` that holds `b`.
 fn emphasis(alloc: Global) -> Result<RcDom, Error> {
     let mut dom = RcDom::new(alloc)?;
-    let name = QualName::html(String::from_str(alloc, "em")?);
+    let name = QualName::html(LocalName::from_str(alloc, "em")?);
     let em = dom.create_element(alloc, name, Vec::new(alloc), ElementFlags::default())?;
     dom.append(alloc, dom.get_document(), NodeOrText::AppendNode(em))?;
     let text = String::from_str(alloc, "b")?;

@@ -3,7 +3,7 @@
 use html_render_decorators::decorate::{
     PlainDecorator, RichAnnotation, RichDecorator, TextDecorator,
 };
-use html_render_dom::dom::{Attribute, Namespace, QualName};
+use html_render_dom::dom::{Attribute, LocalName, Namespace, QualName};
 use html_render_dom::style::{Specificity, StyleOrigin, WhiteSpace};
 use html_render_parts::table::{Span, spans_are_valid};
 use html_render_values::Error;
@@ -19,7 +19,7 @@ fn string(alloc: Global, text: &str) -> Result<String, AllocError> {
 /// An attribute of this value.
 fn id(alloc: Global, value: &str) -> Result<Attribute, AllocError> {
     Ok(Attribute {
-        name: QualName::html(string(alloc, "id")?),
+        name: QualName::html(LocalName::from_str(alloc, "id")?),
         value: string(alloc, value)?,
     })
 }
@@ -30,7 +30,10 @@ fn names_and_attributes_are_equal_by_what_they_say(rt: HostRuntime) -> Result<()
     for (a, b) in [("a", "a"), ("a", "b")] {
         let (x, y) = (string(alloc, a)?, string(alloc, b)?);
         assert_eq!(rt; Namespace::Other(x) == Namespace::Other(y), a == b);
-        let (x, y) = (string(alloc, a)?, string(alloc, b)?);
+        let (x, y) = (
+            LocalName::from_str(alloc, a)?,
+            LocalName::from_str(alloc, b)?,
+        );
         assert_eq!(rt; QualName::html(x) == QualName::html(y), a == b);
         assert_eq!(rt; id(alloc, a)? == id(alloc, b)?, a == b);
     }

@@ -7,7 +7,7 @@ ghost use Rattle.html_render_dom.specs.Content.{name_of, property_of};
 ghost use Rattle.html_render_dom.specs.Elements.{has_name, with_missing};
 ghost use Rattle.html_render_dom.specs.Places.{first_of, place_of, TellsPlaces};
 
-use super::names::{Attribute, QualName, has_name};
+use super::names::{Attribute, LocalName, QualName, has_name};
 use std::alloc::{AllocError, Global};
 use std::collections::BTreeMap;
 use std::marker::Model;
@@ -41,21 +41,23 @@ impl Model for Attributes {
 
 /// Notes the place of an attribute of this local name, unless one is noted.
 fn note(
+    alloc: Global,
     places: &mut BTreeMap<String, usize>,
-    local: &String,
+    local: &LocalName,
     place: usize,
 ) -> Result<(), AllocError>
     ensures { OnOk result ((name : List ℕ) → get_by_text places.new name
-        ≡ first_of (get_by_text places.old name) (if bytes_eq name (string_bytes local.now) then Some place else None)) }
+        ≡ first_of (get_by_text places.old name) (if bytes_eq name local.now then Some place else None)) }
 {
     if places.get(local.as_str()).is_none() {
-        places.insert(local.clone()?, place)?;
+        places.insert(String::from_str(alloc, local.as_str())?, place)?;
     }
     Ok(())
 }
 
 /// Notes the places of attributes, of which the first has the place `start`.
 fn note_all(
+    alloc: Global,
     places: &mut BTreeMap<String, usize>,
     attrs: &[Attribute],
     start: usize,
@@ -65,7 +67,7 @@ fn note_all(
         ≡ first_of (get_by_text places.old name) (place_of name start attrs.now)) }
 {
     for (number, attribute) in attrs.iter().enumerate() {
-        note(places, &attribute.name.local, start + number)?;
+        note(alloc, places, &attribute.name.local, start + number)?;
     }
     Ok(())
 }
@@ -75,7 +77,7 @@ fn places_of(alloc: Global, attrs: &[Attribute]) -> Result<BTreeMap<String, usiz
     ensures { IfOk result (λ places. TellsPlaces places attrs.now) }
 {
     let mut places = BTreeMap::new(alloc);
-    note_all(&mut places, attrs, 0)?;
+    note_all(alloc, &mut places, attrs, 0)?;
     Ok(places)
 }
 
@@ -133,9 +135,10 @@ impl Attributes {
         ensures err { OnErr result (self.new ≡ self.old) }
     {
         // so that no place is noted of an attribute that isn't put
+        let alloc = *self.list.allocator();
         let mut noted = mem::replace(&mut self.places, None);
         if let Some(places) = &mut noted {
-            note_all(places, given.as_slice(), self.list.len())?;
+            note_all(alloc, places, given.as_slice(), self.list.len())?;
         }
         self.list.append(&mut given)?;
         self.places = noted;

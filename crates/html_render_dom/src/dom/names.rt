@@ -8,6 +8,8 @@ ghost use Rattle.std.specs.Prelude.{◌≡◌, map, string_bytes};
 ghost use Rattle.html_render_dom.specs.Elements.{has_name};
 ghost use Rattle.html_render_dom.specs.Content as content;
 
+use html_render_values::small_text::SmallText;
+
 /// The namespace of a name.
 #[derive(Debug, Drop)]
 pub enum Namespace {
@@ -23,13 +25,16 @@ pub enum Namespace {
     Other(String),
 }
 
+/// A name within its namespace: 16 bytes at most stand in the value itself.
+pub type LocalName = SmallText<16>;
+
 /// A name in a namespace.
 #[derive(Debug, Drop)]
 pub struct QualName {
     /// The namespace.
     pub ns: Namespace,
     /// The name within its namespace.
-    pub local: String,
+    pub local: LocalName,
 }
 
 /// An attribute of an element.
@@ -43,8 +48,8 @@ pub struct Attribute {
 
 impl QualName {
     /// An HTML name.
-    pub fn html(local: String) -> QualName
-        ensures { name_of result ≡ record { space = content.html; local = string_bytes local } }
+    pub fn html(local: LocalName) -> QualName
+        ensures { name_of result ≡ record { space = content.html; local = local } }
     {
         QualName {
             ns: Namespace::Html,

@@ -13,7 +13,7 @@ use crate::dom::Attribute;
 
 /// The first attribute of this local name.
 fn first_named<'a>(attrs: &'a [Attribute], name: &str) -> Option<&'a Attribute>
-    ensures { option_copied result ≡ find (λ a. bytes_eq (string_bytes a.name.local) name.now) attrs.now }
+    ensures { option_copied result ≡ find (λ a. bytes_eq a.name.local name.now) attrs.now }
 {
     attrs
         .iter()

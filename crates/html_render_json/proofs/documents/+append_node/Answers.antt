@@ -1,7 +1,7 @@
-use Rattle.std.proofs.Common.{◌≡◌, ◌≢◌, [], length, map, None, false, sym, ap, ◌∙◌, subst, refl, arith}
+use Rattle.std.proofs.Common.{◌≡◌, ◌≢◌, ℕ, List, [], length, map, None, false, sym, ap, ◌∙◌, subst, refl, arith}
 use Rattle.std.proofs.lemmas.List.{nil_from_length}
 use Rattle.std.specs.Vec.Iter.{into_iter_items, into_iter_len}
-use Rattle.html_render_dom.specs.Content.{element, name_of, property_of}
+use Rattle.html_render_dom.specs.Content.{Content, element, name_of, property_of, space_of}
 use Rattle.html_render_dom.specs.Dom.{IsNode}
 use Rattle.html_render_dom.specs.Edits.{attached_new}
 use Rattle.html_render_json.specs.Built.{HasSaid}
@@ -46,8 +46,9 @@ returns-clause-said t c =
           let n = w.in-Element in
           let e = w.in_ok-element-in-Element in
           let mid = w.append.new.self in
-          let name = name_of (record { ns = n.namespace; local = n.name }) in
-          let own = element name (map property_of n.attributes.items) None false in
+          let named : List ℕ → Content = λ local. element (record { space = space_of n.namespace; local = local }) (map property_of n.attributes.items) None false in
+          let name = name_of (record { ns = n.namespace; local = w.from.result }) in
+          let own = named w.from.result in
           let i = w.loop-child.invariant in
           let done = i.2.0 in
           let none_left : into_iter_items w.loop-child.child-iterator ≡ [] = nil_from_length _ (sym i.1 ∙ w.in-None.ensures.steps.0) in
@@ -60,7 +61,8 @@ returns-clause-said t c =
           (plain_element old.nodes name (map property_of n.attributes.items) w.default.result w.default.ensures.0 w.default.ensures.1))
           w.in_ok-append-in-Element.ensures.ok in
           as_said old w.loop-child.dom c.match-node.dom c.args.parent c.args.node (over own (beside_all (map said n.children.items)))
-          w.dom-is (ap said n.is ∙ said-Element n.namespace n.name n.attributes n.children)
+          w.dom-is (ap said n.is ∙ said-Element n.namespace n.name n.attributes n.children
+          ∙ ap (λ local. over (named local) (beside_all (map said n.children.items))) (sym w.from.ensures))
           (over_said old mid w.loop-child.dom c.args.parent e.element own (beside_all (map said n.children.items)) c.requires
           e.ensures.number is_mid i.0
           (subst (HasSaid mid w.loop-child.dom e.element) all i.2.1)))

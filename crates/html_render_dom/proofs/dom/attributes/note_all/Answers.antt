@@ -11,5 +11,5 @@ loop-number-preserved c = λ name.
     let i = c.loop-number.number in
     let a = c.index-attrs-number.result in
     c.in_ok-note.ensures name
-    ∙ ap (λ before. first_of before (if bytes_eq name (string_bytes a.name.local) then Some (c.args.start + i) else None)) (c.loop-number.invariant name)
+    ∙ ap (λ before. first_of before (if bytes_eq name a.name.local then Some (c.args.start + i) else None)) (c.loop-number.invariant name)
     ∙ place_of-more name c.args.start attrs i a _ c.loop-number-test.true c.index-attrs-number.is (length-take-le i attrs (omega (arith, c.loop-number-test.true)))

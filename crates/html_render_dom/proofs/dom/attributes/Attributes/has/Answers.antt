@@ -9,19 +9,19 @@ use Rattle.html_render_dom.proofs.dom.attributes.Attributes.has.Goals.{After-get
 
 -- what the map says of the name's local name
 told : (c : After-get) (found : Option ℕ) →
-    found ≡ get_by_text c.deref.result.now c.as_str.result.now → place_of (string_bytes c.args.name.now.local) 0 c.self.inside.list.items ≡ found
+    found ≡ get_by_text c.deref.result.now c.as_str.result.now → place_of c.args.name.now.local 0 c.self.inside.list.items ≡ found
 told c found is =
     let tells : TellsPlaces c.in-Some.places.value c.self.inside.list.items =
     subst (λ o. IfSome o (λ places. TellsPlaces places.value c.self.inside.list.items)) c.in-Some.is c.self.invariant in
-    sym (tells (string_bytes c.args.name.now.local))
-    ∙ ap (get_by_text c.in-Some.places.value) (sym c.as_str.ensures.value)
+    sym (tells c.args.name.now.local)
+    ∙ ap (get_by_text c.in-Some.places.value) (sym c.as_str.ensures)
     ∙ ap (λ m. get_by_text m c.as_str.result.now) (sym c.deref.ensures)
     ∙ sym is
 
 pub has_name_from-requires : goal.has_name_from-requires
 has_name_from-requires c =
     let is = told (goal.at.has_name_from-requires c).After-get (Some c.in-Some-get.place.now) c.in-Some-get.ensures.value in
-    let within = place_within (string_bytes c.args.name.now.local) 0 c.self.inside.list.items c.in-Some-get.place.now is in
+    let within = place_within c.args.name.now.local 0 c.self.inside.list.items c.in-Some-get.place.now is in
     omega (arith, within.1, ap length c.as_slice-in-Some-get.ensures.value)
 
 pub returns-in-Some-get : goal.returns-in-Some-get

@@ -38,7 +38,7 @@ returns-in_ok-write_line-in-Element-clause-ok c =
     let is = sym c.data.ensures ∙ ap content_of c.in-Element.is in
     on_ok c.open_children-in-Element.result c.open_children-in-Element.ensures
     (λ e. opened dom _ _ _ _ _ _ (fresh_frame c.args.node (c.args.indent + 1))
-    (rw c.as_str-in-Element.ensures.value at c.in_ok-write_line-in-Element.ensures) e
+    (rw c.as_str-in-Element.ensures at c.in_ok-write_line-in-Element.ensures) e
     (dump-element dom f c.args.node c.args.indent _ _ _ _ c.requires.node is))
 
 pub returns-in_ok-write_line-in-Element-clause-frames :
