@@ -867,3 +867,21 @@ pub fn dom_to_render_tree(
 {
     drafts_of(alloc, rules, dom)?.into_nodes(alloc)
 }
+
+/// The same, of a document that is dropped before its nodes are made of their drafts, so that it takes no memory beside them.
+///
+/// # Errors
+///
+/// As [`dom_to_render_tree`].
+pub fn dom_into_render_tree(
+    alloc: Global,
+    rules: &[StyleRule],
+    dom: RcDom,
+) -> Result<Flat<RenderNode>, Error>
+    ensures ok { IfOk result (λ tree. render_tree_of (map rule_of rules.now) dom ≡ Some tree) }
+    ensures err { IfErr result (λ e. Fails e (render_tree_of (map rule_of rules.now) dom)) }
+{
+    let drafts = drafts_of(alloc, rules, &dom)?;
+    drop(dom);
+    drafts.into_nodes(alloc)
+}

@@ -112,6 +112,7 @@ fn html_mapping(name: &str, attributes: &[Attribute]) -> Mapping
     match name {
         "td" | "th" => table_part(Part::Cell(span_of(attributes)), IfEmpty::Stands),
         "tr" => table_part(Part::Row, IfEmpty::Stands),
+        "div" => vanishing(NodeKind::Div),
         "p" => vanishing(NodeKind::Block),
         "pre" => standing(NodeKind::Block),
         "li" => standing(NodeKind::ListItem),
@@ -119,7 +120,6 @@ fn html_mapping(name: &str, attributes: &[Attribute]) -> Mapping
         "strong" | "b" => standing(NodeKind::Emphasis(Emphasis::Strong)),
         "code" => standing(NodeKind::Emphasis(Emphasis::Code)),
         "br" => Mapping::Leaf(NodeKind::Break),
-        "div" => vanishing(NodeKind::Div),
         "ul" => vanishing(NodeKind::Ul),
         "ol" => vanishing(NodeKind::Ol(start_of(attributes))),
         "h1" => standing(NodeKind::Header(1)),

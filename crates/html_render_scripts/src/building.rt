@@ -172,6 +172,10 @@ fn take_line(
         return Ok(Some(current));
     }
     append_texts(alloc, dom, current, texts)?;
+    // most lines that are no text open an element or close one
+    if let [b'>'] = line.as_bytes() {
+        return take_call(alloc, dom, current, Call::Close);
+    }
     match Call::read(alloc, line)? {
         Some(call) => take_call(alloc, dom, current, call),
         None => Ok(None),

@@ -30,10 +30,11 @@ impl<'a> Call<'a> {
     /// an attribute without a name, an attribute without `=`, more behind `>`, or an escape that isn't known.
     #[inline(always)]
     pub fn read(alloc: Global, line: &'a str) -> Result<Option<Call<'a>>, AllocError> {
-        if let Some(name) = line.strip_prefix("<svg:") {
-            Ok(named(name).map(Call::OpenSvg))
-        } else if let Some(name) = line.strip_prefix('<') {
-            Ok(named(name).map(Call::Open))
+        if let Some(name) = line.strip_prefix('<') {
+            Ok(match name.strip_prefix("svg:") {
+                Some(name) => named(name).map(Call::OpenSvg),
+                None => named(name).map(Call::Open),
+            })
         } else if let Some(more) = line.strip_prefix('>') {
             Ok(if more.is_empty() {
                 Some(Call::Close)

@@ -236,6 +236,21 @@ impl<D: TextDecorator> Config<D> {
         let nodes = building::dom_to_render_tree(alloc, &self.rules, dom)?;
         RenderTree::new(alloc, nodes)
     }
+
+    /// The render tree of a document, which is dropped as soon as it isn't asked any more: the same tree in less memory.
+    ///
+    /// # Errors
+    ///
+    /// As [`Config::dom_to_render_tree`].
+    #[tactic(auto, using(crate::specs::laws::GoodTrees::render_trees_are_good))]
+    pub fn dom_into_render_tree(&self, alloc: Global, dom: RcDom) -> Result<RenderTree, Error>
+        ensures ok { IfOk result (λ tree. render_tree_of self.now.rules dom ≡ Some tree) }
+        ensures good { IfOk result (λ tree. are_good Anywhere tree ≡ true) }
+        ensures err { IfErr result (λ e. Fails e (render_tree_of self.now.rules dom)) }
+    {
+        let nodes = building::dom_into_render_tree(alloc, &self.rules, dom)?;
+        RenderTree::new(alloc, nodes)
+    }
 }
 
 mod decorations;

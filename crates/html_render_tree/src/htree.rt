@@ -10,7 +10,6 @@ use crate::config::{Config, plain, plain_no_decorate, rich};
 use html_render_decorators::decorate::TextDecorator;
 use html_render_dom::Error;
 use html_render_dom::dom::RcDom;
-use html_render_nodes::tree::RenderTree;
 use html_render_scripts::building::{ScriptError, built};
 use std::alloc::Global;
 use std::io;
@@ -133,15 +132,6 @@ fn read_dom<R: Read>(alloc: Global, input: &mut R) -> Result<RcDom, Fault> {
     Ok(built(alloc, script.as_str())?)
 }
 
-/// The render tree of a document, which is dropped.
-fn tree_of<D: TextDecorator>(
-    alloc: Global,
-    config: &Config<D>,
-    dom: RcDom,
-) -> Result<RenderTree, Error> {
-    config.dom_to_render_tree(alloc, &dom)
-}
-
 /// The text of a document, as the settings ask for it.
 fn rendered_by<D: TextDecorator>(
     alloc: Global,
@@ -154,7 +144,7 @@ fn rendered_by<D: TextDecorator>(
     } else {
         config
     };
-    let tree = tree_of(alloc, &config, dom)?;
+    let tree = config.dom_into_render_tree(alloc, dom)?;
     Ok(config.render_to_string(alloc, tree, settings.width)?)
 }
 
