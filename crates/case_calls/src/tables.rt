@@ -4,7 +4,7 @@ use crate::faults::Fault;
 use crate::texts::{number, numbers, printed};
 use crate::watch::Watch;
 use html_render_parts::table::{CellKind, PlacedCell, Span, spans_are_valid, table_grid};
-use html_render_parts::widths::{
+use html_render_parts_widths::{
     ColumnCut, Meter, check_cut, column_widths, column_widths_metered, cut_fits,
 };
 use std::alloc::{AllocError, Global};

@@ -14,7 +14,7 @@ use Rattle.html_render_lines.specs.Line.{Line, is_empty}
 use Rattle.html_render_lines.specs.TaggedText.{under}
 use Rattle.html_render_paragraphs.specs.Paragraph.{Setting, Page, all_lines}
 use Rattle.html_render_paragraphs.specs.Stream.{styled}
-use Rattle.html_render_parts.specs.Shares.{widths_across}
+use Rattle.html_render_parts_widths.specs.Shares.{widths_across}
 use Rattle.html_render_parts.specs.declared.table.PlacedCell.{PlacedCell}
 use Rattle.html_render_parts.specs.TableCells.{rows_on}
 use Rattle.html_render_pictures.specs.Marked.{marked_before, marked_behind}

@@ -1,6 +1,6 @@
 -- The operations on blocks that a layout is made of, and those that a document ends with.
 use Rattle.std.specs.Prelude.{ℕ, Bool, List, Option}
-use Rattle.html_render_parts.specs.declared.widths.shares.ColumnNeed.{ColumnNeed}
+use Rattle.html_render_parts_widths.specs.declared.shares.ColumnNeed.{ColumnNeed}
 use Rattle.html_render_parts.specs.TableCells.{CellGrid}
 use Rattle.html_render_lines.specs.declared.character.TextStyle.{TextStyle}
 

@@ -1,12 +1,12 @@
 -- What the style of an element says where it is preformatted, and where it isn't displayed.
 use Rattle.std.proofs.Common.{◌≡◌, ℕ, Bool, true, false, if◌then◌else◌, List, [], ◌∷◌, ◌++◌, Option, is_some, option_to_list, sym, ap, ◌∙◌}
-use Rattle.html_render_dom.specs.Cascade.{value_of, winner}
+use Rattle.html_render_dom_cascade.specs.Cascade.{value_of, winner}
 use Rattle.html_render_dom.specs.ElementStyle.{ElementStyle}
-use Rattle.html_render_dom.specs.Specificities.{no_specificity}
+use Rattle.html_render_dom_cascade.specs.Specificities.{no_specificity}
 use Rattle.html_render_values.specs.declared.white_space.WhiteSpace.{WhiteSpace}
-use Rattle.html_render_dom.specs.declared.style.specificities.Specificity.{Specificity}
-use Rattle.html_render_dom.specs.declared.style.updates.Update.{Update}
-use Rattle.html_render_dom.specs.laws.Winners.{winner-one}
+use Rattle.html_render_dom_cascade.specs.declared.specificities.Specificity.{Specificity}
+use Rattle.html_render_dom_cascade.specs.declared.updates.Update.{Update}
+use Rattle.html_render_dom_cascade.specs.laws.Winners.{winner-one}
 use Rattle.html_render_conversion.specs.declared.mapping.ElementKind.{ElementKind}
 use Rattle.html_render_conversion.specs.declared.mapping.ElementKind.TheVariants.{Node}
 use Rattle.html_render_conversion.specs.declared.mapping.IfEmpty.{IfEmpty}

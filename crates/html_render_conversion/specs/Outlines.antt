@@ -1,7 +1,7 @@
 -- What becomes of a node of a document, its children aside.
 use Rattle.std.specs.Prelude.{ℕ, Bool, true, false, List, Option, Some, None, is_some, if◌then◌else◌}
 use Rattle.html_render_values.specs.Forest.{Forest}
-use Rattle.html_render_dom.specs.Cascade.{value_of}
+use Rattle.html_render_dom_cascade.specs.Cascade.{value_of}
 use Rattle.html_render_dom.specs.Content.{Content, document, doctype, text, comment, element, instruction}
 use Rattle.html_render_dom.specs.Dom.{Dom, content_at, children_at, trees_of}
 use Rattle.html_render_dom.specs.ElementStyle.{ElementStyle}

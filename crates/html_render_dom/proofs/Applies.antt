@@ -6,13 +6,13 @@ use Rattle.std.proofs.lemmas.List.Elements.{filter_map-append}
 use Rattle.std.proofs.lemmas.Bool.{cases_Bool}
 use Rattle.std.proofs.lemmas.Grind.{flat_map-append}
 use Rattle.std.specs.List.{flat_map}
-use Rattle.html_render_dom.specs.declared.style.updates.Update.{Update}
-use Rattle.html_render_dom.specs.Cascade.{key_of, winner}
-use Rattle.html_render_dom.specs.Keeping.{yields_to}
+use Rattle.html_render_dom_cascade.specs.declared.updates.Update.{Update}
+use Rattle.html_render_dom_cascade.specs.Cascade.{key_of, winner}
+use Rattle.html_render_dom_cascade.specs.Keeping.{yields_to}
 use Rattle.html_render_dom.specs.declared.style.rules.PseudoElement.{PseudoElement}
 use Rattle.html_render_dom.specs.declared.style.rules.PseudoElement.TheVariants.{Before, After}
-use Rattle.html_render_dom.specs.declared.style.origins.StyleOrigin.{StyleOrigin}
-use Rattle.html_render_dom.specs.declared.style.specificities.Specificity.{Specificity}
+use Rattle.html_render_dom_cascade.specs.declared.origins.StyleOrigin.{StyleOrigin}
+use Rattle.html_render_dom_cascade.specs.declared.specificities.Specificity.{Specificity}
 use Rattle.html_render_dom.specs.declared.style.rules.Style.{Style}
 use Rattle.html_render_dom.specs.declared.style.rules.Style.TheVariants.{Colour as ColourSet, BgColour, Display as DisplaySet}
 use Rattle.html_render_dom.specs.declared.style.rules.Style.TheVariants.{WhiteSpace as WhiteSpaceSet, Content}
@@ -22,9 +22,9 @@ use Rattle.html_render_dom.specs.Selectors.{specificity_of}
 use Rattle.html_render_dom.specs.Rules.{Rule, StyleValue, declared_of, rule_of, style_value_of}
 use Rattle.html_render_dom.specs.ElementStyle.{Applied, applied, ElementStyle, updates, with_more, with_declarations, colour_in, bg_colour_in}
 use Rattle.html_render_dom.specs.ElementStyle.{display_in, white_space_in, content_in}
-use Rattle.html_render_dom.specs.TextUpdates.{text_update}
-use Rattle.html_render_dom.specs.laws.Winners.{later, yields, winner-one, winner-push, winner-front}
-use Rattle.html_render_dom.proofs.Keeps.{winner-left}
+use Rattle.html_render_dom_cascade.specs.TextUpdates.{text_update}
+use Rattle.html_render_dom_cascade.specs.laws.Winners.{later, yields, winner-one, winner-push, winner-front}
+use Rattle.html_render_dom_cascade.specs.laws.Keeps.{winner-left}
 
 -- the clause of `maybe_update`
 abbrev Takes : {T : Type 0} → Option (Update T) → Update T → Option (Update T) → Type 0

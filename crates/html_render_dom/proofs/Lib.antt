@@ -2,7 +2,6 @@ pub mod Applies
 pub mod Changed
 pub mod Dumps
 pub mod Forests
-pub mod Keeps
 pub mod Lists
 pub mod Moves
 pub mod Names

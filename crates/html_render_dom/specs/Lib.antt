@@ -10,17 +10,13 @@ pub mod Dump
 pub mod Edits
 pub mod Moves
 -- how text is styled
-pub mod Specificities
-pub mod Cascade
 pub mod Rules
 pub mod Selectors
-pub mod TextUpdates
 pub mod ElementStyle
 pub mod RuleIndex
 -- what the functions inside the crate promise each other
 pub mod Room
 pub mod Places
 pub mod Frames
-pub mod Keeping
 -- what holds of all of them
 pub mod laws

@@ -4,7 +4,7 @@ use Rattle.std.specs.List.{list_any, list_all, slice_split}
 use Rattle.std.specs.Char.{is_ascii_whitespace}
 use Rattle.std.specs.Option.{option_len, option_map_or, unwrap_or}
 use Rattle.std.specs.Str.{bytes_eq}
-use Rattle.html_render_dom.specs.declared.style.specificities.Specificity.{Specificity}
+use Rattle.html_render_dom_cascade.specs.declared.specificities.Specificity.{Specificity}
 use Rattle.html_render_dom.specs.Content.{Property}
 use Rattle.html_render_dom.specs.Rules.{Rule}
 

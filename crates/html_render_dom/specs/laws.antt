@@ -2,6 +2,4 @@ pub mod Forests
 pub mod Changes
 pub mod Members
 pub mod Names
-pub mod Orders
 pub mod Trees
-pub mod Winners

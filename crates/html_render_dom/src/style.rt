@@ -8,19 +8,12 @@
 
 mod computed;
 mod index;
-mod laws;
-mod origins;
 mod rules;
 mod selectors;
-mod specificities;
-mod updates;
-mod winners;
 
 pub use computed::{ComputedStyle, computed_style};
+pub use html_render_dom_cascade::{Specificity, StyleOrigin, WithSpec};
 pub use html_render_values::colours::Colour;
 pub use html_render_values::white_space::WhiteSpace;
 pub use index::RuleIndex;
-pub use origins::StyleOrigin;
 pub use rules::{Declaration, Display, PseudoElement, Style, StyleRule};
-pub use specificities::Specificity;
-pub use winners::WithSpec;

@@ -2,7 +2,7 @@
 use Rattle.std.specs.Prelude.{List, [], ◌∷◌, ◌++◌}
 use Rattle.html_render_values.specs.Forest.{Forest, node}
 use Rattle.html_render_parts.specs.declared.table.cells.GridCell.{GridCell}
-use Rattle.html_render_parts.specs.declared.widths.needs.CellNeed.{CellNeed}
+use Rattle.html_render_parts_widths.specs.declared.needs.CellNeed.{CellNeed}
 use Rattle.html_render_nodes.specs.declared.tree.RenderNode.{RenderNode}
 
 -- what the cells of a row need over their columns: each is the next of these trees, while there is one

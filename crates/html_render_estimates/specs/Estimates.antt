@@ -4,8 +4,8 @@ use Rattle.std.specs.Int.{saturate_signed, w64}
 use Rattle.std.specs.Str.{chars}
 use Rattle.html_render_values.specs.Forest.{Forest, none, node}
 use Rattle.html_render_decorators.specs.Decoration.{Decoration}
-use Rattle.html_render_parts.specs.declared.widths.needs.CellNeed.{CellNeed}
-use Rattle.html_render_parts.specs.Needs.{column_needs}
+use Rattle.html_render_parts_widths.specs.declared.needs.CellNeed.{CellNeed}
+use Rattle.html_render_parts_widths.specs.Needs.{column_needs}
 use Rattle.html_render_parts.specs.TableCells.{columns_of}
 use Rattle.html_render_lines.specs.TaggedText.{text_columns}
 use Rattle.html_render_nodes.specs.declared.tree.Estimate.{Estimate}

@@ -1,7 +1,7 @@
 -- What the passes of the code compute: sizes are left out of trees without a table, where nothing asks for them.
 use Rattle.std.specs.Prelude.{Bool, true, false, ◌||◌, List, if◌then◌else◌}
 use Rattle.html_render_values.specs.Forest.{Forest, none, node}
-use Rattle.html_render_parts.specs.declared.widths.shares.ColumnNeed.{ColumnNeed}
+use Rattle.html_render_parts_widths.specs.declared.shares.ColumnNeed.{ColumnNeed}
 use Rattle.html_render_nodes.specs.declared.tree.Estimate.{Estimate}
 use Rattle.html_render_nodes.specs.declared.tree.NodeKind.{NodeKind}
 use Rattle.html_render_nodes.specs.declared.tree.NodeKind.TheVariants.{Table}

@@ -2,7 +2,7 @@
 
 ghost use Rattle.std.specs.Prelude.{◌≡◌, ◌++◌, IfOk, IfErr, OnOk};
 ghost use Rattle.html_render_nodes.specs.Preorder.{flatten, forest_of};
-ghost use Rattle.html_render_parts.specs.Needs.{AreCells};
+ghost use Rattle.html_render_parts_widths.specs.Needs.{AreCells};
 ghost use Rattle.html_render_parts.specs.Placement.{lists};
 ghost use Rattle.html_render_parts.specs.TableCells.{columns_of};
 ghost use Rattle.html_render_estimates.specs.Cells.{row_needs, cell_needs};
@@ -10,7 +10,7 @@ ghost use Rattle.html_render_estimates.specs.Cells.{row_needs, cell_needs};
 use crate::trees::first_tree;
 use html_render_nodes::tree::{Entry, RenderNode};
 use html_render_parts::table::cells::{GridCell, TableCells};
-use html_render_parts::widths::CellNeed;
+use html_render_parts_widths::CellNeed;
 use html_render_values::Error;
 use std::alloc::{AllocError, Global};
 

@@ -1,7 +1,7 @@
 //! The sizes of trees, and the estimates of tables, which stand on them.
 
 ghost use Rattle.std.specs.Prelude.{◌≡◌, ◌*◌, ◌/◌, sum_by, IfOk, IfErr};
-ghost use Rattle.html_render_parts.specs.Needs.{AreSome, column_needs};
+ghost use Rattle.html_render_parts_widths.specs.Needs.{AreSome, column_needs};
 ghost use Rattle.html_render_parts.specs.TableCells.{columns_of};
 ghost use Rattle.html_render_nodes.specs.Preorder.{flatten, forest_of};
 ghost use Rattle.html_render_estimates.specs.TextSize.{saturated};
@@ -12,7 +12,7 @@ use crate::cells::cell_needs;
 use crate::trees::first_tree;
 use html_render_nodes::tree::{Entry, Estimate, RenderNode};
 use html_render_parts::table::cells::TableCells;
-use html_render_parts::widths::{CellNeed, ColumnNeed, column_needs};
+use html_render_parts_widths::{CellNeed, ColumnNeed, column_needs};
 use html_render_values::Error;
 use std::alloc::Global;
 

@@ -2,8 +2,8 @@
 
 ghost use Rattle.std.specs.Prelude.{◌≡◌, IfOk, IfErr};
 ghost use Rattle.html_render_values.specs.declared.errors.Error.TheVariants.{OutOfMemory};
-ghost use Rattle.html_render_parts.specs.Cuts.{CutFits};
-ghost use Rattle.html_render_parts.specs.ColumnCuts.{IsColumnCut};
+ghost use Rattle.html_render_parts_widths.specs.Cuts.{CutFits};
+ghost use Rattle.html_render_parts_widths.specs.ColumnCuts.{IsColumnCut};
 ghost use Rattle.html_render_json.specs.Refusals.{CantBeAsked};
 
 use crate::answers::{Refusal, answered};

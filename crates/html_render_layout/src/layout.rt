@@ -26,7 +26,7 @@ use html_render_lines::line::Line;
 use html_render_lines::tag::Tag;
 use html_render_nodes::tree::{Entry, Flat, RenderNode, RenderTree};
 use html_render_nodes::walk::{Pass, walk};
-use html_render_parts::widths::Meter;
+use html_render_parts_widths::Meter;
 use html_render_states::stacks::Stacks;
 use html_render_states::state::{LayoutState, TextContext, TextList};
 use html_render_states::tagging::{Tagging, Untagged};

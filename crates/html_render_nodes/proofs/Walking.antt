@@ -9,7 +9,7 @@ use Rattle.html_render_values.specs.declared.errors.Error.{Error}
 use Rattle.html_render_values.specs.Forest.{Forest, none, node}
 use Rattle.html_render_values.specs.Outcome.{Refuses}
 use Rattle.html_render_values.specs.laws.Outcome.{Refuses-then, Refuses-same}
-use Rattle.html_render_parts.specs.declared.widths.Meter.{Meter}
+use Rattle.html_render_parts_widths.specs.declared.Meter.{Meter}
 use Rattle.html_render_nodes.specs.Counts.{CountsNodes}
 use Rattle.html_render_nodes.specs.declared.tree.Entry.{Entry}
 use Rattle.html_render_nodes.specs.declared.walk.Frame.{Frame}

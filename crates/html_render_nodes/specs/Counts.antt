@@ -1,7 +1,7 @@
 -- What a walk over a forest counts.
 use Rattle.std.specs.Prelude.{◌≡◌, ◌≤◌, length, Result, OnOk}
 use Rattle.html_render_values.specs.Forest.{Forest, count, depth}
-use Rattle.html_render_parts.specs.declared.widths.Meter.{Meter}
+use Rattle.html_render_parts_widths.specs.declared.Meter.{Meter}
 use Rattle.html_render_nodes.specs.Pass.{Visits, visited, most_open}
 
 -- what stands in the meter after a walk over a tree: entered and left are the nodes that a run visits from the state s, and

@@ -1,7 +1,7 @@
 -- What the node of a table holds.
 use Rattle.std.specs.Prelude.{List, []}
 use Rattle.html_render_parts.specs.TableCells.{CellGrid}
-use Rattle.html_render_parts.specs.declared.widths.shares.ColumnNeed.{ColumnNeed}
+use Rattle.html_render_parts_widths.specs.declared.shares.ColumnNeed.{ColumnNeed}
 
 -- its cells on the columns of its grid, and what these columns need for them, once the node is measured
 pub record TableParts : Type 0 where

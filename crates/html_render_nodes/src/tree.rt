@@ -6,7 +6,7 @@ ghost use Rattle.html_render_nodes.specs.Tables.{unmeasured_table};
 
 use crate::text::NodeText;
 use html_render_parts::table::cells::TableCells;
-use html_render_parts::widths::ColumnNeed;
+use html_render_parts_widths::ColumnNeed;
 use html_render_values::Error;
 use html_render_values::colours::Colour;
 use html_render_values::white_space::WhiteSpace;

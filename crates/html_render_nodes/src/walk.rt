@@ -13,7 +13,7 @@ ghost use Rattle.html_render_nodes.specs.Walk.{innermost};
 ghost use Rattle.html_render_nodes.specs.declared.walk.Frame.{Frame};
 
 use crate::tree::{Entry, Flat};
-use html_render_parts::widths::Meter;
+use html_render_parts_widths::Meter;
 use html_render_values::Error;
 use std::alloc::Global;
 

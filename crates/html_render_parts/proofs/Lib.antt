@@ -1,10 +1,6 @@
 pub mod CellsOnColumns
-pub mod CutColumns
-pub mod CutLevels
-pub mod CutLowering
 pub mod EdgeRanks
 pub mod EdgesOfCells
-pub mod FairestCut
 pub mod GatheringEnds
 pub mod GridMade
 pub mod HangingOrder
@@ -14,6 +10,4 @@ pub mod RisingEnds
 pub mod RowAfterRow
 pub mod RowsOfCells
 pub mod SideBySide
-pub mod Spreading
-pub mod Needs
 pub mod Vectors

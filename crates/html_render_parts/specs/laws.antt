@@ -1,6 +1,1 @@
-pub mod Cuts
-pub mod GivingOrder
 pub mod Refusal
-pub mod UnitCut
-pub mod SharesFit
-pub mod Needs

@@ -1,5 +1,4 @@
-//! Tables: the grid that their cells stand on, and the widths of their columns.
+//! Tables: the grid that their cells stand on.
 #![tactic(auto)]
 
 pub mod table;
-pub mod widths;

@@ -12,7 +12,7 @@ use Rattle.html_render_values.specs.Outcome.{◌>>=◌}
 use Rattle.html_render_values.specs.declared.white_space.WhiteSpace.{WhiteSpace}
 use Rattle.html_render_values.specs.declared.white_space.WhiteSpace.TheVariants.{Normal}
 use Rattle.html_render_decorators.specs.Decoration.{Decoration, Round, link}
-use Rattle.html_render_parts.specs.declared.widths.shares.ColumnNeed.{ColumnNeed}
+use Rattle.html_render_parts_widths.specs.declared.shares.ColumnNeed.{ColumnNeed}
 use Rattle.html_render_parts.specs.TableCells.{CellGrid}
 use Rattle.html_render_lines.specs.Character.{is_collapsible}
 use Rattle.html_render_lines.specs.declared.character.TextStyle.{TextStyle}

@@ -2,7 +2,7 @@
 
 ghost use Rattle.std.specs.Prelude.{◌≡◌, ◌↔◌, true, None, IfSome, map, replicate};
 ghost use Rattle.html_render_dom.specs.Selectors.{specificity_of};
-ghost use Rattle.html_render_dom.specs.declared.style.origins.StyleOrigin.TheVariants as origin;
+ghost use Rattle.html_render_dom_cascade.specs.declared.origins.StyleOrigin.TheVariants as origin;
 ghost use Rattle.html_render_values.specs.Forest.{Forest};
 ghost use Rattle.html_render_blocks.specs.declared.block.BlockSetting.{BlockSetting};
 ghost use Rattle.html_render_states.specs.Layout.{layout_lines, mark_names};

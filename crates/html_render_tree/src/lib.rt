@@ -29,7 +29,7 @@ pub mod table {
 
 /// Column widths, cut fairly, and what a metered call counts.
 pub mod widths {
-    pub use html_render_parts::widths::{
+    pub use html_render_parts_widths::{
         ColumnCut, Meter, check_cut, column_widths, column_widths_metered, cut_fits,
     };
 }

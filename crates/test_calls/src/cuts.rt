@@ -1,6 +1,6 @@
 //! A cut of a hundred thousand columns.
 
-use html_render_parts::widths::{Meter, check_cut, column_widths_metered, cut_fits};
+use html_render_parts_widths::{Meter, check_cut, column_widths_metered, cut_fits};
 use std::alloc::{AllocError, Global};
 use std::test::Fail;
 

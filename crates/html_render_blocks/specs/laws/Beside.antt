@@ -8,8 +8,8 @@ use Rattle.html_render_paragraphs.specs.Paragraph.{Page, Setting, paragraph, all
 use Rattle.html_render_paragraphs.specs.CutText.{text_lines}
 use Rattle.html_render_paragraphs.specs.Stream.{styled}
 use Rattle.html_render_parts.specs.declared.table.PlacedCell.{PlacedCell}
-use Rattle.html_render_parts.specs.declared.widths.shares.ColumnNeed.{ColumnNeed}
-use Rattle.html_render_parts.specs.Shares.{widths_across}
+use Rattle.html_render_parts_widths.specs.declared.shares.ColumnNeed.{ColumnNeed}
+use Rattle.html_render_parts_widths.specs.Shares.{widths_across}
 use Rattle.html_render_pictures.specs.Marked.{marked_before, marked_behind}
 use Rattle.html_render_pictures.specs.Padding.{filled, repeated}
 use Rattle.html_render_pictures.specs.Picture.{picture}

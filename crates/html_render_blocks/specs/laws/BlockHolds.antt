@@ -14,7 +14,7 @@ use Rattle.html_render_paragraphs.specs.laws.Answers.{Both, Both-weaken}
 use Rattle.html_render_paragraphs.specs.laws.Beside.{paragraph-beside, cut-beside}
 use Rattle.html_render_paragraphs.specs.laws.Overflow.{answers as page_answers, refines as page_refines}
 use Rattle.html_render_paragraphs.specs.laws.Within.{IsWithin, all_lines_within, within as page_within}
-use Rattle.html_render_parts.specs.laws.Needs.{across_within}
+use Rattle.html_render_parts_widths.specs.laws.Needs.{across_within}
 use Rattle.html_render_pictures.specs.Padding.{filled, repeated}
 use Rattle.html_render_pictures.specs.Picture.{KeptCell}
 use Rattle.html_render_pictures.specs.Widths.{KeepsToWidth, RowWithin}

@@ -38,8 +38,8 @@ use Rattle.html_render_blocks.specs.OpenRows.{OpenRow, open_row, empty_cell, emp
 use Rattle.html_render_blocks.specs.Tables.{Rows, with_row_open, next_cell_width, skipped, with_open, with_ahead}
 use Rattle.html_render_parts.specs.declared.table.PlacedCell.{PlacedCell}
 use Rattle.html_render_parts.specs.TableCells.{CellGrid, rows_on}
-use Rattle.html_render_parts.specs.declared.widths.shares.ColumnNeed.{ColumnNeed}
-use Rattle.html_render_parts.specs.Shares.{widths_across}
+use Rattle.html_render_parts_widths.specs.declared.shares.ColumnNeed.{ColumnNeed}
+use Rattle.html_render_parts_widths.specs.Shares.{widths_across}
 use Rattle.html_render_pictures.specs.Picture.{KeptCell, TableRow, picture_lines}
 use Rattle.html_render_pictures.specs.laws.Visible.{marked_before_same, picture_times}
 use Rattle.html_render_blocks.specs.Visible.{visible_in_text}

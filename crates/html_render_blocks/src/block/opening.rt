@@ -3,7 +3,7 @@
 
 ghost use Rattle.std.specs.Prelude.{◌≡◌, ◌==◌, ◌&&◌, not, cond, Some, None, OnOk, IfOk, IfErr};
 ghost use Rattle.html_render_values.specs.Outcome.{Refuses};
-ghost use Rattle.html_render_parts.specs.Shares.{widths_across};
+ghost use Rattle.html_render_parts_widths.specs.Shares.{widths_across};
 ghost use Rattle.html_render_parts.specs.TableCells.{rows_on};
 ghost use Rattle.html_render_blocks.specs.declared.block.tables.OpenTable.TheVariants.{Stacked};
 ghost use Rattle.html_render_blocks.specs.Tables.{frame_of};
@@ -18,7 +18,7 @@ use super::tables::OpenTable;
 use html_render_lines::line::Line;
 use html_render_lines::tag::Tag;
 use html_render_parts::table::cells::{RowsAhead, TableCells};
-use html_render_parts::widths::{ColumnNeed, widths_across};
+use html_render_parts_widths::{ColumnNeed, widths_across};
 use html_render_pictures::fillers::{Filler, push_fillers};
 use html_render_pictures::finished::put_marks_front;
 use html_render_pictures::picture::{Frame, Picture};
@@ -26,7 +26,7 @@ use html_render_values::Error;
 use std::alloc::{AllocError, Global};
 
 /// The widths of a table's columns side by side in `width` columns; none where they can't stand so, or aren't to.
-#[tactic(auto, using(html_render_parts::specs::laws::Needs::across_within))]
+#[tactic(auto, using(html_render_parts_widths::specs::laws::Needs::across_within))]
 fn column_widths(
     alloc: Global,
     width: usize,

@@ -8,7 +8,7 @@ use Rattle.std.specs.List.{list_any}
 use Rattle.std.specs.Str.{bytes_eq}
 use Rattle.html_render_values.specs.Forest.{Forest}
 use Rattle.html_render_values.specs.Outcome.{◌>>=◌}
-use Rattle.html_render_dom.specs.Cascade.{value_of}
+use Rattle.html_render_dom_cascade.specs.Cascade.{value_of}
 use Rattle.html_render_dom.specs.Content.{Content, document, text, element, is_html}
 use Rattle.html_render_dom.specs.ElementStyle.{ElementStyle}
 use Rattle.html_render_dom.specs.Rules.{Rule as StyleRule}

@@ -4,8 +4,7 @@ ghost use Rattle.std.specs.Prelude.{◌≡◌, [], Some, None, map, string_bytes
 ghost use Rattle.html_render_dom.specs.Rules.{declared_of, rule_of};
 ghost use Rattle.html_render_dom.specs.Selectors.{specificity_of};
 
-use super::origins::StyleOrigin;
-use super::specificities::Specificity;
+use html_render_dom_cascade::{Specificity, StyleOrigin};
 use html_render_values::colours::Colour;
 use html_render_values::white_space::WhiteSpace;
 use std::alloc::Global;

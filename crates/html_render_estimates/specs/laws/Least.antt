@@ -12,7 +12,7 @@ use Rattle.html_render_nodes.specs.declared.tree.RenderNode.{RenderNode}
 use Rattle.html_render_nodes.specs.Preorder.{flatten}
 use Rattle.html_render_parts.specs.TableCells.{columns_of}
 use Rattle.html_render_parts.specs.declared.table.cells.GridCell.{GridCell}
-use Rattle.html_render_parts.specs.declared.widths.needs.CellNeed.{CellNeed}
+use Rattle.html_render_parts_widths.specs.declared.needs.CellNeed.{CellNeed}
 use Rattle.html_render_estimates.specs.declared.settings.LayoutSettings.{LayoutSettings}
 use Rattle.html_render_estimates.specs.Cells.{row_needs, cell_needs}
 use Rattle.html_render_estimates.specs.Estimates.{trees, greatest_least, total_size, prefix_of, measured_kind, estimate_of, measured}

@@ -6,11 +6,11 @@ use Rattle.std.specs.Prelude.{sum_by}
 use Rattle.std.proofs.Math.Nat.{div-mul-le_self, le-div_iff_mul-le, mul-le-mul_left}
 use Rattle.std.proofs.lemmas.Bool.{and_parts, leb-true, ltb-true}
 use Rattle.std.proofs.lemmas.List.Sums.{sum_by-cons}
-use Rattle.html_render_parts.specs.declared.widths.needs.CellNeed.{CellNeed}
-use Rattle.html_render_parts.specs.declared.widths.shares.ColumnNeed.{ColumnNeed}
-use Rattle.html_render_parts.specs.declared.widths.spans.Span.{Span}
-use Rattle.html_render_parts.specs.Spans.{given, greatest_at}
-use Rattle.html_render_parts.specs.Needs.{part, need_at, column_needs}
+use Rattle.html_render_parts_widths.specs.declared.needs.CellNeed.{CellNeed}
+use Rattle.html_render_parts_widths.specs.declared.shares.ColumnNeed.{ColumnNeed}
+use Rattle.html_render_parts_widths.specs.declared.spans.Span.{Span}
+use Rattle.html_render_parts_widths.specs.Spans.{given, greatest_at}
+use Rattle.html_render_parts_widths.specs.Needs.{part, need_at, column_needs}
 use Rattle.html_render_estimates.specs.Estimates.{table_estimate}
 
 -- ---- sums

@@ -7,7 +7,7 @@ use Rattle.std.proofs.Math.Seq.{get_or-append_seam}
 use Rattle.html_render_values.specs.declared.errors.Error.{Error}
 use Rattle.html_render_values.specs.Forest.{Forest}
 use Rattle.html_render_decorators.specs.Decoration.{Decoration}
-use Rattle.html_render_parts.specs.declared.widths.Meter.{Meter}
+use Rattle.html_render_parts_widths.specs.declared.Meter.{Meter}
 use Rattle.html_render_lines.specs.declared.line.Element.{Element}
 use Rattle.html_render_lines.specs.declared.line.Element.TheVariants.{Character, Mark}
 use Rattle.html_render_lines.specs.Line.{Line}

@@ -3,7 +3,7 @@ use Rattle.std.proofs.Common.{◌≡◌, ◌||◌, true, false, ℕ, ◌+◌, ma
 use Rattle.std.proofs.Common.{refl, ap, ◌≤◌, subst, arith, length-append}
 use Rattle.std.proofs.lemmas.Bool.{or_parts, true≢false}
 use Rattle.html_render_values.specs.Forest.{Forest, none, node, count, depth}
-use Rattle.html_render_parts.specs.declared.widths.Meter.{Meter}
+use Rattle.html_render_parts_widths.specs.declared.Meter.{Meter}
 use Rattle.html_render_lines.specs.laws.Cases.{if_cases}
 use Rattle.html_render_nodes.specs.declared.tree.Estimate.{Estimate}
 use Rattle.html_render_nodes.specs.declared.tree.NodeKind.{NodeKind}

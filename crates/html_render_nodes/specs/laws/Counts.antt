@@ -3,7 +3,7 @@ use Rattle.std.specs.Prelude.{◌≡◌, ◌≤◌, List, length, Result, Ok, Er
 use Rattle.std.specs.Result.{IsErrAnd}
 use Rattle.std.proofs.Common.{arith, subst, ◌∙◌}
 use Rattle.html_render_values.specs.Forest.{Forest, count, depth}
-use Rattle.html_render_parts.specs.declared.widths.Meter.{Meter}
+use Rattle.html_render_parts_widths.specs.declared.Meter.{Meter}
 use Rattle.html_render_nodes.specs.Counts.{CountsNodes}
 use Rattle.html_render_nodes.specs.Pass.{Visits, visited, most_open}
 use Rattle.html_render_nodes.specs.laws.Visits.{visited-at_most, most_open-at_most}

@@ -6,7 +6,7 @@ ghost use Rattle.html_render_nodes.specs.laws.Depths.{depths-opened};
 
 use super::{Entry, Flat, RenderNode, RenderTree};
 use crate::walk::{Pass, walk};
-use html_render_parts::widths::Meter;
+use html_render_parts_widths::Meter;
 use html_render_values::Error;
 use std::alloc::Global;
 use std::marker::Model;

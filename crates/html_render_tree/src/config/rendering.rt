@@ -18,7 +18,7 @@ use html_render_decorators::decorate::TextDecorator;
 use html_render_dom::Error;
 use html_render_layout::layout::{lay_out, lay_out_untagged};
 use html_render_nodes::tree::RenderTree;
-use html_render_parts::widths::Meter;
+use html_render_parts_widths::Meter;
 use html_render_tagged::colours::coloured;
 use html_render_tagged::grouping::tagged_lines;
 use html_render_tagged::line::TaggedLine;

@@ -1,5 +1,5 @@
 use Rattle.std.proofs.Common.{◌++◌, sym, ap, ◌∙◌, subst}
-use Rattle.html_render_parts.specs.Needs.{AreCells}
+use Rattle.html_render_parts_widths.specs.Needs.{AreCells}
 use Rattle.html_render_parts.specs.Placement.{lists}
 use Rattle.html_render_parts.specs.TableCells.{columns_of}
 use Rattle.html_render_nodes.specs.Preorder.{forest_of}

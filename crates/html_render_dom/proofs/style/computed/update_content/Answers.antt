@@ -1,7 +1,7 @@
 -- The clone says what the content says.
 use Rattle.std.proofs.Common.{[], ◌∷◌, ◌++◌, option_map, option_to_list, ap, ◌∙◌}
-use Rattle.html_render_dom.specs.Cascade.{winner}
-use Rattle.html_render_dom.specs.TextUpdates.{text_update}
+use Rattle.html_render_dom_cascade.specs.Cascade.{winner}
+use Rattle.html_render_dom_cascade.specs.TextUpdates.{text_update}
 use Rattle.html_render_dom.proofs.Applies.{content-taken}
 use Rattle.html_render_dom.proofs.style.computed.update_content.Goals as goal
 

@@ -1,5 +1,0 @@
-use Rattle.html_render_parts.proofs.CutColumns.{ColumnsSoFar}
-use Rattle.html_render_parts.proofs.widths.lowering.columns_at_level.Given as goal
-
-abbrev pub invariant-loop-place : goal.invariant-loop-place
-invariant-loop-place l = ColumnsSoFar l.minimums l.shares l.level l.place l.columns.items

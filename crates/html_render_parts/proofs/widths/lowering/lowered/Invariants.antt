@@ -1,5 +1,0 @@
-use Rattle.html_render_parts.proofs.CutColumns.{IsLowering}
-use Rattle.html_render_parts.proofs.widths.lowering.lowered.Given as goal
-
-abbrev pub invariant-loop-column : goal.invariant-loop-column
-invariant-loop-column l = IsLowering l.minimums l.shares l.level l.count l.column-items l.column-index l.initial.widths.items l.widths.items

@@ -1,7 +1,0 @@
-use Rattle.std.proofs.Common.{length}
-use Rattle.html_render_parts.specs.SpanSteps.{IsSpread}
-use Rattle.html_render_parts.proofs.widths.spans.add_all.Given as goal
-
--- the spans so far are spread
-abbrev pub invariant-loop-at : goal.invariant-loop-at
-invariant-loop-at l = IsSpread (length l.initial.values.items) l.columns l.longer l.at l.spans l.values.items

@@ -1,7 +1,0 @@
-use Rattle.std.proofs.Common.{ℕ, ◌<◌, ◌≤◌}
-use Rattle.html_render_parts.specs.SpanSteps.{span_at}
-use Rattle.html_render_parts.proofs.widths.spans.longest.Given as goal
-
--- none so far is longer
-abbrev pub invariant-loop-at : goal.invariant-loop-at
-invariant-loop-at l = (k : ℕ) → k < l.at → (span_at l.spans k).count ≤ l.longest

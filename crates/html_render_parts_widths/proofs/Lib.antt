@@ -1,0 +1,6 @@
+pub mod CutColumns
+pub mod CutLevels
+pub mod CutLowering
+pub mod FairestCut
+pub mod ColumnNeeds
+pub mod Spreading

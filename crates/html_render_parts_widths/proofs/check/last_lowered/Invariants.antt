@@ -1,0 +1,13 @@
+use Rattle.std.proofs.Common.{ℕ, ◌<◌, ◌≢◌, slice_index}
+use Rattle.std.specs.Option.{MatchOption}
+use Rattle.html_render_parts_widths.specs.Cuts.{IsLowered}
+use Rattle.html_render_parts_widths.specs.CutSteps.{LoweredBefore}
+use Rattle.html_render_parts_widths.proofs.check.last_lowered.Given as goal
+
+-- the last of the first i
+abbrev pub invariant-loop-i : goal.invariant-loop-i
+invariant-loop-i l = MatchOption l.last
+    ((k : ℕ) → k < l.i → ¬ IsLowered l.minimums l.shares l.widths l.level k)
+    (λ b. (b < l.i) × IsLowered l.minimums l.shares l.widths l.level b
+    × ((k : ℕ) → k < l.i → k ≢ b → IsLowered l.minimums l.shares l.widths l.level k →
+    LoweredBefore (slice_index l.minimums k) k (slice_index l.minimums b) b))

@@ -1,0 +1,47 @@
+-- What the columns of a table need for its cells.
+use Rattle.std.specs.Prelude.{ℕ, ◌+◌, ◌-◌, ◌/◌, ◌≤◌, ◌<◌, List, All, map, sum, slice_range, Option}
+use Rattle.std.specs.List.{range_with_len}
+use Rattle.html_render_parts_widths.specs.declared.needs.CellNeed.{CellNeed}
+use Rattle.html_render_parts_widths.specs.declared.shares.ColumnNeed.{ColumnNeed}
+use Rattle.html_render_parts_widths.specs.declared.spans.Span.{Span}
+use Rattle.html_render_parts_widths.specs.Shares.{widths_across}
+use Rattle.html_render_parts_widths.specs.Spans.{greatest_at}
+
+-- the part that each column of a cell has of a value, rounded down
+abbrev pub part : CellNeed → (value : ℕ) → Span
+part c value = record { start = c.start; count = c.count; value = value / c.count }
+
+-- a column needs the greatest part of the size, and of the least width, of a cell that stands over it
+abbrev pub need_at : List CellNeed → (column : ℕ) → ColumnNeed
+need_at cells column = record {
+  size = greatest_at (map (λ c. part c c.size) cells) column;
+  least = greatest_at (map (λ c. part c c.least) cells) column;
+}
+
+-- WHAT THE COLUMNS NEED
+abbrev pub column_needs : (columns : ℕ) → List CellNeed → List ColumnNeed
+column_needs columns cells = map (need_at cells) (range_with_len 0 columns)
+
+-- THE WIDTHS of a table's columns side by side; none where they can't stand so
+abbrev pub table_widths : (columns : ℕ) → List CellNeed → (width : ℕ) → Option (List ℕ)
+table_widths columns cells width = widths_across width (column_needs columns cells)
+
+-- a column without cells
+abbrev pub no_need : ColumnNeed
+no_need = record { size = 0; least = 0 }
+
+-- each cell has a column
+abbrev pub AreSome : List CellNeed → Type 0
+AreSome cells = All (λ c. 0 < c.count) cells
+
+-- cells of these columns, each over one or more
+pub record IsCell (columns : ℕ) (c : CellNeed) : Type 0 where
+  pub over : c.start + c.count ≤ columns
+  pub some : 0 < c.count
+
+abbrev pub AreCells : (columns : ℕ) → List CellNeed → Type 0
+AreCells columns cells = All (IsCell columns) cells
+
+-- a cell has its least width over its columns, with the separators between them
+abbrev pub HasRoom : (widths : List ℕ) → CellNeed → Type 0
+HasRoom widths c = c.least ≤ sum (slice_range widths c.start (c.start + c.count)) + (c.count - 1)

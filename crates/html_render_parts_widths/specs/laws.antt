@@ -1,0 +1,5 @@
+pub mod Cuts
+pub mod GivingOrder
+pub mod UnitCut
+pub mod SharesFit
+pub mod Needs

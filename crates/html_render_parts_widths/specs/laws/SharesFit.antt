@@ -1,0 +1,94 @@
+-- The shares of columns that can stand side by side can be cut to the width, and keep to it but for their least widths.
+use Rattle.std.proofs.Common.{◌≡◌, ℕ, ◌+◌, ◌-◌, ◌*◌, ◌/◌, ◌<◌, ◌≤◌, ◌==◌, Bool, true, false, not}
+use Rattle.std.proofs.Common.{zero, suc, cond, ◌&&◌, leb, List, [], ◌∷◌, length, sum, sum_by, map, min, max, refl, ap, sym, ◌∙◌, arith, IfSome, Some, None}
+use Rattle.std.proofs.Math.Nat.{add-mul, div-zero, div-mul-le_self, div-le_of_le-mul, le-div_iff_mul-le}
+use Rattle.std.proofs.lemmas.Bool.{leb-true, eqb-true}
+use Rattle.std.proofs.lemmas.List.{get_or-map, length-map}
+use Rattle.std.proofs.lemmas.List.Sums.{sum_by-cons}
+use Rattle.html_render_parts_widths.specs.declared.shares.ColumnNeed.{ColumnNeed}
+use Rattle.html_render_parts_widths.specs.Cuts.{cut_by_units, CutFits, IsCut}
+use Rattle.html_render_parts_widths.specs.Shares.{least_widths, share, shares, stand_side_by_side, widths_across}
+use Rattle.html_render_parts_widths.specs.laws.Cuts.{few-units}
+use Rattle.html_render_parts_widths.specs.laws.UnitCut.{cut_by_units-fairest}
+
+no_need : ColumnNeed
+no_need = record { size = 0; least = 0 }
+
+and_true : (a b : Bool) → (a && b) ≡ true → b ≡ true
+and_true true b e = e
+and_true false b e = cc
+
+pub shares_fit : (w : ℕ) (needs : List ColumnNeed) → stand_side_by_side w needs ≡ true → CutFits (least_widths needs) (shares w needs) w
+shares_fit w needs stand =
+    let same : length (least_widths needs) ≡ length needs = length-map needs (λ n. n.least) in
+    let room = leb-true (sum (least_widths needs) + (length needs - 1)) w
+    (and_true (not (w == 0)) (leb (sum (least_widths needs) + (length needs - 1)) w) stand) in
+    record {
+      lengths = same ∙ sym (length-map needs (share w (sum_by (λ (m : ColumnNeed). m.size) needs)));
+      each = λ k inside.
+          let k_in : k < length needs = omega (arith, inside, same) in
+          rw (
+            get_or-map (λ n. n.least) needs k no_need 0 k_in,
+            get_or-map (share w (sum_by (λ (m : ColumnNeed). m.size) needs)) needs k no_need 0 k_in,
+          )
+          (omega arith);
+      room = omega (arith, room, same);
+    }
+
+-- what holds of each cut of the shares holds of the widths of columns that stand side by side
+pub of_widths : (w : ℕ) (needs : List ColumnNeed) (P : List ℕ → Type 0) →
+    ((ws : List ℕ) → CutFits (least_widths needs) (shares w needs) w → IsCut (least_widths needs) (shares w needs) w ws → P ws) →
+    IfSome (widths_across w needs) P
+of_widths w needs P f = by (stand_side_by_side w needs) refl
+  where
+    by : (b : Bool) → stand_side_by_side w needs ≡ b → IfSome (cond b (Some (cut_by_units (least_widths needs) (shares w needs) w)) None) P
+    by true e =
+        let fits = shares_fit w needs e in
+        f (cut_by_units (least_widths needs) (shares w needs) w) fits
+        (cut_by_units-fairest (least_widths needs) (shares w needs) w fits).is_cut
+    by false e = tt
+
+-- ---- the shares' sum
+
+-- two parts of a whole, rounded down, are at most both together, rounded down
+div-both : (a b t : ℕ) → a / t + b / t ≤ (a + b) / t
+div-both a b zero = omega (arith, div-zero a, div-zero b)
+div-both a b (suc t) =
+    (le-div_iff_mul-le {k = suc t} {x = a / suc t + b / suc t} {y = a + b} (omega arith)).1
+    (omega (arith, add-mul (a / suc t) (b / suc t) (suc t), div-mul-le_self a (suc t), div-mul-le_self b (suc t)))
+
+shares-most : (w t : ℕ) (needs : List ColumnNeed) → sum (map (share w t) needs) ≤ sum (least_widths needs) + sum_by (λ m. m.size) needs * w / t
+shares-most w t [] = omega arith
+shares-most w t (n ∷ ns) =
+    let one : share w t n ≤ n.least + n.size * w / t = omega arith in
+    let rest = shares-most w t ns in
+    let both = div-both (n.size * w) (sum_by (λ m. m.size) ns * w) t in
+    omega (
+      arith,
+      one,
+      rest,
+      both,
+      ap (λ x. x / t) (ap (λ x. x * w) (sum_by-cons (λ (m : ColumnNeed). m.size) n ns) ∙ add-mul n.size (sum_by (λ m. m.size) ns) w),
+      sum_by-cons (λ x. x) (share w t n) (map (share w t) ns),
+      sum_by-cons (λ x. x) n.least (least_widths ns),
+    )
+
+pub shares_keep : (w : ℕ) (needs : List ColumnNeed) → sum (shares w needs) ≤ sum (least_widths needs) + w
+shares_keep w needs =
+    let most = shares-most w (sum_by (λ (m : ColumnNeed). m.size) needs) needs in
+    let total = sum_by (λ (m : ColumnNeed). m.size) needs in
+    let whole : total * w / total ≤ w = div-le_of_le-mul total {m = total * w} {n = w} (omega arith) in
+    omega (arith, most, whole)
+
+-- so a cut of them takes few units
+pub few_units_across : (w : ℕ) (needs : List ColumnNeed) → IfSome (widths_across w needs) (λ ws. sum (shares w needs) - sum ws ≤ w)
+few_units_across w needs = of_widths w needs (λ ws. sum (shares w needs) - sum ws ≤ w)
+    (λ ws fits cut. few-units (least_widths needs) (shares w needs) w ws fits cut (shares_keep w needs))
+
+-- where no column needs more at least than its size, a share is no more than the size: it is nothing where that is
+pub share_is : (w t : ℕ) (n : ColumnNeed) → n.least ≤ n.size → share w t n ≡ cond (n.size == 0) 0 (min n.size (max (n.size * w / t) n.least))
+share_is w t n h = by (n.size == 0) refl
+  where
+    by : (b : Bool) → (n.size == 0) ≡ b → share w t n ≡ cond b 0 (min n.size (max (n.size * w / t) n.least))
+    by true e = let zero = eqb-true n.size 0 e in omega arith
+    by false e = omega arith

@@ -1,0 +1,168 @@
+//! Whether a list of widths is the cut that `column_widths` answers, in a few passes and without memory.
+
+ghost use Rattle.std.specs.Prelude.{◌≡◌, ◌≢◌, ℕ, ◌+◌, ◌-◌, ◌*◌, ◌^◌, ◌<◌, ◌≤◌, ◌↔◌, ◌⊎◌, length, min, sum, slice_index, IsTrue, IfSome, IfNone};
+ghost use Rattle.html_render_parts_widths.specs.Cuts.{ranges, capped_sum, CutFits, slack, IsLowered, IsLevel, IsLevelForm};
+ghost use Rattle.html_render_parts_widths.specs.CutSteps.{AreColumns, IsFull, LoweredBefore, LowersFirst};
+
+use super::cut::ColumnCut;
+use super::fit::{cut_fits, sum_up, wanted};
+use super::levels::capped_sum;
+
+/// Whether the columns can be cut to `width`, as [`cut_fits`] says, and `cut` is what
+/// [`column_widths`](super::column_widths) answers for them.
+///
+/// It takes no memory.
+pub fn check_cut(minimums: &[usize], shares: &[usize], width: usize, cut: &ColumnCut) -> bool
+    ensures { IsTrue result
+        ↔ (CutFits minimums.now shares.now width × IsLevelForm minimums.now shares.now width cut.now.widths.items cut.now.level cut.now.lowered) }
+{
+    cut_fits(minimums, shares, width) && is_level_form(minimums, shares, width, cut)
+}
+
+/// Whether a cut is the level form of columns that fit.
+fn is_level_form(minimums: &[usize], shares: &[usize], width: usize, cut: &ColumnCut) -> bool
+    requires { CutFits minimums.now shares.now width }
+    ensures { IsTrue result ↔ IsLevelForm minimums.now shares.now width cut.now.widths.items cut.now.level cut.now.lowered }
+{
+    let widths = cut.widths.as_slice();
+    if widths.len() != minimums.len() {
+        return false;
+    }
+    let totals = sum_up(minimums, shares);
+    let needed = wanted(minimums, shares, width, totals);
+    let full = capped_sum(minimums, shares, cut.level);
+    let lowered = cut.lowered as u128;
+    is_least_level(minimums, shares, cut.level, needed, full)
+        && lowered + needed == full
+        && are_full_or_lowered(minimums, shares, cut.level, widths)
+        && total(widths) + lowered == totals.minimums + full
+        && lowers_first(minimums, shares, cut.level, widths)
+}
+
+/// The sum of numbers, exact.
+fn total(widths: &[usize]) -> u128
+    ensures value { result ≡ sum widths.now }
+    ensures small { result ≤ length widths.now * 2 ^ 64 }
+{
+    let mut all = 0u128;
+    for width in widths {
+        all += *width as u128;
+    }
+    all
+}
+
+/// Whether the level is the least at which the capped ranges are enough. `full` is their sum at the level.
+fn is_least_level(
+    minimums: &[usize],
+    shares: &[usize],
+    level: usize,
+    needed: u128,
+    full: u128,
+) -> bool
+    requires columns { AreColumns minimums.now shares.now }
+    requires full { full ≡ capped_sum level (ranges minimums.now shares.now) }
+    ensures { IsTrue result ↔ IsLevel level (ranges minimums.now shares.now) needed }
+{
+    needed <= full && (level == 0 || capped_sum(minimums, shares, level - 1) < needed)
+}
+
+/// Whether a column has its minimum and its range, capped at the level.
+fn is_full(minimum: usize, share: usize, level: usize, width: usize) -> bool
+    requires { minimum ≤ share }
+    ensures { IsTrue result ↔ (width ≡ minimum + min (share - minimum) level) }
+{
+    width == minimum + (share - minimum).min(level)
+}
+
+/// Whether a column's range reaches the level, which is above 0, and the column is 1 narrower than that.
+fn is_lowered(minimum: usize, share: usize, level: usize, width: usize) -> bool
+    requires { minimum ≤ share }
+    ensures { IsTrue result ↔ ((0 < level) × (level ≤ share - minimum) × (width + 1 ≡ minimum + min (share - minimum) level)) }
+{
+    0 < level && level <= share - minimum && width == minimum + (level - 1)
+}
+
+/// Whether each column has its full width or is lowered.
+fn are_full_or_lowered(minimums: &[usize], shares: &[usize], level: usize, widths: &[usize]) -> bool
+    requires columns { AreColumns minimums.now shares.now }
+    requires widths { length widths.now ≡ length minimums.now }
+    ensures { IsTrue result ↔ ((k : ℕ) → k < length minimums.now
+        → IsFull minimums.now shares.now widths.now level k ⊎ IsLowered minimums.now shares.now widths.now level k) }
+{
+    for (i, width) in widths.iter().enumerate() {
+        let is_full = is_full(minimums[i], shares[i], level, *width);
+        if !is_full && !is_lowered(minimums[i], shares[i], level, *width) {
+            return false;
+        }
+    }
+    true
+}
+
+/// The lowered column that is lowered last: the narrowest, of these the rightmost.
+fn last_lowered(
+    minimums: &[usize],
+    shares: &[usize],
+    level: usize,
+    widths: &[usize],
+) -> Option<usize>
+    requires columns { AreColumns minimums.now shares.now }
+    requires widths { length widths.now ≡ length minimums.now }
+    ensures found { IfSome result (λ i. (i < length minimums.now) × IsLowered minimums.now shares.now widths.now level i) }
+    ensures last { IfSome result (λ i. (k : ℕ) → k < length minimums.now → k ≢ i → IsLowered minimums.now shares.now widths.now level k
+        → LoweredBefore (slice_index minimums.now k) k (slice_index minimums.now i) i) }
+    ensures none { IfNone result ((k : ℕ) → k < length minimums.now → ¬ IsLowered minimums.now shares.now widths.now level k) }
+{
+    let mut last = None;
+    for (i, width) in widths.iter().enumerate() {
+        if is_lowered(minimums[i], shares[i], level, *width) {
+            match last {
+                Some(l) if minimums[i] > minimums[l] => {}
+                _ => last = Some(i),
+            }
+        }
+    }
+    last
+}
+
+/// The column at the level that would be lowered next: the widest of full width, of these the leftmost.
+fn next_lowered(
+    minimums: &[usize],
+    shares: &[usize],
+    level: usize,
+    widths: &[usize],
+) -> Option<usize>
+    requires columns { AreColumns minimums.now shares.now }
+    requires widths { length widths.now ≡ length minimums.now }
+    ensures found { IfSome result (λ i. (i < length minimums.now) × (level ≤ slack minimums.now shares.now i)
+        × IsFull minimums.now shares.now widths.now level i) }
+    ensures first { IfSome result (λ i. (k : ℕ) → k < length minimums.now → k ≢ i → level ≤ slack minimums.now shares.now k
+        → IsFull minimums.now shares.now widths.now level k
+        → LoweredBefore (slice_index minimums.now i) i (slice_index minimums.now k) k) }
+    ensures none { IfNone result ((k : ℕ) → k < length minimums.now → level ≤ slack minimums.now shares.now k
+        → ¬ IsFull minimums.now shares.now widths.now level k) }
+{
+    let mut next = None;
+    for (i, width) in widths.iter().enumerate() {
+        if shares[i] - minimums[i] >= level && is_full(minimums[i], shares[i], level, *width) {
+            match next {
+                Some(n) if minimums[i] <= minimums[n] => {}
+                _ => next = Some(i),
+            }
+        }
+    }
+    next
+}
+
+/// Whether each lowered column comes before each other one at the level.
+fn lowers_first(minimums: &[usize], shares: &[usize], level: usize, widths: &[usize]) -> bool
+    requires columns { AreColumns minimums.now shares.now }
+    requires widths { length widths.now ≡ length minimums.now }
+    ensures { IsTrue result ↔ LowersFirst minimums.now shares.now widths.now level }
+{
+    let last = last_lowered(minimums, shares, level, widths);
+    let next = next_lowered(minimums, shares, level, widths);
+    match (last, next) {
+        (Some(l), Some(n)) => { minimums[n] < minimums[l] || minimums[n] == minimums[l] && l < n }
+        _ => true,
+    }
+}
