@@ -182,29 +182,66 @@ impl<T: Tag, M: Copy> Block<T, M> {
         }
     }
 
-    /// An empty block inside this one, behind a prefix of `prefix` columns, with at least `inner` columns of its own.
-    ///
-    /// # Errors
-    ///
-    /// `TooNarrow`, where these columns aren't there, with overflow off.
-    #[inline]
-    #[tactic(auto, unfolding(crate::specs::Machine::operations))]
-    pub fn sub_block(&self, prefix: usize, inner: usize) -> Result<Block<T, M>, Error>
-        ensures ok { IfOk result (λ sub. machine.operations.sub_block self.now prefix inner ≡ Some sub) }
-        ensures err { IfErr result (λ e. Refuses e (machine.operations.sub_block self.now prefix inner)) }
+    /// Where its memory comes from.
+    pub(crate) fn alloc(&self) -> Global {
+        self.alloc
+    }
+
+    /// The setting of a block of this width inside this one.
+    fn inner_setting(&self, width: usize) -> BlockSetting
+        ensures { result ≡ record self.now.setting { width = width } }
     {
-        match inner_width(self.setting, prefix, inner) {
-            Some(width) => Ok(Block::new(
-                self.alloc,
-                BlockSetting {
-                    width,
-                    max_wrap_width: self.setting.max_wrap_width,
-                    overflow: self.setting.overflow,
-                },
-                self.padding,
-            )),
-            None => Err(Error::TooNarrow),
+        BlockSetting {
+            width,
+            max_wrap_width: self.setting.max_wrap_width,
+            overflow: self.setting.overflow,
         }
+    }
+
+    /// An empty block of this width inside this one.
+    pub(crate) fn inner_block(&self, width: usize) -> Block<T, M>
+        ensures { result ≡ block.inner_block machine self.now width }
+    {
+        Block::new(self.alloc, self.inner_setting(width), self.padding)
+    }
+
+    /// Opens this paragraph.
+    fn open_paragraph(&mut self, paragraph: Paragraph<T, M>)
+        ensures { self.new ≡ record self.old { paragraph = Some paragraph } }
+    {
+        self.paragraph = Some(paragraph);
+    }
+
+    /// The paragraph becomes an empty one for a block of this setting, and keeps its memory.
+    fn renew_paragraph(&mut self, setting: BlockSetting)
+        ensures { self.new ≡ record self.old { paragraph = (machine).start (block.paragraph_setting setting) [] } }
+    {
+        let width = wrap_width(setting.width, setting.max_wrap_width);
+        if let Some(paragraph) = &mut self.paragraph {
+            paragraph.renew(width, setting.overflow);
+            return;
+        }
+        self.open_paragraph(Paragraph::new(self.alloc, width, setting.overflow));
+    }
+
+    /// Becomes an empty block of this width inside another one, and keeps its memory.
+    pub(crate) fn become_inner(&mut self, outer: &Block<T, M>, width: usize)
+        ensures { self.new ≡ block.inner_block machine outer.now width }
+    {
+        let setting = outer.inner_setting(width);
+        self.renew_paragraph(setting);
+        self.setting = setting;
+        self.padding = outer.padding;
+        self.lines = Lines::new(self.alloc);
+        self.at_block_end = false;
+        self.table = None;
+    }
+
+    /// The columns behind a prefix of `prefix` columns, at least `inner`; none where they aren't there, with overflow off.
+    pub(crate) fn width_behind(&self, prefix: usize, inner: usize) -> Option<usize>
+        ensures { result ≡ block.inner_width self.now.setting prefix inner }
+    {
+        inner_width(self.setting, prefix, inner)
     }
 
     /// The columns of a line.
@@ -212,17 +249,6 @@ impl<T: Tag, M: Copy> Block<T, M> {
         ensures { result ≡ self.now.setting.width }
     {
         self.setting.width
-    }
-
-    /// The finished lines.
-    ///
-    /// # Errors
-    ///
-    /// Memory ran out.
-    pub fn into_lines(self) -> Result<Vec<Line<T, M>>, AllocError>
-        ensures { IfOk result (λ lines. lines.items ≡ self.lines) }
-    {
-        self.lines.into_vec()
     }
 
     /// Leaves no paragraph open.
@@ -294,7 +320,7 @@ impl<T: Tag, M: Copy> Block<T, M> {
     }
 
     /// Takes the finished lines out.
-    fn take_lines(&mut self) -> Lines<T, M>
+    pub(crate) fn take_lines(&mut self) -> Lines<T, M>
         ensures lines { result ≡ self.old.lines }
         ensures after { self.new ≡ record self.old { lines = [] } }
     {
@@ -509,13 +535,13 @@ impl<T: Tag, M: Copy> Block<T, M> {
     #[tactic(auto, using(html_render_values::specs::laws::Outcome::refusals, crate::proofs::Appending::append_unflushed), unfolding(crate::specs::Machine::operations))]
     pub fn append(
         &mut self,
-        mut sub: Block<T, M>,
+        sub: &mut Block<T, M>,
         tag: T,
         first: &str,
         later: &str,
     ) -> Result<(), Error>
-        ensures ok { OnOk result (machine.operations.append self.old sub tag (chars first.now) (chars later.now) ≡ Some self.new) }
-        ensures err { IfErr result (λ e. Refuses e (machine.operations.append self.old sub tag (chars first.now) (chars later.now))) }
+        ensures ok { OnOk result (machine.operations.append self.old sub.old tag (chars first.now) (chars later.now) ≡ Some self.new) }
+        ensures err { IfErr result (λ e. Refuses e (machine.operations.append self.old sub.old tag (chars first.now) (chars later.now))) }
     {
         self.flush()?;
         sub.flush_whole()?;

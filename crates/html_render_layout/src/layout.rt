@@ -19,6 +19,7 @@ ghost use Rattle.html_render_states.specs.Working.{padding, by_tags, tabled, wor
 ghost use Rattle.html_render_layout.specs.LaidOut.{laid_out};
 
 use html_render_blocks::block::{Block, BlockSetting};
+use html_render_blocks::held::OpenBlock;
 use html_render_decorators::decorate::TextDecorator;
 use html_render_estimates::estimate::measure;
 use html_render_estimates::settings::LayoutSettings;
@@ -104,7 +105,7 @@ fn begin_with<D: TextDecorator, G: Tagging<D::Annotation>>(
     decorator: D,
     stacks: G,
     tag: G::Tag,
-    block: Block<G::Tag, usize>,
+    block: OpenBlock<G::Tag, usize>,
 ) -> State<D, G>
     ensures { result ≡ begin_with settings decorator stacks tag block }
 {
@@ -170,7 +171,7 @@ fn laid_out_from<D: TextDecorator, G: Tagging<D::Annotation>>(
 fn lines_from<D: TextDecorator>(
     alloc: Global,
     tree: &Flat<RenderNode>,
-    state: LayoutState<D, Stacks<D::Annotation>, usize, Block<usize, usize>>,
+    state: LayoutState<D, Stacks<D::Annotation>, usize, OpenBlock<usize, usize>>,
     meter: &mut Meter,
 ) -> Result<LaidOut<D::Annotation>, Error>
     ensures ok { IfOk result (λ lines. work_lines D.decoration tree.now state ≡ Some (laid_out lines)) }
@@ -179,9 +180,9 @@ fn lines_from<D: TextDecorator>(
     ensures counts { CountsNodes result (layout_of (by_tags D.decoration tabled))
         tree.now state meter.old meter.new }
 {
-    let state = laid_out_from(alloc, tree, state, meter)?;
+    let mut state = laid_out_from(alloc, tree, state, meter)?;
     Ok(LaidOut {
-        lines: state.block.into_lines()?,
+        lines: state.block.take_lines()?,
         stacks: state.stacks,
         names: state.names,
     })
@@ -230,6 +231,18 @@ fn padding<T: Tag>(settings: &LayoutSettings, tag: T) -> Option<T>
     }
 }
 
+/// The empty block of a document.
+fn document_block<T: Tag>(
+    alloc: Global,
+    setting: BlockSetting,
+    padding: Option<T>,
+) -> Result<OpenBlock<T, usize>, Error>
+    ensures ok { IfOk result (λ held. held ≡ empty_block machine setting padding) }
+    ensures err { IfErr result (λ e. e ≡ Error.OutOfMemory) }
+{
+    OpenBlock::new(alloc, Block::new(alloc, setting, padding))
+}
+
 /// The lines of a tree in a block, with what a sub-block of the decorator's writes. Behind them stand the lines that close the
 /// document: the number of each link and its target with `settings.link_footnotes`, and what the decorator answers for all
 /// targets; they are wrapped with `settings.wrap_links`. With `block.overflow` a character or a prefix that has no room passes
@@ -272,7 +285,7 @@ pub fn lay_out<D: TextDecorator>(
         return Err(Error::TooNarrow);
     }
     let own = prepare(alloc, decorator, settings, tree)?;
-    let block = Block::new(alloc, block, padding(settings, 0));
+    let block = document_block(alloc, block, padding(settings, 0))?;
     let state = begin_with(
         alloc,
         own.settings,
@@ -288,14 +301,14 @@ pub fn lay_out<D: TextDecorator>(
 fn untagged_lines_from<D: TextDecorator>(
     alloc: Global,
     tree: &Flat<RenderNode>,
-    state: LayoutState<D, Untagged, (), Block<(), usize>>,
+    state: LayoutState<D, Untagged, (), OpenBlock<(), usize>>,
 ) -> Result<Vec<Line<(), usize>>, Error>
     ensures ok { IfOk result (λ lines. untagged_work D.decoration tree.now state ≡ Some lines.items) }
     ensures err { IfErr result (λ e. Refuses e (untagged_work D.decoration tree.now state)) }
 {
     let mut meter = Meter::default();
-    let state = laid_out_from(alloc, tree, state, &mut meter)?;
-    let lines = state.block.into_lines()?;
+    let mut state = laid_out_from(alloc, tree, state, &mut meter)?;
+    let lines = state.block.take_lines()?;
     Ok(lines)
 }
 
@@ -326,7 +339,7 @@ pub fn lay_out_untagged<D: TextDecorator>(
         return Err(Error::TooNarrow);
     }
     let own = prepare(alloc, decorator, settings, tree)?;
-    let block = Block::new(alloc, block, padding(settings, ()));
+    let block = document_block(alloc, block, padding(settings, ()))?;
     let state = begin_with(alloc, own.settings, own.decorator, Untagged, (), block);
     untagged_lines_from(alloc, &own.tree, state)
 }

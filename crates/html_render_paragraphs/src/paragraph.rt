@@ -27,6 +27,9 @@ mod word;
 pub use cut::push_cut_text;
 pub use page::line_fits;
 
+/// The texts of lines of so few columns are mostly short enough to take no memory of their own.
+const NARROW: usize = 12;
+
 /// Whether a word is open, and how the white space of its text is treated.
 #[derive(Clone, Copy)]
 enum OpenWord {
@@ -88,6 +91,20 @@ impl<T: Tag, M: Copy> Paragraph<T, M> {
         }
     }
 
+    /// Becomes an empty paragraph, and keeps its memory.
+    pub fn renew(&mut self, width: usize, overflow: bool)
+        ensures { self.new ≡ start (record { width = width; overflow = overflow }) [] }
+    {
+        self.width = width;
+        self.overflow = overflow;
+        self.lines.clear();
+        self.line.clear();
+        self.continues = false;
+        self.waiting.clear();
+        self.pending = None;
+        self.clear_word();
+    }
+
     /// Takes a mark.
     ///
     /// # Errors
@@ -123,6 +140,9 @@ impl<T: Tag, M: Copy> Paragraph<T, M> {
     fn make_room(&mut self, bytes: usize) -> Result<(), AllocError>
         ensures { self.new ≡ self.old }
     {
+        if self.width <= NARROW {
+            return Ok(());
+        }
         let room = if bytes < 16 {
             self.width.min(32).saturating_add(8)
         } else {
@@ -139,10 +159,7 @@ impl<T: Tag, M: Copy> Paragraph<T, M> {
         if self.lines.is_empty() {
             return Ok(());
         }
-        if lines.is_empty() {
-            mem::swap(lines, &mut self.lines);
-            return Ok(());
-        }
+        lines.reserve(self.lines.len().saturating_add(1))?;
         lines.append(&mut self.lines)?;
         Ok(())
     }

@@ -1,5 +1,5 @@
-pub mod Beside
 pub mod Ends
 pub mod LawSets
+pub mod RowLines
 pub mod Stretches
 pub mod OnlyCell

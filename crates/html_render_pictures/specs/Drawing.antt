@@ -53,16 +53,3 @@ with_rows d rows = fold with_row d rows
 -- the lines and the marks that wait behind them, once the last border is drawn
 abbrev pub finished : {T M : Type 0} → Drawing T M → List (Line T M) × List M
 finished d = (d.lines ++ due_lines d.frame d.due [], d.waiting)
-
--- ---- a cell's lines beside those of the cells before it
-
--- a line, or an empty one where none is left
-abbrev pub line_or_empty : {T M : Type 0} → Option (Line T M) → Line T M
-line_or_empty None = []
-line_or_empty (Some l) = l
-
--- as many of these lines as those, with empty ones behind them where they are fewer
-abbrev pub as_many : {T M : Type 0} → (those these : List (Line T M)) → List (Line T M)
-as_many [] ks = []
-as_many (l ∷ ls) [] = [] ∷ as_many ls []
-as_many (l ∷ ls) (k ∷ ks) = k ∷ as_many ls ks

@@ -5,6 +5,8 @@ pub mod Padding
 pub mod Stretch
 -- THE DEFINITION of a picture
 pub mod Picture
+-- a row line by line
+pub mod Rows
 -- the picture row by row
 pub mod Drawing
 -- how wide a row is

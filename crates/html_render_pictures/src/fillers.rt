@@ -1,7 +1,7 @@
 //! Characters that stand many times in a row: the spaces that fill lines, and the borders of tables. They are written many at
 //! once.
 
-ghost use Rattle.std.specs.Prelude.{◌≡◌, ◌≤◌, ◌++◌, OnOk, replicate};
+ghost use Rattle.std.specs.Prelude.{◌≡◌, ◌≤◌, ◌<◌, ◌++◌, ◌∷◌, [], cond, OnOk, replicate};
 ghost use Rattle.std.specs.Str.{chars, encode_utf8_all};
 ghost use Rattle.html_render_pictures.specs.Padding.{character_of, repeated};
 
@@ -40,6 +40,31 @@ pub fn few_spaces(count: usize) -> &'static str
     ensures { chars result.now ≡ replicate count 0x20 }
 {
     first_of(SPACES, ' ', count)
+}
+
+/// One space fewer than are written at once, and a separator.
+const GAP: &str = "                                                               │";
+
+/// The last `few` spaces of such a text, and the separator behind them.
+fn last_of_gap(text: &'static str, few: usize) -> &'static str
+    requires text { text.now ≡ encode_utf8_all (replicate 63 0x20 ++ BORDERS.separator ∷ []) }
+    requires few { few < FEW }
+    ensures { chars result.now ≡ replicate few 0x20 ++ BORDERS.separator ∷ [] }
+{
+    &text[FEW - 1 - few..]
+}
+
+/// `few` spaces, and what stands between cells, without an allocation.
+#[tactic(auto, using(crate::proofs::LawSets::gaps))]
+pub(crate) fn gap(borders: bool, few: usize) -> &'static str
+    requires { few < FEW }
+    ensures { chars result.now ≡ replicate few 0x20 ++ cond borders BORDERS.separator 0x20 ∷ [] }
+{
+    if borders {
+        last_of_gap(GAP, few)
+    } else {
+        few_spaces(few + 1)
+    }
 }
 
 /// A character `count` times, without an allocation.

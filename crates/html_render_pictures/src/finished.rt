@@ -11,7 +11,7 @@ use html_render_lines::tag::Tag;
 use std::alloc::AllocError;
 
 /// How many columns a line has less than these.
-fn missing<T: Tag, M: Copy>(line: &Line<T, M>, width: usize) -> usize
+pub(crate) fn missing<T: Tag, M: Copy>(line: &Line<T, M>, width: usize) -> usize
     ensures { result ≡ width - columns line.now }
 {
     match line.columns() {
@@ -25,21 +25,6 @@ fn fill<T: Tag, M: Copy>(line: &mut Line<T, M>, width: usize, tag: T) -> Result<
     ensures { OnOk result (line.new ≡ line.old ++ repeated tag 0x20 (width - columns line.old)) }
 {
     let missing = missing(line, width);
-    push_fillers(line, Filler::Space, missing, tag)
-}
-
-/// Puts another line at the end of a line, and fills that one with spaces up to `width` columns, under a tag.
-#[tactic(auto, using(crate::proofs::LawSets::besides))]
-pub(crate) fn append_filled<T: Tag, M: Copy>(
-    line: &mut Line<T, M>,
-    right: Line<T, M>,
-    width: usize,
-    tag: T,
-) -> Result<(), AllocError>
-    ensures { OnOk result (line.new ≡ line.old ++ (right ++ repeated tag 0x20 (width - columns right))) }
-{
-    let missing = missing(&right, width);
-    line.append(right)?;
     push_fillers(line, Filler::Space, missing, tag)
 }
 
@@ -57,19 +42,6 @@ pub fn fill_all<T: Tag, M: Copy>(
 {
     for line in lines.iter_mut() {
         fill(line, width, tag)?;
-    }
-    Ok(())
-}
-
-/// Makes room for `bytes` more bytes on each line.
-pub(crate) fn reserve_all<T: Tag, M: Copy>(
-    lines: &mut [Line<T, M>],
-    bytes: usize,
-) -> Result<(), AllocError>
-    ensures { OnOk result (lines.new ≡ lines.old) }
-{
-    for line in lines.iter_mut() {
-        line.reserve(bytes)?;
     }
     Ok(())
 }

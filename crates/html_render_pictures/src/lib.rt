@@ -4,6 +4,6 @@
 pub mod fillers;
 pub mod finished;
 mod laws;
-mod line;
 pub mod lines;
 pub mod picture;
+mod row;

@@ -12,9 +12,9 @@ ghost use Rattle.html_render_pictures.specs.Marked.{marked_behind};
 ghost use Rattle.html_render_pictures.specs.Padding.{filled, repeated, character_of};
 
 use crate::fillers::{Filler, push_fillers};
-use crate::finished::{append_filled, fill_all, mark_behind, put_marks_front, reserve_all};
-use crate::line::lengthen;
+use crate::finished::put_marks_front;
 use crate::lines::Lines;
+use crate::row::row_cells;
 use html_render_glyphs::borders::BORDERS;
 use html_render_lines::line::Line;
 use html_render_lines::tag::Tag;
@@ -53,29 +53,6 @@ impl<T, M> Model for Cell<T, M> {
     ghost view = { λ c. record { width = c.width; lines = c.lines; marks = c.marks.items } };
 }
 
-impl<T: Tag, M: Copy> Cell<T, M> {
-    /// Its lines, the last with its marks at the end.
-    fn marked_lines(self) -> Result<Vec<Line<T, M>>, AllocError>
-        ensures { IfOk result (λ v. v.items ≡ marked_behind self.marks self.lines) }
-    {
-        let Cell { lines, marks, .. } = self;
-        let mut lines = lines.into_vec()?;
-        mark_behind(&mut lines, marks.as_slice())?;
-        Ok(lines)
-    }
-
-    /// Its lines, the last with its marks at the end, and empty ones below them, `height` in all.
-    fn high_lines(self, alloc: Global, height: usize) -> Result<Vec<Line<T, M>>, AllocError>
-        ensures { IfOk result (λ v. v.items ≡ marked_behind self.marks self.lines ++ replicate (height - length self.lines) []) }
-    {
-        let Cell { lines, marks, .. } = self;
-        let mut lines = lines.into_vec()?;
-        let empty = height.saturating_sub(lines.len());
-        lengthen(alloc, &mut lines, marks.as_slice(), empty)?;
-        Ok(lines)
-    }
-}
-
 /// A row of a table.
 #[derive(Drop)]
 pub struct Row<T, M> {
@@ -91,27 +68,6 @@ impl<T, M> Model for Row<T, M> {
     ghost Value = { TableRow T M };
 
     ghost view = { λ r. record { cells = r.cells.items; has_placeholder = r.has_placeholder } };
-}
-
-/// A row is as high as its highest cell, and at least 1.
-fn height_of<T: Tag, M: Copy>(cells: &mut [Cell<T, M>]) -> Result<usize, AllocError>
-    ensures same { OnOk result (cells.new ≡ cells.old) }
-    ensures height { IfOk result (λ h. h ≡ definition.height cells.old) }
-{
-    let mut height = 1;
-    for cell in cells.iter_mut() {
-        height = height.max(cell.lines.len()?);
-    }
-    Ok(height)
-}
-
-/// A row is as high as its highest cell, and at least 1. The lines of each cell stand in one vector then.
-fn height<T: Tag, M: Copy>(cells: &mut Vec<Cell<T, M>>) -> Result<usize, AllocError>
-    ensures same { OnOk result (cells.new.items ≡ cells.old.items) }
-    ensures height { IfOk result (λ h. h ≡ definition.height cells.old.items) }
-{
-    let height = height_of(cells.as_mut_slice())?;
-    Ok(height)
 }
 
 /// As many bytes as a line of a row may have: its columns, and the separators.
@@ -213,13 +169,6 @@ fn separator_at(separators: &[bool], column: usize) -> bool
 }
 
 impl<T: Tag> Frame<T> {
-    /// What stands between cells.
-    fn separator(&self) -> char
-        ensures { result ≡ cond self.now.borders BORDERS.separator 0x20 }
-    {
-        if self.borders { BORDERS.separator } else { ' ' }
-    }
-
     /// Draws what a border has where a separator stands above or below.
     #[tactic(auto, using(crate::specs::laws::Glyphs::joint_width))]
     fn draw_joint<M: Copy>(
@@ -277,107 +226,20 @@ impl<T: Tag> Frame<T> {
         Ok(line)
     }
 
-    /// The lines of a row's first cell, as many as the row is high, with room for `room` bytes more.
-    fn first_lines<M: Copy>(
-        &self,
-        alloc: Global,
-        cell: Cell<T, M>,
-        height: usize,
-        room: usize,
-    ) -> Result<Vec<Line<T, M>>, AllocError>
-        ensures { IfOk result (λ v. v.items ≡ definition.cell_lines self.now height cell) }
-    {
-        let width = cell.width;
-        let mut lines = cell.high_lines(alloc, height)?;
-        reserve_all(lines.as_mut_slice(), room)?;
-        fill_all(lines.as_mut_slice(), width, self.tag)?;
-        Ok(lines)
-    }
-
-    /// Puts a line, or an empty one, beside another, behind a separator, and fills it.
-    #[tactic(auto, using(crate::proofs::LawSets::besides))]
-    fn put_beside<M: Copy>(
-        &self,
-        line: &mut Line<T, M>,
-        right: Option<Line<T, M>>,
-        width: usize,
-    ) -> Result<(), AllocError>
-        ensures { OnOk result (line.new ≡ line.old ++ definition.separator self.now
-            ∷ (drawing.line_or_empty right ++ repeated self.now.tag 0x20 (width - columns (drawing.line_or_empty right)))) }
-    {
-        line.push_char(self.separator(), 1, self.tag)?;
-        match right {
-            Some(right) => append_filled(line, right, width, self.tag),
-            None => push_fillers(line, Filler::Space, width, self.tag),
-        }
-    }
-
-    /// Puts lines beside others, and empty ones beside those that are left.
-    fn put_all_beside<M: Copy>(
-        &self,
-        lines: &mut [Line<T, M>],
-        rights: Vec<Line<T, M>>,
-        width: usize,
-    ) -> Result<(), AllocError>
-        ensures { OnOk result (lines.new ≡ definition.beside self.now lines.old
-            (filled (Some self.now.tag) width (drawing.as_many lines.old rights.items))) }
-    {
-        let mut rights = rights.into_iter();
-        for line in lines.iter_mut() {
-            let right = rights.next();
-            self.put_beside(line, right, width)?;
-        }
-        Ok(())
-    }
-
-    /// Puts lines beside others, and empty ones beside those that are left.
-    fn put_lines_beside<M: Copy>(
-        &self,
-        lines: &mut Vec<Line<T, M>>,
-        rights: Vec<Line<T, M>>,
-        width: usize,
-    ) -> Result<(), AllocError>
-        ensures { OnOk result (lines.new.items ≡ definition.beside self.now lines.old.items
-            (filled (Some self.now.tag) width (drawing.as_many lines.old.items rights.items))) }
-    {
-        self.put_all_beside(lines.as_mut_slice(), rights, width)?;
-        Ok(())
-    }
-
-    /// Puts the lines of a cell beside those of the cells before it.
-    #[tactic(auto, using(crate::proofs::Beside::cell_as_many))]
-    fn put_cell_beside<M: Copy>(
-        &self,
-        lines: &mut Vec<Line<T, M>>,
-        cell: Cell<T, M>,
-    ) -> Result<(), AllocError>
-        ensures { OnOk result (lines.new.items
-            ≡ definition.beside self.now lines.old.items (definition.cell_lines self.now (length lines.old.items) cell)) }
-    {
-        let width = cell.width;
-        let rights = cell.marked_lines()?;
-        self.put_lines_beside(lines, rights, width)
-    }
-
     /// The lines of a row, over the lines of each cell.
-    #[tactic(auto, using(crate::proofs::LawSets::heights))]
     fn lines_beside<M: Copy>(
         &self,
         alloc: Global,
-        mut cells: Vec<Cell<T, M>>,
+        cells: Vec<Cell<T, M>>,
     ) -> Result<Vec<Line<T, M>>, AllocError>
         ensures { IfOk result (λ v. v.items ≡ definition.row_lines self.now cells.items) }
     {
-        let height = height(&mut cells)?;
-        let room = room_of(cells.as_slice());
-        let mut others = cells.into_iter();
-        let Some(first) = others.next() else {
+        if cells.is_empty() {
             return Ok(Vec::new(alloc));
-        };
-        let mut lines = self.first_lines(alloc, first, height, room)?;
-        for cell in others {
-            self.put_cell_beside(&mut lines, cell)?;
         }
+        let room = room_of(cells.as_slice());
+        let cells = row_cells(alloc, cells)?;
+        let lines = self.lines_of_row(alloc, cells.as_slice(), room)?;
         Ok(lines)
     }
 

@@ -12,7 +12,7 @@ use crate::spaces::many_spaces;
 use crate::state::{Interrupted, Interruption, Outer};
 use crate::tagging::Tagging;
 use crate::working::State;
-use html_render_blocks::block::Block;
+use html_render_blocks::held::{HeldBlock, OpenBlock};
 use html_render_decorators::decorate::TextDecorator;
 use html_render_estimates::text::columns;
 use html_render_lines::tag::Tag;
@@ -58,7 +58,7 @@ fn nest<D: TextDecorator, G: Tagging<D::Annotation>>(
     columns: usize,
     least: usize,
     state: &mut State<D, G>,
-) -> Result<Interrupted<D, G::Tag, Block<G::Tag, usize>>, Error>
+) -> Result<Interrupted<D, G::Tag, HeldBlock<G::Tag, usize>>, Error>
     ensures ok { OnOk result (nested (by_tags D.decoration G.annotated) columns least state.old ≡ Some state.new) }
     ensures outer { IfOk result (λ outer. outer ≡ interrupted (by_tags D.decoration G.annotated) state.old prefix columns) }
     ensures err { IfErr result (λ e. Refuses e (nested (by_tags D.decoration G.annotated) columns least state.old)) }
@@ -67,7 +67,7 @@ fn nest<D: TextDecorator, G: Tagging<D::Annotation>>(
     let decorator = state.decorator.make_subblock_decorator(alloc)?;
     let outer = Outer {
         decorator: mem::replace(&mut state.decorator, decorator),
-        block: mem::replace(&mut state.block, block),
+        block: state.block.replace(block),
         prefix,
         columns,
         tag: state.text.tag,
@@ -82,7 +82,7 @@ fn begin_own<D: TextDecorator, G: Tagging<D::Annotation>>(
     alloc: Global,
     block: OwnBlock,
     state: &mut State<D, G>,
-) -> Result<Interruption<D, G::Tag, Block<G::Tag, usize>>, Error>
+) -> Result<Interruption<D, G::Tag, HeldBlock<G::Tag, usize>>, Error>
     ensures ok { OnOk result (block_begun (by_tags D.decoration G.annotated) block state.old ≡ Some state.new) }
     ensures kept { IfOk result (λ i. i ≡ block_kept (by_tags D.decoration G.annotated) block state.old) }
     ensures err { IfErr result (λ e. Refuses e (block_begun (by_tags D.decoration G.annotated) block state.old)) }
@@ -115,7 +115,7 @@ pub fn begin_block<D: TextDecorator, G: Tagging<D::Annotation>>(
     alloc: Global,
     block: OwnBlock,
     state: &mut State<D, G>,
-) -> Result<Interruption<D, G::Tag, Block<G::Tag, usize>>, Error>
+) -> Result<Interruption<D, G::Tag, HeldBlock<G::Tag, usize>>, Error>
     ensures ok { OnOk result (block_begun (by_tags D.decoration G.annotated) block state.old ≡ Some state.new) }
     ensures kept { IfOk result (λ i. i ≡ block_kept (by_tags D.decoration G.annotated) block state.old) }
     ensures err { IfErr result (λ e. Refuses e (block_begun (by_tags D.decoration G.annotated) block state.old)) }
@@ -129,8 +129,8 @@ pub fn begin_block<D: TextDecorator, G: Tagging<D::Annotation>>(
 /// Adds the lines of a block, the first behind a prefix and the later ones behind `columns` spaces.
 fn append_behind<T: Tag>(
     alloc: Global,
-    block: &mut Block<T, usize>,
-    sub: Block<T, usize>,
+    block: &mut OpenBlock<T, usize>,
+    sub: HeldBlock<T, usize>,
     tag: T,
     prefix: &str,
     columns: usize,
@@ -154,14 +154,14 @@ fn append_behind<T: Tag>(
 #[tactic(auto, using(html_render_values::specs::laws::Outcome::refusals))]
 pub fn close_indent<D: TextDecorator, G: Tagging<D::Annotation>>(
     alloc: Global,
-    outer: Interrupted<D, G::Tag, Block<G::Tag, usize>>,
+    outer: Interrupted<D, G::Tag, HeldBlock<G::Tag, usize>>,
     state: &mut State<D, G>,
 ) -> Result<(), Error>
     ensures ok { OnOk result (indent_closed (by_tags D.decoration G.annotated) outer state.old ≡ Some state.new) }
     ensures err { IfErr result (λ e. Refuses e (indent_closed (by_tags D.decoration G.annotated) outer state.old)) }
 {
     let outer = outer.into_outer();
-    let sub = mem::replace(&mut state.block, outer.block);
+    let sub = state.block.replace(outer.block);
     append_behind(
         alloc,
         &mut state.block,
@@ -181,7 +181,7 @@ pub fn close_indent<D: TextDecorator, G: Tagging<D::Annotation>>(
 /// As for what was indented.
 #[tactic(auto, using(html_render_values::specs::laws::Outcome::refusals))]
 pub fn close_quote<D: TextDecorator, G: Tagging<D::Annotation>>(
-    outer: Interrupted<D, G::Tag, Block<G::Tag, usize>>,
+    outer: Interrupted<D, G::Tag, HeldBlock<G::Tag, usize>>,
     state: &mut State<D, G>,
 ) -> Result<(), Error>
     ensures ok { OnOk result (quote_closed (by_tags D.decoration G.annotated) outer state.old ≡ Some state.new) }
@@ -189,12 +189,12 @@ pub fn close_quote<D: TextDecorator, G: Tagging<D::Annotation>>(
 {
     let outer = outer.into_outer();
     let prefix = outer.prefix;
-    let sub = mem::replace(&mut state.block, outer.block);
-    state.block.start_block()?;
+    let sub = state.block.replace(outer.block);
+    state.block.held.start_block()?;
     state
         .block
         .append(sub, outer.tag, prefix.as_str(), prefix.as_str())?;
-    state.block.end_block();
+    state.block.held.end_block();
     state.decorator = outer.decorator;
     Ok(())
 }

@@ -166,44 +166,6 @@ pub struct OuterTable<D, B> {
     pub block: B,
 }
 
-/// The same, held so that it is moved in few bytes.
-#[derive(Drop)]
-pub struct InterruptedTable<D, B> {
-    outer: Box<OuterTable<D, B>>,
-}
-
-impl<D, B> Model for InterruptedTable<D, B> {
-    ghost use Rattle.html_render_states.specs.declared.state.OuterTable.{OuterTable};
-
-    ghost Value = { OuterTable D B };
-
-    ghost view = { λ i. i.outer.value };
-}
-
-impl<D: Drop, B: Drop> InterruptedTable<D, B> {
-    /// Holds an interrupted block.
-    ///
-    /// # Errors
-    ///
-    /// `OutOfMemory`.
-    #[inline(always)]
-    pub fn new(alloc: Global, outer: OuterTable<D, B>) -> Result<InterruptedTable<D, B>, Error>
-        ensures ok { IfOk result (λ i. i ≡ outer) }
-        ensures err { IfErr result (λ e. e ≡ Error.OutOfMemory) }
-    {
-        let outer = Box::new(alloc, outer)?;
-        Ok(InterruptedTable { outer })
-    }
-
-    /// Gives it back.
-    #[inline(always)]
-    pub fn into_outer(self) -> OuterTable<D, B>
-        ensures { result ≡ self }
-    {
-        Box::into_inner(self.outer)
-    }
-}
-
 /// What an open node interrupts.
 #[derive(Drop)]
 pub enum Interruption<D, T, B> {
@@ -214,7 +176,7 @@ pub enum Interruption<D, T, B> {
     /// One in which it is indented, its first line behind a prefix.
     Indented(Interrupted<D, T, B>),
     /// The block that it is a cell of a table in.
-    Cell(InterruptedTable<D, B>),
+    Cell(OuterTable<D, B>),
 }
 
 /// What is to be done once the children of an open node are laid out.

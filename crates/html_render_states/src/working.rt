@@ -2,20 +2,20 @@
 
 use crate::state::{Closing, KindClosing, LayoutState};
 use crate::tagging::Tagging;
-use html_render_blocks::block::Block;
+use html_render_blocks::held::{HeldBlock, OpenBlock};
 use html_render_decorators::decorate::TextDecorator;
 
 /// What stands for a character's annotations under the tagging `G`.
 type TagOf<D, G> = <G as Tagging<<D as TextDecorator>::Annotation>>::Tag;
 
-/// A block under these tags, whose marks are the places of their names.
-type TaggedBlock<D, G> = Block<TagOf<D, G>, usize>;
+/// A block under these tags, whose marks are the places of their names, that waits for one inside it.
+type WaitingBlock<D, G> = HeldBlock<TagOf<D, G>, usize>;
 
 /// Where such a layout stands.
-pub type State<D, G> = LayoutState<D, G, TagOf<D, G>, TaggedBlock<D, G>>;
+pub type State<D, G> = LayoutState<D, G, TagOf<D, G>, OpenBlock<TagOf<D, G>, usize>>;
 
 /// What it does once the children of an open node are laid out.
-pub type Kept<D, G> = Closing<D, TagOf<D, G>, TaggedBlock<D, G>>;
+pub type Kept<D, G> = Closing<D, TagOf<D, G>, WaitingBlock<D, G>>;
 
 /// What it does for the node's kind then.
-pub type KindKept<D, G> = KindClosing<D, TagOf<D, G>, TaggedBlock<D, G>>;
+pub type KindKept<D, G> = KindClosing<D, TagOf<D, G>, WaitingBlock<D, G>>;

@@ -9,9 +9,9 @@ ghost use Rattle.html_render_blocks.specs.Block as block;
 ghost use Rattle.html_render_blocks.specs.Machine as machine;
 ghost use Rattle.html_render_blocks.specs.Machine.{machine};
 
+use super::Block;
 use super::rows::{OpenRow, Widths};
 use super::tables::OpenTable;
-use super::{Block, BlockSetting};
 use html_render_lines::tag::Tag;
 use html_render_parts::table::cells::RowsAhead;
 use html_render_pictures::fillers::Filler;
@@ -156,29 +156,13 @@ impl<T: Tag, M: Copy> Block<T, M> {
     }
 
     /// The columns of the next cell's block, unless it is skipped.
-    fn next_cell_width(&self) -> Option<usize>
+    pub(crate) fn next_cell_width(&self) -> Option<usize>
         ensures { result ≡ next_cell_width self.now.setting.width self.now.table }
     {
         match &self.table {
             Some(table) => table.next_cell_width(self.setting.width),
             None => Some(self.setting.width),
         }
-    }
-
-    /// An empty block for the next cell of the row that is open, as wide as the cell's place; none where the cell is skipped,
-    /// since it has no columns. Where no row is open and where cells stand one below another, it is as wide as this block.
-    #[inline(always)]
-    #[tactic(auto, unfolding(crate::specs::Machine::operations))]
-    pub fn cell_block(&self) -> Option<Block<T, M>>
-        ensures { result ≡ machine.operations.cell_block self.now }
-    {
-        let width = self.next_cell_width()?;
-        let setting = BlockSetting {
-            width,
-            max_wrap_width: self.setting.max_wrap_width,
-            overflow: self.setting.overflow,
-        };
-        Some(Block::new(self.alloc, setting, self.padding))
     }
 
     /// Skips the next cell of the row that is open, if one is.
@@ -208,15 +192,15 @@ impl<T: Tag, M: Copy> Block<T, M> {
         }
     }
 
-    /// A flushed block as a cell.
+    /// Takes out what a flushed block holds as a cell.
     #[inline(always)]
-    fn into_cell(mut self) -> Cell<T, M>
-        ensures { result ≡ record { width = self.setting.width; lines = self.lines; marks = machine.waiting self.paragraph } }
+    fn take_cell(&mut self) -> Cell<T, M>
+        ensures { result ≡ record { width = self.old.setting.width; lines = self.old.lines; marks = machine.waiting self.old.paragraph } }
     {
         let marks = self.take_waiting();
         Cell {
             width: self.setting.width,
-            lines: self.lines,
+            lines: self.take_lines(),
             marks,
         }
     }
@@ -259,11 +243,11 @@ impl<T: Tag, M: Copy> Block<T, M> {
     }
 
     /// Adds the lines of a flushed block, as this one is.
-    fn put_below(&mut self, cell: Block<T, M>) -> Result<(), Error>
-        ensures ok { OnOk result (self.new ≡ block.put_lines machine self.old cell.lines (machine.waiting cell.paragraph)) }
+    fn put_below(&mut self, cell: &mut Block<T, M>) -> Result<(), Error>
+        ensures ok { OnOk result (self.new ≡ block.put_lines machine self.old cell.old.lines (machine.waiting cell.old.paragraph)) }
         ensures err { IfErr result (λ e. e ≡ Error.OutOfMemory) }
     {
-        let Cell { lines, marks, .. } = cell.into_cell();
+        let Cell { lines, marks, .. } = cell.take_cell();
         self.put_lines(lines, marks.as_slice())
     }
 
@@ -272,9 +256,9 @@ impl<T: Tag, M: Copy> Block<T, M> {
         &mut self,
         border: Option<T>,
         has_lines: bool,
-        cell: Block<T, M>,
+        cell: &mut Block<T, M>,
     ) -> Result<(), Error>
-        ensures ok { OnOk result (self.new ≡ block.put_stacked machine self.old border has_lines (not (is_empty cell.lines)) cell) }
+        ensures ok { OnOk result (self.new ≡ block.put_stacked machine self.old border has_lines (not (is_empty cell.old.lines)) cell.old) }
         ensures err { IfErr result (λ e. e ≡ Error.OutOfMemory) }
     {
         let more = !cell.lines.is_empty();
@@ -288,9 +272,9 @@ impl<T: Tag, M: Copy> Block<T, M> {
 
     /// Adds a cell that is flushed below the lines of this block.
     #[tactic(auto, using(html_render_values::specs::laws::Outcome::refusals))]
-    fn flush_and_put_below(&mut self, cell: Block<T, M>) -> Result<(), Error>
-        ensures ok { OnOk result (option_map (λ e. block.put_lines machine e cell.lines (machine.waiting cell.paragraph)) (block.flush machine self.old) ≡ Some self.new) }
-        ensures err { IfErr result (λ e. Refuses e (option_map (λ e. block.put_lines machine e cell.lines (machine.waiting cell.paragraph)) (block.flush machine self.old))) }
+    fn flush_and_put_below(&mut self, cell: &mut Block<T, M>) -> Result<(), Error>
+        ensures ok { OnOk result (option_map (λ e. block.put_lines machine e cell.old.lines (machine.waiting cell.old.paragraph)) (block.flush machine self.old) ≡ Some self.new) }
+        ensures err { IfErr result (λ e. Refuses e (option_map (λ e. block.put_lines machine e cell.old.lines (machine.waiting cell.old.paragraph)) (block.flush machine self.old))) }
     {
         self.flush()?;
         self.put_below(cell)
@@ -302,11 +286,11 @@ impl<T: Tag, M: Copy> Block<T, M> {
         &mut self,
         border: Option<T>,
         has_lines: bool,
-        cell: Block<T, M>,
+        cell: &mut Block<T, M>,
     ) -> Result<(), Error>
-        ensures ok { OnOk result (option_map (λ e. block.put_stacked machine e border has_lines (not (is_empty cell.lines)) cell) (block.flush machine self.old)
+        ensures ok { OnOk result (option_map (λ e. block.put_stacked machine e border has_lines (not (is_empty cell.old.lines)) cell.old) (block.flush machine self.old)
             ≡ Some self.new) }
-        ensures err { IfErr result (λ e. Refuses e (option_map (λ e. block.put_stacked machine e border has_lines (not (is_empty cell.lines)) cell)
+        ensures err { IfErr result (λ e. Refuses e (option_map (λ e. block.put_stacked machine e border has_lines (not (is_empty cell.old.lines)) cell.old)
             (block.flush machine self.old))) }
     {
         self.flush()?;
@@ -316,13 +300,13 @@ impl<T: Tag, M: Copy> Block<T, M> {
     /// Adds a cell that is flushed.
     #[inline(always)]
     #[tactic(auto, using(html_render_values::specs::laws::Outcome::refusals, crate::proofs::Cells::cells_added))]
-    fn add_flushed(&mut self, cell: Block<T, M>) -> Result<(), Error>
-        ensures ok { OnOk result (block.cell_added machine self.old self.old.table cell ≡ Some self.new) }
-        ensures err { IfErr result (λ e. Refuses e (block.cell_added machine self.old self.old.table cell)) }
+    fn add_flushed(&mut self, cell: &mut Block<T, M>) -> Result<(), Error>
+        ensures ok { OnOk result (block.cell_added machine self.old self.old.table cell.old ≡ Some self.new) }
+        ensures err { IfErr result (λ e. Refuses e (block.cell_added machine self.old self.old.table cell.old)) }
     {
         match self.cell_place() {
             CellPlace::InRow => {
-                self.add_to_row(cell.into_cell())?;
+                self.add_to_row(cell.take_cell())?;
                 Ok(())
             }
             CellPlace::Below => self.flush_and_put_below(cell),
@@ -342,9 +326,9 @@ impl<T: Tag, M: Copy> Block<T, M> {
     /// `TooNarrow`, as in [`flush`](Block::flush) of either block. `OutOfMemory`.
     #[inline(always)]
     #[tactic(auto, using(html_render_values::specs::laws::Outcome::refusals), unfolding(crate::specs::Machine::operations))]
-    pub fn add_cell(&mut self, mut cell: Block<T, M>) -> Result<(), Error>
-        ensures ok { OnOk result (machine.operations.add_cell self.old cell ≡ Some self.new) }
-        ensures err { IfErr result (λ e. Refuses e (machine.operations.add_cell self.old cell)) }
+    pub fn add_cell(&mut self, cell: &mut Block<T, M>) -> Result<(), Error>
+        ensures ok { OnOk result (machine.operations.add_cell self.old cell.old ≡ Some self.new) }
+        ensures err { IfErr result (λ e. Refuses e (machine.operations.add_cell self.old cell.old)) }
     {
         cell.flush_whole()?;
         self.add_flushed(cell)

@@ -28,7 +28,7 @@ pub fn add_mark<D: TextDecorator, G: Tagging<D::Annotation>>(
     ensures ok { OnOk result (perform (by_tags D.decoration G.annotated) state.old (AddMark name.now) state.old ≡ Some state.new) }
     ensures err { IfErr result (λ e. e ≡ Error.OutOfMemory) }
 {
-    state.block.add_mark(state.names.len())?;
+    state.block.held.add_mark(state.names.len())?;
     state.names.push(name)
 }
 

@@ -20,7 +20,7 @@ use super::links::{add_mark, begin_link, close_link};
 use super::superscripts::{digits_of, write_raised};
 use super::tables::{begin_cell, begin_table, end_cell, end_table};
 use super::texts::add_text;
-use html_render_blocks::block::Block;
+use html_render_blocks::held::HeldBlock;
 use html_render_decorators::decorate::TextDecorator;
 use html_render_estimates::estimate::number_columns;
 use html_render_estimates::text::columns;
@@ -87,7 +87,7 @@ fn begin_term<D: TextDecorator, G: Tagging<D::Annotation>>(
     ensures ok { OnOk result (perform_all (by_tags D.decoration G.annotated) state.old (NewLine ∷ start D.decoration D.decoration.em) state.old ≡ Some state.new) }
     ensures err { IfErr result (λ e. Refuses e (perform_all (by_tags D.decoration G.annotated) state.old (NewLine ∷ start D.decoration D.decoration.em) state.old)) }
 {
-    state.block.new_line()?;
+    state.block.held.new_line()?;
     begin_emphasis(alloc, Emphasis::Em, state)
 }
 
@@ -111,7 +111,7 @@ fn strike<D: TextDecorator, G: Tagging<D::Annotation>>(
 #[tactic(auto, using(html_render_values::specs::laws::Outcome::refusals))]
 fn open_superscript<D: TextDecorator, G: Tagging<D::Annotation>>(
     alloc: Global,
-    own: Interruption<D, G::Tag, Block<G::Tag, usize>>,
+    own: Interruption<D, G::Tag, HeldBlock<G::Tag, usize>>,
     estimate: &Estimate,
     children: &[Entry<RenderNode>],
     state: &mut State<D, G>,
@@ -155,7 +155,7 @@ fn open_link<D: TextDecorator, G: Tagging<D::Annotation>>(
 #[inline(never)]
 #[tactic(auto, using(html_render_values::specs::laws::Outcome::refusals))]
 fn open_table<D: TextDecorator, G: Tagging<D::Annotation>>(
-    own: Interruption<D, G::Tag, Block<G::Tag, usize>>,
+    own: Interruption<D, G::Tag, HeldBlock<G::Tag, usize>>,
     grid: &Grid,
     state: &mut State<D, G>,
 ) -> Result<Option<KindKept<D, G>>, Error>
@@ -178,7 +178,7 @@ fn open_row<D: TextDecorator, G: Tagging<D::Annotation>>(
     ensures kept { IfOk result (λ c. c ≡ Some KindClosing.EndRow) }
     ensures err { IfErr result (λ e. e ≡ Error.OutOfMemory) }
 {
-    state.block.begin_row()?;
+    state.block.held.begin_row()?;
     Ok(Some(KindClosing::EndRow))
 }
 
@@ -217,7 +217,7 @@ fn block_of<D: TextDecorator, G: Tagging<D::Annotation>>(
 #[tactic(auto, using(html_render_values::specs::laws::Outcome::refusals))]
 fn open_kind<D: TextDecorator, G: Tagging<D::Annotation>>(
     alloc: Global,
-    own: Interruption<D, G::Tag, Block<G::Tag, usize>>,
+    own: Interruption<D, G::Tag, HeldBlock<G::Tag, usize>>,
     kind: &NodeKind,
     estimate: &Estimate,
     children: &[Entry<RenderNode>],
@@ -242,15 +242,15 @@ fn open_kind<D: TextDecorator, G: Tagging<D::Annotation>>(
         NodeKind::Table(grid) => open_table(own, grid, state),
         NodeKind::TableRow => open_row(state),
         NodeKind::Break => {
-            state.block.new_line_hard()?;
+            state.block.held.new_line_hard()?;
             Ok(None)
         }
         NodeKind::Block | NodeKind::ListItem => {
-            state.block.start_block()?;
+            state.block.held.start_block()?;
             Ok(Some(KindClosing::EndBlock))
         }
         NodeKind::Div => {
-            state.block.new_line()?;
+            state.block.held.new_line()?;
             Ok(Some(KindClosing::NewLine))
         }
         NodeKind::Emphasis(emphasis) => {
@@ -260,7 +260,7 @@ fn open_kind<D: TextDecorator, G: Tagging<D::Annotation>>(
         NodeKind::Ul => open_bullets::<D, G>(alloc, &state.decorator, estimate),
         NodeKind::Ol(first) => open_numbers::<D, G>(alloc, &state.decorator, *first, estimate),
         NodeKind::Dl => {
-            state.block.start_block()?;
+            state.block.held.start_block()?;
             Ok(Some(KindClosing::Nothing(own)))
         }
         NodeKind::Dt => {
@@ -299,7 +299,7 @@ fn open_kind<D: TextDecorator, G: Tagging<D::Annotation>>(
 #[tactic(auto, using(html_render_values::specs::laws::Outcome::refusals))]
 fn end_block<D: TextDecorator, G: Tagging<D::Annotation>>(
     alloc: Global,
-    interrupted: Interruption<D, G::Tag, Block<G::Tag, usize>>,
+    interrupted: Interruption<D, G::Tag, HeldBlock<G::Tag, usize>>,
     state: &mut State<D, G>,
 ) -> Result<(), Error>
     ensures ok { OnOk result (continued (by_tags D.decoration G.annotated) interrupted state.old ≡ Some state.new) }
@@ -317,7 +317,7 @@ fn end_block<D: TextDecorator, G: Tagging<D::Annotation>>(
 #[inline(always)]
 fn go_on<D: TextDecorator, G: Tagging<D::Annotation>>(
     alloc: Global,
-    interrupted: Interruption<D, G::Tag, Block<G::Tag, usize>>,
+    interrupted: Interruption<D, G::Tag, HeldBlock<G::Tag, usize>>,
     state: &mut State<D, G>,
 ) -> Result<(), Error>
     ensures ok { OnOk result (continued (by_tags D.decoration G.annotated) interrupted state.old ≡ Some state.new) }
@@ -343,11 +343,11 @@ fn close_kind<D: TextDecorator, G: Tagging<D::Annotation>>(
         KindClosing::Nothing(own) => go_on(alloc, own, state),
         KindClosing::Bullets { .. } | KindClosing::Numbers { .. } => Ok(()),
         KindClosing::EndBlock => {
-            state.block.end_block();
+            state.block.held.end_block();
             Ok(())
         }
         KindClosing::NewLine => {
-            state.block.new_line()?;
+            state.block.held.new_line()?;
             Ok(())
         }
         KindClosing::EndEmphasis(emphasis) => {
@@ -369,7 +369,7 @@ fn close_kind<D: TextDecorator, G: Tagging<D::Annotation>>(
             go_on(alloc, own, state)
         }
         KindClosing::EndRow => {
-            state.block.end_row()?;
+            state.block.held.end_row()?;
             Ok(())
         }
     }
@@ -381,7 +381,7 @@ fn close_kind<D: TextDecorator, G: Tagging<D::Annotation>>(
 #[tactic(auto, using(html_render_values::specs::laws::Outcome::refusals))]
 fn open_in<D: TextDecorator, G: Tagging<D::Annotation>>(
     alloc: Global,
-    item: Interruption<D, G::Tag, Block<G::Tag, usize>>,
+    item: Interruption<D, G::Tag, HeldBlock<G::Tag, usize>>,
     node: &RenderNode,
     children: &[Entry<RenderNode>],
     state: &mut State<D, G>,
@@ -444,6 +444,18 @@ fn open_shared<D: TextDecorator, G: Tagging<D::Annotation>>(
     open_in(alloc, Interruption::NoBlock, node, children, state)
 }
 
+/// The block for the next cell of a row; none where that is skipped.
+#[inline(always)]
+fn next_cell<D: TextDecorator, G: Tagging<D::Annotation>>(
+    state: &mut State<D, G>,
+) -> Result<Option<HeldBlock<G::Tag, usize>>, Error>
+    ensures same { OnOk result (state.new ≡ state.old) }
+    ensures ok { IfOk result (λ cell. cell ≡ machine.operations.cell_block state.old.block) }
+    ensures err { IfErr result (λ e. e ≡ Error.OutOfMemory) }
+{
+    state.block.cell_block()
+}
+
 /// Opens a node as the next cell of a row. Where that is skipped, so is all that stands in it.
 #[inline(never)]
 #[tactic(auto, using(html_render_values::specs::laws::Outcome::refusals))]
@@ -459,8 +471,9 @@ fn open_cell<D: TextDecorator, G: Tagging<D::Annotation>>(
     ensures err { IfErr result (λ e. Refuses e (cell_opened (by_tags D.decoration G.annotated) node.now (forest_of children.now)
         (machine.operations.cell_block state.old.block) state.old)) }
 {
-    let Some(cell) = state.block.cell_block() else {
-        state.block.skip_cell()?;
+    let next = next_cell(state)?;
+    let Some(cell) = next else {
+        state.block.held.skip_cell()?;
         return Ok(None);
     };
     let outer = begin_cell(alloc, cell, state)?;

@@ -7,11 +7,11 @@ ghost use Rattle.html_render_states.specs.Layout.{StartBlock, Fence, BeginTable,
 ghost use Rattle.html_render_states.specs.Opening.{cell_closed, table_closed};
 ghost use Rattle.html_render_states.specs.Working.{by_tags};
 
-use html_render_blocks::block::Block;
+use html_render_blocks::held::HeldBlock;
 use html_render_decorators::decorate::TextDecorator;
 use html_render_lines::character::TextStyle;
 use html_render_nodes::tree::Grid;
-use html_render_states::state::{InterruptedTable, OuterTable};
+use html_render_states::state::OuterTable;
 use html_render_states::tagging::Tagging;
 use html_render_states::working::State;
 use html_render_values::Error;
@@ -47,8 +47,8 @@ fn write_fence<D: TextDecorator, G: Tagging<D::Annotation>>(
     ensures err { IfErr result (λ e. Refuses e (fence (by_tags D.decoration G.annotated) state.old)) }
 {
     let style = fence_style(state.blank);
-    state.block.add_inline_text(fence_text(), style)?;
-    state.block.new_line()?;
+    state.block.held.add_inline_text(fence_text(), style)?;
+    state.block.held.new_line()?;
     Ok(())
 }
 
@@ -84,13 +84,14 @@ pub fn begin_table<D: TextDecorator, G: Tagging<D::Annotation>>(
     ensures err { IfErr result (λ e. Refuses e (perform_all (by_tags D.decoration G.annotated) state.old
         (StartBlock ∷ (Fence ∷ (BeginTable grid.now.cells grid.now.needs ∷ []))) state.old)) }
 {
-    state.block.start_block()?;
+    state.block.held.start_block()?;
     add_fence(state)?;
     let blank = state.blank;
     let borders = state.settings.table_borders;
     let stacked = state.settings.raw_mode;
     state
         .block
+        .held
         .begin_table(blank, borders, stacked, grid.cells(), grid.needs())?;
     state.in_table = true;
     Ok(())
@@ -109,7 +110,7 @@ pub fn end_table<D: TextDecorator, G: Tagging<D::Annotation>>(
     ensures ok { OnOk result (table_closed (by_tags D.decoration G.annotated) in_table state.old ≡ Some state.new) }
     ensures err { IfErr result (λ e. Refuses e (table_closed (by_tags D.decoration G.annotated) in_table state.old)) }
 {
-    state.block.end_table()?;
+    state.block.held.end_table()?;
     state.in_table = in_table;
     add_fence(state)
 }
@@ -122,19 +123,18 @@ pub fn end_table<D: TextDecorator, G: Tagging<D::Annotation>>(
 #[inline(always)]
 pub fn begin_cell<D: TextDecorator, G: Tagging<D::Annotation>>(
     alloc: Global,
-    cell: Block<G::Tag, usize>,
+    cell: HeldBlock<G::Tag, usize>,
     state: &mut State<D, G>,
-) -> Result<InterruptedTable<D, Block<G::Tag, usize>>, Error>
+) -> Result<OuterTable<D, HeldBlock<G::Tag, usize>>, Error>
     ensures ok { OnOk result (state.new ≡ within (by_tags D.decoration G.annotated) cell state.old) }
     ensures outer { IfOk result (λ outer. outer ≡ record { decorator = state.old.decorator; block = state.old.block }) }
     ensures err { IfErr result (λ e. e ≡ Error.OutOfMemory) }
 {
     let decorator = state.decorator.make_subblock_decorator(alloc)?;
-    let outer = OuterTable {
+    Ok(OuterTable {
         decorator: mem::replace(&mut state.decorator, decorator),
-        block: mem::replace(&mut state.block, cell),
-    };
-    InterruptedTable::new(alloc, outer)
+        block: state.block.replace(cell),
+    })
 }
 
 /// A cell is over: the block that it interrupted goes on with it.
@@ -145,14 +145,13 @@ pub fn begin_cell<D: TextDecorator, G: Tagging<D::Annotation>>(
 #[inline(always)]
 #[tactic(auto, using(html_render_values::specs::laws::Outcome::refusals))]
 pub fn end_cell<D: TextDecorator, G: Tagging<D::Annotation>>(
-    outer: InterruptedTable<D, Block<G::Tag, usize>>,
+    outer: OuterTable<D, HeldBlock<G::Tag, usize>>,
     state: &mut State<D, G>,
 ) -> Result<(), Error>
     ensures ok { OnOk result (cell_closed (by_tags D.decoration G.annotated) outer state.old ≡ Some state.new) }
     ensures err { IfErr result (λ e. Refuses e (cell_closed (by_tags D.decoration G.annotated) outer state.old)) }
 {
-    let outer = outer.into_outer();
-    let cell = mem::replace(&mut state.block, outer.block);
+    let cell = state.block.replace(outer.block);
     state.block.add_cell(cell)?;
     state.decorator = outer.decorator;
     Ok(())

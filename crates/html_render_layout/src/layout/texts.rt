@@ -54,7 +54,7 @@ fn add_struck<D: TextDecorator, G: Tagging<D::Annotation>>(
     ensures err { IfErr result (λ e. Refuses e (on_block (λ b. machine.operations.add_inline_text b style (struck (chars text.now))) state.old)) }
 {
     let struck = struck(alloc, text)?;
-    state.block.add_inline_text(struck.as_str(), style)
+    state.block.held.add_inline_text(struck.as_str(), style)
 }
 
 /// Adds a text in a style.
@@ -73,7 +73,7 @@ fn add_styled<D: TextDecorator, G: Tagging<D::Annotation>>(
     if state.text.struck_out {
         add_struck(alloc, text, style, state)
     } else {
-        state.block.add_inline_text(text, style)
+        state.block.held.add_inline_text(text, style)
     }
 }
 

@@ -9,6 +9,7 @@ ghost use Rattle.html_render_lines.specs.Line.{columns, text_bytes, element_of};
 ghost use Rattle.html_render_lines.specs.TaggedText.{counted, text_columns, under, items_of, Cuts, HasTag, elements_of, open_elements};
 
 use crate::character::{TextStyle, width_of};
+use crate::line::text_buffer::SHORT;
 use crate::line::{Element, TaggedText, TextParts, element_width};
 use crate::tag::Tag;
 use std::alloc::{AllocError, Global};
@@ -82,7 +83,9 @@ impl<T: Tag, M: Copy> Line<T, M> {
     pub fn next(&self, alloc: Global) -> Result<Line<T, M>, AllocError>
         ensures { IfOk result (λ l. l ≡ []) }
     {
-        Line::with_capacity(alloc, self.text.byte_count().saturating_add(16))
+        let bytes = self.text.byte_count();
+        let more = if bytes > SHORT { 16 } else { 0 };
+        Line::with_capacity(alloc, bytes.saturating_add(more))
     }
 
     /// Makes room for `bytes` more bytes of text.
@@ -272,7 +275,11 @@ impl<T: Tag, M: Copy> Line<T, M> {
     }
 
     /// Puts a copy of another line at the end.
-    fn append_copy(&mut self, other: &Line<T, M>) -> Result<(), AllocError>
+    ///
+    /// # Errors
+    ///
+    /// `OutOfMemory`. The line is then empty.
+    pub fn append(&mut self, other: &Line<T, M>) -> Result<(), AllocError>
         ensures ok { OnOk result (self.new ≡ self.old ++ other.now) }
         ensures err { OnErr result (self.new ≡ []) }
     {
@@ -288,22 +295,6 @@ impl<T: Tag, M: Copy> Line<T, M> {
             }
         }
         appended
-    }
-
-    /// Puts another line at the end. An empty line takes over the other as it is.
-    ///
-    /// # Errors
-    ///
-    /// `OutOfMemory`. The line is then empty.
-    pub fn append(&mut self, other: Line<T, M>) -> Result<(), AllocError>
-        ensures ok { OnOk result (self.new ≡ self.old ++ other) }
-        ensures err { OnErr result (self.new ≡ []) }
-    {
-        if self.is_empty() {
-            *self = other;
-            return Ok(());
-        }
-        self.append_copy(&other)
     }
 
     /// Adds its characters to a string.

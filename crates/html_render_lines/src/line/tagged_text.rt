@@ -13,6 +13,7 @@ ghost use Rattle.html_render_lines.specs.TaggedText.{styled_elements};
 
 use crate::character::TextStyle;
 use crate::line::Element;
+use crate::line::text_buffer::TextBuffer;
 use crate::tag::Tag;
 use std::alloc::{AllocError, Global};
 use std::marker::Model;
@@ -32,7 +33,7 @@ pub enum Run<T, M> {
 /// A text with tags and marks.
 #[derive(Drop)]
 pub struct TaggedText<T, M> {
-    text: String,
+    text: TextBuffer,
     runs: Vec<Run<T, M>>,
     // where the open run begins in the text, and its tag, if a run is open
     start: usize,
@@ -40,14 +41,13 @@ pub struct TaggedText<T, M> {
 }
 
 impl<T, M> Model for TaggedText<T, M> {
-    ghost use Rattle.std.specs.String.{string_bytes};
     ghost use Rattle.html_render_lines.specs.TaggedText.{Content, all_elements, IsCut};
 
     ghost Value = { Content T M };
 
-    ghost view = { λ t. record { elements = all_elements t.runs.items t.tag t.start (string_bytes t.text); tag = t.tag } };
+    ghost view = { λ t. record { elements = all_elements t.runs.items t.tag t.start t.text; tag = t.tag } };
 
-    ghost invariant = { λ t. IsCut t.runs.items t.tag t.start (string_bytes t.text) };
+    ghost invariant = { λ t. IsCut t.runs.items t.tag t.start t.text };
 }
 
 /// A text in parts: its closed runs with the text that they take, and its open run.
@@ -70,7 +70,7 @@ impl<T: Tag, M: Copy> TaggedText<T, M> {
         ensures { result ≡ record { elements = []; tag = None } }
     {
         TaggedText {
-            text: String::new(alloc),
+            text: TextBuffer::new(),
             runs: Vec::new(alloc),
             start: 0,
             tag: None,
@@ -85,7 +85,7 @@ impl<T: Tag, M: Copy> TaggedText<T, M> {
     pub fn with_capacity(alloc: Global, bytes: usize) -> Result<TaggedText<T, M>, AllocError>
         ensures { IfOk result (λ t. t ≡ record { elements = []; tag = None }) }
     {
-        let text = String::with_capacity(alloc, bytes)?;
+        let text = TextBuffer::with_capacity(alloc, bytes)?;
         Ok(TaggedText {
             text,
             runs: Vec::new(alloc),
@@ -108,7 +108,7 @@ impl<T: Tag, M: Copy> TaggedText<T, M> {
     pub fn reserve(&mut self, bytes: usize) -> Result<(), AllocError>
         ensures { self.new ≡ self.old }
     {
-        self.text.reserve(bytes)
+        self.text.reserve(*self.runs.allocator(), bytes)
     }
 
     /// Makes room for `bytes` bytes at the start of a text.
@@ -176,7 +176,7 @@ impl<T: Tag, M: Copy> TaggedText<T, M> {
         ensures ok { OnOk result (self.new ≡ record { elements = self.old.elements ++ under tag (chars text.now); tag = Some tag }) }
         ensures err { OnErr result (self.new ≡ self.old) }
     {
-        self.text.push_str(text)?;
+        self.text.push_str(*self.runs.allocator(), text)?;
         Ok(())
     }
 
@@ -187,7 +187,7 @@ impl<T: Tag, M: Copy> TaggedText<T, M> {
         ensures ok { OnOk result (self.new ≡ record { elements = self.old.elements ++ Element.Character c tag ∷ []; tag = Some tag }) }
         ensures err { OnErr result (self.new ≡ self.old) }
     {
-        self.text.push(c)?;
+        self.text.push(*self.runs.allocator(), c)?;
         Ok(())
     }
 
@@ -257,7 +257,7 @@ impl<T: Tag, M: Copy> TaggedText<T, M> {
         if !self.runs.as_slice().is_empty() || self.text.len() > SHORT {
             return Ok(false);
         }
-        self.text.insert_str(0, text)?;
+        self.text.put_front(*self.runs.allocator(), text)?;
         Ok(true)
     }
 

@@ -28,7 +28,7 @@ continued_within {T} {M} w page h =
     if_cases (IsWithin w) (is_empty page.line) _ _ (λ _. h)
     (λ _. record { lines = All-push (λ (l : Line T M). columns l ≤ w) page.lines page.line h.lines h.line; line = omega arith })
 
-columns-continued : {T M : Type 0} (page : Page T M) → columns (continued page).line ≡ 0
+pub columns-continued : {T M : Type 0} (page : Page T M) → columns (continued page).line ≡ 0
 columns-continued {T} {M} page =
     if_cases (λ (p : Page T M). columns p.line ≡ 0) (is_empty page.line) _ _ (λ e. ap columns (nil_from_is_empty page.line e)) (λ _. refl)
 

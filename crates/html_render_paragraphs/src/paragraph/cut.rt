@@ -34,6 +34,20 @@ impl<T: Tag, M: Copy> Paragraph<T, M> {
         self.break_line()?;
         self.move_lines(lines)
     }
+
+    /// Puts a text's characters one after the other, and moves all lines of the page behind the given ones.
+    #[tactic(auto, using(html_render_values::specs::laws::Outcome::refusals))]
+    fn cut_text(&mut self, lines: &mut Vec<Line<T, M>>, text: &str, tag: T) -> Result<(), Error>
+        ensures ok { OnOk result (option_map (λ cut. lines.old.items ++ cut) (option_map (λ p. p.lines ++ p.line ∷ [])
+            (put_items self.old.setting self.old.page (styled (kept_style tag) (chars text.now)))) ≡ Some lines.new.items) }
+        ensures err { IfErr result (λ e. Refuses e (option_map (λ p. p.lines ++ p.line ∷ [])
+            (put_items self.old.setting self.old.page (styled (kept_style tag) (chars text.now))))) }
+    {
+        self.make_room(text.len())?;
+        self.put_characters(text, kept_style(tag))?;
+        self.move_ended_lines(lines)?;
+        Ok(())
+    }
 }
 
 /// Adds a text behind lines, as lines of `width` columns. It is cut where a line is full, and nowhere else: each of its
@@ -58,8 +72,5 @@ pub fn push_cut_text<T: Tag, M: Copy>(
     ensures err { IfErr result (λ e. Refuses e (text_lines {M = M} (record { width = width; overflow = overflow }) true tag (chars text.now))) }
 {
     let mut paragraph: Paragraph<T, M> = Paragraph::new(alloc, width, overflow);
-    paragraph.make_room(text.len())?;
-    paragraph.put_characters(text, kept_style(tag))?;
-    paragraph.move_ended_lines(lines)?;
-    Ok(())
+    paragraph.cut_text(lines, text, tag)
 }

@@ -128,7 +128,7 @@ impl<T: Tag, M: Copy> Paragraph<T, M> {
     }
 
     /// Ends the line, if it has a character, and begins one that continues it.
-    fn continue_line(&mut self) -> Result<(), AllocError>
+    pub(super) fn continue_line(&mut self) -> Result<(), AllocError>
         ensures { OnOk result (self.new ≡ record self.old { page = continued self.old.page }) }
     {
         if self.line.is_empty() {

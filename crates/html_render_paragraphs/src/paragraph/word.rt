@@ -1,6 +1,6 @@
 //! The open word, and words that are placed on the page: as a whole where they fit, else character by character.
 
-ghost use Rattle.std.specs.Prelude.{IfErr, IfOk, ◌≤◌, length, take, ◌≡◌, ◌+◌, ◌<◌, [], ◌∷◌, ◌++◌, Some, None, OnOk, option_map, IfSome, encode_utf8, map, true};
+ghost use Rattle.std.specs.Prelude.{IfErr, IfOk, ◌≤◌, length, take, ◌≡◌, ◌+◌, ◌<◌, [], ◌∷◌, ◌++◌, Some, None, OnOk, option_map, IfSome, encode_utf8, map, true, false};
 ghost use Rattle.std.specs.Bool.{OnTrue};
 ghost use Rattle.std.specs.Str.{chars, IsUtf8};
 ghost use Rattle.html_render_values.specs.Outcome.{Refuses};
@@ -176,7 +176,31 @@ impl<T: Tag, M: Copy> Paragraph<T, M> {
     {
         let mut rest = text;
         while !rest.is_empty() {
+            self.make_line_for(rest, style)?;
             rest = self.put_front(rest, style)?;
+        }
+        Ok(())
+    }
+
+    /// Whether a character of `width` columns stands on the next line, since it has no room on this one.
+    #[inline]
+    fn is_for_next_line(&self, width: usize) -> bool
+        ensures here { OnTrue result (fits self.now.setting self.now.page width ≡ false) }
+        ensures there { OnTrue result (width ≤ self.now.setting.width) }
+    {
+        !self.fits(width) && width <= self.width
+    }
+
+    /// Ends the line, if the first character of a text stands on the next one.
+    #[tactic(auto, using(crate::proofs::Words::next_lines))]
+    fn make_line_for(&mut self, text: &str, style: TextStyle<T>) -> Result<(), AllocError>
+        requires { 0 < length text.now }
+        ensures { OnOk result (on_page self.old (put_items self.old.setting self.old.page (styled style (chars text.now)))
+            ≡ on_page self.new (put_items self.new.setting self.new.page (styled style (chars text.now)))) }
+    {
+        let (c, _) = split_first_character(text);
+        if self.is_for_next_line(width_of(c)) {
+            self.continue_line()?;
         }
         Ok(())
     }

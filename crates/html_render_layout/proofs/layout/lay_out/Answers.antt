@@ -11,12 +11,12 @@ use Rattle.html_render_layout.proofs.layout.lay_out.Goals as goal
 use Rattle.html_render_layout.proofs.layout.lay_out.Given.{Over}
 
 -- the state in which the layout begins
-empty : (g : Over) (c : goal.After-drop-own g) →
+empty : (g : Over) (c : goal.After-drop-own-2 g) →
     c.begin_with-state.result ≡ empty_worked g.D.TextDecorator.decoration c.args.settings.now c.args.decorator.now c.args.block
-empty g c = cc (c.begin_with-state.ensures, c.in_ok-own.ensures.settings, c.in_ok-own.ensures.decorator, c.new.ensures, c.new-block.ensures)
+empty g c = cc (c.begin_with-state.ensures, c.in_ok-own.ensures.settings, c.in_ok-own.ensures.decorator, c.new.ensures, c.in_ok-block.ensures.ok)
 
 -- what the code does is what is defined
-works : (g : Over) (c : goal.After-drop-own g) →
+works : (g : Over) (c : goal.After-drop-own-2 g) →
     work_lines g.D.TextDecorator.decoration c.in_ok-own.own.tree c.begin_with-state.result
     ≡ layout_lines g.D.TextDecorator.decoration c.args.settings.now c.args.tree c.args.decorator.now c.args.block
 works g c =
@@ -58,5 +58,11 @@ returns-then-block-eq0-clause-counts g c =
 pub returns-in_err-own-clause-counts : goal.returns-in_err-own-clause-counts
 returns-in_err-own-clause-counts g c =
     none-counted _ _ c.from_residual.ensures.1 (defined g.D.TextDecorator.decoration)
+    (estimated g.D.TextDecorator.decoration c.args.settings.now c.args.decorator.now c.args.tree)
+    (empty_state g.D.TextDecorator.decoration c.args.settings.now c.args.decorator.now c.args.block) _ _ refl refl refl refl
+
+pub returns-in_err-block-clause-counts : goal.returns-in_err-block-clause-counts
+returns-in_err-block-clause-counts g c =
+    none-counted _ _ c.from_residual-in_err-block.ensures.1 (defined g.D.TextDecorator.decoration)
     (estimated g.D.TextDecorator.decoration c.args.settings.now c.args.decorator.now c.args.tree)
     (empty_state g.D.TextDecorator.decoration c.args.settings.now c.args.decorator.now c.args.block) _ _ refl refl refl refl

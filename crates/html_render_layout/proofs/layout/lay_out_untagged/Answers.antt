@@ -11,14 +11,14 @@ use Rattle.html_render_layout.proofs.layout.lay_out_untagged.Goals as goal
 use Rattle.html_render_layout.proofs.layout.lay_out_untagged.Given.{Over}
 
 -- what the code does is what is defined, without annotations
-works : (g : Over) (c : goal.After-drop-own g) →
+works : (g : Over) (c : goal.After-drop-own-2 g) →
     untagged_work {K = Nothing} g.D.TextDecorator.decoration c.in_ok-own.own.tree c.begin_with-state.result
     ≡ option_map unannotated
     (layout_lines g.D.TextDecorator.decoration c.args.settings.now c.args.tree c.args.decorator.now c.args.block)
 works g c =
     let empty : c.begin_with-state.result
     ≡ empty_untagged g.D.TextDecorator.decoration c.args.settings.now (record {}) c.args.decorator.now c.args.block =
-    cc (c.begin_with-state.ensures, c.in_ok-own.ensures.settings, c.in_ok-own.ensures.decorator, c.new-block.ensures) in
+    cc (c.begin_with-state.ensures, c.in_ok-own.ensures.settings, c.in_ok-own.ensures.decorator, c.in_ok-block.ensures.ok) in
     untagged_lines-works g.D.TextDecorator.decoration c.args.settings.now c.args.tree _ c.args.decorator.now c.args.block
     (record {}) c.begin_with-state.result c.if-block-eq0.false c.in_ok-own.ensures.tree empty
 

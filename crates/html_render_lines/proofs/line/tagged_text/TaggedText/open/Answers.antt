@@ -1,5 +1,4 @@
 use Rattle.std.proofs.Common.{ap, ◌∙◌}
-use Rattle.std.specs.String.{string_bytes}
 use Rattle.html_render_lines.specs.TaggedText.{Content}
 use Rattle.html_render_lines.proofs.TaggedTexts.{all-opened}
 use Rattle.html_render_lines.proofs.line.tagged_text.TaggedText.open.Goals as goal
@@ -8,6 +7,6 @@ pub returns : goal.returns
 returns g c =
     let tag = ap (λ (t : Content g.row.T.Denot g.row.M.Denot). t.tag) c.self.view_is ∙ c.requires in
     let same = all-opened c.self.inside.runs.items c.self.inside.tag c.args.tag c.self.inside.start
-    (string_bytes c.self.inside.text) c.self.invariant tag in
+    c.self.inside.text c.self.invariant tag in
     let elements = ap (λ (t : Content g.row.T.Denot g.row.M.Denot). t.elements) c.self.view_is in
     cc

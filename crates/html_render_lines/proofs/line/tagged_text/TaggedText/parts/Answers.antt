@@ -3,7 +3,7 @@ use Rattle.html_render_lines.proofs.line.tagged_text.TaggedText.parts.Goals as g
 
 pub range-requires-clause-end_boundary : goal.range-requires-clause-end_boundary
 range-requires-clause-end_boundary g c =
-    rw c.as_str-text.ensures.value (IsCharBoundary-from_drop _ _ c.self.invariant.within c.self.invariant.ending)
+    rw c.as_str-text.ensures (IsCharBoundary-from_drop _ _ c.self.invariant.within c.self.invariant.ending)
 
 pub range_from-requires : goal.range_from-requires
-range_from-requires g c = λ _. rw c.as_str-text.ensures.value (IsCharBoundary-from_drop _ _ c.self.invariant.within c.self.invariant.ending)
+range_from-requires g c = λ _. rw c.as_str-text.ensures (IsCharBoundary-from_drop _ _ c.self.invariant.within c.self.invariant.ending)

@@ -1,5 +1,4 @@
 use Rattle.std.proofs.Common.{ap, ◌∙◌}
-use Rattle.std.specs.String.{string_bytes}
 use Rattle.html_render_lines.specs.TaggedText.{Content}
 use Rattle.html_render_lines.proofs.TaggedTexts.{all-marked, is-marked}
 use Rattle.html_render_lines.proofs.line.tagged_text.TaggedText.push_mark_here.Goals as goal
@@ -11,7 +10,7 @@ pub returns-clause-ok : goal.returns-clause-ok
 returns-clause-ok g c =
     let tag = ap (λ (t : Content g.row.T.Denot g.row.M.Denot). t.tag) c.self.view_is ∙ c.requires in
     let same = all-marked c.self.inside.runs.items c.self.inside.tag c.args.mark c.self.inside.start
-    (string_bytes c.self.inside.text) c.self.invariant tag in
+    c.self.inside.text c.self.invariant tag in
     let elements = ap (λ (t : Content g.row.T.Denot g.row.M.Denot). t.elements) c.self.view_is in
     let items = c.in_ok-push.ensures.items in
     rw items (cc)

@@ -9,6 +9,6 @@ pub returns : goal.returns
 returns g c =
     let elements = ap (λ (t : Content g.row.T.Denot g.row.M.Denot). t.elements) c.self.view_is in
     let bytes = bytes-all c.self.inside.runs.items c.self.inside.tag c.self.inside.start
-    (string_bytes c.self.inside.text) c.self.invariant in
-    let value = c.as_str.ensures.value in
+    c.self.inside.text c.self.invariant in
+    let value = c.as_str.ensures in
     rw (c.in_ok-push_str.ensures.bytes, value) (ap (λ bs. string_bytes c.args.out.now ++ bs) (sym bytes ∙ ap text_bytes elements))
