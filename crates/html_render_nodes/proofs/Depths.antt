@@ -1,18 +1,15 @@
--- The depths of the nodes of trees: how they are noted, and a dump along them.
-use Rattle.std.proofs.Common.{◌≡◌, ℕ, ◌+◌, ◌-◌, ◌^◌, ◌≤◌, List, [], ◌∷◌, ◌++◌, length, Option, Some, refl, sym, ap, ◌∙◌, arith, min}
-use Rattle.std.proofs.Common.{append_assoc, append-nil, length-append}
-use Rattle.html_render_values.specs.Forest.{Forest, none, node, count}
-use Rattle.html_render_values.specs.Outcome.{Refuses}
-use Rattle.html_render_values.specs.declared.errors.Error.{Error}
-use Rattle.html_render_values.specs.declared.errors.Error.TheVariants.{TooNarrow, Fail, OutOfMemory}
+-- The depths of the nodes of trees: a dump along them, and how they are noted.
+use Rattle.std.proofs.Common.{◌≡◌, ℕ, ◌+◌, ◌-◌, ◌^◌, ◌≤◌, List, [], ◌∷◌, ◌++◌, length, refl, sym, ap, ◌∙◌, arith, min}
+use Rattle.std.proofs.Common.{append_assoc, append-nil, length-append, All, inl, inr}
+use Rattle.std.proofs.lemmas.Bool.Decides.{eqb_tells, leb_tells}
+use Rattle.std.proofs.lemmas.List.Elements.{All-nil, All-cons, All-head, All-weaker}
+use Rattle.html_render_values.specs.Forest.{Forest, none, node}
 use Rattle.html_render_nodes.specs.declared.tree.Entry.{Entry}
 use Rattle.html_render_nodes.specs.declared.tree.RenderNode.{RenderNode}
-use Rattle.html_render_nodes.specs.Depths.{Noting, depths_of, noted_at, noting}
+use Rattle.html_render_nodes.specs.Depths.{depths_of, depths_from, open_at, with_part}
 use Rattle.html_render_nodes.specs.Dump.{dump, line}
 use Rattle.html_render_nodes.specs.Kinds.{kind_name}
-use Rattle.html_render_nodes.specs.Pass.{run, run_at, bare}
 use Rattle.html_render_nodes.specs.Preorder.{flatten}
-use Rattle.html_render_nodes.specs.laws.Preorder.{length-flatten}
 
 -- a depth for each node
 pub length-depths : {K : Type 0} (t : Forest K) (depth : ℕ) → length (depths_of depth t) ≡ length (flatten t)
@@ -51,28 +48,65 @@ lines-whole t =
     ∙ ap (lines (flatten t ++ [])) (sym (append-nil (depths_of 0 t)))
     ∙ lines-flatten t 0 [] [] ∙ append-nil (dump 0 t)
 
--- the pass notes the depths
-noted-depths : (t : Forest RenderNode) (number : ℕ) (s : Noting) → s.depth + count t ≤ 2 ^ 64 - 1 →
-    run_at noting bare number t s ≡ Some (record { noted = s.noted ++ depths_of s.depth t; depth = s.depth })
-noted-depths none number s small = ap (λ l. Some (record s { noted = l })) (sym (append-nil s.noted))
-noted-depths (node k children beside) number s small =
-    let inner = noted_at s in
-    let deeper : min (s.depth + 1) (2 ^ 64 - 1) ≡ s.depth + 1 = omega arith in
-    let behind : Noting = record { noted = inner.noted ++ depths_of (s.depth + 1) children; depth = s.depth } in
-    rw (noted-depths children 0 inner (omega (arith, deeper))) (rw deeper (
-    noted-depths beside (number + 1) behind (omega arith)
-    ∙ ap (λ l. Some (record s { noted = l })) (
-    append_assoc inner.noted (depths_of (s.depth + 1) children) (depths_of s.depth beside)
-    ∙ append_assoc s.noted (s.depth ∷ []) (depths_of (s.depth + 1) children ++ depths_of s.depth beside))))
+-- ---- noted node by node
 
--- of all nodes, where they are in memory; and nothing but memory refuses it
-pub noted-whole : (t : Forest RenderNode) (es : List (Entry RenderNode)) (s : Noting) → es ≡ flatten t → length es ≤ 2 ^ 64 - 1 →
-    s ≡ record { noted = []; depth = 0 } → run noting t s ≡ Some (record { noted = depths_of 0 t; depth = 0 })
-noted-whole t es s whole small start =
-    ap (run noting t) start
-    ∙ noted-depths t 0 (record { noted = []; depth = 0 }) (omega (arith, ap length whole, length-flatten t))
+abbrev AllPast : ℕ → List ℕ → Type 0
+AllPast place ends = All (λ e. place ≤ e) ends
 
-pub only-memory : {X : Type 0} (e : Error) (o : Option X) (x : X) → Refuses e o → o ≡ Some x → e ≡ OutOfMemory
-only-memory TooNarrow o x h some = cc
-only-memory Fail o x h some = absurd h
-only-memory OutOfMemory o x h some = refl
+-- no part is left before it ends
+none-left : (place : ℕ) (ends : List ℕ) → AllPast (place + 1) ends → open_at place ends ≡ ends
+none-left place [] past = refl
+none-left place (e ∷ es) past =
+    let later = All-head (λ x. place + 1 ≤ x) e es past in
+    elim (eqb_tells e place) [ inl t ↦ absurd (omega (arith, t.1, later)) | inr t ↦ rw t.0 refl ]
+
+-- a part is left where it ends
+left-at-end : {K : Type 0} (place : ℕ) (ends : List ℕ) (es : List (Entry K)) → depths_from place (place ∷ ends) es ≡ depths_from place ends es
+left-at-end place ends [] = refl
+left-at-end place ends (e ∷ es) = elim (eqb_tells place place) [ inl t ↦ rw t.0 refl | inr t ↦ absurd (t.1 refl) ]
+
+-- no nodes come
+alone : {K : Type 0} (t : Forest K) → length (flatten t) ≡ 0 → (place inner depth : ℕ) → inner ≡ place → (ends : List ℕ) → (es : List (Entry K)) →
+    depths_from place ends (flatten t ++ es) ≡ depths_of depth t ++ depths_from inner ends es
+alone none h place inner depth e ends es = ap (λ n. depths_from n ends es) (sym e)
+alone (node k children beside) h place inner depth e ends es = absurd (omega (arith, h))
+
+depths-flatten : {K : Type 0} (t : Forest K) (place : ℕ) (ends : List ℕ) (es : List (Entry K)) → place + length (flatten t) ≤ 2 ^ 64 - 1 →
+    AllPast (place + length (flatten t)) ends →
+    depths_from place ends (flatten t ++ es) ≡ depths_of (length ends) t ++ depths_from (place + length (flatten t)) ends es
+depths-flatten none place ends es small past = ap (λ n. depths_from n ends es) (omega arith)
+depths-flatten (node k children beside) place ends es small past =
+    let c = flatten children in
+    let b = flatten beside in
+    let long = length-append c b in
+    let inner = place + 1 + length c in
+    let within : AllPast inner ends = All-weaker (λ e. place + length (flatten (node k children beside)) ≤ e) (λ e. inner ≤ e)
+    (λ e h. omega (arith, long, h)) ends past in
+    let same : open_at place ends ≡ ends = none-left place ends (All-weaker (λ e. inner ≤ e) (λ e. place + 1 ≤ e) (λ e h. omega (arith, h)) ends within) in
+    let next = depths-flatten beside inner ends es (omega (arith, long, small))
+    (All-weaker (λ e. place + length (flatten (node k children beside)) ≤ e) (λ e. inner + length b ≤ e) (λ e h. omega (arith, long, h)) ends past) in
+    let whole : inner + length b ≡ place + length (flatten (node k children beside)) = omega (arith, long) in
+    let deeper : length (inner ∷ ends) ≡ length ends + 1 = omega arith in
+    let below : depths_from (place + 1) (with_part place (length c + 1) ends) (c ++ (b ++ es))
+    ≡ depths_of (length ends + 1) children ++ depths_from inner ends (b ++ es) =
+    elim (leb_tells 2 (length c + 1)) [
+      | inl t ↦
+          let end : min (place + (length c + 1)) (2 ^ 64 - 1) ≡ inner = omega (arith, long, small) in
+          rw t.0 (rw end (depths-flatten children (place + 1) (inner ∷ ends) (b ++ es) (omega (arith, long, small))
+          (All-cons (λ e. inner ≤ e) inner ends (omega arith) within)
+          ∙ ap (λ n. depths_of n children ++ depths_from inner (inner ∷ ends) (b ++ es)) deeper
+          ∙ ap (λ l. depths_of (length ends + 1) children ++ l) (left-at-end inner ends (b ++ es))))
+      | inr t ↦ rw t.0 (alone children (omega (arith, t.1)) (place + 1) inner (length ends + 1) (omega (arith, t.1)) ends (b ++ es))
+    ] in
+    rw same (ap (λ l. length ends ∷ l)
+    (ap (depths_from (place + 1) (with_part place (length c + 1) ends)) (append_assoc c b es)
+    ∙ below
+    ∙ ap (λ l. depths_of (length ends + 1) children ++ l) (next ∙ ap (λ n. depths_of (length ends) beside ++ depths_from n ends es) whole)
+    ∙ sym (append_assoc (depths_of (length ends + 1) children) (depths_of (length ends) beside) _)))
+
+-- of all nodes, where they are in memory
+pub depths-whole : {K : Type 0} (t : Forest K) (es : List (Entry K)) → es ≡ flatten t → length es ≤ 2 ^ 64 - 1 → depths_from 0 [] es ≡ depths_of 0 t
+depths-whole t es is small =
+    ap (depths_from 0 []) (is ∙ sym (append-nil (flatten t)))
+    ∙ depths-flatten t 0 [] [] (omega (arith, small, ap length is)) (All-nil (λ e. 0 + length (flatten t) ≤ e))
+    ∙ append-nil (depths_of 0 t)

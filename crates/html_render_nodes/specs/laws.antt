@@ -2,4 +2,3 @@ pub mod Preorder
 pub mod Splits
 pub mod Visits
 pub mod Counts
-pub mod Depths

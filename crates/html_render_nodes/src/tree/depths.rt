@@ -1,73 +1,53 @@
-//! The depths of the nodes of a render tree, noted in one walk.
+//! The depths of the nodes of a render tree, noted in one pass over them.
 
-ghost use Rattle.std.specs.Prelude.{◌≡◌, IfOk, IfErr};
-ghost use Rattle.html_render_nodes.specs.Depths.{below, closed, noting, opened};
-ghost use Rattle.html_render_nodes.specs.laws.Depths.{depths-opened};
+ghost use Rattle.std.specs.Prelude.{◌≡◌, ◌↔◌, [], reverse, OnOk, IfOk, IfErr, IsTrue};
+ghost use Rattle.html_render_nodes.specs.Depths.{open_at, with_part, depths_from, EndsAt};
 
 use super::{Entry, Flat, RenderNode, RenderTree};
-use crate::walk::{Pass, walk};
-use html_render_parts_widths::Meter;
 use html_render_values::Error;
-use std::alloc::Global;
-use std::marker::Model;
+use std::alloc::{AllocError, Global};
 
-/// The depths of the nodes so far.
-#[derive(Drop)]
-pub struct Noted {
-    /// The depths, in pre-order.
-    depths: Vec<usize>,
-    /// The depth of the nodes that come.
-    depth: usize,
+/// Whether the innermost of the parts that are open, the last one, ends at a place.
+fn ends_at(ends: &[usize], place: usize) -> bool
+    ensures { IsTrue result ↔ EndsAt place (reverse ends.now) }
+{
+    match ends.last() {
+        Some(end) => *end == place,
+        None => false,
+    }
 }
 
-impl Model for Noted {
-    ghost use Rattle.html_render_nodes.specs.Depths.{Noting};
-
-    ghost Value = { Noting };
-
-    ghost view = { λ n. record { noted = n.depths.items; depth = n.depth } };
+/// Leaves the parts that end at a place.
+fn leave(ends: &mut Vec<usize>, place: usize)
+    ensures { reverse ends.new.items ≡ open_at place (reverse ends.old.items) }
+{
+    'leaving: while ends_at(ends.as_slice(), place) {
+        ends.pop();
+    }
 }
 
-/// The pass that notes the depth of each node.
-pub struct Depths;
-
-impl Pass for Depths {
-    type Node = RenderNode;
-
-    type State = Noted;
-
-    type Kept = usize;
-
-    ghost visits = { noting };
-
-    ghost below = { below };
-
-    ghost opened = { opened };
-
-    ghost closed = { closed };
-
-    ghost told = { depths-opened };
-
-    /// Notes the depth of a node, which it keeps.
-    fn open(
-        _alloc: Global,
-        _node: &RenderNode,
-        _children: &[Entry<RenderNode>],
-        _parent: Option<&usize>,
-        _number: usize,
-        state: &mut Noted,
-    ) -> Result<Option<usize>, Error> {
-        let depth = state.depth;
-        state.depths.push(depth)?;
-        state.depth = depth.saturating_add(1);
-        Ok(Some(depth))
+/// Begins the part of `size` nodes at a place, if it has more than one.
+fn begin(ends: &mut Vec<usize>, place: usize, size: usize) -> Result<(), AllocError>
+    ensures { OnOk result (reverse ends.new.items ≡ with_part place size (reverse ends.old.items)) }
+{
+    if size > 1 {
+        ends.push(place.saturating_add(size))?;
     }
+    Ok(())
+}
 
-    /// Goes back to its depth.
-    fn close(_alloc: Global, kept: usize, state: &mut Noted) -> Result<(), Error> {
-        state.depth = kept;
-        Ok(())
+/// How deep each of some nodes stands, in pre-order: in as many parts as are open where it comes.
+fn depths_of(alloc: Global, entries: &[Entry<RenderNode>]) -> Result<Vec<usize>, AllocError>
+    ensures { IfOk result (λ depths. depths.items ≡ depths_from 0 [] entries.now) }
+{
+    let mut depths = Vec::with_capacity(alloc, entries.len())?;
+    let mut ends = Vec::new(alloc);
+    for (place, entry) in entries.iter().enumerate() {
+        leave(&mut ends, place);
+        depths.push(ends.len())?;
+        begin(&mut ends, place, entry.size)?;
     }
+    Ok(depths)
 }
 
 impl RenderTree {
@@ -80,14 +60,7 @@ impl RenderTree {
         ensures ok { IfOk result (λ tree. tree ≡ nodes) }
         ensures err { IfErr result (λ e. e ≡ Error.OutOfMemory) }
     {
-        let mut noted = Noted {
-            depths: Vec::with_capacity(alloc, nodes.entries().len())?,
-            depth: 0,
-        };
-        walk::<Depths>(alloc, &nodes, &mut noted, &mut Meter::default())?;
-        Ok(RenderTree {
-            nodes,
-            depths: noted.depths,
-        })
+        let depths = depths_of(alloc, nodes.entries())?;
+        Ok(RenderTree { nodes, depths })
     }
 }
