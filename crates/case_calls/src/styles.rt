@@ -6,7 +6,7 @@ use crate::tags::Tag;
 use crate::texts::push_escaped;
 use crate::watch::Watch;
 use html_render_dom::style::{
-    ComputedStyle, Display, StyleOrigin, StyleRule, WhiteSpace, WithSpec, computed_style,
+    ComputedStyle, ContentText, Display, StyleOrigin, StyleRule, WhiteSpace, WithSpec, computed_style,
 };
 use std::alloc::{AllocError, Global};
 
@@ -83,11 +83,11 @@ fn push_style(shown: &mut String, style: &ComputedStyle) -> Result<(), AllocErro
 fn push_content(
     shown: &mut String,
     name: &str,
-    content: &WithSpec<String>,
+    content: &WithSpec<ContentText>,
 ) -> Result<(), AllocError> {
     if let Some(text) = content.val() {
         write!(shown, "|{name} ")?;
-        push_escaped(shown, text)?;
+        push_escaped(shown, text.as_str())?;
         shown.push('\n')?;
     }
     Ok(())

@@ -22,7 +22,7 @@ use crate::tables::Part;
 use html_render_dom::Error;
 use html_render_dom::dom::{Attribute, Handle, Namespace, NodeData, QualName, RcDom};
 use html_render_dom::style::{
-    ComputedStyle, RuleIndex, Specificity, StyleOrigin, StyleRule, WhiteSpace, WithSpec,
+    ComputedStyle, RuleIndex, Specificity, StyleOrigin, StyleRule, WhiteSpace,
 };
 use html_render_nodes::text::NodeText;
 use html_render_nodes::tree::{Emphasis, Image, NodeKind, NodeStyle, RenderNode};
@@ -254,16 +254,6 @@ fn node_style(style: &ComputedStyle) -> NodeStyle
     }
 }
 
-/// The text of a content, if there is one. It isn't copied.
-fn text_of(content: WithSpec<String>) -> Option<NodeText>
-    ensures { result ≡ option_map string_bytes (value_of content) }
-{
-    match content.into_val() {
-        Some(text) => Some(NodeText::from(text)),
-        None => None,
-    }
-}
-
 /// What becomes of an element that becomes nothing: its mark is left.
 fn mark_alone(mark: Option<NodeText>) -> Outline
     ensures { result ≡ mark_alone mark }
@@ -292,8 +282,8 @@ fn styled_outline(mapping: Mapping, mark: Option<NodeText>, style: ComputedStyle
         if_empty,
         has_children,
         mark,
-        before: text_of(style.content_before),
-        after: text_of(style.content_after),
+        before: style.content_before.into_val(),
+        after: style.content_after.into_val(),
     }
 }
 

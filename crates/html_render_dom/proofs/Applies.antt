@@ -22,8 +22,7 @@ use Rattle.html_render_dom.specs.Selectors.{specificity_of}
 use Rattle.html_render_dom.specs.Rules.{Rule, StyleValue, declared_of, rule_of, style_value_of}
 use Rattle.html_render_dom.specs.ElementStyle.{Applied, applied, ElementStyle, updates, with_more, with_declarations, colour_in, bg_colour_in}
 use Rattle.html_render_dom.specs.ElementStyle.{display_in, white_space_in, content_in}
-use Rattle.html_render_dom_cascade.specs.TextUpdates.{text_update}
-use Rattle.html_render_dom_cascade.specs.laws.Winners.{later, yields, winner-one, winner-push, winner-front}
+use Rattle.html_render_dom_cascade.specs.laws.Winners.{winner-one, winner-front}
 use Rattle.html_render_dom_cascade.specs.laws.Keeps.{winner-left}
 
 -- the clause of `maybe_update`
@@ -37,32 +36,9 @@ taken old u new h = h (option_to_list old) (sym (winner-one old))
 pub untouched : {T : Type 0} (kept : Option (Update T)) → kept ≡ winner (option_to_list kept ++ [])
 untouched kept = sym (ap winner (append-nil (option_to_list kept)) ∙ winner-one kept)
 
-next : {T : Type 0} (kept : Option (Update T)) (u : Update T) → winner (option_to_list kept ++ u ∷ []) ≡ later yields kept u
-next kept u = winner-push (option_to_list kept) u ∙ ap (λ o. later yields o u) (winner-one kept)
-
--- a content is taken where it wins
-pub content-taken : (old new : Option (Update (String Global))) (u : Update (String Global)) → Takes old u new →
-    option_map text_update new ≡ winner (option_to_list (option_map text_update old) ++ text_update u ∷ [])
-content-taken old new u h =
-    ap (option_map text_update) (taken old u new h ∙ next old u) ∙ shown old ∙ sym (next (option_map text_update old) (text_update u))
-  where
-    shown : (kept : Option (Update (String Global))) →
-        option_map text_update (later yields kept u) ≡ later yields (option_map text_update kept) (text_update u)
-    shown None = refl
-    shown (Some w) = elim (yields w u) as
-        (λ b. option_map text_update (cond b (Some u) (Some w))
-        ≡ cond b (Some (text_update u)) (Some (text_update w))) [ true ↦ refl | false ↦ refl ]
-
--- and left where it doesn't
-pub content-left : (kept : Option (Update (String Global))) (u : Update (List ℕ)) → yields_to kept (key_of u) ≡ false →
-    option_map text_update kept ≡ winner (option_to_list (option_map text_update kept) ++ u ∷ [])
-content-left kept u y =
-    winner-left (option_map text_update kept) u (option_to_list (option_map text_update kept)) (shown kept ∙ y)
-    (sym (winner-one (option_map text_update kept)))
-  where
-    shown : (o : Option (Update (String Global))) → yields_to (option_map text_update o) (key_of u) ≡ yields_to o (key_of u)
-    shown None = refl
-    shown (Some w) = refl
+-- what doesn't win is left
+pub left : {T : Type 0} (kept : Option (Update T)) (u : Update T) → yields_to kept (key_of u) ≡ false → kept ≡ winner (option_to_list kept ++ u ∷ [])
+left kept u y = winner-left kept u (option_to_list kept) y (sym (winner-one kept))
 
 -- declarations one after another
 with_more-append : {T : Type 0} (property : Option PseudoElement → StyleValue → Option T) (kept : Option (Update T))
@@ -163,4 +139,4 @@ pub said_to-other : (selects : Rule → Bool) (rule : StyleRule) (s : ElementSty
     s ≡ with_declarations s (said_to selects rule)
 said_to-other selects rule s e = rw e (still s)
 
-pub ruleset contents = (content-taken, content-left)
+pub ruleset contents = (taken, left)

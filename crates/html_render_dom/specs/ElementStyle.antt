@@ -14,7 +14,6 @@ use Rattle.html_render_dom_cascade.specs.Cascade.{winner}
 use Rattle.html_render_dom.specs.Content.{Property}
 use Rattle.html_render_dom.specs.Rules.{StyleValue, colour, bg_colour, display, white_space, content, Declared, Rule}
 use Rattle.html_render_dom.specs.Selectors.{first_value, selects, specificity_of}
-use Rattle.html_render_dom_cascade.specs.TextUpdates.{text_update}
 
 -- a declaration with what its rule says of it
 pub record Applied : Type 0 where
@@ -94,9 +93,9 @@ style_of s = record {
   bg_colour = s.bg_colour;
   display = s.display;
   white_space = s.white_space;
-  content = option_map text_update s.content;
-  content_before = option_map text_update s.content_before;
-  content_after = option_map text_update s.content_after;
+  content = s.content;
+  content_before = s.content_before;
+  content_after = s.content_after;
   internal_pre = s.internal_pre;
 }
 

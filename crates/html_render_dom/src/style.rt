@@ -11,7 +11,7 @@ mod index;
 mod rules;
 mod selectors;
 
-pub use computed::{ComputedStyle, computed_style};
+pub use computed::{ComputedStyle, ContentText, computed_style};
 pub use html_render_dom_cascade::{Specificity, StyleOrigin, WithSpec};
 pub use html_render_values::colours::Colour;
 pub use html_render_values::white_space::WhiteSpace;

@@ -2,8 +2,6 @@
 pub mod Specificities
 -- which update of a property wins
 pub mod Cascade
--- updates of texts
-pub mod TextUpdates
 -- what becomes of the update that is kept when another one comes
 pub mod Keeping
 -- what holds of all of them

@@ -73,7 +73,7 @@ impl Inserted {
         ensures ok { IfOk result (λ i. i ≡ insertions ∷ []) }
         ensures err { IfErr result (λ e. e ≡ Error.OutOfMemory) }
     {
-        let mut rounds = Vec::new(alloc);
+        let mut rounds = Vec::with_capacity(alloc, 1)?;
         rounds.push(insertions)?;
         let rounds = Box::new(alloc, rounds)?;
         Ok(Inserted {

@@ -5,7 +5,7 @@ ghost use Rattle.std.specs.Prelude.{◌≡◌, IfOk, IfErr, map};
 use crate::answers::{Refusal, answered};
 use html_render_tree::dom::Attribute;
 use html_render_tree::style::{
-    Colour, ComputedStyle, Display, StyleRule, WhiteSpace, computed_style,
+    Colour, ComputedStyle, ContentText, Display, StyleRule, WhiteSpace, computed_style,
 };
 use serde::Serialize;
 use std::alloc::Global;
@@ -15,14 +15,14 @@ type ColourForm = (u8, u8, u8);
 
 /// A computed style in JSON: each property's value, or `null` where no declaration of it applies.
 #[derive(Drop, Serialize)]
-struct StyleForm {
+struct StyleForm<'a> {
     colour: Option<ColourForm>,
     bg_colour: Option<ColourForm>,
     display: Option<&'static str>,
     white_space: Option<&'static str>,
-    content: Option<String>,
-    content_before: Option<String>,
-    content_after: Option<String>,
+    content: Option<&'a str>,
+    content_before: Option<&'a str>,
+    content_after: Option<&'a str>,
     internal_pre: bool,
 }
 
@@ -50,15 +50,15 @@ fn white_space_name(white_space: &WhiteSpace) -> &'static str {
 }
 
 /// A computed style in JSON.
-fn style_form(style: ComputedStyle) -> StyleForm {
+fn style_form(style: &ComputedStyle) -> StyleForm<'_> {
     StyleForm {
         colour: style.colour.val().map(colour_form),
         bg_colour: style.bg_colour.val().map(colour_form),
         display: style.display.val().map(display_name),
         white_space: style.white_space.val().map(white_space_name),
-        content: style.content.into_val(),
-        content_before: style.content_before.into_val(),
-        content_after: style.content_after.into_val(),
+        content: style.content.val().map(ContentText::as_str),
+        content_before: style.content_before.val().map(ContentText::as_str),
+        content_after: style.content_after.val().map(ContentText::as_str),
         internal_pre: style.internal_pre,
     }
 }
@@ -71,5 +71,5 @@ pub fn answer(
     attrs: &[Attribute],
 ) -> Result<Vec<u8>, Refusal> {
     let style = computed_style(alloc, rules, element, attrs)?;
-    answered(alloc, &style_form(style))
+    answered(alloc, &style_form(&style))
 }

@@ -80,7 +80,7 @@ fn set_attribute(
         ns: Namespace::None,
         local: LocalName::from_str(alloc, name)?,
     };
-    let mut attributes = Vec::new(alloc);
+    let mut attributes = Vec::with_capacity(alloc, 1)?;
     attributes.push(Attribute { name, value })?;
     Ok(dom.add_attrs_if_missing(alloc, element, attributes)?)
 }

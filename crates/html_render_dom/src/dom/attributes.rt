@@ -134,6 +134,10 @@ impl Attributes {
         ensures ok { OnOk result (self.new ≡ self.old ++ given.items) }
         ensures err { OnErr result (self.new ≡ self.old) }
     {
+        if self.list.is_empty() {
+            *self = Attributes::of(given);
+            return Ok(());
+        }
         // so that no place is noted of an attribute that isn't put
         let alloc = *self.list.allocator();
         let mut noted = mem::replace(&mut self.places, None);

@@ -10,7 +10,6 @@ ghost use Rattle.html_render_dom.specs.ElementStyle.{applied, element_style, sty
 ghost use Rattle.html_render_dom.specs.RuleIndex.{HasSelected};
 ghost use Rattle.html_render_dom.specs.Rules.{declared_of, rule_of};
 ghost use Rattle.html_render_dom.specs.Selectors.{selects};
-ghost use Rattle.html_render_dom_cascade.specs.TextUpdates.{text_update};
 
 use super::rules::{Declaration, Display, PseudoElement, Style, StyleRule};
 use super::selectors::first_value;
@@ -18,8 +17,12 @@ use crate::dom::Attribute;
 use html_render_dom_cascade::{Specificity, StyleOrigin, WithSpec};
 use html_render_values::Error;
 use html_render_values::colours::Colour;
+use html_render_values::small_text::SmallText;
 use html_render_values::white_space::WhiteSpace;
 use std::alloc::{AllocError, Global};
+
+/// A text that a rule gives an element as content: 24 bytes at most stand in the value itself.
+pub type ContentText = SmallText<24>;
 
 /// The style of an element: for each property the value that wins.
 ///
@@ -35,11 +38,11 @@ pub struct ComputedStyle {
     /// How white space is treated.
     pub white_space: WithSpec<WhiteSpace>,
     /// The content of the element itself, which isn't shown.
-    pub content: WithSpec<String>,
+    pub content: WithSpec<ContentText>,
     /// The content that is put before the element's children.
-    pub content_before: WithSpec<String>,
+    pub content_before: WithSpec<ContentText>,
     /// The content that is put after the element's children.
-    pub content_after: WithSpec<String>,
+    pub content_after: WithSpec<ContentText>,
     /// Whether the element is `pre`; it is false in a style that comes from rules alone.
     pub internal_pre: bool,
 }
@@ -55,21 +58,21 @@ struct Source {
     pseudo: Option<PseudoElement>,
 }
 
-/// Takes a content, which is cloned only where it wins.
+/// Takes a content, which is copied only where it wins.
 #[tactic(auto, using(crate::proofs::Applies::contents))]
 fn update_content(
-    kept: &mut WithSpec<String>,
+    kept: &mut WithSpec<ContentText>,
     important: bool,
     origin: StyleOrigin,
     specificity: Specificity,
     text: &String,
 ) -> Result<(), AllocError>
-    ensures ok { OnOk result (option_map text_update kept.new
-        ≡ winner (option_to_list (option_map text_update kept.old)
+    ensures ok { OnOk result (kept.new ≡ winner (option_to_list kept.old
         ++ record { important = important; origin = origin; specificity = specificity; value = string_bytes text.now } ∷ [])) }
 {
     if kept.yields_to(important, origin, specificity) {
-        kept.maybe_update(important, origin, specificity, text.clone()?);
+        let text = ContentText::from_str(*text.allocator(), text.as_str())?;
+        kept.maybe_update(important, origin, specificity, text);
     }
     Ok(())
 }
@@ -191,7 +194,7 @@ impl ComputedStyle {
 ///
 /// # Errors
 ///
-/// `OutOfMemory`, where the clone of a content was refused.
+/// `OutOfMemory`, where a copy of a content was refused.
 pub fn computed_style(
     alloc: Global,
     rules: &[StyleRule],
