@@ -122,7 +122,7 @@ pub fn push_label(shown: &mut String, data: &NodeData) -> Result<(), AllocError>
     match data {
         NodeData::Document => shown.push_str("document"),
         NodeData::Doctype { name, .. } => push_signed(shown, "<!", name),
-        NodeData::Text { contents } => push_signed(shown, "\"", contents),
+        NodeData::Text { contents } => push_signed(shown, "\"", contents.as_str()),
         NodeData::Comment { contents } => push_signed(shown, "!", contents),
         NodeData::ProcessingInstruction { target, .. } => push_signed(shown, "?", target),
         NodeData::Element { name, .. } => {

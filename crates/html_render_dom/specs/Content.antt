@@ -51,7 +51,7 @@ property_of a = record { name = name_of a.name; value = string_bytes a.value }
 abbrev pub content_of : NodeData → Content
 content_of Document = document
 content_of (Doctype name public_id system_id) = doctype (string_bytes name) (string_bytes public_id) (string_bytes system_id)
-content_of (Text contents) = text (string_bytes contents)
+content_of (Text contents) = text contents
 content_of (Comment contents) = comment (string_bytes contents)
 content_of (Element integration_point name attrs template_contents) =
     element (name_of name) (map property_of attrs) template_contents integration_point

@@ -19,7 +19,7 @@ mod queries;
 mod settings;
 
 pub use attributes::Attributes;
-pub use contents::{NodeData, NodeOrText};
+pub use contents::{NodeData, NodeOrText, TextContents};
 pub use documents::RcDom;
 pub use handles::Handle;
 pub use names::{Attribute, LocalName, Namespace, QualName};

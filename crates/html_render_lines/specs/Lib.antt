@@ -8,7 +8,5 @@ pub mod Visible
 pub mod Tags
 -- a text under runs of tags
 pub mod TaggedText
--- the bytes of a text that grows
-pub mod TextBuffer
 -- what follows from the definitions
 pub mod laws

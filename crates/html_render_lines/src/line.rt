@@ -9,7 +9,6 @@ use crate::character::width_of;
 
 mod line_of_text;
 mod tagged_text;
-mod text_buffer;
 
 pub use line_of_text::{Line, Parts, counted_on, text_columns};
 pub use tagged_text::{Run, TaggedText, TextParts, style_tag};

@@ -57,7 +57,7 @@ fn visible_in(alloc: Global, dom: &RcDom) -> Result<Vec<char>, Fault> {
             break;
         }
         if let NodeData::Text { contents } = dom.data(node) {
-            push_visible(&mut visible, contents)?;
+            push_visible(&mut visible, contents.as_str())?;
         }
         waiting.extend_from_slice(dom.child_list(node))?;
     }

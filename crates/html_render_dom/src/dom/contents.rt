@@ -3,6 +3,10 @@
 use super::attributes::Attributes;
 use super::handles::Handle;
 use super::names::QualName;
+use html_render_values::small_text::SmallText;
+
+/// The text of a text node: 24 bytes at most stand in the node itself.
+pub type TextContents = SmallText<24>;
 
 /// What a node holds, beside its place among the others.
 #[derive(Drop)]
@@ -21,7 +25,7 @@ pub enum NodeData {
     /// A text.
     Text {
         /// The text.
-        contents: String,
+        contents: TextContents,
     },
     /// A comment.
     Comment {
@@ -47,6 +51,20 @@ pub enum NodeData {
         /// The text behind the target.
         contents: String,
     },
+}
+
+impl NodeData {
+    ghost use Rattle.std.specs.Prelude.{◌≡◌, string_bytes};
+    ghost use Rattle.html_render_dom.specs.Content.{content_of, text};
+
+    /// A text.
+    pub(super) fn text(contents: String) -> NodeData
+        ensures { content_of result ≡ text (string_bytes contents) }
+    {
+        NodeData::Text {
+            contents: TextContents::from(contents),
+        }
+    }
 }
 
 /// What is put into a list of children.

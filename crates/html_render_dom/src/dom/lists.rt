@@ -93,7 +93,7 @@ pub fn put_text_before(
 {
     match last {
         Some(node) => nodes::extend_text(nodes, node, contents.as_str()),
-        None => place_new(alloc, nodes, parent, sibling, NodeData::Text { contents }),
+        None => place_new(alloc, nodes, parent, sibling, NodeData::text(contents)),
     }
 }
 

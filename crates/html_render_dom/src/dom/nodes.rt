@@ -62,8 +62,9 @@ pub fn extend_text(nodes: &mut Vec<Node>, node: Handle, more: &str) -> Result<()
         OnOk result (nodes_of nodes.new.items ≡ with_content old node (joined (node_in old node).content more.now)) }
     ensures err { OnErr result (nodes_of nodes.new.items ≡ nodes_of nodes.old.items) }
 {
+    let alloc = *nodes.allocator();
     if let NodeData::Text { contents } = &mut nodes[node.number()].data {
-        contents.push_str(more)?;
+        contents.push_str(alloc, more)?;
     }
     Ok(())
 }
@@ -108,7 +109,7 @@ pub fn put_text(
 {
     match before {
         Some(node) => extend_text(nodes, node, contents.as_str()),
-        None => attach_new(alloc, nodes, parent, NodeData::Text { contents }),
+        None => attach_new(alloc, nodes, parent, NodeData::text(contents)),
     }
 }
 

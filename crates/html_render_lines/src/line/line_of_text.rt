@@ -9,7 +9,7 @@ ghost use Rattle.html_render_lines.specs.Line.{columns, text_bytes, element_of};
 ghost use Rattle.html_render_lines.specs.TaggedText.{counted, text_columns, under, items_of, Cuts, HasTag, elements_of, open_elements};
 
 use crate::character::{TextStyle, width_of};
-use crate::line::text_buffer::SHORT;
+use crate::line::tagged_text::SHORT;
 use crate::line::{Element, TaggedText, TextParts, element_width};
 use crate::tag::Tag;
 use std::alloc::{AllocError, Global};

@@ -13,13 +13,16 @@ ghost use Rattle.html_render_lines.specs.TaggedText.{styled_elements};
 
 use crate::character::TextStyle;
 use crate::line::Element;
-use crate::line::text_buffer::TextBuffer;
 use crate::tag::Tag;
+use html_render_values::small_text::SmallText;
 use std::alloc::{AllocError, Global};
 use std::marker::Model;
 
+/// So many bytes of a text stand in the value itself.
+pub(super) const SHORT: usize = 16;
+
 /// How many bytes of a text are moved for what is put in front of it, at most.
-const SHORT: usize = 256;
+const MOVED: usize = 256;
 
 /// What stands next in a text.
 #[derive(Clone, Copy)]
@@ -33,7 +36,7 @@ pub enum Run<T, M> {
 /// A text with tags and marks.
 #[derive(Drop)]
 pub struct TaggedText<T, M> {
-    text: TextBuffer,
+    text: SmallText<SHORT>,
     runs: Vec<Run<T, M>>,
     // where the open run begins in the text, and its tag, if a run is open
     start: usize,
@@ -70,7 +73,7 @@ impl<T: Tag, M: Copy> TaggedText<T, M> {
         ensures { result ≡ record { elements = []; tag = None } }
     {
         TaggedText {
-            text: TextBuffer::new(),
+            text: SmallText::new(),
             runs: Vec::new(alloc),
             start: 0,
             tag: None,
@@ -85,7 +88,7 @@ impl<T: Tag, M: Copy> TaggedText<T, M> {
     pub fn with_capacity(alloc: Global, bytes: usize) -> Result<TaggedText<T, M>, AllocError>
         ensures { IfOk result (λ t. t ≡ record { elements = []; tag = None }) }
     {
-        let text = TextBuffer::with_capacity(alloc, bytes)?;
+        let text = SmallText::with_capacity(alloc, bytes)?;
         Ok(TaggedText {
             text,
             runs: Vec::new(alloc),
@@ -254,7 +257,7 @@ impl<T: Tag, M: Copy> TaggedText<T, M> {
         requires { self.old.tag ≡ Some tag }
         ensures { IfOk result (λ done. self.new.elements ≡ cond done (under tag (chars text.now)) [] ++ self.old.elements) }
     {
-        if !self.runs.as_slice().is_empty() || self.text.len() > SHORT {
+        if !self.runs.as_slice().is_empty() || self.text.len() > MOVED {
             return Ok(false);
         }
         self.text.put_front(*self.runs.allocator(), text)?;

@@ -13,7 +13,7 @@ returns-in_err-push_str-clause-err c =
     let n = c.index_mut.result.now in
     let at : c.number.result < length items = search rules in
     rw p.1 (written-same items c.number.result n _ at c.index_mut.ensures.value
-    (ap (λ d. record (node_of n) { content = d }) (ap text c.in_err-push_str.ensures.bytes ∙ ap content_of (sym c.in-Text.is))))
+    (ap (λ d. record (node_of n) { content = d }) (ap text c.in_err-push_str.ensures.err ∙ ap content_of (sym c.in-Text.is))))
 
 pub returns-in_ok-push_str-clause-ok : goal.returns-in_ok-push_str-clause-ok
 returns-in_ok-push_str-clause-ok c =
@@ -23,5 +23,5 @@ returns-in_ok-push_str-clause-ok c =
     let more = c.args.more.now in
     rw (← c.number.ensures) (written items c.number.result n _ at c.index_mut.ensures.value
     (λ x. record x { content = joined x.content more })
-    (ap (λ d. record (node_of n) { content = d }) (ap text c.in_ok-push_str.ensures.bytes
+    (ap (λ d. record (node_of n) { content = d }) (ap text c.in_ok-push_str.ensures.ok
     ∙ ap (λ d. joined (content_of d) more) (sym c.in-Text.is))))
