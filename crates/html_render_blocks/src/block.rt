@@ -232,7 +232,7 @@ impl<T: Tag, M: Copy> Block<T, M> {
         self.renew_paragraph(setting);
         self.setting = setting;
         self.padding = outer.padding;
-        self.lines = Lines::new(self.alloc);
+        self.lines.clear();
         self.at_block_end = false;
         self.table = None;
     }

@@ -212,6 +212,22 @@ impl<T: Tag, M: Copy> Lines<T, M> {
         }
     }
 
+    /// No lines, in the memory of others.
+    pub fn in_memory_of(alloc: Global, mut lines: Vec<Line<T, M>>) -> Lines<T, M>
+        ensures { result ≡ [] }
+    {
+        lines.clear();
+        Lines::of(alloc, lines)
+    }
+
+    /// Leaves none, and keeps their memory.
+    pub fn clear(&mut self)
+        ensures { self.new ≡ [] }
+    {
+        self.pieces.clear();
+        self.last.clear();
+    }
+
     /// Whether there are none.
     pub fn is_empty(&self) -> bool
         ensures { result ≡ (length self.now == 0) }

@@ -1,6 +1,6 @@
 //! The picture of a table: its rows' lines, with borders above, between and below them.
 
-ghost use Rattle.std.specs.Prelude.{◌≡◌, ◌-◌, ◌+◌, ◌^◌, ◌<◌, ◌≤◌, List, [], ◌++◌, ◌∷◌, cond, false, not, get_or, length, replicate, Some, OnOk, IfOk, IfErr};
+ghost use Rattle.std.specs.Prelude.{◌≡◌, ◌-◌, ◌+◌, ◌^◌, ◌<◌, ◌≤◌, List, [], ◌++◌, ◌∷◌, cond, false, not, get_or, length, replicate, Some, OnOk, IfOk, IfErr, IfSome};
 ghost use Rattle.std.specs.List.{list_any};
 ghost use Rattle.html_render_lines.specs.declared.line.Element.TheVariants.{Character};
 ghost use Rattle.html_render_lines.specs.Line.{columns, is_empty};
@@ -14,7 +14,7 @@ ghost use Rattle.html_render_pictures.specs.Padding.{filled, repeated, character
 use crate::fillers::{Filler, push_fillers};
 use crate::finished::put_marks_front;
 use crate::lines::Lines;
-use crate::row::row_cells;
+use crate::row::{keep_memory, row_cells};
 use html_render_glyphs::borders::BORDERS;
 use html_render_lines::line::Line;
 use html_render_lines::tag::Tag;
@@ -226,11 +226,12 @@ impl<T: Tag> Frame<T> {
         Ok(line)
     }
 
-    /// The lines of a row, over the lines of each cell.
+    /// The lines of a row, over the lines of each cell, whose memory is kept.
     fn lines_beside<M: Copy>(
         &self,
         alloc: Global,
         cells: Vec<Cell<T, M>>,
+        spare: &mut Vec<Vec<Line<T, M>>>,
     ) -> Result<Vec<Line<T, M>>, AllocError>
         ensures { IfOk result (λ v. v.items ≡ definition.row_lines self.now cells.items) }
     {
@@ -240,6 +241,7 @@ impl<T: Tag> Frame<T> {
         let room = room_of(cells.as_slice());
         let cells = row_cells(alloc, cells)?;
         let lines = self.lines_of_row(alloc, cells.as_slice(), room)?;
+        keep_memory(cells, spare)?;
         Ok(lines)
     }
 
@@ -281,11 +283,12 @@ impl<T: Tag> Frame<T> {
         &self,
         alloc: Global,
         mut cells: Vec<Cell<T, M>>,
+        spare: &mut Vec<Vec<Line<T, M>>>,
     ) -> Result<Lines<T, M>, AllocError>
         ensures { IfOk result (λ v. v ≡ definition.row_lines self.now cells.items) }
     {
         if cells.len() != 1 {
-            let lines = self.lines_beside(alloc, cells)?;
+            let lines = self.lines_beside(alloc, cells, spare)?;
             return Ok(Lines::of(alloc, lines));
         }
         let Some(cell) = cells.pop() else {
@@ -356,6 +359,8 @@ pub struct Picture<T, M> {
     lines: Lines<T, M>,
     waiting: Vec<M>,
     due: Option<Border<M>>,
+    /// The memory of lines of cells that are drawn, for those of others.
+    spare: Vec<Vec<Line<T, M>>>,
 }
 
 impl<T, M> Model for Picture<T, M> {
@@ -393,6 +398,7 @@ impl<T: Tag, M: Copy> Picture<T, M> {
                 lines,
                 waiting,
                 due: None,
+                spare: Vec::new(alloc),
             });
         }
         let mut above = Vec::new(alloc);
@@ -406,6 +412,7 @@ impl<T: Tag, M: Copy> Picture<T, M> {
                 marks: waiting,
                 above,
             }),
+            spare: Vec::new(alloc),
         })
     }
 
@@ -424,6 +431,15 @@ impl<T: Tag, M: Copy> Picture<T, M> {
             wait_for_lines(&mut self.waiting, row.cells.as_slice())?;
         }
         Ok(())
+    }
+
+    /// No lines, in the memory of those of a cell that is drawn, if any is left.
+    pub fn take_spare(&mut self) -> Option<Lines<T, M>>
+        ensures same { self.new ≡ self.old }
+        ensures none { IfSome result (λ lines. lines ≡ []) }
+    {
+        let lines = self.spare.pop()?;
+        Some(Lines::in_memory_of(self.alloc, lines))
     }
 
     /// The separators of a row, where a border may show them.
@@ -448,7 +464,9 @@ impl<T: Tag, M: Copy> Picture<T, M> {
         self.frame
             .add_due(self.alloc, &mut self.lines, due, separators.as_slice())?;
         wait_for_lines(&mut self.waiting, cells.as_slice())?;
-        let mut lines = self.frame.row_lines(self.alloc, cells)?;
+        let mut lines = self
+            .frame
+            .row_lines(self.alloc, cells, &mut self.spare)?;
         lines.mark_first(self.waiting.as_slice())?;
         self.waiting.clear();
         self.lines.append(lines)?;
@@ -473,6 +491,7 @@ impl<T: Tag, M: Copy> Picture<T, M> {
             mut lines,
             waiting,
             due,
+            ..
         } = self;
         frame.add_due(alloc, &mut lines, due, &[])?;
         Ok(Drawn { lines, waiting })

@@ -60,6 +60,20 @@ pub(crate) fn row_cells<T: Tag, M: Copy>(
     Ok(row)
 }
 
+/// Keeps the memory of cells' lines for those of others.
+pub(crate) fn keep_memory<T: Tag, M: Copy>(
+    cells: Vec<RowCell<T, M>>,
+    spare: &mut Vec<Vec<Line<T, M>>>,
+) -> Result<(), AllocError> {
+    spare.reserve(cells.len())?;
+    for cell in cells {
+        let mut lines = cell.lines;
+        lines.clear();
+        spare.push(lines)?;
+    }
+    Ok(())
+}
+
 /// A row is as high as its highest cell, and at least 1.
 fn height<T: Tag, M: Copy>(cells: &[RowCell<T, M>]) -> usize
     ensures { result ≡ definition.height cells.now }

@@ -75,6 +75,16 @@ impl<T: Tag, M: Copy> OpenTable<Picture<T, M>, T, M> {
         Ok(())
     }
 
+    /// No lines, in the memory of those of a cell that is drawn, if any is left.
+    fn take_spare(&mut self) -> Option<Lines<T, M>>
+        ensures { self.new ≡ self.old }
+    {
+        match self {
+            OpenTable::Across { picture, .. } => picture.take_spare(),
+            OpenTable::Stacked { .. } => None,
+        }
+    }
+
     /// The columns of the next cell's block, unless it is skipped; in a block of this width.
     fn next_cell_width(&self, width: usize) -> Option<usize>
         ensures { result ≡ next_cell_width width (Some self.now) }
@@ -216,6 +226,17 @@ impl<T: Tag, M: Copy> Block<T, M> {
         }
     }
 
+    /// Gives a block the memory of a cell's lines that are drawn, if any is left.
+    fn give_spare(&mut self, cell: &mut Block<T, M>)
+        ensures { self.new ≡ self.old }
+    {
+        if let Some(table) = &mut self.table {
+            if let Some(lines) = table.take_spare() {
+                cell.lines = lines;
+            }
+        }
+    }
+
     /// Draws the row that is open, if one is: it is over.
     fn draw_row(&mut self) -> Result<(), Error>
         ensures ok { OnOk result (self.new ≡ record self.old { table = option_map (with_row_over machine) self.old.table }) }
@@ -307,6 +328,7 @@ impl<T: Tag, M: Copy> Block<T, M> {
         match self.cell_place() {
             CellPlace::InRow => {
                 self.add_to_row(cell.take_cell())?;
+                self.give_spare(cell);
                 Ok(())
             }
             CellPlace::Below => self.flush_and_put_below(cell),
