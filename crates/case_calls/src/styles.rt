@@ -6,7 +6,8 @@ use crate::tags::Tag;
 use crate::texts::push_escaped;
 use crate::watch::Watch;
 use html_render_dom::style::{
-    ComputedStyle, ContentText, Display, StyleOrigin, StyleRule, WhiteSpace, WithSpec, computed_style,
+    ComputedStyle, ContentText, Display, StyleOrigin, StyleRule, WhiteSpace, WithSpec,
+    computed_style,
 };
 use std::alloc::{AllocError, Global};
 

@@ -1,8 +1,7 @@
 //! Which render node a node of a document becomes.
 
-ghost use Rattle.std.specs.Prelude.{◌≡◌, ◌&&◌, [], IfOk, IfErr, codes, if◌then◌else◌, map, option_map, string_bytes};
+ghost use Rattle.std.specs.Prelude.{◌≡◌, ◌&&◌, [], IfOk, IfErr, codes, if◌then◌else◌, map};
 ghost use Rattle.std.specs.Str.{bytes_eq};
-ghost use Rattle.html_render_dom_cascade.specs.Cascade.{value_of};
 ghost use Rattle.html_render_dom.specs.Content.{name_of, property_of, space_of, is_html};
 ghost use Rattle.html_render_dom.specs.Dom.{IsForest, IsNode, children_at, trees_of};
 ghost use Rattle.html_render_dom.specs.ElementStyle.{style_by, style_of};

@@ -464,9 +464,7 @@ impl<T: Tag, M: Copy> Picture<T, M> {
         self.frame
             .add_due(self.alloc, &mut self.lines, due, separators.as_slice())?;
         wait_for_lines(&mut self.waiting, cells.as_slice())?;
-        let mut lines = self
-            .frame
-            .row_lines(self.alloc, cells, &mut self.spare)?;
+        let mut lines = self.frame.row_lines(self.alloc, cells, &mut self.spare)?;
         lines.mark_first(self.waiting.as_slice())?;
         self.waiting.clear();
         self.lines.append(lines)?;

@@ -1,6 +1,6 @@
 //! The lines of a row, each written from left to right over the row's cells.
 
-ghost use Rattle.std.specs.Prelude.{◌≡◌, ◌++◌, ◌∷◌, [], map, get_or, OnOk, IfOk};
+ghost use Rattle.std.specs.Prelude.{◌≡◌, ◌++◌, ◌∷◌, [], map, OnOk, IfOk};
 ghost use Rattle.std.specs.List.{range_with_len, flat_map};
 ghost use Rattle.html_render_pictures.specs.Picture as definition;
 ghost use Rattle.html_render_pictures.specs.Rows.{filled_at, marked_cell, row_line};
