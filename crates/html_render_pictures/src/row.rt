@@ -60,16 +60,20 @@ pub(crate) fn row_cells<T: Tag, M: Copy>(
     Ok(row)
 }
 
-/// Keeps the memory of cells' lines for those of others.
+/// Room for so many lines is kept, at most, for those of another cell.
+const KEPT: usize = 4;
+
+/// Keeps the memory of cells' lines for those of others, where it is small.
 pub(crate) fn keep_memory<T: Tag, M: Copy>(
     cells: Vec<RowCell<T, M>>,
     spare: &mut Vec<Vec<Line<T, M>>>,
 ) -> Result<(), AllocError> {
-    spare.reserve(cells.len())?;
     for cell in cells {
         let mut lines = cell.lines;
-        lines.clear();
-        spare.push(lines)?;
+        if lines.capacity() <= KEPT {
+            lines.clear();
+            spare.push(lines)?;
+        }
     }
     Ok(())
 }
