@@ -1,5 +1,4 @@
--- what is laid out, and what of a document its lines keep
-pub mod LaidOut
+-- what of a document its lines keep
 pub mod Kept
 -- laws of the definitions
 pub mod laws

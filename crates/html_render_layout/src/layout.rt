@@ -16,7 +16,7 @@ ghost use Rattle.html_render_layout.specs.Promises.{AreLines, Lines, HasLines, L
 ghost use Rattle.html_render_states.specs.Opening.{below, opened, closed};
 ghost use Rattle.html_render_layout.specs.laws.Opening.{layout-opened};
 ghost use Rattle.html_render_states.specs.Working.{padding, by_tags, tabled, work_lines, work_names, untagged_work};
-ghost use Rattle.html_render_layout.specs.LaidOut.{laid_out};
+ghost use Rattle.html_render_tagged.specs.LaidOut.{laid_out};
 
 use html_render_blocks::block::{Block, BlockSetting};
 use html_render_blocks::held::OpenBlock;
@@ -28,10 +28,11 @@ use html_render_lines::tag::Tag;
 use html_render_nodes::tree::{Entry, Flat, RenderNode, RenderTree};
 use html_render_nodes::walk::{Pass, walk};
 use html_render_parts_widths::Meter;
-use html_render_states::stacks::Stacks;
-use html_render_states::state::{LayoutState, TextContext, TextList};
+use html_render_states::state::{LayoutState, TextContext};
 use html_render_states::tagging::{Tagging, Untagged};
 use html_render_states::working::{Kept, State};
+use html_render_tagged::laid_out::{LaidOut, TextList};
+use html_render_tagged::stacks::Stacks;
 use html_render_values::Error;
 use html_render_values::white_space::WhiteSpace;
 use std::alloc::Global;
@@ -45,17 +46,6 @@ mod steps;
 mod superscripts;
 mod tables;
 mod texts;
-
-/// Lines, the stacks of annotations that the tags of their characters stand for, and the names of their marks.
-#[derive(Drop)]
-pub struct LaidOut<A> {
-    /// The lines.
-    pub lines: Vec<Line<usize, usize>>,
-    /// What their tags stand for.
-    pub stacks: Stacks<A>,
-    /// The names of their marks: a mark is the place of its name.
-    pub names: TextList,
-}
 
 /// The pass that lays out a tree.
 struct Layout<D, G> {

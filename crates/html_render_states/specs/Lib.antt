@@ -1,9 +1,6 @@
 -- the layout: the definition, and what the code computes
-pub mod Stacks
 pub mod Images
 pub mod Ending
 pub mod Layout
 pub mod Opening
 pub mod Working
--- laws of the definitions
-pub mod laws

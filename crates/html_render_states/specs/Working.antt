@@ -4,13 +4,13 @@ use Rattle.std.specs.Prelude.{ℕ, List, [], ◌∷◌, ◌++◌, length, Option
 use Rattle.html_render_values.specs.Forest.{Forest}
 use Rattle.html_render_decorators.specs.Decoration.{Decoration}
 use Rattle.html_render_lines.specs.Line.{Line}
-use Rattle.html_render_lines.specs.Tags.{lines_with}
 use Rattle.html_render_nodes.specs.declared.tree.RenderNode.{RenderNode}
 use Rattle.html_render_states.specs.declared.state.LayoutState.{LayoutState}
 use Rattle.html_render_estimates.specs.declared.settings.LayoutSettings.{LayoutSettings}
 use Rattle.html_render_blocks.specs.Machine as machine
 use Rattle.html_render_blocks.specs.Machine.{MachineBlock}
-use Rattle.html_render_states.specs.Stacks.{stack_at}
+use Rattle.html_render_tagged.specs.Stacks.{stack_at}
+use Rattle.html_render_tagged.specs.LaidOut.{tagged}
 use Rattle.html_render_states.specs.Layout.{Means, shown_after}
 
 -- what lines are padded under, where they are
@@ -32,10 +32,6 @@ by_tags d push = record { decoration = d; push = push; operations = machine.oper
 -- the state of a layout by numbers
 abbrev pub Worked : Type 0 → Type 0 → Type 0
 Worked S A = LayoutState S (List (List A)) ℕ (MachineBlock ℕ ℕ)
-
--- lines with the stacks of their tags
-abbrev pub tagged : {A : Type 0} → List (List A) → List (Line ℕ ℕ) → List (Line (List A) ℕ)
-tagged stacks lines = lines_with (stack_at stacks) lines
 
 -- the lines that the code makes from a state
 abbrev pub work_lines : {S A : Type 0} → Decoration S A → Forest RenderNode → Worked S A → Option (List (Line (List A) ℕ))

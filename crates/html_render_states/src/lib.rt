@@ -4,7 +4,6 @@
 pub mod items;
 pub mod nesting;
 pub mod spaces;
-pub mod stacks;
 pub mod state;
 pub mod styles;
 pub mod tagging;

@@ -1,9 +1,10 @@
 //! Where a layout stands, and what it keeps of a node until its children are laid out.
 
-ghost use Rattle.std.specs.Prelude.{◌≡◌, ◌↔◌, [], ◌∷◌, ◌++◌, length, IsTrue, IfOk, IfErr, OnOk};
+ghost use Rattle.std.specs.Prelude.{◌≡◌, IfOk, IfErr};
 
 use html_render_estimates::settings::LayoutSettings;
 use html_render_nodes::tree::Emphasis;
+use html_render_tagged::laid_out::TextList;
 use html_render_values::Error;
 use html_render_values::text::Text;
 use html_render_values::white_space::WhiteSpace;
@@ -21,66 +22,6 @@ pub struct TextContext<T> {
     pub preformatted: bool,
     /// Whether they stand in a part that is struck out.
     pub struck_out: bool,
-}
-
-/// Texts, in the order in which they were met.
-#[derive(Drop)]
-pub struct TextList {
-    texts: Vec<Text>,
-}
-
-impl Model for TextList {
-    ghost use Rattle.std.specs.Prelude.{List, ℕ};
-
-    ghost Value = { List (List ℕ) };
-
-    ghost view = { λ l. l.texts.items };
-}
-
-impl TextList {
-    /// No text. It takes no memory.
-    pub fn new(alloc: Global) -> TextList
-        ensures { result ≡ [] }
-    {
-        TextList {
-            texts: Vec::new(alloc),
-        }
-    }
-
-    /// How many there are.
-    pub fn len(&self) -> usize
-        ensures { result ≡ length self.now }
-    {
-        self.texts.len()
-    }
-
-    /// Whether there is none.
-    pub fn is_empty(&self) -> bool
-        ensures { IsTrue result ↔ (self.now ≡ []) }
-    {
-        self.texts.is_empty()
-    }
-
-    /// All of them.
-    pub fn as_slice(&self) -> &[Text]
-        ensures { result.now ≡ self.now }
-    {
-        self.texts.as_slice()
-    }
-
-    /// Puts a copy of a text behind them.
-    ///
-    /// # Errors
-    ///
-    /// `OutOfMemory`.
-    pub fn push(&mut self, text: &str) -> Result<(), Error>
-        ensures ok { OnOk result (self.new ≡ self.old ++ text.now ∷ []) }
-        ensures err { IfErr result (λ e. e ≡ Error.OutOfMemory) }
-    {
-        let text = Text::from_str(*self.texts.allocator(), text)?;
-        self.texts.push(text)?;
-        Ok(())
-    }
 }
 
 /// Where a layout stands.

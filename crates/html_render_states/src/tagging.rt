@@ -6,8 +6,8 @@
 ghost use Rattle.std.specs.Prelude.{◌≡◌, IfOk, IfErr};
 ghost use Rattle.html_render_states.specs.Working.{tabled, untagged};
 
-use crate::stacks::Stacks;
 use html_render_lines::tag::Tag;
+use html_render_tagged::stacks::Stacks;
 use html_render_values::Error;
 
 /// What keeps the annotations of the characters of a layout.

@@ -14,7 +14,7 @@ use Rattle.html_render_lines.specs.declared.line.tagged_text.Run.TheVariants as 
 use Rattle.html_render_lines.specs.Line.{Line}
 use Rattle.html_render_lines.specs.Tags.{line_with}
 use Rattle.html_render_lines.specs.TaggedText.{under, Cuts, elements_of}
-use Rattle.html_render_states.specs.Stacks.{stack_at}
+use Rattle.html_render_tagged.specs.Stacks.{stack_at}
 use Rattle.html_render_tagged.specs.declared.grouping.Progress.{Progress}
 use Rattle.html_render_tagged.specs.declared.grouping.OpenString.{OpenString}
 use Rattle.html_render_tagged.specs.Grouping.{Piece, in_front, grouped, pieces_of}

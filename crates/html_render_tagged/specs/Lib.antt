@@ -1,3 +1,6 @@
+-- what tags stand for, and what a layout gives
+pub mod Stacks
+pub mod LaidOut
 -- lines of tagged strings
 pub mod TaggedLine
 -- THE GROUPING of a line's characters into tagged strings

@@ -4,7 +4,7 @@ use Rattle.std.specs.Str.{chars}
 use Rattle.std.specs.Cmp.Lexicographic.{pointwise}
 use Rattle.html_render_lines.specs.Line.{Line}
 use Rattle.html_render_lines.specs.Tags.{line_with}
-use Rattle.html_render_states.specs.Stacks.{stack_at}
+use Rattle.html_render_tagged.specs.Stacks.{stack_at}
 use Rattle.html_render_tagged.specs.declared.grouping.OpenString.{OpenString}
 use Rattle.html_render_tagged.specs.declared.grouping.Progress.{Progress}
 use Rattle.html_render_tagged.specs.Grouping.{Piece, Str, in_front, grouped, pieces_of}

@@ -1,5 +1,5 @@
-//! Tests of what no text shows: decorators of a caller's own, streams that fail, what lines answer, values, deep documents,
-//! a cut of many columns, and drafts with insertions at several depths. What a text shows is a case of `test_cases`.
+//! Tests of what no text shows: decorators of a caller's own, what lines answer, deep documents, a cut of many columns, and
+//! drafts with insertions at several depths. What a text shows is a case of `test_cases`.
 //!
 //! There is nothing to call here.
 #![tactic(auto)]
@@ -17,12 +17,8 @@ mod lines;
 #[cfg(test)]
 mod rendering;
 #[cfg(test)]
-mod streams;
-#[cfg(test)]
 mod table_printer;
 #[cfg(test)]
 mod underscores;
-#[cfg(test)]
-mod values;
 #[cfg(test)]
 mod viewer;

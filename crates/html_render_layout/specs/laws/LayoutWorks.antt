@@ -23,7 +23,8 @@ use Rattle.html_render_blocks.specs.Machine as machine
 use Rattle.html_render_blocks.specs.Machine.{machine}
 use Rattle.html_render_blocks.specs.laws.BlockSeen.{Tags, empty-seen}
 use Rattle.html_render_blocks.specs.laws.Related.{OptionTags}
-use Rattle.html_render_states.specs.Stacks.{stack_at}
+use Rattle.html_render_tagged.specs.Stacks.{stack_at}
+use Rattle.html_render_tagged.specs.LaidOut.{tagged}
 use Rattle.html_render_nodes.specs.Counts.{CountsNodes}
 use Rattle.html_render_nodes.specs.Pass.{visited, most_open}
 use Rattle.html_render_nodes.specs.laws.Counts.{counts-same}
@@ -32,7 +33,7 @@ use Rattle.html_render_states.specs.Layout.{by_stacks, layout_of, shown_after, D
 use Rattle.html_render_states.specs.Layout.{estimated, layout, layout_lines, mark_names, unannotated}
 use Rattle.html_render_layout.specs.laws.Related.{Other}
 use Rattle.html_render_layout.specs.laws.Sizes.{shown-needed, counts-needed}
-use Rattle.html_render_states.specs.Working.{padding, by_tags, Worked, tabled, tagged, work_lines, work_names, Untagged, untagged, untagged_work}
+use Rattle.html_render_states.specs.Working.{padding, by_tags, Worked, tabled, work_lines, work_names, Untagged, untagged, untagged_work}
 use Rattle.html_render_layout.specs.laws.Representation.{Represents, walk-represented, lines-represented, names-represented}
 
 -- ---- a map of tags that changes none

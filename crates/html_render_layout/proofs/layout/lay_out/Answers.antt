@@ -6,7 +6,7 @@ use Rattle.html_render_states.specs.Layout.{defined, empty_state, estimated, lay
 use Rattle.html_render_layout.specs.laws.LayoutWorks.{empty_worked, layout_lines-works, mark_names-works, counts-work}
 use Rattle.html_render_layout.specs.laws.Promises.{are-lines, wide_enough}
 use Rattle.html_render_states.specs.Working.{work_lines}
-use Rattle.html_render_layout.specs.LaidOut.{laid_out}
+use Rattle.html_render_tagged.specs.LaidOut.{laid_out}
 use Rattle.html_render_layout.proofs.layout.lay_out.Goals as goal
 use Rattle.html_render_layout.proofs.layout.lay_out.Given.{Over}
 

@@ -1,7 +1,7 @@
 use Rattle.std.proofs.Common.{◌≡◌, map, take}
 use Rattle.std.specs.Cmp.Lexicographic.{pointwise}
 use Rattle.html_render_lines.specs.Tags.{lines_with}
-use Rattle.html_render_states.specs.Stacks.{stack_at}
+use Rattle.html_render_tagged.specs.Stacks.{stack_at}
 use Rattle.html_render_tagged.specs.Grouping.{grouped, lines_of}
 use Rattle.html_render_tagged.proofs.grouping.all_tagged.Given as goal
 

@@ -1,5 +1,5 @@
 use Rattle.std.proofs.Common.{◌≡◌, ◌++◌, reverse}
-use Rattle.html_render_states.specs.Stacks.{stack_at}
+use Rattle.html_render_tagged.specs.Stacks.{stack_at}
 use Rattle.html_render_tagged.proofs.grouping.annotations.Given as goal
 
 -- the stack that is left, and what was taken from its top

@@ -1,6 +1,6 @@
 use Rattle.std.proofs.Common.{◌≡◌, IfOk, map}
 use Rattle.std.specs.Cmp.Lexicographic.{pointwise}
-use Rattle.html_render_layout.specs.LaidOut.{laid_out}
+use Rattle.html_render_tagged.specs.LaidOut.{laid_out}
 use Rattle.html_render_tagged.specs.Grouping.{grouped, lines_of}
 use Rattle.html_render_tagged.specs.laws.Grouping.{columns-lines}
 use Rattle.std.proofs.lemmas.Result.{IfOk-weaker}

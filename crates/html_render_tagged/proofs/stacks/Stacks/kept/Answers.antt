@@ -1,6 +1,6 @@
 use Rattle.std.proofs.Common.{[], ◌∷◌, length, arith, ap}
-use Rattle.html_render_states.specs.laws.Stacks.{length-stacks_after, stack_at-kept}
-use Rattle.html_render_states.proofs.stacks.Stacks.kept.Goals as goal
+use Rattle.html_render_tagged.specs.laws.Stacks.{length-stacks_after, stack_at-kept}
+use Rattle.html_render_tagged.proofs.stacks.Stacks.kept.Goals as goal
 
 pub returns-then-tag-len-clause-within : goal.returns-then-tag-len-clause-within
 returns-then-tag-len-clause-within g c = omega

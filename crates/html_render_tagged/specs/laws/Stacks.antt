@@ -7,8 +7,8 @@ use Rattle.std.proofs.Common.{Bor, true≢false, arith, length-append, get_or, g
 use Rattle.std.proofs.lemmas.List.{get_or_append_left, get_or_past}
 use Rattle.std.proofs.Math.Bool.{and_comm}
 use Rattle.std.specs.Cmp.Lexicographic.{pointwise, unequal}
-use Rattle.html_render_states.specs.declared.stacks.Pushed.{Pushed}
-use Rattle.html_render_states.specs.Stacks.{stack_at, stacks_after, stacks_of, IsPushed, ArePushed, IsStack}
+use Rattle.html_render_tagged.specs.declared.stacks.Pushed.{Pushed}
+use Rattle.html_render_tagged.specs.Stacks.{stack_at, stacks_after, stacks_of, IsPushed, ArePushed, IsStack}
 
 pub stacks_after-push : {A : Type 0} (stacks : List (List A)) (ps : List (Pushed A)) (p : Pushed A) →
     stacks_after stacks (ps ++ p ∷ []) ≡ stacks_after stacks ps ++ (stack_at (stacks_after stacks ps) p.below ++ p.annotation ∷ []) ∷ []

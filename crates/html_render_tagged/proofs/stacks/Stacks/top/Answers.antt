@@ -1,6 +1,6 @@
 use Rattle.std.proofs.Common.{◌-◌, arith}
-use Rattle.html_render_states.specs.laws.Stacks.{stack_at-zero, read-at}
-use Rattle.html_render_states.proofs.stacks.Stacks.top.Goals as goal
+use Rattle.html_render_tagged.specs.laws.Stacks.{stack_at-zero, read-at}
+use Rattle.html_render_tagged.proofs.stacks.Stacks.top.Goals as goal
 
 pub returns-then-tag-eq0 : goal.returns-then-tag-eq0
 returns-then-tag-eq0 g c = rw (← c.self.view_is, c.if-tag-eq0.true) (stack_at-zero c.self.inside.pushed.items)

@@ -1,7 +1,7 @@
 -- A table of annotation stacks: a tag is the place of one.
 use Rattle.std.specs.Prelude.{◌≡◌, ℕ, ◌+◌, ◌<◌, ◌≤◌, List, [], ◌∷◌, ◌++◌, length}
 use Rattle.std.proofs.Common.{get_or}
-use Rattle.html_render_states.specs.declared.stacks.Pushed.{Pushed}
+use Rattle.html_render_tagged.specs.declared.stacks.Pushed.{Pushed}
 
 -- the stack that a tag stands for, its outermost annotation first
 abbrev pub stack_at : {A : Type 0} → List (List A) → ℕ → List A

@@ -1,7 +1,7 @@
 use Rattle.std.proofs.Common.{◌≡◌}
 use Rattle.std.specs.Cmp.Lexicographic.{pointwise}
-use Rattle.html_render_states.specs.Stacks.{stack_at}
-use Rattle.html_render_states.proofs.stacks.Stacks.are_equal.Given as goal
+use Rattle.html_render_tagged.specs.Stacks.{stack_at}
+use Rattle.html_render_tagged.proofs.stacks.Stacks.are_equal.Given as goal
 
 -- what is left to compare decides
 abbrev pub invariant-loop-left : goal.invariant-loop-left

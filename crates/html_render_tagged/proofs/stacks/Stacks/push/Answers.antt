@@ -1,7 +1,7 @@
 use Rattle.std.proofs.Common.{◌+◌, Fits, w64, rules, [], ◌∷◌, ◌++◌, length, arith, ap, ◌∙◌}
-use Rattle.html_render_states.specs.Stacks.{stack_at, stacks_of}
-use Rattle.html_render_states.specs.laws.Stacks.{stacks_after-push, length-stacks_after, ArePushed-push}
-use Rattle.html_render_states.proofs.stacks.Stacks.push.Goals as goal
+use Rattle.html_render_tagged.specs.Stacks.{stack_at, stacks_of}
+use Rattle.html_render_tagged.specs.laws.Stacks.{stacks_after-push, length-stacks_after, ArePushed-push}
+use Rattle.html_render_tagged.proofs.stacks.Stacks.push.Goals as goal
 
 pub overflow_add-depth : goal.overflow_add-depth
 overflow_add-depth g c =

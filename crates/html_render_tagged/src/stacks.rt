@@ -5,7 +5,7 @@
 
 ghost use Rattle.std.specs.Prelude.{◌≡◌, ◌<◌, ◌≤◌, [], ◌∷◌, ◌++◌, ◌==◌, ◌&&◌, length, IfOk, OnOk, IfErr, MatchOption};
 ghost use Rattle.std.specs.Cmp.Lexicographic.{pointwise};
-ghost use Rattle.html_render_states.specs.Stacks.{stack_at, IsStack};
+ghost use Rattle.html_render_tagged.specs.Stacks.{stack_at, IsStack};
 
 use html_render_values::Error;
 use std::alloc::Global;
@@ -33,7 +33,7 @@ pub struct Stacks<A> {
 impl<A> Model for Stacks<A> {
     ghost use Rattle.std.specs.Prelude.{List};
     ghost use Rattle.std.specs.Prelude.{[], ◌∷◌};
-    ghost use Rattle.html_render_states.specs.Stacks.{stacks_of, ArePushed};
+    ghost use Rattle.html_render_tagged.specs.Stacks.{stacks_of, ArePushed};
 
     ghost Value = { List (List A) };
 

@@ -1,8 +1,8 @@
 use Rattle.std.proofs.Common.{◌&&◌, sym, ap, ◌∙◌}
 use Rattle.std.specs.Cmp.Lexicographic.{pointwise, lists_equiv}
-use Rattle.html_render_states.specs.Stacks.{stack_at}
-use Rattle.html_render_states.specs.laws.Stacks.{pointwise-tops}
-use Rattle.html_render_states.proofs.stacks.Stacks.are_equal.Goals as goal
+use Rattle.html_render_tagged.specs.Stacks.{stack_at}
+use Rattle.html_render_tagged.specs.laws.Stacks.{pointwise-tops}
+use Rattle.html_render_tagged.proofs.stacks.Stacks.are_equal.Goals as goal
 
 pub returns-then-not-is_like : goal.returns-then-not-is_like
 returns-then-not-is_like g c =
