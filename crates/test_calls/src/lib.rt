@@ -1,5 +1,5 @@
-//! Tests of what no text shows: decorators of a caller's own, what lines answer, deep documents, a cut of many columns, and
-//! drafts with insertions at several depths. What a text shows is a case of `test_cases`.
+//! Tests of what no text shows: decorators of a caller's own, deep documents and a cut of many columns; and the examples of a
+//! terminal viewer and a table printer. What a text shows is a case of `test_cases`.
 //!
 //! There is nothing to call here.
 #![tactic(auto)]
@@ -9,11 +9,7 @@ mod cuts;
 #[cfg(test)]
 mod deep;
 #[cfg(test)]
-mod drafts;
-#[cfg(test)]
 mod letters;
-#[cfg(test)]
-mod lines;
 #[cfg(test)]
 mod rendering;
 #[cfg(test)]
