@@ -3,9 +3,9 @@ use Rattle.std.proofs.lemmas.Bool.{cases_Bool}
 use Rattle.std.proofs.Common.{◌≡◌, ℕ, Bool, true, false, List, [], ◌∷◌, ◌++◌, Option, Some, None, refl, sym, ap, ◌∙◌, if◌then◌else◌, inl, inr}
 use Rattle.html_render_values.specs.Forest.{Forest, none, node, followed_by}
 use Rattle.html_render_values.specs.Outcome.{◌>>=◌}
-use Rattle.html_render_dom.specs.Content.{Content}
+use Rattle.html_render_dom_nodes.specs.Content.{Content}
 use Rattle.html_render_dom.specs.Dom.{Dom, node_count, content_at, below, trees_of}
-use Rattle.html_render_dom.specs.Rules.{Rule as StyleRule}
+use Rattle.html_render_dom_rules.specs.Rules.{Rule as StyleRule}
 use Rattle.html_render_nodes.specs.laws.Splits.{followed_by-followed_by}
 use Rattle.html_render_insertions.specs.declared.drafts.Draft.{Draft}
 use Rattle.html_render_conversion.specs.Outlines.{outline_of}

@@ -2,9 +2,9 @@
 use Rattle.std.specs.Prelude.{Bool, true, false, not, ◌&&◌, ◌||◌, List, [], ◌∷◌, Option, Some, None, option_map, if◌then◌else◌}
 use Rattle.html_render_values.specs.Forest.{Forest, none, node, followed_by}
 use Rattle.html_render_values.specs.Outcome.{◌>>=◌}
-use Rattle.html_render_dom.specs.Content.{Content}
+use Rattle.html_render_dom_nodes.specs.Content.{Content}
 use Rattle.html_render_dom.specs.Dom.{Dom, children_at, trees_of}
-use Rattle.html_render_dom.specs.Rules.{Rule as StyleRule}
+use Rattle.html_render_dom_rules.specs.Rules.{Rule as StyleRule}
 use Rattle.html_render_parts.specs.TableCells.{cell_grid_of}
 use Rattle.html_render_conversion.specs.declared.tables.CellSpan.{CellSpan}
 use Rattle.html_render_nodes.specs.declared.tree.NodeKind.{NodeKind}

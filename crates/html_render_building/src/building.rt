@@ -3,7 +3,7 @@
 ghost use Rattle.std.specs.Prelude.{◌≡◌, ◌||◌, ◌≤◌, ◌∷◌, ◌++◌, List, [], length, Some, None, IfSome, IfNone, IfOk, OnOk, IfErr, map, option_map, false, true};
 ghost use Rattle.html_render_dom.specs.Dom.{IsForest, IsNode};
 ghost use Rattle.html_render_dom.specs.RuleIndex.{Finds};
-ghost use Rattle.html_render_dom.specs.Rules.{rule_of};
+ghost use Rattle.html_render_dom_rules.specs.Rules.{rule_of};
 ghost use Rattle.html_render_conversion.specs.Outlines.{outline_at};
 ghost use Rattle.html_render_conversion.specs.Results.{render_tree_of};
 ghost use Rattle.html_render_orders.specs.Order.{children_in};

@@ -12,9 +12,9 @@ use Rattle.std.specs.Prelude.{ℤ, pos, negsuc, option_and_then, string_bytes}
 use Rattle.std.specs.Result.{OkIff, result_unwrap_or}
 use Rattle.std.specs.Str.{all_ascii_digits, bytes_eq}
 use Rattle.std.specs.Str.Parse.{IsNumeral, ParsesSigned, ParsesUnsigned, digits_value, without_leading_plus, without_leading_sign, signed_digits_value}
-use Rattle.html_render_dom.specs.Content.{Property, property_of}
-use Rattle.html_render_dom.specs.declared.dom.names.Attribute.{Attribute}
-use Rattle.html_render_dom.specs.Selectors.{first_value}
+use Rattle.html_render_dom_nodes.specs.Content.{Property, property_of}
+use Rattle.html_render_dom_nodes.specs.declared.names.Attribute.{Attribute}
+use Rattle.html_render_dom.specs.Attributes.{first_value}
 use Rattle.html_render_conversion.specs.Conversion.{fits_i64, number_of}
 use Rattle.html_render_conversion.specs.Tables.{numeral_of, size_of, size_or_one}
 

@@ -10,11 +10,12 @@ use Rattle.html_render_values.specs.declared.white_space.WhiteSpace.TheVariants.
 use Rattle.html_render_dom_cascade.specs.declared.origins.StyleOrigin.TheVariants.{Agent}
 use Rattle.html_render_dom_cascade.specs.declared.updates.Update.{Update}
 use Rattle.html_render_dom_cascade.specs.Cascade.{value_of, winner}
-use Rattle.html_render_dom.specs.Content.{Name, Property, Space, html, svg, Content, is_html}
+use Rattle.html_render_dom_nodes.specs.Content.{Name, Property, Space, html, svg, Content, is_html}
 use Rattle.html_render_dom.specs.ElementStyle.{ElementStyle, element_style}
 use Rattle.html_render_values.specs.Forest.{Forest}
-use Rattle.html_render_dom.specs.Rules.{Rule as StyleRule}
-use Rattle.html_render_dom.specs.Selectors.{first_value, is_filled}
+use Rattle.html_render_dom_rules.specs.Rules.{Rule as StyleRule}
+use Rattle.html_render_dom.specs.Attributes.{first_value}
+use Rattle.html_render_dom_rules.specs.Selectors.{is_filled}
 use Rattle.html_render_dom_cascade.specs.Specificities.{no_specificity}
 use Rattle.html_render_nodes.specs.declared.tree.Emphasis.TheVariants.{Em, Strong, Code}
 use Rattle.html_render_nodes.specs.declared.tree.NodeKind.TheVariants.{Text, Container, Break, Block, Div, Emphasis, Header, BlockQuote, Ul, Ol}

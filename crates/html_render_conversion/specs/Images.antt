@@ -1,10 +1,10 @@
 -- What an image and a drawing are called, and where an image lies.
 use Rattle.std.specs.Prelude.{ℕ, not, ◌&&◌, Bool, true, false, List, [], ◌∷◌, ◌++◌, codes, if◌then◌else◌}
 use Rattle.std.specs.Str.{bytes_eq}
-use Rattle.html_render_dom.specs.Content.{Property, Space, svg, Content, text, element}
+use Rattle.html_render_dom_nodes.specs.Content.{Property, Space, svg, Content, text, element}
 use Rattle.html_render_dom.specs.Dom.{is_element}
 use Rattle.html_render_values.specs.Forest.{Forest, none, node}
-use Rattle.html_render_dom.specs.Selectors.{is_filled}
+use Rattle.html_render_dom_rules.specs.Selectors.{is_filled}
 use Rattle.html_render_nodes.specs.declared.tree.ImageParts.{ImageParts}
 
 -- ---- images

@@ -1,7 +1,7 @@
 -- Which of an element's attributes names its mark.
 use Rattle.std.specs.Prelude.{ℕ, Bool, true, false, ◌&&◌, ◌||◌, List, codes, find, Option, option_map}
 use Rattle.std.specs.Str.{bytes_eq}
-use Rattle.html_render_dom.specs.Content.{Property, is_html, Name}
+use Rattle.html_render_dom_nodes.specs.Content.{Property, is_html, Name}
 
 -- whether an attribute of an element names its mark: `id` does, and the `name` of an `a` of HTML
 abbrev pub names_mark : (element : Name) → Property → Bool

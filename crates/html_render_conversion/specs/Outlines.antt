@@ -2,10 +2,10 @@
 use Rattle.std.specs.Prelude.{ℕ, Bool, true, false, List, Option, Some, None, is_some, if◌then◌else◌}
 use Rattle.html_render_values.specs.Forest.{Forest}
 use Rattle.html_render_dom_cascade.specs.Cascade.{value_of}
-use Rattle.html_render_dom.specs.Content.{Content, document, doctype, text, comment, element, instruction}
+use Rattle.html_render_dom_nodes.specs.Content.{Content, document, doctype, text, comment, element, instruction}
 use Rattle.html_render_dom.specs.Dom.{Dom, content_at, children_at, trees_of}
 use Rattle.html_render_dom.specs.ElementStyle.{ElementStyle}
-use Rattle.html_render_dom.specs.Rules.{Rule as StyleRule}
+use Rattle.html_render_dom_rules.specs.Rules.{Rule as StyleRule}
 use Rattle.html_render_nodes.specs.declared.tree.NodeKind.TheVariants.{Text, Container, FragmentStart}
 use Rattle.html_render_nodes.specs.RenderNodes.{no_style, without_style}
 use Rattle.html_render_conversion.specs.declared.mapping.ElementKind.{ElementKind}

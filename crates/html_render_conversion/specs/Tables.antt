@@ -3,8 +3,8 @@ use Rattle.std.specs.Prelude.{ℕ, ◌+◌, ◌-◌, ◌^◌, ◌==◌, nat_lt, 
 use Rattle.std.specs.Prelude.{Option, Some, None, option_and_then, unwrap_or, if◌then◌else◌}
 use Rattle.std.specs.Str.{all_ascii_digits}
 use Rattle.std.specs.Str.Parse.{without_leading_plus, digits_value}
-use Rattle.html_render_dom.specs.Content.{Property}
-use Rattle.html_render_dom.specs.Selectors.{first_value}
+use Rattle.html_render_dom_nodes.specs.Content.{Property}
+use Rattle.html_render_dom.specs.Attributes.{first_value}
 use Rattle.html_render_conversion.specs.declared.tables.CellSpan.{CellSpan}
 use Rattle.html_render_parts.specs.declared.table.Span.{Span}
 

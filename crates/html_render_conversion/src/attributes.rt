@@ -3,8 +3,8 @@
 
 ghost use Rattle.std.specs.Prelude.{◌≡◌, ◌&&◌, IfOk, IfErr, codes, find, map, option_copied, option_map, pos, reverse, string_bytes, unwrap_or};
 ghost use Rattle.std.specs.Str.{bytes_eq};
-ghost use Rattle.html_render_dom.specs.Content.{name_of, property_of, space_of, is_html};
-ghost use Rattle.html_render_dom.specs.Selectors.{first_value};
+ghost use Rattle.html_render_dom_nodes.specs.Content.{name_of, property_of, space_of, is_html};
+ghost use Rattle.html_render_dom.specs.Attributes.{first_value};
 ghost use Rattle.html_render_conversion.specs.Conversion.{number_of, start_of};
 ghost use Rattle.html_render_conversion.specs.Marks.{names_mark, mark_of};
 ghost use Rattle.html_render_conversion.specs.Tables.{size_of, size_or_one, span_of};

@@ -1,7 +1,7 @@
 //! What an image and a drawing are called, and where an image lies.
 
 ghost use Rattle.std.specs.Prelude.{◌≡◌, IfOk, IfErr, IfSome, map, option_map, unwrap_or, string_bytes};
-ghost use Rattle.html_render_dom.specs.Content.{content_of, property_of};
+ghost use Rattle.html_render_dom_nodes.specs.Content.{content_of, property_of};
 ghost use Rattle.html_render_dom.specs.Dom.{IsForest, IsNode, below, children_at, node_count, trees_of};
 ghost use Rattle.html_render_values.specs.Forest.{none};
 ghost use Rattle.html_render_conversion.specs.Images.{read, image_parts, is_title, text_in, direct_texts, in_last_title, drawing_title};

@@ -2,12 +2,13 @@
 
 ghost use Rattle.std.specs.Prelude.{◌≡◌, ◌&&◌, [], IfOk, IfErr, codes, if◌then◌else◌, map};
 ghost use Rattle.std.specs.Str.{bytes_eq};
-ghost use Rattle.html_render_dom.specs.Content.{name_of, property_of, space_of, is_html};
+ghost use Rattle.html_render_dom_nodes.specs.Content.{name_of, property_of, space_of, is_html};
 ghost use Rattle.html_render_dom.specs.Dom.{IsForest, IsNode, children_at, trees_of};
 ghost use Rattle.html_render_dom.specs.ElementStyle.{style_by, style_of};
 ghost use Rattle.html_render_dom.specs.RuleIndex.{Finds};
-ghost use Rattle.html_render_dom.specs.Rules.{rule_of};
-ghost use Rattle.html_render_dom.specs.Selectors.{first_value, is_filled};
+ghost use Rattle.html_render_dom_rules.specs.Rules.{rule_of};
+ghost use Rattle.html_render_dom.specs.Attributes.{first_value};
+ghost use Rattle.html_render_dom_rules.specs.Selectors.{is_filled};
 ghost use Rattle.html_render_nodes.specs.RenderNodes.{without_style};
 ghost use Rattle.html_render_conversion.specs.Images.{image_parts};
 ghost use Rattle.html_render_conversion.specs.Marks.{mark_of};

@@ -1,6 +1,6 @@
 -- One declaration more changes the property that it is of, and nothing else.
 use Rattle.std.proofs.Common.{◌≡◌, ℕ, ◌+◌, ◌<◌, Bool, true, false, List, [], ◌∷◌, ◌++◌, length, get_or, take, map, filter, Option, Some, None}
-use Rattle.std.proofs.Common.{option_map, option_to_list, String, refl, sym, ap, ◌∙◌, append_assoc, cond, inl, inr, Global}
+use Rattle.std.proofs.Common.{option_to_list, String, refl, sym, ap, ◌∙◌, append_assoc, cond, inl, inr, Global}
 use Rattle.std.proofs.lemmas.List.{append-nil, take_more}
 use Rattle.std.proofs.lemmas.List.Elements.{filter_map-append}
 use Rattle.std.proofs.lemmas.Bool.{cases_Bool}
@@ -9,17 +9,17 @@ use Rattle.std.specs.List.{flat_map}
 use Rattle.html_render_dom_cascade.specs.declared.updates.Update.{Update}
 use Rattle.html_render_dom_cascade.specs.Cascade.{key_of, winner}
 use Rattle.html_render_dom_cascade.specs.Keeping.{yields_to}
-use Rattle.html_render_dom.specs.declared.style.rules.PseudoElement.{PseudoElement}
-use Rattle.html_render_dom.specs.declared.style.rules.PseudoElement.TheVariants.{Before, After}
+use Rattle.html_render_dom_rules.specs.declared.rules.PseudoElement.{PseudoElement}
+use Rattle.html_render_dom_rules.specs.declared.rules.PseudoElement.TheVariants.{Before, After}
 use Rattle.html_render_dom_cascade.specs.declared.origins.StyleOrigin.{StyleOrigin}
 use Rattle.html_render_dom_cascade.specs.declared.specificities.Specificity.{Specificity}
-use Rattle.html_render_dom.specs.declared.style.rules.Style.{Style}
-use Rattle.html_render_dom.specs.declared.style.rules.Style.TheVariants.{Colour as ColourSet, BgColour, Display as DisplaySet}
-use Rattle.html_render_dom.specs.declared.style.rules.Style.TheVariants.{WhiteSpace as WhiteSpaceSet, Content}
-use Rattle.html_render_dom.specs.declared.style.rules.Declaration.{Declaration}
-use Rattle.html_render_dom.specs.declared.style.rules.StyleRule.{StyleRule}
-use Rattle.html_render_dom.specs.Selectors.{specificity_of}
-use Rattle.html_render_dom.specs.Rules.{Rule, StyleValue, declared_of, rule_of, style_value_of}
+use Rattle.html_render_dom_rules.specs.declared.rules.Style.{Style}
+use Rattle.html_render_dom_rules.specs.declared.rules.Style.TheVariants.{Colour as ColourSet, BgColour, Display as DisplaySet}
+use Rattle.html_render_dom_rules.specs.declared.rules.Style.TheVariants.{WhiteSpace as WhiteSpaceSet, Content}
+use Rattle.html_render_dom_rules.specs.declared.rules.Declaration.{Declaration}
+use Rattle.html_render_dom_rules.specs.declared.rules.StyleRule.{StyleRule}
+use Rattle.html_render_dom_rules.specs.Selectors.{specificity_of}
+use Rattle.html_render_dom_rules.specs.Rules.{Rule, StyleValue, declared_of, rule_of, style_value_of}
 use Rattle.html_render_dom.specs.ElementStyle.{Applied, applied, ElementStyle, updates, with_more, with_declarations, colour_in, bg_colour_in}
 use Rattle.html_render_dom.specs.ElementStyle.{display_in, white_space_in, content_in}
 use Rattle.html_render_dom_cascade.specs.laws.Winners.{winner-one, winner-front}

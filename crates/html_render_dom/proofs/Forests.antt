@@ -7,13 +7,15 @@ use Rattle.std.proofs.lemmas.Cmp.{nat_eq_equiv}
 use Rattle.std.proofs.lemmas.List.{length-set, get_or-append_right}
 use Rattle.std.proofs.lemmas.List.Elements.{Contains-push, Contains-push_cases, Contains-append_left}
 use Rattle.std.proofs.lemmas.Map.Keys.{IsDistinct-push}
-use Rattle.html_render_dom.specs.Content.{Content, Name, Property, document, text}
-use Rattle.html_render_dom.specs.Elements.{completed, contents_in}
-use Rattle.html_render_dom.specs.declared.dom.settings.ElementFlags.{ElementFlags}
-use Rattle.html_render_dom.specs.Dom.{Node, Dom, lone, node_in, node_count, IsNode, content_at, children_at, parent_at, IsInclusiveAncestor, IsForest}
+use Rattle.html_render_dom_nodes.specs.Content.{Content, Name, Property, document, text}
+use Rattle.html_render_dom_nodes.specs.Elements.{completed, contents_in}
+use Rattle.html_render_dom_nodes.specs.declared.flags.ElementFlags.{ElementFlags}
+use Rattle.html_render_dom_nodes.specs.Nodes.{Node, lone, node_in}
+use Rattle.html_render_dom.specs.Dom.{Dom, node_count, IsNode, content_at, children_at, parent_at, IsInclusiveAncestor, IsForest}
 use Rattle.html_render_dom.specs.laws.Changes.{there, elsewhere, kept, older, SameShape, created-shape, above_no_older, rewritten}
 use Rattle.html_render_dom.specs.laws.Forests.{below_or_not, parent_at-past}
-use Rattle.html_render_dom.specs.Edits.{with_content, attached, attached_new, created, joined, element_created, text_put, IsFresh}
+use Rattle.html_render_dom_nodes.specs.Edits.{with_content, attached, attached_new, created, joined, element_created, text_put}
+use Rattle.html_render_dom.specs.Edits.{IsFresh}
 use Rattle.html_render_dom.specs.laws.Members.{any-from_absent}
 use Rattle.html_render_dom.proofs.Changed.{IsForest-put, IsForest-same_shape}
 

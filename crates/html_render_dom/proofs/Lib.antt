@@ -1,12 +1,10 @@
 pub mod Applies
+pub mod Attributes
 pub mod Changed
 pub mod Dumps
 pub mod Forests
 pub mod Lists
 pub mod Moves
-pub mod Names
 pub mod Outcomes
-pub mod Places
 pub mod RuleIndex
 pub mod Words
-pub mod Writes

@@ -5,13 +5,14 @@ use Rattle.std.specs.List.{list_any}
 use Rattle.std.proofs.lemmas.Bool.{cases_Bool, false≢true}
 use Rattle.std.proofs.lemmas.Bool.Decides.{eqb_tells}
 use Rattle.std.proofs.lemmas.List.Elements.{Contains-append_left, Contains-append_right, Contains-append_cases}
-use Rattle.html_render_dom.specs.Content.{Content, text}
-use Rattle.html_render_dom.specs.Elements.{contents_in}
-use Rattle.html_render_dom.specs.Dom.{Node, Dom, lone, node_count, IsNode, children_at, parent_at, IsInclusiveAncestor, itself, above, IsForest}
+use Rattle.html_render_dom_nodes.specs.Content.{Content, text}
+use Rattle.html_render_dom_nodes.specs.Elements.{contents_in}
+use Rattle.html_render_dom_nodes.specs.Nodes.{Node, lone}
+use Rattle.html_render_dom.specs.Dom.{Dom, node_count, IsNode, children_at, parent_at, IsInclusiveAncestor, itself, above, IsForest}
 use Rattle.html_render_dom.specs.laws.Changes.{created-shape, Rewrites, rewritten, Reparents, reparented-facts}
 use Rattle.html_render_dom.specs.laws.Forests.{IsDistinct-nil, IsNode-above}
-use Rattle.html_render_dom.specs.Edits.{created, joined}
-use Rattle.html_render_dom.specs.Moves.{without, taken_out, placed, text_placed, reparented}
+use Rattle.html_render_dom_nodes.specs.Edits.{created, joined}
+use Rattle.html_render_dom_nodes.specs.Moves.{without, taken_out, placed, text_placed, reparented}
 use Rattle.html_render_dom.specs.laws.Members.{Contains-nil, Contains-from_any, any-from_Contains}
 use Rattle.html_render_dom.proofs.Changed.{descend, Moves, IsForest-same_contents, IsForest-taken, IsForest-put}
 use Rattle.html_render_dom.proofs.Lists.{Contains-from_without, Contains-without, IsDistinct-without, Contains-from_before, Contains-before}

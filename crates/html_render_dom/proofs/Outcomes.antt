@@ -1,6 +1,7 @@
 -- A call that may be refused.
 use Rattle.std.proofs.Common.{◌≡◌, List, sym, subst, Result, Ok, Err, OnOk, OnErr}
-use Rattle.html_render_dom.specs.Dom.{Node, Dom, IsForest}
+use Rattle.html_render_dom_nodes.specs.Nodes.{Node}
+use Rattle.html_render_dom.specs.Dom.{Dom, IsForest}
 
 -- what holds of the nodes, whether they were changed or not
 pub IsForest-either : {T E : Type 0} (r : Result T E) (dom : Dom) (nodes changed : List Node) → IsForest dom → OnOk r (nodes ≡ changed) →

@@ -15,13 +15,14 @@ use Rattle.std.specs.BTreeMap.{get_by_text}
 use Rattle.std.specs.Option.{option_map_or, unwrap_or}
 use Rattle.std.specs.Str.{bytes_eq}
 use Rattle.html_render_dom.specs.declared.style.index.RuleIndex.{RuleIndex}
-use Rattle.html_render_dom.specs.declared.style.rules.StyleRule.{StyleRule}
+use Rattle.html_render_dom_rules.specs.declared.rules.StyleRule.{StyleRule}
 use Rattle.html_render_dom.proofs.Applies.{said_to}
 use Rattle.html_render_dom.specs.ElementStyle.{Applied, applied, element_style, style_by}
 use Rattle.html_render_dom.specs.RuleIndex.{asks_attributes, Finds, HasSelected, IsFound, is_told, key_of, numbers_under, stated_text, text_stated, texts_of}
-use Rattle.html_render_dom.specs.Content.{Property}
-use Rattle.html_render_dom.specs.Rules.{Rule, rule_of}
-use Rattle.html_render_dom.specs.Selectors.{first_value, has_class, is_filled, matches_part, selects, words}
+use Rattle.html_render_dom_nodes.specs.Content.{Property}
+use Rattle.html_render_dom_rules.specs.Rules.{Rule, rule_of}
+use Rattle.html_render_dom.specs.Attributes.{first_value}
+use Rattle.html_render_dom_rules.specs.Selectors.{has_class, is_filled, matches_part, selects, words}
 
 -- ---- as rules come
 

@@ -1,31 +1,19 @@
 -- The document object model: numbered nodes, each with its content, its list of children and its parent. No node is
 -- its own ancestor, so that each node stands for a finite tree.
-use Rattle.std.specs.Prelude.{◌≡◌, ℕ, zero, suc, ◌<◌, Bool, true, false, IsTrue, nat_eq, List, [], ◌∷◌, length, slice_index_or, Option, Some, None, Contains}
+use Rattle.std.specs.Prelude.{◌≡◌, ℕ, zero, suc, ◌<◌, Bool, true, false, IsTrue, nat_eq, List, [], ◌∷◌, length, Option, Some, Contains}
 use Rattle.std.specs.List.{IsDistinct}
 use Rattle.html_render_dom.specs.declared.dom.settings.QuirksMode.{QuirksMode}
 use Rattle.html_render_dom.specs.declared.dom.settings.QuirksMode.TheVariants.{NoQuirks}
-use Rattle.html_render_dom.specs.Content.{Content, document, element}
-use Rattle.html_render_dom.specs.Elements.{contents_in}
+use Rattle.html_render_dom_nodes.specs.Content.{Content, document, element}
+use Rattle.html_render_dom_nodes.specs.Nodes.{Node, lone, node_in}
+use Rattle.html_render_dom_nodes.specs.Elements.{contents_in}
 use Rattle.html_render_values.specs.Forest.{Forest, none, node}
-
-pub record Node : Type 0 where
-  pub content : Content
-  pub children : List ℕ
-  pub parent : Option ℕ
 
 -- the nodes by their numbers, the messages of a parser's errors, and the quirks mode
 pub record Dom : Type 0 where
   pub nodes : List Node
   pub messages : List (List ℕ)
   pub mode : QuirksMode
-
--- a node that hangs nowhere and has no children
-abbrev pub lone : Content → Node
-lone c = record { content = c; children = []; parent = None }
-
--- the node of a number; past the last node there is none, and an empty one stands in its place
-abbrev pub node_in : List Node → ℕ → Node
-node_in nodes h = slice_index_or nodes h (lone document)
 
 abbrev pub node_count : Dom → ℕ
 node_count dom = length dom.nodes

@@ -1,7 +1,7 @@
 -- The dump of trees: a line for each doctype, text, and start and end of an element.
 use Rattle.std.specs.Prelude.{ℕ, ◌+◌, ◌==◌, Bool, if◌then◌else◌, List, [], ◌∷◌, ◌++◌, length, codes, replicate}
 use Rattle.std.specs.Str.{trim}
-use Rattle.html_render_dom.specs.Content.{Content, document, doctype, text, comment, element, instruction}
+use Rattle.html_render_dom_nodes.specs.Content.{Content, document, doctype, text, comment, element, instruction}
 use Rattle.html_render_values.specs.Forest.{Forest, none, node}
 
 -- a piece behind its indent in spaces, and a line feed

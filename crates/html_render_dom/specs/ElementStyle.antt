@@ -5,15 +5,16 @@ use Rattle.html_render_values.specs.declared.colours.Colour.{Colour}
 use Rattle.html_render_dom_cascade.specs.declared.origins.StyleOrigin.{StyleOrigin}
 use Rattle.html_render_dom_cascade.specs.declared.specificities.Specificity.{Specificity}
 use Rattle.html_render_values.specs.declared.white_space.WhiteSpace.{WhiteSpace}
-use Rattle.html_render_dom.specs.declared.style.rules.Display.{Display}
-use Rattle.html_render_dom.specs.declared.style.rules.PseudoElement.{PseudoElement}
-use Rattle.html_render_dom.specs.declared.style.rules.PseudoElement.TheVariants.{Before, After}
+use Rattle.html_render_dom_rules.specs.declared.rules.Display.{Display}
+use Rattle.html_render_dom_rules.specs.declared.rules.PseudoElement.{PseudoElement}
+use Rattle.html_render_dom_rules.specs.declared.rules.PseudoElement.TheVariants.{Before, After}
 use Rattle.html_render_dom_cascade.specs.declared.updates.Update.{Update}
 use Rattle.html_render_dom.specs.declared.style.computed.ComputedStyle.{ComputedStyle}
 use Rattle.html_render_dom_cascade.specs.Cascade.{winner}
-use Rattle.html_render_dom.specs.Content.{Property}
-use Rattle.html_render_dom.specs.Rules.{StyleValue, colour, bg_colour, display, white_space, content, Declared, Rule}
-use Rattle.html_render_dom.specs.Selectors.{first_value, selects, specificity_of}
+use Rattle.html_render_dom_nodes.specs.Content.{Property}
+use Rattle.html_render_dom_rules.specs.Rules.{StyleValue, colour, bg_colour, display, white_space, content, Declared, Rule}
+use Rattle.html_render_dom.specs.Attributes.{first_value}
+use Rattle.html_render_dom_rules.specs.Selectors.{selects, specificity_of}
 
 -- a declaration with what its rule says of it
 pub record Applied : Type 0 where

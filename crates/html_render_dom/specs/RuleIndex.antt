@@ -4,8 +4,8 @@ use Rattle.std.specs.BTreeMap.{get_by_text}
 use Rattle.std.specs.List.{Contains, list_any}
 use Rattle.std.specs.Option.{option_map_or, unwrap_or}
 use Rattle.html_render_dom.specs.declared.style.index.RuleIndex.{RuleIndex}
-use Rattle.html_render_dom.specs.Rules.{Rule}
-use Rattle.html_render_dom.specs.Selectors.{is_filled, words}
+use Rattle.html_render_dom_rules.specs.Rules.{Rule}
+use Rattle.html_render_dom_rules.specs.Selectors.{is_filled, words}
 
 -- the key of a text: one of 64, by its length and its first byte
 abbrev pub key_of : (text : List ℕ) → ℕ

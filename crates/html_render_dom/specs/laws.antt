@@ -1,5 +1,4 @@
 pub mod Forests
 pub mod Changes
 pub mod Members
-pub mod Names
 pub mod Trees

@@ -3,24 +3,17 @@
 //! [`RcDom`] owns the nodes, and a [`Handle`] names one of them; `RcDom::new(alloc)?.get_document()` is the
 //! document, the node that all others hang from.
 
-mod attributes;
-mod contents;
 mod documents;
 mod dump;
 mod edits;
-mod handles;
-mod laws;
-mod lists;
 mod moves;
-mod names;
-mod nodes;
 mod paths;
 mod queries;
 mod settings;
 
-pub use attributes::Attributes;
-pub use contents::{NodeData, NodeOrText, TextContents};
 pub use documents::RcDom;
-pub use handles::Handle;
-pub use names::{Attribute, LocalName, Namespace, QualName};
-pub use settings::{ElementFlags, QuirksMode};
+pub use html_render_dom_nodes::{
+    Attribute, Attributes, ElementFlags, Handle, LocalName, Namespace, NodeData, NodeOrText,
+    QualName, TextContents,
+};
+pub use settings::QuirksMode;

@@ -6,14 +6,13 @@
 //! Importance, origin and specificity decide as CSS Cascading and Inheritance Level 3, section 6, has them; elements
 //! are selected as Selectors Level 3 has it.
 
+mod attributes;
 mod computed;
 mod index;
-mod rules;
-mod selectors;
 
 pub use computed::{ComputedStyle, ContentText, computed_style};
 pub use html_render_dom_cascade::{Specificity, StyleOrigin, WithSpec};
+pub use html_render_dom_rules::{Declaration, Display, PseudoElement, Style, StyleRule};
 pub use html_render_values::colours::Colour;
 pub use html_render_values::white_space::WhiteSpace;
 pub use index::RuleIndex;
-pub use rules::{Declaration, Display, PseudoElement, Style, StyleRule};

@@ -3,11 +3,12 @@ use Rattle.std.proofs.Common.{◌≡◌, ◌≢◌, ℕ, ◌+◌, List, [], ◌�
 use Rattle.std.proofs.Common.{Bool, false, inl, inr}
 use Rattle.std.specs.Option.{is_some}
 use Rattle.std.proofs.lemmas.Bool.Decides.{eqb_tells}
-use Rattle.html_render_dom.specs.declared.dom.settings.ElementFlags.{ElementFlags}
-use Rattle.html_render_dom.specs.Content.{Content, Name, Property, text, element}
-use Rattle.html_render_dom.specs.Dom.{Node, Dom, IsForest, IsNode, IsInclusiveAncestor, lone, node_in, node_count, children_at, content_at}
-use Rattle.html_render_dom.specs.Edits.{attached, attached_new, created, element_created, last_text, text_put}
-use Rattle.html_render_dom.specs.Moves.{reparented}
+use Rattle.html_render_dom_nodes.specs.declared.flags.ElementFlags.{ElementFlags}
+use Rattle.html_render_dom_nodes.specs.Content.{Content, Name, Property, text, element}
+use Rattle.html_render_dom_nodes.specs.Nodes.{Node, lone, node_in}
+use Rattle.html_render_dom.specs.Dom.{Dom, IsForest, IsNode, IsInclusiveAncestor, node_count, children_at, content_at}
+use Rattle.html_render_dom_nodes.specs.Edits.{attached, attached_new, created, element_created, last_text, text_put}
+use Rattle.html_render_dom_nodes.specs.Moves.{reparented}
 use Rattle.html_render_dom.specs.laws.Changes.{made, older, created-shape, above_no_older, Rewrites, rewritten, reparented-facts}
 use Rattle.html_render_dom.specs.laws.Forests.{children_at-past}
 use Rattle.html_render_dom.specs.laws.Members.{Contains-single}

@@ -7,11 +7,11 @@ use Rattle.std.proofs.lemmas.List.{append-nil}
 use Rattle.std.specs.List.{AllByRecursion}
 use Rattle.std.specs.Option.{unwrap_or}
 use Rattle.html_render_values.specs.Forest.{Forest, none, node, followed_by}
-use Rattle.html_render_dom.specs.declared.dom.names.Namespace.{Namespace}
-use Rattle.html_render_dom.specs.declared.dom.names.Attribute.{Attribute}
-use Rattle.html_render_dom.specs.Content.{Content, document, doctype, text, comment, element, instruction, space_of, property_of}
+use Rattle.html_render_dom_nodes.specs.declared.names.Namespace.{Namespace}
+use Rattle.html_render_dom_nodes.specs.declared.names.Attribute.{Attribute}
+use Rattle.html_render_dom_nodes.specs.Content.{Content, document, doctype, text, comment, element, instruction, space_of, property_of}
 use Rattle.html_render_dom.specs.Dom.{Dom, empty_dom, node_count, IsNode, content_at, children_at, HaveTrees}
-use Rattle.html_render_dom.specs.Edits.{attached_new}
+use Rattle.html_render_dom_nodes.specs.Edits.{attached_new}
 use Rattle.html_render_dom.specs.laws.Changes.{HaveTrees-append}
 use Rattle.html_render_dom.specs.laws.Forests.{children_at-past, below_or_not}
 use Rattle.html_render_json.specs.Built.{HasOwn, HasSaid}

@@ -1,7 +1,7 @@
 -- What is put into a document.
 use Rattle.std.specs.Prelude.{◌≡◌, ◌≢◌, ◌≤◌, ◌==◌, ℕ, if◌then◌else◌, List, [], ◌∷◌, ◌++◌}
 use Rattle.std.specs.List.{AllByRecursion}
-use Rattle.html_render_dom.specs.Content.{Content}
+use Rattle.html_render_dom_nodes.specs.Content.{Content}
 use Rattle.html_render_dom.specs.Dom.{Dom, node_count, IsNode, content_at, children_at, HaveTrees}
 use Rattle.html_render_json.specs.Said.{Said}
 

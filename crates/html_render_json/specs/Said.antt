@@ -2,7 +2,7 @@
 use Rattle.std.specs.Prelude.{List, [], ◌∷◌, map, false, Option, Some, None, Vec, string_bytes}
 use Rattle.std.specs.declared.alloc.Global.{Global}
 use Rattle.html_render_values.specs.Forest.{Forest, none, node, followed_by}
-use Rattle.html_render_dom.specs.Content.{Content, document, doctype, text, comment, element, instruction, space_of, property_of}
+use Rattle.html_render_dom_nodes.specs.Content.{Content, document, doctype, text, comment, element, instruction, space_of, property_of}
 use Rattle.html_render_json.specs.declared.documents.Node.{Node, fold-Node}
 use Rattle.html_render_json.specs.declared.documents.Node.TheOpen.{Node-F}
 

@@ -2,9 +2,9 @@
 
 ghost use Rattle.std.specs.Prelude.{◌≡◌, ◌≤◌, [], ◌∷◌, IfOk, OnOk, string_bytes};
 ghost use Rattle.std.specs.Option.{is_some};
-ghost use Rattle.html_render_dom.specs.Content.{comment, doctype, instruction, text};
+ghost use Rattle.html_render_dom_nodes.specs.Content.{comment, doctype, instruction, text};
 ghost use Rattle.html_render_dom.specs.Dom.{HaveTrees, IsNode, node_count};
-ghost use Rattle.html_render_dom.specs.Edits.{last_text};
+ghost use Rattle.html_render_dom_nodes.specs.Edits.{last_text};
 ghost use Rattle.html_render_json.specs.Built.{HasOwn, HasSaid};
 ghost use Rattle.html_render_json.specs.Said.{document_tree, said};
 

@@ -2,7 +2,7 @@
 use Rattle.std.specs.Prelude.{ℕ, Bool, true, false, not, ◌&&◌, List, ◌++◌, length, codes, filter, Option, Some, None, if◌then◌else◌}
 use Rattle.std.specs.List.{list_any}
 use Rattle.std.specs.Str.{bytes_eq}
-use Rattle.html_render_dom.specs.Content.{Content, element, is_html}
+use Rattle.html_render_dom_nodes.specs.Content.{Content, element, is_html}
 use Rattle.html_render_dom.specs.Dom.{Dom, content_at, children_at}
 use Rattle.html_render_orders.specs.ChildLists.{InOrder}
 use Rattle.html_render_orders.specs.declared.order.Pick.{Pick}

@@ -2,7 +2,7 @@
 //! that stand behind all others last.
 
 ghost use Rattle.std.specs.Prelude.{◌≡◌, ◌++◌, OnOk, IfOk, IfErr, None, Some};
-ghost use Rattle.html_render_dom.specs.Content.{content_of};
+ghost use Rattle.html_render_dom_nodes.specs.Content.{content_of};
 ghost use Rattle.html_render_dom.specs.Dom.{IsNode, children_at};
 ghost use Rattle.html_render_orders.specs.Order.{caption_order, children_in, has_own_order, is_named, own_count, part_order, picked, picks};
 

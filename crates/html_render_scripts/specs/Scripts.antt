@@ -1,10 +1,11 @@
 -- What each call of a script makes of a DOM, and which node is current behind it.
 use Rattle.std.specs.Prelude.{ℕ, false, List, [], ◌∷◌, Option, Some, None, if◌then◌else◌, string_bytes}
-use Rattle.html_render_dom.specs.declared.dom.contents.NodeOrText.TheVariants.{AppendText}
-use Rattle.html_render_dom.specs.Content.{Space, no_space, html, svg, element, comment}
+use Rattle.html_render_dom_nodes.specs.declared.contents.NodeOrText.TheVariants.{AppendText}
+use Rattle.html_render_dom_nodes.specs.Content.{Space, no_space, html, svg, element, comment}
 use Rattle.html_render_dom.specs.Dom.{Dom, node_count, content_at, parent_at, is_element}
-use Rattle.html_render_dom.specs.Edits.{appended, attached_new, with_content}
-use Rattle.html_render_dom.specs.Elements.{completed}
+use Rattle.html_render_dom.specs.Edits.{appended}
+use Rattle.html_render_dom_nodes.specs.Edits.{attached_new, with_content}
+use Rattle.html_render_dom_nodes.specs.Elements.{completed}
 use Rattle.html_render_scripts.specs.declared.script.Call.{Call}
 use Rattle.html_render_scripts.specs.declared.script.Call.TheVariants.{Open, OpenSvg, Attribute, Text, Comment, Close}
 

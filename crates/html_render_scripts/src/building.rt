@@ -3,7 +3,7 @@
 //! `built(alloc, "<p\n\"text")?` is the DOM of a paragraph that holds `text`.
 
 ghost use Rattle.std.specs.Prelude.{◌≡◌, ◌≤◌, IfOk, IfSome, OnOk, string_bytes};
-ghost use Rattle.html_render_dom.specs.Content.{space_of};
+ghost use Rattle.html_render_dom_nodes.specs.Content.{space_of};
 ghost use Rattle.html_render_dom.specs.Dom.{IsNode, IsElement, content_at, node_count};
 ghost use Rattle.html_render_scripts.specs.Scripts.{with_element, with_comment, with_attribute, called, next_of};
 

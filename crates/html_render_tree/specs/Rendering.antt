@@ -3,7 +3,7 @@ use Rattle.std.specs.Prelude.{◌≡◌, ℕ, Bool, false, List, [], Option, Som
 use Rattle.std.specs.Cmp.Lexicographic.{pointwise}
 use Rattle.html_render_values.specs.Forest.{Forest}
 use Rattle.html_render_values.specs.Outcome.{◌>>=◌}
-use Rattle.html_render_dom.specs.Rules.{Rule}
+use Rattle.html_render_dom_rules.specs.Rules.{Rule}
 use Rattle.html_render_lines.specs.Line.{Line}
 use Rattle.html_render_decorators.specs.Decoration.{Decoration}
 use Rattle.html_render_nodes.specs.declared.tree.RenderNode.{RenderNode}

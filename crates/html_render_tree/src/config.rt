@@ -5,7 +5,7 @@
 
 ghost use Rattle.std.specs.Prelude.{◌≡◌, ◌∷◌, ◌++◌, [], Some, true, false, IfOk, IfErr};
 ghost use Rattle.html_render_conversion.specs.Results.{render_tree_of};
-ghost use Rattle.html_render_dom.specs.Rules.{rule_of};
+ghost use Rattle.html_render_dom_rules.specs.Rules.{rule_of};
 ghost use Rattle.html_render_estimates.specs.Settings.{default_settings};
 ghost use Rattle.html_render_parts.specs.Refusal.{Fails};
 ghost use Rattle.html_render_tree.specs.GoodTrees.{Anywhere, are_good};
@@ -38,7 +38,7 @@ pub struct Config<D: TextDecorator> {
 
 impl<D: TextDecorator> Model for Config<D> {
     ghost use Rattle.std.specs.Prelude.{map};
-    ghost use Rattle.html_render_dom.specs.Rules.{rule_of};
+    ghost use Rattle.html_render_dom_rules.specs.Rules.{rule_of};
     ghost use Rattle.html_render_tree.specs.Rendering.{Options};
 
     ghost Value = { Options D };

@@ -1,7 +1,7 @@
 //! Laws of what is rendered, each the contract of a function that does nothing.
 
 ghost use Rattle.std.specs.Prelude.{◌≡◌, ◌↔◌, true, None, IfSome, map, replicate};
-ghost use Rattle.html_render_dom.specs.Selectors.{specificity_of};
+ghost use Rattle.html_render_dom_rules.specs.Selectors.{specificity_of};
 ghost use Rattle.html_render_dom_cascade.specs.declared.origins.StyleOrigin.TheVariants as origin;
 ghost use Rattle.html_render_values.specs.Forest.{Forest};
 ghost use Rattle.html_render_blocks.specs.declared.block.BlockSetting.{BlockSetting};

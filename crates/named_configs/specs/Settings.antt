@@ -1,6 +1,6 @@
 -- What the calls of a configuration make of its settings.
 use Rattle.std.specs.Prelude.{Some, true, false, List, [], ◌∷◌, ◌++◌, fold}
-use Rattle.html_render_dom.specs.Rules.{rule_of}
+use Rattle.html_render_dom_rules.specs.Rules.{rule_of}
 use Rattle.html_render_tree.specs.Decorations.{decorations}
 use Rattle.html_render_tree.specs.Rendering.{Options}
 use Rattle.named_configs.specs.declared.calls.Setting.{Setting}

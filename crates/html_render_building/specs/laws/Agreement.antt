@@ -4,11 +4,11 @@ use Rattle.std.proofs.Common.{◌≡◌, Bool, true, false, if◌then◌else◌,
 use Rattle.std.specs.Prelude.{filter, option_to_list, ◌&&◌, codes}
 use Rattle.html_render_values.specs.Forest.{Forest, none, node}
 use Rattle.html_render_values.specs.Outcome.{◌>>=◌}
-use Rattle.html_render_dom.specs.Content.{Content, document, text, element, is_html}
+use Rattle.html_render_dom_nodes.specs.Content.{Content, document, text, element, is_html}
 use Rattle.html_render_dom.specs.Dom as documents
 use Rattle.html_render_dom.specs.Dom.{Dom, IsForest, node_count, children_at, below}
 use Rattle.html_render_dom.specs.laws.Trees.{below-children}
-use Rattle.html_render_dom.specs.Rules.{Rule as StyleRule}
+use Rattle.html_render_dom_rules.specs.Rules.{Rule as StyleRule}
 use Rattle.html_render_nodes.specs.declared.tree.NodeKind.TheVariants.{Container}
 use Rattle.html_render_nodes.specs.RenderNodes.{no_style, without_style}
 use Rattle.html_render_insertions.specs.declared.drafts.Draft.{Draft}

@@ -14,7 +14,7 @@ use Rattle.html_render_insertions.specs.declared.drafts.Insertions.{Insertions}
 use Rattle.html_render_insertions.specs.Drafts.{draft, inserted_of}
 use Rattle.html_render_conversion.specs.declared.mapping.IfEmpty.{IfEmpty}
 use Rattle.html_render_conversion.specs.Conversion.{vanishes}
-use Rattle.html_render_dom.specs.Selectors.{is_filled}
+use Rattle.html_render_dom_rules.specs.Selectors.{is_filled}
 use Rattle.html_render_conversion.specs.Results as new
 use Rattle.html_render_conversion.specs.Results.{Nodes, Result, beside, completed, over, trees_of}
 use Rattle.html_render_building.specs.declared.elements.Element.{Element}

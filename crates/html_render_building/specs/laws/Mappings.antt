@@ -4,7 +4,7 @@ use Rattle.std.specs.Prelude.{codes}
 use Rattle.std.specs.Str.{bytes_eq}
 use Rattle.std.proofs.lemmas.Slice.Eq.{bytes_eq-Decides}
 use Rattle.html_render_values.specs.Forest.{Forest}
-use Rattle.html_render_dom.specs.Content.{Content, Property, Space, html, svg, is_html}
+use Rattle.html_render_dom_nodes.specs.Content.{Content, Property, Space, html, svg, is_html}
 use Rattle.html_render_nodes.specs.declared.tree.NodeKind.{NodeKind}
 use Rattle.html_render_nodes.specs.declared.tree.NodeKind.TheVariants.{Table, TableRow, TableCell}
 use Rattle.html_render_conversion.specs.declared.mapping.ElementKind.{ElementKind}

@@ -4,8 +4,8 @@ use Rattle.std.specs.Prelude.{codes, option_to_list}
 use Rattle.std.specs.Str.{bytes_eq}
 use Rattle.html_render_values.specs.Forest.{Forest, none, node}
 use Rattle.html_render_values.specs.Outcome.{◌>>=◌}
-use Rattle.html_render_dom.specs.Content.{Content, element, is_html}
-use Rattle.html_render_dom.specs.Rules.{Rule as StyleRule}
+use Rattle.html_render_dom_nodes.specs.Content.{Content, element, is_html}
+use Rattle.html_render_dom_rules.specs.Rules.{Rule as StyleRule}
 use Rattle.html_render_conversion.specs.Results as new
 use Rattle.html_render_conversion.specs.Results.{Result, result_of, results, of_role}
 use Rattle.html_render_orders.specs.Order.{is_named, picks}

@@ -13,7 +13,7 @@ use Rattle.html_render_insertions.specs.declared.drafts.Insertions.{Insertions}
 use Rattle.html_render_insertions.specs.Drafts.{draft, inserted_of}
 use Rattle.html_render_conversion.specs.declared.mapping.IfEmpty.{IfEmpty}
 use Rattle.html_render_conversion.specs.Conversion.{vanishes}
-use Rattle.html_render_dom.specs.Selectors.{is_filled}
+use Rattle.html_render_dom_rules.specs.Selectors.{is_filled}
 use Rattle.html_render_conversion.specs.Results as new
 use Rattle.html_render_conversion.specs.Results.{Result, beside, completed, over, row_over, rows_over, trees_of}
 use Rattle.html_render_building.specs.declared.elements.OpenKind.{OpenKind}

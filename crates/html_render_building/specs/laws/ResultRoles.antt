@@ -9,9 +9,9 @@ use Rattle.std.specs.Str.{bytes_eq}
 use Rattle.html_render_values.specs.Forest.{Forest}
 use Rattle.html_render_values.specs.Outcome.{◌>>=◌}
 use Rattle.html_render_dom_cascade.specs.Cascade.{value_of}
-use Rattle.html_render_dom.specs.Content.{Content, document, text, element, is_html}
+use Rattle.html_render_dom_nodes.specs.Content.{Content, document, text, element, is_html}
 use Rattle.html_render_dom.specs.ElementStyle.{ElementStyle}
-use Rattle.html_render_dom.specs.Rules.{Rule as StyleRule}
+use Rattle.html_render_dom_rules.specs.Rules.{Rule as StyleRule}
 use Rattle.html_render_nodes.specs.Tables.{TableParts, unmeasured_table}
 use Rattle.html_render_nodes.specs.declared.tree.NodeStyle.{NodeStyle}
 use Rattle.html_render_conversion.specs.declared.mapping.ElementKind.{ElementKind}
@@ -22,7 +22,7 @@ use Rattle.html_render_conversion.specs.declared.mapping.IfEmpty.{IfEmpty}
 use Rattle.html_render_conversion.specs.declared.mapping.Mapping.{Mapping}
 use Rattle.html_render_conversion.specs.declared.mapping.Mapping.TheVariants.{Leaf, Parent}
 use Rattle.html_render_conversion.specs.Conversion.{element_mapping, node_style, own_style, vanishes}
-use Rattle.html_render_dom.specs.Selectors.{is_filled}
+use Rattle.html_render_dom_rules.specs.Selectors.{is_filled}
 use Rattle.html_render_conversion.specs.Results as new
 use Rattle.html_render_conversion.specs.Results.{Nodes, Result, built, captioned, completed, inserted, level_in}
 use Rattle.html_render_conversion.specs.Results.{leaf, mapped, of_role, result_of, styled, table_of, table_over}

@@ -10,7 +10,7 @@ use Rattle.html_render_nodes.specs.laws.Splits.{followed_by-followed_by, followe
 use Rattle.html_render_insertions.specs.declared.drafts.Draft.{Draft}
 use Rattle.html_render_insertions.specs.Drafts.{expanded}
 use Rattle.html_render_insertions.specs.laws.Drafts.{expanded-followed_by}
-use Rattle.html_render_dom.specs.Selectors.{is_filled}
+use Rattle.html_render_dom_rules.specs.Selectors.{is_filled}
 use Rattle.html_render_conversion.specs.Results as new
 use Rattle.html_render_conversion.specs.Results.{Nodes, Result}
 use Rattle.html_render_building.specs.declared.elements.Element.{Element}

@@ -9,7 +9,7 @@ use Rattle.html_render_nodes.specs.declared.tree.NodeStyle.{NodeStyle}
 use Rattle.html_render_insertions.specs.Drafts.{inserted_of}
 use Rattle.html_render_conversion.specs.declared.mapping.ElementKind.TheVariants.{Part}
 use Rattle.html_render_conversion.specs.Conversion.{vanishes}
-use Rattle.html_render_dom.specs.Selectors.{is_filled}
+use Rattle.html_render_dom_rules.specs.Selectors.{is_filled}
 use Rattle.html_render_conversion.specs.Results as new
 use Rattle.html_render_conversion.specs.Results.{Result, completed, captioned, table_over, built, of_role}
 use Rattle.html_render_building.specs.Building.{Arrival, Holding, arrive, closed, fresh, closed_into}

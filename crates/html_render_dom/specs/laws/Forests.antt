@@ -5,10 +5,11 @@ use Rattle.std.proofs.Common.{refl, sym, ◌∙◌, ltb, arith, ◌⊎◌, inl, 
 use Rattle.std.proofs.lemmas.Bool.{cases_Bool, ltb-true, ltb-false, false≢true}
 use Rattle.std.proofs.lemmas.List.{get_or_past}
 use Rattle.std.proofs.lemmas.List.Elements.{Contains-get_or}
-use Rattle.html_render_dom.specs.Content.{document}
-use Rattle.html_render_dom.specs.Elements.{contents_in}
+use Rattle.html_render_dom_nodes.specs.Content.{document}
+use Rattle.html_render_dom_nodes.specs.Elements.{contents_in}
 use Rattle.html_render_values.specs.Forest.{none, node}
-use Rattle.html_render_dom.specs.Dom.{Dom, lone, empty_dom, node_in, node_count, IsNode, IsElement, content_at, children_at, parent_at, IsForest}
+use Rattle.html_render_dom.specs.Dom.{Dom, empty_dom, node_count, IsNode, IsElement, content_at, children_at, parent_at, IsForest}
+use Rattle.html_render_dom_nodes.specs.Nodes.{lone, node_in}
 
 pub below_or_not : (a b : ℕ) → (a < b) ⊎ (b ≤ a)
 below_or_not a b = elim (cases_Bool (ltb a b)) [ inl e ↦ inl (ltb-true a b e) | inr e ↦ inr (ltb-false a b e) ]

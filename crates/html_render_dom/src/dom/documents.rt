@@ -1,15 +1,14 @@
 //! The document object model as a whole, and what can be asked of it.
 
 ghost use Rattle.std.specs.Prelude.{◌≡◌, ◌↔◌, map, string_bytes, IsTrue, IsSome, IfOk, IfErr, IfSome, All};
-ghost use Rattle.html_render_dom.specs.Content.{content_of};
-ghost use Rattle.html_render_dom.specs.Dom.{empty_dom, IsForest, IsNode, IsElement, IsInclusiveAncestor, content_at, children_at, parent_at, node_in};
-ghost use Rattle.html_render_dom.specs.Nodes.{node_of};
-ghost use Rattle.html_render_dom.specs.Edits.{last_text};
+ghost use Rattle.html_render_dom_nodes.specs.Content.{content_of};
+ghost use Rattle.html_render_dom.specs.Dom.{empty_dom, IsForest, IsNode, IsElement, IsInclusiveAncestor, content_at, children_at, parent_at};
+ghost use Rattle.html_render_dom_nodes.specs.Nodes.{node_in, node_of};
+ghost use Rattle.html_render_dom_nodes.specs.Edits.{last_text};
 
-use super::contents::NodeData;
-use super::handles::Handle;
-use super::nodes::Node;
 use super::settings::QuirksMode;
+use html_render_dom_nodes::nodes::Node;
+use html_render_dom_nodes::{Handle, NodeData};
 use html_render_values::Error;
 use std::alloc::Global;
 use std::marker::Model;
@@ -30,7 +29,7 @@ impl Model for RcDom {
 
     ghost Value = { Dom };
 
-    ghost use Rattle.html_render_dom.specs.Nodes.{dom_of};
+    ghost use Rattle.html_render_dom.specs.Documents.{dom_of};
 
     ghost view = { dom_of };
 

@@ -6,9 +6,8 @@ ghost use Rattle.html_render_dom.specs.Dom.{IsForest, IsNode, content_at, node_c
 ghost use Rattle.html_render_dom.specs.Dump.{dump, line, text_line};
 ghost use Rattle.html_render_dom.specs.Frames.{FrameFits, end_of, rest, rest_of, steps, steps_of};
 
-use super::contents::NodeData;
 use super::documents::RcDom;
-use super::handles::Handle;
+use html_render_dom_nodes::{Handle, NodeData};
 use html_render_values::Error;
 use std::alloc::{AllocError, Global};
 

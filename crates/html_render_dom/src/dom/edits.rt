@@ -1,17 +1,16 @@
 //! The calls that change a document. Each grows whatever it has to before it changes anything.
 
 ghost use Rattle.std.specs.Prelude.{◌≡◌, ◌≤◌, ◌++◌, ◌∷◌, [], None, OnOk, OnErr, IfOk, IfErr, map, string_bytes};
-ghost use Rattle.html_render_dom.specs.Content.{name_of, property_of, content_of, doctype, comment, instruction};
+ghost use Rattle.html_render_dom_nodes.specs.Content.{name_of, property_of, content_of, doctype, comment, instruction};
 ghost use Rattle.html_render_dom.specs.Dom.{IsNode, IsElement, node_count, content_at};
-ghost use Rattle.html_render_dom.specs.Elements.{completed, contents_in};
-ghost use Rattle.html_render_dom.specs.Edits.{CanAppend, IsFresh, appended, attached_new, created, element_created, with_content};
+ghost use Rattle.html_render_dom_nodes.specs.Elements.{completed, contents_in};
+ghost use Rattle.html_render_dom.specs.Edits.{CanAppend, IsFresh, appended};
+ghost use Rattle.html_render_dom_nodes.specs.Edits.{attached_new, created, element_created, with_content};
 
-use super::contents::{NodeData, NodeOrText};
 use super::documents::RcDom;
-use super::handles::Handle;
-use super::names::{Attribute, QualName};
-use super::nodes::{self, Node};
-use super::settings::{ElementFlags, QuirksMode};
+use super::settings::QuirksMode;
+use html_render_dom_nodes::nodes::{self, Node};
+use html_render_dom_nodes::{Attribute, ElementFlags, Handle, NodeData, NodeOrText, QualName};
 use html_render_values::Error;
 use std::alloc::{AllocError, Global};
 

@@ -1,14 +1,12 @@
 //! The calls that move nodes between lists. Each grows whatever it has to before it changes anything.
 
-ghost use Rattle.std.specs.Prelude.{◌≡◌, ◌≤◌, OnOk, OnErr, IfErr, IfSome, IsSome, Some, None, Contains, string_bytes};
+ghost use Rattle.std.specs.Prelude.{◌≡◌, ◌≤◌, OnOk, OnErr, IfErr, IfSome, IsSome, Some, string_bytes};
 ghost use Rattle.html_render_dom.specs.Dom.{IsNode, IsInclusiveAncestor, node_count, parent_at};
-ghost use Rattle.html_render_dom.specs.Moves.{CanAppendBefore, CanPutByParent, appended_before, placed, previous, put_by_parent, reparented};
-ghost use Rattle.html_render_dom.specs.Moves.{taken_out, text_before, text_placed};
+ghost use Rattle.html_render_dom.specs.Moves.{CanAppendBefore, CanPutByParent, appended_before, put_by_parent};
+ghost use Rattle.html_render_dom_nodes.specs.Moves.{placed, reparented, taken_out, text_before, text_placed};
 
-use super::contents::{NodeData, NodeOrText};
 use super::documents::RcDom;
-use super::handles::Handle;
-use super::lists;
+use html_render_dom_nodes::{Handle, NodeData, NodeOrText, lists};
 use html_render_values::Error;
 use std::alloc::{AllocError, Global};
 
@@ -105,7 +103,7 @@ impl RcDom {
         ensures text { result ≡ text_before self.now.nodes parent sibling }
         ensures is_node { IfSome result (IsNode self.now) }
     {
-        let previous = previous(self.child_list(parent), sibling)?;
+        let previous = lists::previous(self.child_list(parent), sibling)?;
         matches!(self.data(previous), NodeData::Text { .. }).then_some(previous)
     }
 
@@ -158,14 +156,4 @@ impl RcDom {
         lists::move_children(alloc, &mut self.nodes, node, new_parent)?;
         Ok(())
     }
-}
-
-/// What stands directly before the sibling in the list.
-fn previous(list: &[Handle], sibling: Handle) -> Option<Handle>
-    ensures previous { result ≡ previous sibling None list.now }
-    ensures listed { IfSome result (Contains list.now) }
-{
-    let place = list.iter().position(|c| *c == sibling)?;
-    let last = place.checked_sub(1)?;
-    Some(list[last])
 }

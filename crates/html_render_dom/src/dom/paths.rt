@@ -6,7 +6,7 @@ ghost use Rattle.html_render_dom.specs.Dom.{IsNode};
 ghost use Rattle.html_render_dom.specs.Paths.{nth_child, node_by_path};
 
 use super::documents::RcDom;
-use super::handles::Handle;
+use html_render_dom_nodes::Handle;
 
 impl RcDom {
     /// The element of this number among the node's children, where only elements are counted, from 1.

@@ -2,14 +2,12 @@
 
 ghost use Rattle.std.specs.Prelude.{◌≡◌, ◌↔◌, IsTrue, IsSome, IfOk, IfErr, Some, string_bytes};
 ghost use Rattle.std.specs.Option.{option_map};
-ghost use Rattle.html_render_dom.specs.Content.{name_of};
+ghost use Rattle.html_render_dom_nodes.specs.Content.{name_of};
 ghost use Rattle.html_render_dom.specs.Dom.{IsNode, IsElement, content_at, node_count};
-ghost use Rattle.html_render_dom.specs.Elements.{name_in, local_name_in, contents_in, is_integration_point};
+ghost use Rattle.html_render_dom_nodes.specs.Elements.{name_in, local_name_in, contents_in, is_integration_point};
 
-use super::contents::NodeData;
 use super::documents::RcDom;
-use super::handles::Handle;
-use super::names::QualName;
+use html_render_dom_nodes::{Handle, NodeData, QualName};
 use html_render_values::Error;
 use std::alloc::Global;
 

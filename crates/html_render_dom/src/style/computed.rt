@@ -4,17 +4,17 @@ ghost use Rattle.std.specs.Prelude.{◌≡◌, [], ◌∷◌, ◌++◌, IfErr, I
 ghost use Rattle.std.specs.List.{flat_map};
 ghost use Rattle.std.specs.List.Sorted.{IsNonDecreasing};
 ghost use Rattle.html_render_values.specs.declared.errors.Error.TheVariants.{OutOfMemory};
-ghost use Rattle.html_render_dom.specs.Content.{property_of};
+ghost use Rattle.html_render_dom_nodes.specs.Content.{property_of};
 ghost use Rattle.html_render_dom_cascade.specs.Cascade.{winner};
 ghost use Rattle.html_render_dom.specs.ElementStyle.{applied, element_style, style_by, style_of, with_declarations};
 ghost use Rattle.html_render_dom.specs.RuleIndex.{HasSelected};
-ghost use Rattle.html_render_dom.specs.Rules.{declared_of, rule_of};
-ghost use Rattle.html_render_dom.specs.Selectors.{selects};
+ghost use Rattle.html_render_dom_rules.specs.Rules.{declared_of, rule_of};
+ghost use Rattle.html_render_dom_rules.specs.Selectors.{selects};
 
-use super::rules::{Declaration, Display, PseudoElement, Style, StyleRule};
-use super::selectors::first_value;
-use crate::dom::Attribute;
+use super::attributes::first_value;
 use html_render_dom_cascade::{Specificity, StyleOrigin, WithSpec};
+use html_render_dom_nodes::Attribute;
+use html_render_dom_rules::{Declaration, Display, PseudoElement, Style, StyleRule};
 use html_render_values::Error;
 use html_render_values::colours::Colour;
 use html_render_values::small_text::SmallText;

@@ -6,16 +6,16 @@ ghost use Rattle.std.specs.List.{Contains};
 ghost use Rattle.std.specs.List.Sorted.{IsNonDecreasing};
 ghost use Rattle.std.specs.Bool.{OnFalse};
 ghost use Rattle.std.specs.Str.{bytes_eq};
-ghost use Rattle.html_render_dom.specs.Content.{property_of};
+ghost use Rattle.html_render_dom_nodes.specs.Content.{property_of};
 ghost use Rattle.html_render_dom.specs.ElementStyle.{element_style, style_by, style_of};
 ghost use Rattle.html_render_dom.specs.RuleIndex.{asks_attributes, Finds, is_told, key_of, numbers_under, stated_text, texts_of};
-ghost use Rattle.html_render_dom.specs.Rules.{Rule, rule_of};
-ghost use Rattle.html_render_dom.specs.Selectors.{is_filled};
+ghost use Rattle.html_render_dom_rules.specs.Rules.{Rule, rule_of};
+ghost use Rattle.html_render_dom_rules.specs.Selectors.{is_filled};
 
+use super::attributes::first_value;
 use super::computed::{ComputedStyle, computed_style, style_of_rules};
-use super::rules::StyleRule;
-use super::selectors::first_value;
-use crate::dom::Attribute;
+use html_render_dom_nodes::Attribute;
+use html_render_dom_rules::StyleRule;
 use html_render_values::Error;
 use std::alloc::{AllocError, Global};
 use std::collections::BTreeMap;
@@ -38,27 +38,25 @@ fn key_of(text: &str) -> usize
     (text.len() % KEYS * 3 + first) % KEYS
 }
 
-impl StyleRule {
-    /// Whether the rule states an id or a class.
-    fn asks_attributes(&self) -> bool
-        ensures { result ≡ asks_attributes (rule_of self.now) }
-    {
-        self.id.is_some() || !self.classes.is_empty()
-    }
+/// Whether the rule states an id or a class.
+fn asks_attributes(rule: &StyleRule) -> bool
+    ensures { result ≡ asks_attributes (rule_of rule.now) }
+{
+    rule.id.is_some() || !rule.classes.is_empty()
+}
 
-    /// The text that the rule is found under: its first class, else its id, else the name of its elements.
-    ///
-    /// An element that the rule selects has this text as a class, as its id or as its name.
-    fn stated_text(&self) -> Option<&String>
-        ensures { option_map (λ text. string_bytes text.now) result ≡ stated_text (rule_of self.now) }
-    {
-        match self.classes.first() {
-            Some(class) => Some(class),
-            None => match &self.id {
-                Some(id) => Some(id),
-                None => self.element.as_ref(),
-            },
-        }
+/// The text that the rule is found under: its first class, else its id, else the name of its elements.
+///
+/// An element that the rule selects has this text as a class, as its id or as its name.
+fn stated_text(rule: &StyleRule) -> Option<&String>
+    ensures { option_map (λ text. string_bytes text.now) result ≡ stated_text (rule_of rule.now) }
+{
+    match rule.classes.first() {
+        Some(class) => Some(class),
+        None => match &rule.id {
+            Some(id) => Some(id),
+            None => rule.element.as_ref(),
+        },
     }
 }
 
@@ -92,8 +90,8 @@ impl RuleIndex {
             asks_attributes: false,
         };
         for (number, rule) in rules.iter().enumerate() {
-            index.asks_attributes = index.asks_attributes | rule.asks_attributes();
-            match rule.stated_text() {
+            index.asks_attributes = index.asks_attributes | asks_attributes(rule);
+            match stated_text(rule) {
                 Some(text) => index.put(text, number)?,
                 None => index.general.push(number)?,
             }

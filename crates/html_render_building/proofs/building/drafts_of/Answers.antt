@@ -2,7 +2,7 @@ use Rattle.std.proofs.Common.{rules as known, ◌≡◌, ◌<◌, suc, [], ◌�
 use Rattle.std.proofs.Common.{option_map, ◌-◌, take, get_or}
 use Rattle.std.specs.Result.{IsErrAnd}
 use Rattle.std.proofs.lemmas.Result.{IfOk-weaker}
-use Rattle.html_render_dom.specs.Rules.{rule_of}
+use Rattle.html_render_dom_rules.specs.Rules.{rule_of}
 use Rattle.html_render_values.specs.Forest.{Forest}
 use Rattle.html_render_values.specs.declared.errors.Error.{Error}
 use Rattle.html_render_values.specs.declared.errors.Error.TheVariants.{TooNarrow, Fail, OutOfMemory}

@@ -1,5 +1,5 @@
 use Rattle.std.proofs.Common.{map}
-use Rattle.html_render_dom.specs.Rules.{rule_of}
+use Rattle.html_render_dom_rules.specs.Rules.{rule_of}
 use Rattle.html_render_building.proofs.Paths.{Converting}
 use Rattle.html_render_building.proofs.Working.{work}
 use Rattle.html_render_building.proofs.building.drafts_of.Given as goal

@@ -1,7 +1,7 @@
 use Rattle.std.proofs.Common.{◌≡◌, drop, map}
 use denote.Text.{Utf8}
 use denote.Shadow.{shadow}
-use Rattle.html_render_dom.specs.Content.{property_of}
+use Rattle.html_render_dom_nodes.specs.Content.{property_of}
 use Rattle.html_render_conversion.specs.Images.{read_all, image_parts}
 use Rattle.html_render_conversion.proofs.images.image_parts.Given as goal
 

@@ -1,9 +1,9 @@
 use Rattle.std.proofs.Common.{◌≡◌, ◌≢◌, ℕ, List, [], length, map, None, false, sym, ap, ◌∙◌, subst, refl, arith}
 use Rattle.std.proofs.lemmas.List.{nil_from_length}
 use Rattle.std.specs.Vec.Iter.{into_iter_items, into_iter_len}
-use Rattle.html_render_dom.specs.Content.{Content, element, name_of, property_of, space_of}
+use Rattle.html_render_dom_nodes.specs.Content.{Content, element, name_of, property_of, space_of}
 use Rattle.html_render_dom.specs.Dom.{IsNode}
-use Rattle.html_render_dom.specs.Edits.{attached_new}
+use Rattle.html_render_dom_nodes.specs.Edits.{attached_new}
 use Rattle.html_render_json.specs.Built.{HasSaid}
 use Rattle.html_render_json.specs.Said.{said, beside, beside_all, over}
 use Rattle.html_render_json.proofs.OwnNodes.{put_last, plain_element}

@@ -1,6 +1,6 @@
 use Rattle.std.proofs.Common.{◌≡◌, string_bytes, [], refl, sym, ap, ◌∙◌, subst}
-use Rattle.html_render_dom.specs.Content.{doctype}
-use Rattle.html_render_dom.specs.Edits.{attached_new}
+use Rattle.html_render_dom_nodes.specs.Content.{doctype}
+use Rattle.html_render_dom_nodes.specs.Edits.{attached_new}
 use Rattle.html_render_json.specs.Built.{HasOwn}
 use Rattle.html_render_json.proofs.OwnNodes.{own_new}
 use Rattle.html_render_json.proofs.documents.append_doctype.Goals as goal

@@ -1,6 +1,6 @@
 use Rattle.std.proofs.Common.{◌≡◌, string_bytes, [], refl, ap, ◌∙◌}
-use Rattle.html_render_dom.specs.Content.{instruction}
-use Rattle.html_render_dom.specs.Edits.{created}
+use Rattle.html_render_dom_nodes.specs.Content.{instruction}
+use Rattle.html_render_dom_nodes.specs.Edits.{created}
 use Rattle.html_render_json.proofs.OwnNodes.{own_attached}
 use Rattle.html_render_json.proofs.documents.append_instruction.Goals as goal
 

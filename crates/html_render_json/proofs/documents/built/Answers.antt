@@ -2,7 +2,7 @@ use Rattle.std.proofs.Common.{◌≡◌, [], ◌∷◌, Vec, Global, length, sym
 use Rattle.std.proofs.lemmas.List.{nil_from_length}
 use Rattle.std.specs.Vec.Iter.{into_iter_items, into_iter_len}
 use Rattle.html_render_values.specs.Forest.{none, node, followed_by}
-use Rattle.html_render_dom.specs.Content.{document}
+use Rattle.html_render_dom_nodes.specs.Content.{document}
 use Rattle.html_render_dom.specs.Dom.{empty_dom, node_count, HaveTrees}
 use Rattle.html_render_json.specs.Built.{HasSaid}
 use Rattle.html_render_json.specs.Said.{said, below_document, document_tree}

@@ -1,7 +1,7 @@
 use Rattle.std.proofs.Common.{◌≡◌, ◌≤◌, length}
 use Rattle.std.specs.Vec.Iter.{into_iter_items, into_iter_len}
 use Rattle.html_render_values.specs.Forest.{Forest, none, followed_by}
-use Rattle.html_render_dom.specs.Content.{Content}
+use Rattle.html_render_dom_nodes.specs.Content.{Content}
 use Rattle.html_render_dom.specs.Dom.{empty_dom, node_count}
 use Rattle.html_render_json.specs.Built.{HasSaid}
 use Rattle.html_render_json.specs.Said.{below_document}

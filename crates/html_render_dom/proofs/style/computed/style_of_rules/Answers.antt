@@ -1,9 +1,9 @@
 -- Each turn takes the declarations of one rule more, if it isn't done and selects the element.
 use Rattle.std.proofs.Common.{◌≡◌, true, length, refl, ◌+◌, ◌<◌, [], sym, ap, ◌∙◌, arith, get_or, take, subst, option_copied}
 use Rattle.std.specs.List.{flat_map}
-use Rattle.html_render_dom.specs.declared.style.rules.StyleRule.{StyleRule}
-use Rattle.html_render_dom.specs.Rules.{rule_of}
-use Rattle.html_render_dom.specs.Selectors.{selects}
+use Rattle.html_render_dom_rules.specs.declared.rules.StyleRule.{StyleRule}
+use Rattle.html_render_dom_rules.specs.Rules.{rule_of}
+use Rattle.html_render_dom_rules.specs.Selectors.{selects}
 use Rattle.html_render_dom.specs.ElementStyle.{style_by, style_of, with_declarations}
 use Rattle.html_render_dom.proofs.Applies.{said_to, still, said_to-all, said_to-selected, with_declarations-more}
 use Rattle.html_render_dom.proofs.RuleIndex.{Left, Left-done, Left-passed, Left-start, done-all, done-before}

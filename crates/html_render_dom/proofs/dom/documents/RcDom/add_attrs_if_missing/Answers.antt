@@ -1,7 +1,7 @@
 use Rattle.std.proofs.Common.{map, refl}
-use Rattle.html_render_dom.specs.Content.{property_of}
-use Rattle.html_render_dom.specs.Elements.{completed}
-use Rattle.html_render_dom.specs.Nodes.{dom_of}
+use Rattle.html_render_dom_nodes.specs.Content.{property_of}
+use Rattle.html_render_dom_nodes.specs.Elements.{completed}
+use Rattle.html_render_dom.specs.Documents.{dom_of}
 use Rattle.html_render_dom.specs.laws.Forests.{IsNode-element}
 use Rattle.html_render_dom.proofs.Forests.{IsForest-with_content, contents_in-completed}
 use Rattle.html_render_dom.proofs.dom.documents.RcDom.add_attrs_if_missing.Goals as goal

@@ -1,6 +1,6 @@
 use Rattle.std.proofs.Common.{refl, string_bytes}
-use Rattle.html_render_dom.specs.Content.{doctype}
-use Rattle.html_render_dom.specs.Nodes.{dom_of}
+use Rattle.html_render_dom_nodes.specs.Content.{doctype}
+use Rattle.html_render_dom.specs.Documents.{dom_of}
 use Rattle.html_render_dom.proofs.Forests.{IsForest-attach_new}
 use Rattle.html_render_dom.proofs.dom.documents.RcDom.append_doctype_to_document.Goals as goal
 

@@ -1,4 +1,4 @@
-use Rattle.html_render_dom.specs.Nodes.{dom_of}
+use Rattle.html_render_dom.specs.Documents.{dom_of}
 use Rattle.html_render_dom.proofs.Forests.{IsForest-put_text}
 use Rattle.html_render_dom.proofs.Outcomes.{IsForest-either}
 use Rattle.html_render_dom.proofs.dom.documents.RcDom.append_text.Goals as goal

@@ -1,8 +1,9 @@
 use Rattle.std.proofs.Common.{rules, ◌≡◌, map}
 use Rattle.std.proofs.lemmas.List.{length-map, map-append}
-use Rattle.html_render_dom.specs.Content.{content_of}
-use Rattle.html_render_dom.specs.Nodes.{dom_of, node_of}
-use Rattle.html_render_dom.specs.Edits.{created}
+use Rattle.html_render_dom_nodes.specs.Content.{content_of}
+use Rattle.html_render_dom.specs.Documents.{dom_of}
+use Rattle.html_render_dom_nodes.specs.Nodes.{node_of}
+use Rattle.html_render_dom_nodes.specs.Edits.{created}
 use Rattle.html_render_dom.proofs.Forests.{IsForest-create, IsFresh-create}
 use Rattle.html_render_dom.proofs.dom.documents.RcDom.create.Goals as goal
 

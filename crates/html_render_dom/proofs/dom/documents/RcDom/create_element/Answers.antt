@@ -1,6 +1,6 @@
 use Rattle.std.proofs.Common.{rules}
 use Rattle.std.proofs.lemmas.List.{length-map}
-use Rattle.html_render_dom.specs.Nodes.{dom_of}
+use Rattle.html_render_dom.specs.Documents.{dom_of}
 use Rattle.html_render_dom.proofs.Forests.{IsForest-create_element, IsFresh-create_element}
 use Rattle.html_render_dom.proofs.dom.documents.RcDom.create_element.Goals as goal
 

@@ -1,8 +1,7 @@
 use Rattle.std.proofs.Common.{◌<◌, length, ap, sym, ◌∙◌, arith}
 use Rattle.std.proofs.lemmas.List.{length-map}
-use Rattle.html_render_dom.specs.Dom.{node_in}
-use Rattle.html_render_dom.specs.Nodes.{node_of}
-use Rattle.html_render_dom.proofs.Writes.{node_in-map}
+use Rattle.html_render_dom_nodes.specs.Nodes.{node_in, node_of}
+use Rattle.html_render_dom_nodes.specs.laws.Nodes.{node_in-map}
 use Rattle.html_render_dom.proofs.dom.documents.RcDom.entry.Goals as goal
 
 pub returns-clause-node : goal.returns-clause-node

@@ -1,7 +1,8 @@
 use Rattle.std.proofs.Common.{rules, arith, ◌≡◌, Some, length, map, subst, sym, vec_len}
 use Rattle.std.proofs.lemmas.List.{length-map}
 use Rattle.html_render_dom.specs.Dom.{parent_at, IsNode}
-use Rattle.html_render_dom.specs.Nodes.{dom_of, node_of}
+use Rattle.html_render_dom.specs.Documents.{dom_of}
+use Rattle.html_render_dom_nodes.specs.Nodes.{node_of}
 use Rattle.html_render_dom.proofs.Moves.{IsForest-text_placed, IsNode-named}
 use Rattle.html_render_dom.proofs.Outcomes.{IsForest-either}
 use Rattle.html_render_dom.proofs.dom.documents.RcDom.put_text_before.Goals as goal

@@ -1,5 +1,5 @@
 use Rattle.std.proofs.Common.{sym, ◌∙◌}
-use Rattle.html_render_dom.specs.Nodes.{dom_of}
+use Rattle.html_render_dom.specs.Documents.{dom_of}
 use Rattle.html_render_dom.proofs.Moves.{IsForest-taken_out}
 use Rattle.html_render_dom.proofs.dom.documents.RcDom.remove_from_parent.Goals as goal
 

@@ -3,7 +3,8 @@ use Rattle.std.proofs.lemmas.List.{length-map}
 use Rattle.std.proofs.lemmas.List.Elements.{All-weaker}
 use Rattle.html_render_dom.specs.Dom.{IsNode, IsInclusiveAncestor, itself, children_at}
 use Rattle.html_render_dom.specs.laws.Forests.{All-children}
-use Rattle.html_render_dom.specs.Nodes.{dom_of, node_of}
+use Rattle.html_render_dom.specs.Documents.{dom_of}
+use Rattle.html_render_dom_nodes.specs.Nodes.{node_of}
 use Rattle.html_render_dom.proofs.Moves.{IsForest-reparented}
 use Rattle.html_render_dom.proofs.dom.documents.RcDom.reparent_children.Goals as goal
 

@@ -1,7 +1,7 @@
 use Rattle.std.proofs.Common.{◌+◌, [], sym, ap, ◌∙◌, subst, arith}
 use Rattle.std.proofs.lemmas.List.{append-nil}
 use Rattle.std.proofs.lemmas.List.Elements.{All-push}
-use Rattle.html_render_dom.specs.Content.{content_of}
+use Rattle.html_render_dom_nodes.specs.Content.{content_of}
 use Rattle.html_render_dom.specs.Dom.{IsForest}
 use Rattle.html_render_dom.specs.Frames.{FrameFits}
 use Rattle.html_render_dom.proofs.Dumps.{on_ok, opened, fresh_frame, dump-document, dump-element, fits-fresh, steps-fresh}

@@ -4,12 +4,12 @@ use Rattle.std.proofs.lemmas.Bool.Decides.{nat_tests}
 use Rattle.std.proofs.lemmas.Grind.{common_steps}
 use Rattle.std.specs.Bool.{OnFalse}
 use Rattle.std.specs.Vec.{vec_len}
-use Rattle.html_render_dom.specs.declared.dom.names.Attribute.{Attribute}
-use Rattle.html_render_dom.specs.Content.{property_of}
+use Rattle.html_render_dom_nodes.specs.declared.names.Attribute.{Attribute}
+use Rattle.html_render_dom_nodes.specs.Content.{property_of}
 use Rattle.html_render_dom.specs.ElementStyle.{element_style, style_by}
 use Rattle.html_render_dom.specs.RuleIndex.{Finds, is_told, key_of}
-use Rattle.html_render_dom.specs.Rules.{Rule}
-use Rattle.html_render_dom.specs.Selectors.{is_filled}
+use Rattle.html_render_dom_rules.specs.Rules.{Rule}
+use Rattle.html_render_dom_rules.specs.Selectors.{is_filled}
 use Rattle.html_render_dom.proofs.RuleIndex.{none_selects}
 use Rattle.html_render_dom.proofs.style.index.RuleIndex.may_select.Goals as goal
 use Rattle.html_render_dom.proofs.style.index.RuleIndex.may_select.Goals.{Else-not-is_empty, then-index, else-index}

@@ -5,7 +5,7 @@ use Rattle.std.proofs.lemmas.List.Elements.{Contains-push}
 use Rattle.std.specs.List.{Contains}
 use Rattle.html_render_dom.specs.declared.style.index.RuleIndex.{RuleIndex}
 use Rattle.html_render_dom.specs.RuleIndex.{Finds, IsFound, asks_attributes, key_of, stated_text}
-use Rattle.html_render_dom.specs.Rules.{rule_of}
+use Rattle.html_render_dom_rules.specs.Rules.{rule_of}
 use Rattle.html_render_dom.proofs.RuleIndex.{Finds-more, general-keeps, key_small, put-found, put-keeps}
 use Rattle.html_render_dom.proofs.style.index.RuleIndex.of.Goals as goal
 use Rattle.html_render_dom.proofs.style.index.RuleIndex.of.Goals.{in-Some+in_ok-put-in-Some, in-None+in_ok-push-in-None}

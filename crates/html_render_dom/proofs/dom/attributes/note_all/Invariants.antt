@@ -1,8 +1,0 @@
-use Rattle.std.proofs.Common.{◌≡◌, ℕ, List, take}
-use Rattle.std.specs.BTreeMap.{get_by_text}
-use Rattle.html_render_dom.specs.Places.{first_of, place_of}
-use Rattle.html_render_dom.proofs.dom.attributes.note_all.Given as goal
-
-abbrev pub invariant-loop-number : goal.invariant-loop-number
-invariant-loop-number l =
-    (name : List ℕ) → get_by_text l.places name ≡ first_of (get_by_text l.initial.places name) (place_of name l.start (take l.number l.attrs))

@@ -1,4 +1,0 @@
-use Rattle.html_render_dom.proofs.dom.lists.take_out.Goals as goal
-
-pub returns-clause-room : goal.returns-clause-room
-returns-clause-room c = λ node more room. c.set_parent.ensures.room node more (c.drop_child.ensures.room node more room)

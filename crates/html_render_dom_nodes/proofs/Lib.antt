@@ -1,0 +1,4 @@
+pub mod Children
+pub mod Mapped
+pub mod Places
+pub mod Writes

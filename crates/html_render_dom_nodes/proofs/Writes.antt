@@ -1,0 +1,33 @@
+-- A write to one node of the vector, as an edit of the nodes that it stands for.
+use Rattle.std.proofs.Common.{◌≡◌, ℕ, ◌<◌, List, [], ◌∷◌, ◌++◌, length, map, slice_set, slice_index_or, Some, sym, ap, ◌∙◌}
+use Rattle.std.proofs.lemmas.List.{map-set, set-get_or, get_or_append_left, set-append_left}
+use Rattle.html_render_dom_nodes.specs.declared.nodes.Node.{Node as TheNode}
+use Rattle.html_render_dom_nodes.specs.Content.{Content, document}
+use Rattle.html_render_dom_nodes.specs.Nodes.{Node, node_in, lone, node_of}
+use Rattle.html_render_dom_nodes.specs.Edits.{attached, created, with_children, with_parent}
+use Rattle.html_render_dom_nodes.specs.laws.Nodes.{node_in-map}
+
+-- the node m in the place of n
+pub written : (items : List TheNode) (i : ℕ) (n m : TheNode) → i < length items → n ≡ slice_index_or items i n → (change : Node → Node) →
+    node_of m ≡ change (node_of n) →
+    map node_of (slice_set items i m) ≡ slice_set (map node_of items) i (change (node_in (map node_of items) i))
+written items i n m h e change q = map-set node_of items i m ∙ ap (slice_set (map node_of items) i) (q ∙ ap change (sym (node_in-map items i n h e)))
+
+-- a node that stands for the same as before
+pub written-same : (items : List TheNode) (i : ℕ) (n m : TheNode) → i < length items → n ≡ slice_index_or items i n → node_of m ≡ node_of n →
+    map node_of (slice_set items i m) ≡ map node_of items
+written-same items i n m h e q = written items i n m h e (λ x. x) q ∙ set-get_or (map node_of items) i (lone document)
+
+-- a new node as the last child of an older one, whose list is written first
+pub attached-created : (nodes : List Node) (c : Content) (p : ℕ) → p < length nodes →
+    attached (created nodes c) p (length nodes)
+    ≡ with_parent (created (with_children nodes p ((node_in nodes p).children ++ length nodes ∷ [])) c) (length nodes) (Some p)
+attached-created nodes c p at =
+    let n = length nodes in
+    let read : node_in (created nodes c) p ≡ node_in nodes p = get_or_append_left nodes (lone c ∷ []) (lone document) p at in
+    let cs = (node_in nodes p).children ++ n ∷ [] in
+    let first : with_children (created nodes c) p ((node_in (created nodes c) p).children ++ n ∷ [])
+    ≡ created (with_children nodes p cs) c =
+    ap (λ m. slice_set (created nodes c) p (record m { children = m.children ++ n ∷ [] })) read
+    ∙ set-append_left nodes (lone c ∷ []) p (record (node_in nodes p) { children = cs }) at in
+    ap (λ ns. with_parent ns n (Some p)) first

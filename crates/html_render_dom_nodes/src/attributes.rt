@@ -1,0 +1,163 @@
+//! The attributes of an element.
+
+ghost use Rattle.std.specs.Prelude.{◌≡◌, ◌+◌, ◌^◌, ◌<◌, ◌++◌, drop, if◌then◌else◌, IfOk, length, List, ℕ, map, None, OnErr, OnOk, Some, string_bytes};
+ghost use Rattle.std.specs.BTreeMap.{get_by_text};
+ghost use Rattle.std.specs.Str.{bytes_eq};
+ghost use Rattle.html_render_dom_nodes.specs.Content.{name_of, property_of};
+ghost use Rattle.html_render_dom_nodes.specs.Elements.{has_name, with_missing};
+ghost use Rattle.html_render_dom_nodes.specs.Places.{first_of, place_of, TellsPlaces};
+
+use crate::names::{Attribute, LocalName, QualName, has_name};
+use std::alloc::{AllocError, Global};
+use std::collections::BTreeMap;
+use std::marker::Model;
+use std::mem;
+
+/// So few attributes are looked through one by one.
+const FEW: usize = 16;
+
+/// The attributes of an element, in the order in which they were given.
+///
+/// They may be many, and are then found by their local names, so that `n` of them are added one by one in time that grows about
+/// as `n`.
+#[derive(Drop)]
+pub struct Attributes {
+    list: Vec<Attribute>,
+    /// The place of the first attribute of each local name, once there are many.
+    places: Option<Box<BTreeMap<String, usize>>>,
+}
+
+impl Model for Attributes {
+    ghost use Rattle.std.specs.Prelude.{List, IfSome};
+    ghost use Rattle.html_render_dom_nodes.specs.declared.names.Attribute.{Attribute};
+    ghost use Rattle.html_render_dom_nodes.specs.Places.{TellsPlaces};
+
+    ghost Value = { List Attribute };
+
+    ghost view = { λ a. a.list.items };
+
+    ghost invariant = { λ a. IfSome a.places (λ places. TellsPlaces places.value a.list.items) };
+}
+
+/// Notes the place of an attribute of this local name, unless one is noted.
+fn note(
+    alloc: Global,
+    places: &mut BTreeMap<String, usize>,
+    local: &LocalName,
+    place: usize,
+) -> Result<(), AllocError>
+    ensures { OnOk result ((name : List ℕ) → get_by_text places.new name
+        ≡ first_of (get_by_text places.old name) (if bytes_eq name local.now then Some place else None)) }
+{
+    if places.get(local.as_str()).is_none() {
+        places.insert(String::from_str(alloc, local.as_str())?, place)?;
+    }
+    Ok(())
+}
+
+/// Notes the places of attributes, of which the first has the place `start`.
+fn note_all(
+    alloc: Global,
+    places: &mut BTreeMap<String, usize>,
+    attrs: &[Attribute],
+    start: usize,
+) -> Result<(), AllocError>
+    requires { start + length attrs.now < 2 ^ 64 }
+    ensures { OnOk result ((name : List ℕ) → get_by_text places.new name
+        ≡ first_of (get_by_text places.old name) (place_of name start attrs.now)) }
+{
+    for (number, attribute) in attrs.iter().enumerate() {
+        note(alloc, places, &attribute.name.local, start + number)?;
+    }
+    Ok(())
+}
+
+/// The places of attributes.
+fn places_of(alloc: Global, attrs: &[Attribute]) -> Result<BTreeMap<String, usize>, AllocError>
+    ensures { IfOk result (λ places. TellsPlaces places attrs.now) }
+{
+    let mut places = BTreeMap::new(alloc);
+    note_all(alloc, &mut places, attrs, 0)?;
+    Ok(places)
+}
+
+/// Whether one of the attributes from this place on has the name.
+fn has_name_from(attrs: &[Attribute], place: usize, name: &QualName) -> bool
+    requires { place < length attrs.now }
+    ensures { result ≡ has_name (map property_of (drop place attrs.now)) (name_of name.now) }
+{
+    has_name(&attrs[place..], name)
+}
+
+impl Attributes {
+    /// These attributes.
+    #[inline]
+    pub fn of(list: Vec<Attribute>) -> Attributes
+        ensures { result ≡ list.items }
+    {
+        Attributes { list, places: None }
+    }
+
+    /// All of them, in order.
+    #[inline]
+    pub fn as_slice(&self) -> &[Attribute]
+        ensures { result.now ≡ self.now }
+    {
+        self.list.as_slice()
+    }
+
+    /// Whether one of them has the name.
+    fn has(&self, name: &QualName) -> bool
+        ensures { result ≡ has_name (map property_of self.now) (name_of name.now) }
+    {
+        let Some(places) = &self.places else {
+            return has_name(self.list.as_slice(), name);
+        };
+        match places.get(name.local.as_str()) {
+            Some(place) => has_name_from(self.list.as_slice(), *place, name),
+            None => false,
+        }
+    }
+
+    /// Notes their places, if they are many.
+    fn index(&mut self) -> Result<(), AllocError>
+        ensures { self.new ≡ self.old }
+    {
+        if self.places.is_none() && self.list.len() > FEW {
+            let alloc = *self.list.allocator();
+            let places = places_of(alloc, self.list.as_slice())?;
+            self.places = Some(Box::new(alloc, places)?);
+        }
+        Ok(())
+    }
+
+    /// Puts attributes behind them.
+    fn append(&mut self, mut given: Vec<Attribute>) -> Result<(), AllocError>
+        ensures ok { OnOk result (self.new ≡ self.old ++ given.items) }
+        ensures err { OnErr result (self.new ≡ self.old) }
+    {
+        if self.list.is_empty() {
+            *self = Attributes::of(given);
+            return Ok(());
+        }
+        // so that no place is noted of an attribute that isn't put
+        let alloc = *self.list.allocator();
+        let mut noted = mem::replace(&mut self.places, None);
+        if let Some(places) = &mut noted {
+            note_all(alloc, places, given.as_slice(), self.list.len())?;
+        }
+        self.list.append(&mut given)?;
+        self.places = noted;
+        Ok(())
+    }
+
+    /// Adds, in order, those given whose name none of them has.
+    pub fn add_missing(&mut self, mut given: Vec<Attribute>) -> Result<(), AllocError>
+        ensures ok { OnOk result (map property_of self.new ≡ with_missing (map property_of self.old) (map property_of given.items)) }
+        ensures err { OnErr result (map property_of self.new ≡ map property_of self.old) }
+    {
+        self.index()?;
+        given.retain(|a| !self.has(&a.name));
+        self.append(given)
+    }
+}

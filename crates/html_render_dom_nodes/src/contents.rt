@@ -1,0 +1,78 @@
+//! What a node holds, and what can be put into a list of children.
+
+use crate::attributes::Attributes;
+use crate::handles::Handle;
+use crate::names::QualName;
+use html_render_values::small_text::SmallText;
+
+/// The text of a text node: 24 bytes at most stand in the node itself.
+pub type TextContents = SmallText<24>;
+
+/// What a node holds, beside its place among the others.
+#[derive(Drop)]
+pub enum NodeData {
+    /// The document itself, or the contents of a template.
+    Document,
+    /// A doctype.
+    Doctype {
+        /// The name of the document's language, as `html`.
+        name: String,
+        /// The public identifier.
+        public_id: String,
+        /// The system identifier.
+        system_id: String,
+    },
+    /// A text.
+    Text {
+        /// The text.
+        contents: TextContents,
+    },
+    /// A comment.
+    Comment {
+        /// The comment's text.
+        contents: String,
+    },
+    /// An element.
+    Element {
+        /// Whether the element is an HTML integration point of MathML's `annotation-xml`. It comes first, where it makes no node
+        /// larger.
+        mathml_annotation_xml_integration_point: bool,
+        /// The element's name.
+        name: QualName,
+        /// The attributes, in the order in which they were given.
+        attrs: Attributes,
+        /// The node that holds a template's contents, for an HTML `template`.
+        template_contents: Option<Handle>,
+    },
+    /// A processing instruction.
+    ProcessingInstruction {
+        /// The target.
+        target: String,
+        /// The text behind the target.
+        contents: String,
+    },
+}
+
+impl NodeData {
+    ghost use Rattle.std.specs.Prelude.{◌≡◌, string_bytes};
+    ghost use Rattle.html_render_dom_nodes.specs.Content.{content_of, text};
+
+    /// A text.
+    #[inline]
+    pub fn text(contents: String) -> NodeData
+        ensures { content_of result ≡ text (string_bytes contents) }
+    {
+        NodeData::Text {
+            contents: TextContents::from(contents),
+        }
+    }
+}
+
+/// What is put into a list of children.
+#[derive(Drop)]
+pub enum NodeOrText {
+    /// A node that stands in no list yet.
+    AppendNode(Handle),
+    /// A text, which joins a text node that it comes to stand behind.
+    AppendText(String),
+}

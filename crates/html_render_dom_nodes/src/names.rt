@@ -1,0 +1,115 @@
+//! The names of elements and attributes.
+
+ghost use Rattle.std.specs.Cmp.{on_equiv, partial_equiv_from_equiv};
+ghost use Rattle.html_render_dom_nodes.specs.Content.{name_of, property_of, space_of};
+ghost use Rattle.html_render_dom_nodes.specs.Names.{name_eq, property_eq, space_eq};
+ghost use Rattle.html_render_dom_nodes.specs.laws.Names.{name_eq_equiv, property_eq_equiv, space_eq_equiv};
+ghost use Rattle.std.specs.Prelude.{◌≡◌, map, string_bytes};
+ghost use Rattle.html_render_dom_nodes.specs.Elements.{has_name};
+ghost use Rattle.html_render_dom_nodes.specs.Content as content;
+
+use html_render_values::small_text::SmallText;
+
+/// The namespace of a name.
+#[derive(Debug, Drop)]
+pub enum Namespace {
+    /// No namespace.
+    None,
+    /// HTML.
+    Html,
+    /// SVG.
+    Svg,
+    /// MathML.
+    MathMl,
+    /// Any other namespace, by its address; it equals none of those above, whatever the address.
+    Other(String),
+}
+
+/// A name within its namespace: 16 bytes at most stand in the value itself.
+pub type LocalName = SmallText<16>;
+
+/// A name in a namespace.
+#[derive(Debug, Drop)]
+pub struct QualName {
+    /// The namespace.
+    pub ns: Namespace,
+    /// The name within its namespace.
+    pub local: LocalName,
+}
+
+/// An attribute of an element.
+#[derive(Debug, Drop)]
+pub struct Attribute {
+    /// The attribute's name.
+    pub name: QualName,
+    /// The attribute's value.
+    pub value: String,
+}
+
+impl QualName {
+    /// An HTML name.
+    pub fn html(local: LocalName) -> QualName
+        ensures { name_of result ≡ record { space = content.html; local = local } }
+    {
+        QualName {
+            ns: Namespace::Html,
+            local,
+        }
+    }
+}
+
+impl PartialEq for Namespace {
+    ghost eq = { λ a b. space_eq (space_of a) (space_of b) };
+
+    ghost laws = { partial_equiv_from_equiv (on_equiv space_of space_eq_equiv) };
+
+    fn eq(&self, other: &Namespace) -> bool {
+        match (self, other) {
+            (Namespace::None, Namespace::None) => true,
+            (Namespace::Html, Namespace::Html) => true,
+            (Namespace::Svg, Namespace::Svg) => true,
+            (Namespace::MathMl, Namespace::MathMl) => true,
+            (Namespace::Other(a), Namespace::Other(b)) => a == b,
+            _ => false,
+        }
+    }
+}
+
+impl Eq for Namespace {
+    ghost laws = { on_equiv space_of space_eq_equiv };
+}
+
+impl PartialEq for QualName {
+    ghost eq = { λ a b. name_eq (name_of a) (name_of b) };
+
+    ghost laws = { partial_equiv_from_equiv (on_equiv name_of name_eq_equiv) };
+
+    fn eq(&self, other: &QualName) -> bool {
+        self.ns == other.ns && self.local == other.local
+    }
+}
+
+impl Eq for QualName {
+    ghost laws = { on_equiv name_of name_eq_equiv };
+}
+
+impl PartialEq for Attribute {
+    ghost eq = { λ a b. property_eq (property_of a) (property_of b) };
+
+    ghost laws = { partial_equiv_from_equiv (on_equiv property_of property_eq_equiv) };
+
+    fn eq(&self, other: &Attribute) -> bool {
+        self.name == other.name && self.value == other.value
+    }
+}
+
+impl Eq for Attribute {
+    ghost laws = { on_equiv property_of property_eq_equiv };
+}
+
+/// Whether one of the attributes has the name.
+pub(crate) fn has_name(attrs: &[Attribute], name: &QualName) -> bool
+    ensures { result ≡ has_name (map property_of attrs.now) (name_of name.now) }
+{
+    attrs.iter().any(|a| a.name == *name)
+}

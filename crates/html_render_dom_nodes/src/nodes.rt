@@ -1,0 +1,183 @@
+//! The vector of nodes, and what one edit does to it.
+
+ghost use Rattle.std.specs.Prelude.{◌≡◌, ◌+◌, ◌<◌, ◌≤◌, ◌++◌, ◌∷◌, [], OnOk, OnErr, vec_len, vec_capacity, map, string_bytes};
+ghost use Rattle.std.specs.Option.{ForSome};
+ghost use Rattle.html_render_dom_nodes.specs.Content.{content_of, name_of, property_of};
+ghost use Rattle.html_render_dom_nodes.specs.Elements.{completed};
+ghost use Rattle.html_render_dom_nodes.specs.Nodes.{lone, node_in, node_of, nodes_of};
+ghost use Rattle.html_render_dom_nodes.specs.Room.{KeepsRoom};
+ghost use Rattle.html_render_dom_nodes.specs.Edits.{attached, attached_new, element_created, joined, with_children, text_put, with_content, with_parent};
+
+use crate::attributes::Attributes;
+use crate::contents::NodeData;
+use crate::flags::ElementFlags;
+use crate::handles::Handle;
+use crate::names::{Attribute, QualName};
+use smallvec::SmallVec;
+use std::alloc::{AllocError, Global};
+
+/// A node: what it holds, and its place in the forest.
+#[derive(Drop)]
+pub struct Node {
+    /// What the node holds.
+    pub data: NodeData,
+    /// The children, in order. Up to two take no memory of their own.
+    pub children: SmallVec<Handle, 2>,
+    /// The node in whose list of children the node stands.
+    pub parent: Option<Handle>,
+}
+
+impl Node {
+    /// A node that hangs nowhere and has no children.
+    pub fn lone(alloc: Global, contents: NodeData) -> Node
+        ensures { node_of result ≡ lone (content_of contents) }
+    {
+        Node {
+            data: contents,
+            children: SmallVec::new(alloc),
+            parent: None,
+        }
+    }
+}
+
+/// Puts the child last in the parent's list.
+fn push_child(nodes: &mut Vec<Node>, parent: Handle, child: Handle) -> Result<(), AllocError>
+    requires { parent < vec_len nodes.old }
+    ensures len { vec_len nodes.new ≡ vec_len nodes.old }
+    ensures capacity { vec_capacity nodes.new ≡ vec_capacity nodes.old }
+    ensures ok { let old = nodes_of nodes.old.items in
+        OnOk result (nodes_of nodes.new.items ≡ with_children old parent ((node_in old parent).children ++ child ∷ [])) }
+    ensures err { OnErr result (nodes_of nodes.new.items ≡ nodes_of nodes.old.items) }
+{
+    nodes[parent.number()].children.push(child)?;
+    Ok(())
+}
+
+/// Puts the text behind the text node's own.
+pub fn extend_text(nodes: &mut Vec<Node>, node: Handle, more: &str) -> Result<(), AllocError>
+    requires { node < vec_len nodes.old }
+    ensures len { vec_len nodes.new ≡ vec_len nodes.old }
+    ensures ok { let old = nodes_of nodes.old.items in
+        OnOk result (nodes_of nodes.new.items ≡ with_content old node (joined (node_in old node).content more.now)) }
+    ensures err { OnErr result (nodes_of nodes.new.items ≡ nodes_of nodes.old.items) }
+{
+    let alloc = *nodes.allocator();
+    if let NodeData::Text { contents } = &mut nodes[node.number()].data {
+        contents.push_str(alloc, more)?;
+    }
+    Ok(())
+}
+
+/// Makes a node of the next number, the parent's last child.
+pub fn attach_new(
+    alloc: Global,
+    nodes: &mut Vec<Node>,
+    parent: Handle,
+    contents: NodeData,
+) -> Result<(), AllocError>
+    requires { parent < vec_len nodes.old }
+    ensures len { OnOk result (vec_len nodes.new ≡ vec_len nodes.old + 1) }
+    ensures ok { OnOk result (nodes_of nodes.new.items
+        ≡ attached_new (nodes_of nodes.old.items) (content_of contents) parent) }
+    ensures err { OnErr result (nodes_of nodes.new.items ≡ nodes_of nodes.old.items) }
+{
+    let made = Node::lone(alloc, contents);
+    let node = Handle::new(nodes.len());
+    nodes.reserve(1)?;
+    push_child(nodes, parent, node)?;
+    nodes.push(made)?;
+    set_parent(nodes, node, Some(parent));
+    Ok(())
+}
+
+/// Puts the text behind that of the text node before its place; without one it makes a new text node, the parent's
+/// last child.
+pub fn put_text(
+    alloc: Global,
+    nodes: &mut Vec<Node>,
+    parent: Handle,
+    before: Option<Handle>,
+    contents: String,
+) -> Result<(), AllocError>
+    requires parent { parent < vec_len nodes.old }
+    requires before { ForSome before (λ node. node < vec_len nodes.old) }
+    ensures len { OnOk result (vec_len nodes.old ≤ vec_len nodes.new) }
+    ensures ok { OnOk result (nodes_of nodes.new.items
+        ≡ text_put (nodes_of nodes.old.items) parent before (string_bytes contents)) }
+    ensures err { OnErr result (nodes_of nodes.new.items ≡ nodes_of nodes.old.items) }
+{
+    match before {
+        Some(node) => extend_text(nodes, node, contents.as_str()),
+        None => attach_new(alloc, nodes, parent, NodeData::text(contents)),
+    }
+}
+
+/// Names the node's parent.
+pub fn set_parent(nodes: &mut Vec<Node>, node: Handle, parent: Option<Handle>)
+    requires { node < vec_len nodes.old }
+    ensures len { vec_len nodes.new ≡ vec_len nodes.old }
+    ensures parent { nodes_of nodes.new.items ≡ with_parent (nodes_of nodes.old.items) node parent }
+    ensures room { KeepsRoom nodes.old.items nodes.new.items }
+{
+    nodes[node.number()].parent = parent;
+}
+
+/// Puts the child last in the parent's list, and names the parent in the child.
+pub fn attach(nodes: &mut Vec<Node>, parent: Handle, child: Handle) -> Result<(), AllocError>
+    requires parent { parent < vec_len nodes.old }
+    requires child { child < vec_len nodes.old }
+    ensures len { vec_len nodes.new ≡ vec_len nodes.old }
+    ensures ok { OnOk result (nodes_of nodes.new.items ≡ attached (nodes_of nodes.old.items) parent child) }
+    ensures err { OnErr result (nodes_of nodes.new.items ≡ nodes_of nodes.old.items) }
+{
+    push_child(nodes, parent, child)?;
+    set_parent(nodes, child, Some(parent));
+    Ok(())
+}
+
+/// Makes an element of the next number; a template's contents have the number after it.
+pub fn push_element(
+    alloc: Global,
+    nodes: &mut Vec<Node>,
+    name: QualName,
+    attrs: Vec<Attribute>,
+    flags: ElementFlags,
+) -> Result<(), AllocError>
+    ensures ok { OnOk result (nodes_of nodes.new.items
+        ≡ element_created (nodes_of nodes.old.items) (name_of name) (map property_of attrs.items) flags) }
+    ensures err { OnErr result (nodes_of nodes.new.items ≡ nodes_of nodes.old.items) }
+{
+    nodes.reserve(if flags.template { 2 } else { 1 })?;
+    let template_contents = flags.template.then_some(Handle::new(nodes.len() + 1));
+    nodes.push(Node::lone(
+        alloc,
+        NodeData::Element {
+            name,
+            attrs: Attributes::of(attrs),
+            template_contents,
+            mathml_annotation_xml_integration_point: flags.mathml_annotation_xml_integration_point,
+        },
+    ))?;
+    if flags.template {
+        nodes.push(Node::lone(alloc, NodeData::Document))?;
+    }
+    Ok(())
+}
+
+/// Adds to the element's attributes those given whose name none of them has.
+pub fn complete(
+    nodes: &mut Vec<Node>,
+    node: Handle,
+    given: Vec<Attribute>,
+) -> Result<(), AllocError>
+    requires { node < vec_len nodes.old }
+    ensures len { vec_len nodes.new ≡ vec_len nodes.old }
+    ensures ok { let old = nodes_of nodes.old.items in OnOk result (nodes_of nodes.new.items
+        ≡ with_content old node (completed (node_in old node).content (map property_of given.items))) }
+    ensures err { OnErr result (nodes_of nodes.new.items ≡ nodes_of nodes.old.items) }
+{
+    if let NodeData::Element { attrs, .. } = &mut nodes[node.number()].data {
+        attrs.add_missing(given)?;
+    }
+    Ok(())
+}
