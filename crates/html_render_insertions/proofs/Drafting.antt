@@ -2,7 +2,7 @@
 use Rattle.std.proofs.Common.{◌≡◌, ℕ, ◌+◌, ◌-◌, List, [], ◌∷◌, ◌++◌, length, take, reverse, sym, ap, ◌∙◌, arith}
 use Rattle.std.proofs.lemmas.List.{reverse-append, reverse-reverse, length-reverse}
 use Rattle.std.proofs.Math.Seq.{take_at}
-use Rattle.html_render_values.specs.Forest.{Forest, node, count}
+use Rattle.html_render_values.specs.Forest.{Forest, none, node, count}
 use Rattle.html_render_nodes.specs.declared.tree.Entry.{Entry}
 use Rattle.html_render_nodes.specs.Preorder.{flatten}
 use Rattle.html_render_nodes.specs.laws.Preorder.{length-flatten, flatten-followed_by, IsForest, IsForest-flatten}
@@ -30,6 +30,13 @@ module _ {K : Type 0} where
       IsForest-flatten _ _ (reverse-append es (over ∷ [])
       ∙ ap (λ l. over ∷ l) (sym e ∙ ap flatten s.is ∙ flatten-followed_by s.children s.beside)
       ∙ ap (λ n. record { node = k; size = n } ∷ (flatten s.children ++ flatten s.beside)) size)
+
+  -- a node in front of all
+  pub put_front : (es : List (Entry K)) (t : Forest K) (k : K) → flatten t ≡ reverse es →
+      IsForest (reverse (es ++ record { node = k; size = 1 } ∷ [])) (node k none t)
+  put_front es t k e =
+      let one : Entry K = record { node = k; size = 1 } in
+      IsForest-flatten _ _ (reverse-append es (one ∷ []) ∙ ap (λ l. one ∷ l) (sym e))
 
   -- what stood before the mark
   pub truncated : (es : List (Entry K)) (t : Forest K) (mark : ℕ) (s : SplitAt t mark) → flatten t ≡ reverse es →

@@ -1,16 +1,16 @@
 -- The way down the first children of drafts.
-use Rattle.std.proofs.Common.{◌≡◌, ◌≢◌, ℕ, ◌+◌, ◌≤◌, ◌<◌, List, [], ◌∷◌, ◌++◌, length, get_or, set, reverse, Option, Some, None, IfNone, subst, sym, ap, ◌∙◌, arith}
+use Rattle.std.proofs.Common.{◌≡◌, ◌≢◌, ℕ, ◌+◌, ◌≤◌, ◌<◌, List, [], ◌∷◌, ◌++◌, length, get_or, set, reverse, Option, Some, None, IfNone, sym, ap, ◌∙◌, arith}
 use Rattle.std.proofs.Common.{append_assoc, length-append, add-one, refl, suc, zero}
-use Rattle.std.proofs.lemmas.List.{reverse-append, reverse-reverse, length-reverse}
+use Rattle.std.proofs.lemmas.List.{reverse-reverse, length-reverse}
 use Rattle.std.proofs.Math.Seq.{get_or_at, set_at}
 use Rattle.html_render_values.specs.Forest.{Forest, none, node}
 use Rattle.html_render_nodes.specs.declared.tree.Entry.{Entry}
-use Rattle.html_render_nodes.specs.Preorder.{flatten, forest_of}
+use Rattle.html_render_nodes.specs.Preorder.{flatten}
 use Rattle.html_render_nodes.specs.laws.Preorder.{length-flatten, IsForest, IsForest-flatten}
-use Rattle.html_render_nodes.specs.Splits.{Reversed}
 use Rattle.html_render_insertions.specs.declared.drafts.Draft.{Draft}
 use Rattle.html_render_insertions.specs.Drafts.{at_first, first_kind, FirstAt}
 use Rattle.html_render_insertions.specs.laws.Drafts.{count-at_first}
+use Rattle.html_render_insertions.proofs.Lists.{turned}
 
 -- the entry of a draft over its children
 abbrev top : Draft → Forest Draft → Entry Draft
@@ -62,9 +62,6 @@ standing (node d children others) (suc depth) some =
           ∙ ap (λ l. one ∷ (l ++ flatten others)) (s.changed change)
           ∙ ap (λ l. one ∷ l) (append_assoc s.before (changed_there ∷ s.behind) (flatten others));
     }
-
-turned : (a b : List (Entry Draft)) (e : Entry Draft) → reverse (a ++ e ∷ b) ≡ reverse b ++ e ∷ reverse a
-turned a b e = reverse-append a (e ∷ b) ∙ ap (λ l. l ++ reverse a) (reverse-append (e ∷ []) b) ∙ append_assoc (reverse b) (e ∷ []) (reverse a)
 
 -- the same from the last to the first
 pub found : (t : Forest Draft) (entries : List (Entry Draft)) (depth place : ℕ) → entries ≡ reverse (flatten t) →
@@ -147,30 +144,28 @@ pub on_none : {X : Type 0} (o : Option X) (P : Type 0) → P → IfNone o P
 on_none None P p = p
 on_none (Some x) P p = tt
 
--- ---- drafts that are borrowed
-
-abbrev pub reversed : {slice items : List (Entry Draft)} {t : Forest Draft} → forest_of (reverse items) ≡ t →
-    flatten (forest_of (reverse items)) ≡ reverse items → slice ≡ items → Reversed slice
-reversed {slice} {items} {t} view kept same = record { trees = t; is = same ∙ sym (reverse-reverse items) ∙ ap reverse (sym kept ∙ ap flatten view) }
-
 -- the draft there is changed
-pub changed_in : {t : Forest Draft} {slice items : List (Entry Draft)} {depth place : ℕ} → slice ≡ items → FirstAt t depth slice place →
-    (change : Draft → Draft) (e : Entry Draft) (new : Draft) → e ≡ get_or items place e → new ≡ change e.node →
-    IsForest (reverse (set items place (record { node = new; size = e.size }))) (at_first depth change t)
-changed_in {t} {slice} {items} {depth} {place} same there change e new at made =
-    let f = subst (λ l. FirstAt t depth l place) same there in
-    let put : Entry Draft = record { node = new; size = e.size } in
+pub changed_in : {t : Forest Draft} {entries : List (Entry Draft)} {depth place : ℕ} → FirstAt t depth entries place →
+    (change : Draft → Draft) (e : Entry Draft) → e ≡ get_or entries place e →
+    IsForest (reverse (set entries place (record { node = change e.node; size = e.size }))) (at_first depth change t)
+changed_in {t} {entries} {depth} {place} f change e at =
     let changed = λ (x : Entry Draft). let y : Entry Draft = record { node = change x.node; size = x.size } in y in
-    let put_is : put ≡ changed f.there = ap (λ d. record { node = d; size = e.size }) made ∙ ap changed (there_is f e at) in
-    let written : set items place put ≡ reverse (flatten (at_first depth change t)) =
-    ap (λ l. set l place put) f.is ∙ set_at f.before f.there f.behind put place (sym f.place_is)
+    let put_is : changed e ≡ changed f.there = ap changed (there_is f e at) in
+    let written : set entries place (changed e) ≡ reverse (flatten (at_first depth change t)) =
+    ap (λ l. set l place (changed e)) f.is ∙ set_at f.before f.there f.behind (changed e) place (sym f.place_is)
     ∙ ap (λ x. f.before ++ x ∷ f.behind) put_is ∙ sym (f.changed change) in
     IsForest-flatten _ _ (ap reverse written ∙ reverse-reverse (flatten (at_first depth change t)))
 
 -- it is within the drafts
-pub within_in : {t : Forest Draft} {slice items : List (Entry Draft)} {depth place : ℕ} → slice ≡ items → FirstAt t depth slice place →
-    place < length items
-within_in same f = omega (arith, ap length same, ap length f.is, length-append f.before (f.there ∷ f.behind), f.place_is)
+pub within_in : {t : Forest Draft} {entries : List (Entry Draft)} {depth place : ℕ} → FirstAt t depth entries place →
+    place < length entries
+within_in f = omega (arith, ap length f.is, length-append f.before (f.there ∷ f.behind), f.place_is)
+
+-- a change that changes nothing
+pub at_first-same : (depth : ℕ) (change : Draft → Draft) (t : Forest Draft) → ((d : Draft) → change d ≡ d) → at_first depth change t ≡ t
+at_first-same depth change none same = nowhere depth change
+at_first-same zero change (node d children others) same = ap (λ e. node e children others) (same d)
+at_first-same (suc depth) change (node d children others) same = ap (λ u. node d u others) (at_first-same depth change children same)
 
 -- the last draft is the first tree's top
 pub first_kind_is : (t : Forest Draft) (items : List (Entry Draft)) (last : ℕ) (e : Entry Draft) → items ≡ reverse (flatten t) →

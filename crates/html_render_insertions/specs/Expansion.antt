@@ -3,8 +3,6 @@ use Rattle.std.specs.Prelude.{◌≡◌, ℕ, ◌+◌, List, [], ◌∷◌, ◌+
 use Rattle.html_render_values.specs.Forest.{Forest, none, node}
 use Rattle.html_render_nodes.specs.declared.tree.Entry.{Entry}
 use Rattle.html_render_nodes.specs.declared.tree.RenderNode.{RenderNode}
-use Rattle.html_render_insertions.specs.declared.drafts.Draft.{Draft}
-use Rattle.html_render_insertions.specs.Drafts.{node_of}
 use Rattle.html_render_insertions.specs.Insertion.{text_node}
 
 -- texts beside each other
@@ -19,10 +17,3 @@ Closes old place behind new =
     (before : List (Entry RenderNode)) (top : Entry RenderNode) (below : List (Entry RenderNode)) → old ≡ before ++ top ∷ below →
     place ≡ length before →
     new ≡ before ++ record { node = top.node; size = length (below ++ behind) + 1 } ∷ (below ++ behind)
-
--- a draft into which nothing is inserted, and its node, which stands over as many as the draft does
-abbrev pub IsBare : Entry Draft → Type 0
-IsBare e = e.node.inserted ≡ []
-
-abbrev pub bare : Entry Draft → Entry RenderNode
-bare e = record { node = node_of e.node; size = e.size }

@@ -5,15 +5,19 @@
 //! draft `c` over `a` and `b`. `insert_first(0, inserted)` then notes an insertion at `c`, and `into_nodes` gives the nodes:
 //! `c` over what is inserted at the front, `a`, `b` and what is inserted at the end.
 
-ghost use Rattle.std.specs.Prelude.{◌≡◌, ◌↔◌, IsTrue, OnOk, OnErr, IfOk, IfErr, IfSome, IfNone, None, Some, [], ◌∷◌, ◌++◌};
+ghost use Rattle.std.specs.Prelude.{◌≡◌, ◌↔◌, ◌+◌, ◌≤◌, ◌<◌, ℕ, IsTrue, OnOk, OnErr, IfOk, IfErr, IfSome, IfNone, None, Some, List, [], ◌∷◌, ◌++◌, length, reverse, take, drop};
+ghost use Rattle.std.specs.List.{All};
 ghost use Rattle.html_render_values.specs.Forest as forest;
 ghost use Rattle.html_render_values.specs.Forest.{none, count};
-ghost use Rattle.html_render_nodes.specs.Splits.{SplitAt, Reversed};
+ghost use Rattle.html_render_nodes.specs.Preorder.{flatten};
+ghost use Rattle.html_render_nodes.specs.Splits.{SplitAt};
 ghost use Rattle.html_render_insertions.specs.declared.drafts.Draft.{Draft};
-ghost use Rattle.html_render_insertions.specs.Drafts.{at_first, insert_first, with_first_style, first_kind, FirstAt, inserted_of, mark_in};
+ghost use Rattle.html_render_insertions.specs.declared.drafts.Noted.{Noted};
+ghost use Rattle.html_render_insertions.specs.Drafts.{at_first, insert_first, with_first_style, first_kind, node_of, FirstAt, inserted_of, mark_in};
+ghost use Rattle.html_render_insertions.specs.Notes.{note_of, Falls, SameBelow};
 
 use html_render_nodes::text::NodeText;
-use html_render_nodes::tree::{Entry, NodeKind, NodeStyle, RenderNode};
+use html_render_nodes::tree::{Entry, Estimate, NodeKind, NodeStyle, RenderNode};
 use html_render_values::Error;
 use std::alloc::Global;
 use std::marker::Model;
@@ -201,29 +205,41 @@ impl From<RenderNode> for Draft {
     }
 }
 
+/// What is noted to be inserted at a draft.
+#[derive(Drop)]
+struct Noted {
+    /// Where the draft stands, from the last to the first.
+    place: usize,
+    /// What is inserted into it.
+    inserted: Inserted,
+}
+
 /// Trees of drafts that grow at the front, from the last draft to the first.
 #[derive(Drop)]
 pub struct Drafts {
-    /// The entries in reverse: the last draft of the trees comes first.
-    entries: Vec<Entry<Draft>>,
+    /// The nodes of the drafts in reverse: the last one of the trees comes first.
+    entries: Vec<Entry<RenderNode>>,
+    /// What is noted at some of them, in the order of their places.
+    noted: Vec<Noted>,
 }
 
 impl Model for Drafts {
-    ghost use Rattle.std.specs.Prelude.{◌≡◌, List, reverse};
+    ghost use Rattle.std.specs.Prelude.{List, reverse};
     ghost use Rattle.std.specs.Coded.{codes, code_by, coded_list};
     ghost use Rattle.html_render_values.specs.Forest.{Forest};
     ghost use Rattle.html_render_nodes.specs.declared.tree.Entry.{Entry};
     ghost use Rattle.html_render_insertions.specs.declared.drafts.Draft.{Draft};
     ghost use Rattle.html_render_nodes.specs.Preorder.{forest_of, flatten};
     ghost use Rattle.html_render_nodes.specs.laws.Preorder.{forest_of-flatten};
+    ghost use Rattle.html_render_insertions.specs.Notes.{drafts_of, IsKept};
 
     ghost Value = { Forest Draft };
 
     ghost coded = { code_by (List (Entry Draft)) (coded_list (Prim.hlevel codes)) flatten forest_of forest_of-flatten };
 
-    ghost view = { λ d. forest_of (reverse d.entries.items) };
+    ghost view = { λ d. forest_of (reverse (drafts_of d.entries.items d.noted.items)) };
 
-    ghost invariant = { λ d. flatten (forest_of (reverse d.entries.items)) ≡ reverse d.entries.items };
+    ghost invariant = { λ d. IsKept d.entries.items d.noted.items };
 }
 
 impl Drafts {
@@ -237,7 +253,8 @@ impl Drafts {
         ensures err { IfErr result (λ e. e ≡ Error.OutOfMemory) }
     {
         let entries = Vec::with_capacity(alloc, drafts)?;
-        Ok(Drafts { entries })
+        let noted = Vec::new(alloc);
+        Ok(Drafts { entries, noted })
     }
 
     /// How many drafts there are: the mark for a later [`Drafts::enclose`] or [`Drafts::truncate`].
@@ -259,10 +276,7 @@ impl Drafts {
         ensures unchanged { OnErr result (self.new ≡ self.old) }
         ensures err { IfErr result (λ e. e ≡ Error.OutOfMemory) }
     {
-        self.entries.push(Entry {
-            node: draft,
-            size: 1,
-        })?;
+        push_draft(&mut self.entries, &mut self.noted, draft, 1)?;
         Ok(())
     }
 
@@ -279,7 +293,7 @@ impl Drafts {
         ensures err { IfErr result (λ e. e ≡ Error.OutOfMemory) }
     {
         let size = self.entries.len() - mark + 1;
-        self.entries.push(Entry { node: draft, size })?;
+        push_draft(&mut self.entries, &mut self.noted, draft, size)?;
         Ok(())
     }
 
@@ -290,6 +304,7 @@ impl Drafts {
         ensures { (s : SplitAt self.old mark) → self.new ≡ s.beside }
     {
         self.entries.truncate(mark);
+        forget_from(&mut self.noted, mark);
     }
 
     /// What the first tree's top is, if there is a tree.
@@ -301,11 +316,27 @@ impl Drafts {
         Some(&self.entries[last].node.kind)
     }
 
+    /// Where the draft stands, from the last to the first, that is reached from the first tree's top by going down to the
+    /// first child `depth` times.
+    fn first_place(&self, depth: usize) -> Option<usize>
+        ensures found { IfSome result (FirstAt self.now depth (reverse (flatten self.now))) }
+        ensures lost { IfNone result ((change : Draft → Draft) → at_first depth change self.now ≡ self.now) }
+    {
+        let mut place = self.entries.len().checked_sub(1)?;
+        for _ in 0..depth {
+            if self.entries[place].size == 1 {
+                return None;
+            }
+            place -= 1;
+        }
+        Some(place)
+    }
+
     /// Sets the style of the first tree's top, if there is a tree.
     pub fn set_first_style(&mut self, style: NodeStyle)
         ensures { self.new ≡ with_first_style style self.old }
     {
-        if let Some(place) = first_place(&self.entries, 0) {
+        if let Some(place) = self.first_place(0) {
             self.entries[place].node.style = style;
         }
     }
@@ -321,28 +352,105 @@ impl Drafts {
         ensures unchanged { OnErr result (self.new ≡ self.old) }
         ensures err { IfErr result (λ e. e ≡ Error.OutOfMemory) }
     {
-        match first_place(&self.entries, depth) {
-            Some(place) => self.entries[place].node.inserted.wrap(inserted),
-            None => Ok(()),
+        if inserted.is_empty() {
+            return Ok(());
         }
+        let Some(place) = self.first_place(depth) else {
+            return Ok(());
+        };
+        let order = count_up_to(self.noted.as_slice(), place);
+        self.noted.insert(order, Noted { place, inserted })?;
+        Ok(())
     }
 }
 
-/// Where the draft stands, among drafts from the last to the first, that is reached from the first tree's top by going down
-/// to the first child `depth` times.
-fn first_place(entries: &[Entry<Draft>], depth: usize) -> Option<usize>
-    requires { Reversed entries.now }
-    ensures found { IfSome result (λ place. (s : Reversed entries.now) → FirstAt s.trees depth entries.now place) }
-    ensures lost { IfNone result ((s : Reversed entries.now) → (change : Draft → Draft) → at_first depth change s.trees ≡ s.trees) }
+/// Puts the node of a draft behind others, and notes what is inserted into it.
+#[inline(always)]
+fn push_draft(
+    entries: &mut Vec<Entry<RenderNode>>,
+    noted: &mut Vec<Noted>,
+    draft: Draft,
+    size: usize,
+) -> Result<(), Error>
+    ensures pushed { OnOk result (entries.new.items ≡ entries.old.items ++ record { node = node_of draft; size = size } ∷ []) }
+    ensures noted { OnOk result (noted.new.items ≡ noted.old.items ++ note_of (length entries.old.items) draft.inserted) }
+    ensures unchanged { OnErr result (entries.new.items ≡ entries.old.items) }
+    ensures none_noted { OnErr result (noted.new.items ≡ noted.old.items) }
+    ensures err { IfErr result (λ e. e ≡ Error.OutOfMemory) }
 {
-    let mut place = entries.len().checked_sub(1)?;
-    for _ in 0..depth {
-        if entries[place].size == 1 {
-            return None;
-        }
-        place -= 1;
+    let Draft {
+        kind,
+        style,
+        inserted,
+    } = draft;
+    let node = RenderNode {
+        kind,
+        style,
+        estimate: Estimate::default(),
+    };
+    if inserted.is_empty() {
+        entries.push(Entry { node, size })?;
+        return Ok(());
     }
-    Some(place)
+    push_noted(entries, noted, Entry { node, size }, inserted)
+}
+
+/// Puts a node behind others, and notes what is inserted into it.
+#[inline(never)]
+fn push_noted(
+    entries: &mut Vec<Entry<RenderNode>>,
+    noted: &mut Vec<Noted>,
+    entry: Entry<RenderNode>,
+    inserted: Inserted,
+) -> Result<(), Error>
+    ensures pushed { OnOk result (entries.new.items ≡ entries.old.items ++ entry ∷ []) }
+    ensures noted { OnOk result (noted.new.items ≡ noted.old.items ++ record { place = length entries.old.items; inserted = inserted } ∷ []) }
+    ensures unchanged { OnErr result (entries.new.items ≡ entries.old.items) }
+    ensures none_noted { OnErr result (noted.new.items ≡ noted.old.items) }
+    ensures err { IfErr result (λ e. e ≡ Error.OutOfMemory) }
+{
+    let place = entries.len();
+    noted.reserve(1)?;
+    entries.push(entry)?;
+    noted.push(Noted { place, inserted })?;
+    Ok(())
+}
+
+/// Takes the last note, if it is one at `place` or behind it.
+fn pop_from(noted: &mut Vec<Noted>, place: usize) -> Option<Noted>
+    ensures last { IfSome result (λ n. noted.old.items ≡ noted.new.items ++ n ∷ []) }
+    ensures behind { IfSome result (λ n. place ≤ n.place) }
+    ensures same { IfNone result (noted.new.items ≡ noted.old.items) }
+    ensures before { IfNone result ((earlier : List Noted) (n : Noted) → noted.old.items ≡ earlier ++ n ∷ [] → n.place < place) }
+{
+    match noted.last() {
+        Some(last) if last.place >= place => {}
+        _ => return None,
+    }
+    noted.pop()
+}
+
+/// Takes back the notes at `mark` and behind it.
+fn forget_from(noted: &mut Vec<Noted>, mark: usize)
+    ensures below { (bound : ℕ) → Falls (reverse noted.old.items) bound → Falls (reverse noted.new.items) mark }
+    ensures same { SameBelow mark noted.old.items noted.new.items }
+{
+    while let Some(last) = pop_from(noted, mark) {
+        drop(last);
+    }
+}
+
+/// How many notes are at `place` or before it.
+fn count_up_to(noted: &[Noted], place: usize) -> usize
+    ensures within { result ≤ length noted.now }
+    ensures up_to { (bound : ℕ) → Falls (reverse noted.now) bound → Falls (reverse (take result noted.now)) (place + 1) }
+    ensures behind { All (λ n. place < n.place) (drop result noted.now) }
+{
+    let mut count = noted.len();
+    while count > 0 && noted[count - 1].place > place {
+        count -= 1;
+    }
+    count
 }
 
 mod expansion;

@@ -1,20 +1,19 @@
-//! The nodes that drafts become: each is moved once, and what is inserted at the end of a node's children waits until they
-//! are written.
+//! The nodes that drafts become. Where nothing is inserted, these are turned round where they stand; otherwise each is moved
+//! once, and what is inserted at the end of a node's children waits until they are written.
 
-ghost use Rattle.std.specs.Prelude.{◌≡◌, ◌≢◌, ◌+◌, ◌≤◌, ◌<◌, OnOk, IfOk, IfErr, IfSome, IfNone, List, [], ◌∷◌, ◌++◌, length, map, reverse, option_to_list};
-ghost use Rattle.std.specs.Bool.{OnTrue};
-ghost use Rattle.std.specs.List.{All};
+ghost use Rattle.std.specs.Prelude.{◌≡◌, ◌≢◌, ◌+◌, ◌≤◌, ◌<◌, OnOk, IfOk, IfErr, IfSome, IfNone, List, [], ◌∷◌, ◌++◌, length, reverse, option_to_list};
 ghost use Rattle.html_render_values.specs.Forest as forest;
 ghost use Rattle.html_render_values.specs.Forest.{none};
 ghost use Rattle.html_render_nodes.specs.Preorder.{flatten};
-ghost use Rattle.html_render_nodes.specs.RenderNodes.{unmeasured, without_style};
+ghost use Rattle.html_render_nodes.specs.RenderNodes.{without_style};
 ghost use Rattle.html_render_insertions.specs.declared.drafts.expansion.Opened.{Opened};
-ghost use Rattle.html_render_insertions.specs.Drafts.{front_of, front, back, node_of, expanded};
-ghost use Rattle.html_render_insertions.specs.Expansion.{leaves, Closes, bare, IsBare};
+ghost use Rattle.html_render_insertions.specs.Drafts.{front_of, front, back, expanded};
+ghost use Rattle.html_render_insertions.specs.Expansion.{leaves, Closes};
+ghost use Rattle.html_render_insertions.specs.Notes.{inserted_at, Falls, SameBelow};
 
-use super::{Draft, Drafts, Inserted, Insertions};
+use super::{Drafts, Inserted, Insertions, Noted, pop_from};
 use html_render_nodes::text::NodeText;
-use html_render_nodes::tree::{Entry, Estimate, Flat, NodeKind, NodeStyle, RenderNode};
+use html_render_nodes::tree::{Entry, Flat, NodeKind, RenderNode};
 use html_render_values::Error;
 use std::alloc::Global;
 
@@ -87,56 +86,25 @@ fn push_fronts(
     Ok(behind)
 }
 
-/// Writes a node that isn't measured.
-fn push_node(
-    nodes: &mut Vec<Entry<RenderNode>>,
-    kind: NodeKind,
-    style: NodeStyle,
-    size: usize,
-) -> Result<(), Error>
-    ensures ok { OnOk result (nodes.new.items ≡ nodes.old.items ++ record { node = record { kind = kind; style = style; estimate = unmeasured }; size = size } ∷ []) }
-    ensures err { IfErr result (λ e. e ≡ Error.OutOfMemory) }
-{
-    let node = RenderNode {
-        kind,
-        style,
-        estimate: Estimate::default(),
-    };
-    nodes.push(Entry { node, size })?;
-    Ok(())
-}
-
-/// Writes the node of a draft into which nothing is inserted, over as many nodes as the draft stands over.
-fn push_bare(nodes: &mut Vec<Entry<RenderNode>>, draft: Draft, size: usize) -> Result<(), Error>
-    ensures ok { OnOk result (nodes.new.items ≡ nodes.old.items ++ record { node = node_of draft; size = size } ∷ []) }
-    ensures err { IfErr result (λ e. e ≡ Error.OutOfMemory) }
-{
-    push_node(nodes, draft.kind, draft.style, size)
-}
-
-/// Writes the node of a draft, and what is inserted at its front; `left` drafts remain.
+/// Writes a node, and what is inserted at its front; `left` nodes remain.
 fn open(
     alloc: Global,
     nodes: &mut Vec<Entry<RenderNode>>,
-    entry: Entry<Draft>,
+    entry: Entry<RenderNode>,
+    inserted: Inserted,
     left: usize,
 ) -> Result<Opened, Error>
     requires some { 1 ≤ entry.size }
     requires within { entry.size ≤ left + 1 }
-    ensures written { OnOk result (nodes.new.items ≡ nodes.old.items ++ record { node = node_of entry.node; size = entry.size } ∷ flatten (front entry.node.inserted)) }
+    ensures written { OnOk result (nodes.new.items ≡ nodes.old.items ++ entry ∷ flatten (front inserted)) }
     ensures place { IfOk result (λ o. o.place ≡ length nodes.old.items) }
     ensures left { IfOk result (λ o. o.left + entry.size ≡ left + 1) }
-    ensures behind { IfOk result (λ o. leaves (reverse o.behind.items) ≡ back entry.node.inserted) }
+    ensures behind { IfOk result (λ o. leaves (reverse o.behind.items) ≡ back inserted) }
     ensures err { IfErr result (λ e. e ≡ Error.OutOfMemory) }
 {
     let place = nodes.len();
     let size = entry.size;
-    let Draft {
-        kind,
-        style,
-        inserted,
-    } = entry.node;
-    push_node(nodes, kind, style, size)?;
+    nodes.push(entry)?;
     let behind = push_fronts(alloc, nodes, inserted)?;
     Ok(Opened {
         place,
@@ -174,25 +142,21 @@ fn pop_done(opened: &mut Vec<Opened>, left: usize) -> Option<Opened>
     opened.pop()
 }
 
-/// Whether nothing is inserted into any of the drafts.
-fn are_bare(drafts: &[Entry<Draft>]) -> bool
-    ensures { OnTrue result (All IsBare drafts.now) }
-{
-    drafts.iter().all(|entry| entry.node.inserted.is_empty())
-}
-
-/// The nodes of drafts into which nothing is inserted: these come from the last to the first.
-fn bare_nodes(alloc: Global, drafts: Vec<Entry<Draft>>) -> Result<Vec<Entry<RenderNode>>, Error>
-    ensures ok { IfOk result (λ nodes. nodes.items ≡ map bare (reverse drafts.items)) }
+/// Takes what is inserted at `place`, the last one of which something may be noted.
+fn take_inserted(noted: &mut Vec<Noted>, place: usize) -> Result<Inserted, Error>
+    requires { Falls (reverse noted.old.items) (place + 1) }
+    ensures taken { IfOk result (λ i. i ≡ inserted_at place (reverse noted.old.items)) }
+    ensures below { OnOk result (Falls (reverse noted.new.items) place) }
+    ensures same { OnOk result (SameBelow place noted.old.items noted.new.items) }
     ensures err { IfErr result (λ e. e ≡ Error.OutOfMemory) }
 {
-    let mut drafts = drafts;
-    let mut nodes = Vec::with_capacity(alloc, drafts.len())?;
-    while let Some(entry) = drafts.pop() {
-        let Entry { node, size } = entry;
-        push_bare(&mut nodes, node, size)?;
+    let mut inserted = Inserted::none();
+    while let Some(last) = pop_from(noted, place) {
+        let mut all = last.inserted;
+        all.wrap(inserted)?;
+        inserted = all;
     }
-    Ok(nodes)
+    Ok(inserted)
 }
 
 impl Drafts {
@@ -205,8 +169,10 @@ impl Drafts {
         ensures ok { IfOk result (λ nodes. nodes ≡ expanded self) }
         ensures err { IfErr result (λ e. e ≡ Error.OutOfMemory) }
     {
-        if are_bare(self.entries.as_slice()) {
-            return Ok(Flat::from_entries(bare_nodes(alloc, self.entries)?));
+        if self.noted.is_empty() {
+            let mut nodes = self.entries;
+            nodes.reverse();
+            return Ok(Flat::from_entries(nodes));
         }
         self.into_expanded(alloc)
     }
@@ -216,20 +182,23 @@ impl Drafts {
         ensures ok { IfOk result (λ nodes. nodes ≡ expanded self) }
         ensures err { IfErr result (λ e. e ≡ Error.OutOfMemory) }
     {
-        let mut drafts = self.entries;
-        let mut nodes = Vec::with_capacity(alloc, drafts.len())?;
+        let Drafts { entries, noted } = self;
+        let mut entries = entries;
+        let mut noted = noted;
+        let mut nodes = Vec::with_capacity(alloc, entries.len())?;
         let mut opened: Vec<Opened> = Vec::new(alloc);
         'writing: loop {
-            if let Some(done) = pop_done(&mut opened, drafts.len()) {
+            if let Some(done) = pop_done(&mut opened, entries.len()) {
                 close(&mut nodes, done)?;
                 continue;
             }
-            match drafts.pop() {
+            match entries.pop() {
                 Some(entry) => {
-                    if entry.size == 1 && entry.node.inserted.is_empty() {
-                        push_bare(&mut nodes, entry.node, 1)?;
+                    let inserted = take_inserted(&mut noted, entries.len())?;
+                    if entry.size == 1 && inserted.is_empty() {
+                        nodes.push(entry)?;
                     } else {
-                        let node = open(alloc, &mut nodes, entry, drafts.len())?;
+                        let node = open(alloc, &mut nodes, entry, inserted, entries.len())?;
                         opened.push(node)?;
                     }
                 }

@@ -1,6 +1,7 @@
 use Rattle.std.proofs.Common.{rules as known, ◌≡◌, ◌<◌, suc, [], ◌∷◌, ◌++◌, length, arith, sym, ap, subst, ◌∙◌, map, Option, Result, Ok, Err, IfErr}
 use Rattle.std.proofs.Common.{option_map, ◌-◌, take, get_or}
 use Rattle.std.specs.Result.{IsErrAnd}
+use Rattle.std.proofs.lemmas.Bool.{eqb-false}
 use Rattle.std.proofs.lemmas.Result.{IfOk-weaker}
 use Rattle.html_render_dom_rules.specs.Rules.{rule_of}
 use Rattle.html_render_values.specs.Forest.{Forest}
@@ -149,7 +150,7 @@ pub returns-in_err-close_element-clause-err : goal.returns-in_err-close_element-
 returns-in_err-close_element-clause-err c =
     let dom = c.args.dom.now in
     let rules = map rule_of c.args.rules.now in
-    let some : 0 < length c.pop.new.self.items = search known in
+    let some : 0 < length c.pop.new.self.items = omega (arith, eqb-false _ 0 (sym c.is_empty.ensures ∙ c.if-is_empty.false), c.pop.new.self.ok.0) in
     let e = c.in_err-close_element.field-0.0 in
     handed c.from_residual-in_err-close_element.result e (render_tree_of rules dom) c.from_residual-in_err-close_element.ensures.1
     (fails-too e (document_drafts rules dom) (render_tree_of rules dom) (tree_of_drafts rules dom c.get_document.ensures.forest)
@@ -161,7 +162,7 @@ pub converting-preserved : goal.converting-preserved
 converting-preserved c =
     let dom = c.args.dom.now in
     let rules = map rule_of c.args.rules.now in
-    let some : 0 < length c.pop.new.self.items = search known in
+    let some : 0 < length c.pop.new.self.items = omega (arith, eqb-false _ 0 (sym c.is_empty.ensures ∙ c.if-is_empty.false), c.pop.new.self.ok.0) in
     Converting-closed rules dom c.pop.new.self.items c.in-Some-pop.open c.converting.drafts c.close_element.new.elements.items
     c.close_element.new.drafts (ending (goal.at.converting-preserved c).In-Some-pop)
     (rw c.into_element-element.ensures at c.in_ok-close_element.ensures.ok) some
@@ -172,7 +173,7 @@ converting-smaller c =
     let es = c.pop.new.self.items in
     let o = c.in-Some-pop.open in
     let at = (goal.at.converting-smaller c).In-Some-pop in
-    let some : 0 < length es = search known in
+    let some : 0 < length es = omega (arith, eqb-false _ 0 (sym c.is_empty.ensures ∙ c.if-is_empty.false), c.pop.new.self.ok.0) in
     let n = length es - 1 in
     let below = take n es in
     let p = get_or es n o in

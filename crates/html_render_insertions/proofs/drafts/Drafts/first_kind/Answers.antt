@@ -1,16 +1,14 @@
-use Rattle.std.proofs.Common.{◌≡◌, arith, refl}
-use Rattle.html_render_values.specs.Forest.{none}
-use Rattle.html_render_insertions.proofs.Firsts.{reversed, first_kind_is, no_first, on_none}
+use Rattle.std.proofs.Common.{arith}
+use Rattle.html_render_insertions.specs.Notes.{drafts_of}
+use Rattle.html_render_insertions.proofs.Firsts.{first_kind_is}
+use Rattle.html_render_insertions.proofs.Noting.{draft_at, length-drafts_of, turned_flat}
 use Rattle.html_render_insertions.proofs.drafts.Drafts.first_kind.Goals as goal
-
-pub returns-in_err-last-clause-over : goal.returns-in_err-last-clause-over
-returns-in_err-last-clause-over c =
-    on_none c.from_residual.result (c.args.self.now ≡ none)
-    (no_first c.args.self.now c.self.inside.entries.items (reversed c.self.view_is c.self.invariant refl).is
-    (omega (arith, c.in_err-last.ensures, c.len.ensures, c.self.inside.entries.ok.0)))
 
 pub returns-clause-first : goal.returns-clause-first
 returns-clause-first c =
-    first_kind_is c.args.self.now c.self.inside.entries.items c.in_ok-last.last c.index.result.now
-    (reversed c.self.view_is c.self.invariant refl).is
-    (omega (arith, c.in_ok-last.ensures, c.len.ensures, c.self.inside.entries.ok.0)) c.index.ensures
+    let es = c.self.inside.entries.items in
+    let noted = c.self.inside.noted.items in
+    first_kind_is c.args.self.now (drafts_of es noted) c.in_ok-last.last _ (turned_flat c.self.view_is c.self.invariant)
+    (omega (arith, c.in_ok-last.ensures, c.len.ensures, c.self.inside.entries.ok.0, length-drafts_of es noted))
+    (draft_at es noted c.in_ok-last.last c.index.result.now
+    (omega (arith, c.in_ok-last.ensures, c.len.ensures, c.self.inside.entries.ok.0)) c.index.ensures)

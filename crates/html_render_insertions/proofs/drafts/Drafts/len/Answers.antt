@@ -1,13 +1,17 @@
-use Rattle.std.proofs.Common.{sym, ap, ◌∙◌, arith}
-use Rattle.html_render_nodes.specs.Preorder.{flatten}
+use Rattle.std.proofs.Common.{arith}
+use Rattle.html_render_insertions.specs.Notes.{drafts_of}
 use Rattle.html_render_insertions.proofs.Drafting.{length-entries}
+use Rattle.html_render_insertions.proofs.Noting.{flat, length-drafts_of}
 use Rattle.html_render_insertions.proofs.drafts.Drafts.len.Goals as goal
 
 pub returns : goal.returns
 returns c =
+    let es = c.self.inside.entries.items in
+    let noted = c.self.inside.noted.items in
     omega (
       arith,
       c.len.ensures,
       c.self.inside.entries.ok.0,
-      length-entries c.self.inside.entries.items c.args.self.now (sym (ap flatten c.self.view_is) ∙ c.self.invariant),
+      length-drafts_of es noted,
+      length-entries (drafts_of es noted) c.args.self.now (flat c.self.view_is c.self.invariant),
     )

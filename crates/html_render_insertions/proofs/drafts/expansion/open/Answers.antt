@@ -5,6 +5,6 @@ use Rattle.html_render_insertions.proofs.drafts.expansion.open.Goals as goal
 
 pub returns-clause-written : goal.returns-clause-written
 returns-clause-written c =
-    let ahead = flatten (front c.args.entry.node.inserted) in
-    c.in_ok-behind.ensures.front ∙ ap (λ l. l ++ ahead) c.in_ok-push_node.ensures.ok
+    let ahead = flatten (front c.args.inserted) in
+    c.in_ok-behind.ensures.front ∙ ap (λ l. l ++ ahead) c.in_ok-push.ensures.items
     ∙ append_assoc c.args.nodes.now.items _ ahead

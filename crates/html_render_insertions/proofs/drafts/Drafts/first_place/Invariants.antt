@@ -1,12 +1,11 @@
 use Rattle.std.proofs.Common.{◌≡◌, ◌+◌, ◌≤◌, length}
-use Rattle.html_render_nodes.specs.Splits.{Reversed}
 use Rattle.html_render_insertions.proofs.Firsts.{size_at}
-use Rattle.html_render_insertions.proofs.drafts.first_place.Given as goal
+use Rattle.html_render_insertions.proofs.drafts.Drafts.first_place.Given as goal
 
 -- `counter` steps down, the draft at this place
 abbrev pub invariant-loop : goal.invariant-loop
 invariant-loop l =
     record {
-      at : l.place + l.counter + 1 ≡ length l.entries;
-      some : (s : Reversed l.entries) → 1 ≤ size_at s.trees l.counter;
+      at : l.place + l.counter + 1 ≡ length l.self-inside.entries.items;
+      some : 1 ≤ size_at l.self l.counter;
     }
