@@ -4,6 +4,7 @@ use crate::attributes::Attributes;
 use crate::handles::Handle;
 use crate::names::QualName;
 use html_render_values::small_text::SmallText;
+use std::alloc::{AllocError, Global};
 
 /// The text of a text node: 24 bytes at most stand in the node itself.
 pub type TextContents = SmallText<24>;
@@ -54,7 +55,7 @@ pub enum NodeData {
 }
 
 impl NodeData {
-    ghost use Rattle.std.specs.Prelude.{◌≡◌, string_bytes};
+    ghost use Rattle.std.specs.Prelude.{◌≡◌, IfOk, string_bytes};
     ghost use Rattle.html_render_dom_nodes.specs.Content.{content_of, text};
 
     /// A text.
@@ -65,6 +66,19 @@ impl NodeData {
         NodeData::Text {
             contents: TextContents::from(contents),
         }
+    }
+
+    /// A copy of a text.
+    ///
+    /// # Errors
+    ///
+    /// Memory ran out.
+    #[inline]
+    pub fn text_of(alloc: Global, contents: &str) -> Result<NodeData, AllocError>
+        ensures { IfOk result (λ made. content_of made ≡ text contents.now) }
+    {
+        let contents = TextContents::from_str(alloc, contents)?;
+        Ok(NodeData::Text { contents })
     }
 }
 

@@ -112,6 +112,31 @@ pub fn put_text(
     }
 }
 
+/// The same with a text that is copied.
+///
+/// # Errors
+///
+/// Memory ran out. The nodes are then as they were.
+#[inline]
+pub fn put_str(
+    alloc: Global,
+    nodes: &mut Vec<Node>,
+    parent: Handle,
+    before: Option<Handle>,
+    contents: &str,
+) -> Result<(), AllocError>
+    requires parent { parent < vec_len nodes.old }
+    requires before { ForSome before (λ node. node < vec_len nodes.old) }
+    ensures len { OnOk result (vec_len nodes.old ≤ vec_len nodes.new) }
+    ensures ok { OnOk result (nodes_of nodes.new.items ≡ text_put (nodes_of nodes.old.items) parent before contents.now) }
+    ensures err { OnErr result (nodes_of nodes.new.items ≡ nodes_of nodes.old.items) }
+{
+    match before {
+        Some(node) => extend_text(nodes, node, contents),
+        None => attach_new(alloc, nodes, parent, NodeData::text_of(alloc, contents)?),
+    }
+}
+
 /// Names the node's parent.
 pub fn set_parent(nodes: &mut Vec<Node>, node: Handle, parent: Option<Handle>)
     requires { node < vec_len nodes.old }

@@ -1,13 +1,11 @@
 -- What each call of a script makes of a DOM, and which node is current behind it.
 use Rattle.std.specs.Prelude.{ℕ, false, List, [], ◌∷◌, Option, Some, None, if◌then◌else◌, string_bytes}
-use Rattle.html_render_dom_nodes.specs.declared.contents.NodeOrText.TheVariants.{AppendText}
 use Rattle.html_render_dom_nodes.specs.Content.{Space, no_space, html, svg, element, comment}
 use Rattle.html_render_dom.specs.Dom.{Dom, node_count, content_at, parent_at, is_element}
-use Rattle.html_render_dom.specs.Edits.{appended}
 use Rattle.html_render_dom_nodes.specs.Edits.{attached_new, with_content}
 use Rattle.html_render_dom_nodes.specs.Elements.{completed}
 use Rattle.html_render_scripts.specs.declared.script.Call.{Call}
-use Rattle.html_render_scripts.specs.declared.script.Call.TheVariants.{Open, OpenSvg, Attribute, Text, Comment, Close}
+use Rattle.html_render_scripts.specs.declared.script.Call.TheVariants.{Open, OpenSvg, Attribute, Comment, Close}
 
 -- an element more, without attributes: the parent's last child
 abbrev pub with_element : Dom → (parent : ℕ) → Space → (name : List ℕ) → Dom
@@ -24,13 +22,12 @@ with_attribute dom h name value =
     let given = record { name = record { space = no_space; local = name }; value = value } ∷ [] in
     record dom { nodes = with_content dom.nodes h (completed (content_at dom h) given) }
 
--- the DOM after a call
+-- the DOM after a call, texts aside
 abbrev pub called : Dom → (current : ℕ) → Call → Dom
 called dom current (Open name) = with_element dom current html name.now
 called dom current (OpenSvg name) = with_element dom current svg name.now
 called dom current (Attribute name value) =
     if is_element (content_at dom current) then with_attribute dom current name.now (string_bytes value) else dom
-called dom current (Text text) = appended dom current (AppendText text)
 called dom current (Comment contents) = with_comment dom current (string_bytes contents)
 called dom current Close = dom
 
@@ -39,6 +36,5 @@ abbrev pub next_of : Dom → (current : ℕ) → Call → Option ℕ
 next_of dom current (Open name) = Some (node_count dom)
 next_of dom current (OpenSvg name) = Some (node_count dom)
 next_of dom current (Attribute name value) = if is_element (content_at dom current) then Some current else None
-next_of dom current (Text text) = Some current
 next_of dom current (Comment contents) = Some current
 next_of dom current Close = parent_at dom current

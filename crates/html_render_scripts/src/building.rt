@@ -117,10 +117,6 @@ fn take_call(
         Call::Open(name) => Ok(Some(open_element(alloc, dom, current, Namespace::Html, name)?)),
         Call::OpenSvg(name) => Ok(Some(open_element(alloc, dom, current, Namespace::Svg, name)?)),
         Call::Close => Ok(dom.get_parent(current)),
-        Call::Text(text) => {
-            dom.append(alloc, current, NodeOrText::AppendText(text))?;
-            Ok(Some(current))
-        }
         Call::Comment(contents) => {
             append_comment(alloc, dom, current, contents)?;
             Ok(Some(current))
@@ -145,8 +141,9 @@ fn append_texts(
     requires { IsNode dom.old current }
     ensures { OnOk result (IsNode dom.new current) }
 {
-    if let Some(text) = texts.take(alloc)? {
-        take_call(alloc, dom, current, Call::Text(text))?;
+    if let Some(text) = texts.as_one() {
+        dom.append_str(alloc, current, text)?;
+        texts.clear();
     }
     Ok(())
 }

@@ -8,7 +8,7 @@ ghost use Rattle.std.specs.Str.{IsUtf8};
 use memchr::memchr;
 use std::alloc::{AllocError, Global};
 
-/// What a line of a script asks for. Texts are plain: their escapes are resolved.
+/// What a line of a script asks for, if it is no text. Values are plain: their escapes are resolved.
 #[derive(Drop)]
 pub enum Call<'a> {
     /// `<name`: an HTML element is appended and becomes the current node.
@@ -17,8 +17,6 @@ pub enum Call<'a> {
     OpenSvg(&'a str),
     /// `@name=value`: the current element gets an attribute, unless it has one of that name.
     Attribute { name: &'a str, value: String },
-    /// `"text`: a text is appended. Texts on lines one after the other are one call, which [`Texts`] gathers.
-    Text(String),
     /// `!comment`: a comment is appended.
     Comment(String),
     /// `>`: the parent becomes the current node.
@@ -73,7 +71,7 @@ fn named(name: &str) -> Option<&str> {
     if name.is_empty() { None } else { Some(name) }
 }
 
-/// Texts that wait to be appended as one.
+/// Texts (`"text`) on lines one after the other, which wait to be appended as one.
 #[derive(Drop)]
 pub struct Texts {
     /// The texts, one behind the other.
@@ -103,16 +101,21 @@ impl Texts {
         push_unescaped(text, &mut self.gathered)
     }
 
-    /// The texts as one, if there is any. None is left.
+    /// The texts as one, if there is any.
     #[inline(always)]
-    pub fn take(&mut self, alloc: Global) -> Result<Option<String>, AllocError> {
-        if !self.is_any {
-            return Ok(None);
+    pub fn as_one(&self) -> Option<&str> {
+        if self.is_any {
+            Some(self.gathered.as_str())
+        } else {
+            None
         }
-        let text = String::from_str(alloc, self.gathered.as_str())?;
+    }
+
+    /// Leaves no text.
+    #[inline(always)]
+    pub fn clear(&mut self) {
         self.gathered.clear();
         self.is_any = false;
-        Ok(Some(text))
     }
 }
 

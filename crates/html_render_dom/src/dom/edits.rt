@@ -5,7 +5,7 @@ ghost use Rattle.html_render_dom_nodes.specs.Content.{name_of, property_of, cont
 ghost use Rattle.html_render_dom.specs.Dom.{IsNode, IsElement, node_count, content_at};
 ghost use Rattle.html_render_dom_nodes.specs.Elements.{completed, contents_in};
 ghost use Rattle.html_render_dom.specs.Edits.{CanAppend, IsFresh, appended};
-ghost use Rattle.html_render_dom_nodes.specs.Edits.{attached_new, created, element_created, with_content};
+ghost use Rattle.html_render_dom_nodes.specs.Edits.{attached_new, created, element_created, last_text, text_put, with_content};
 
 use super::documents::RcDom;
 use super::settings::QuirksMode;
@@ -58,6 +58,36 @@ impl RcDom {
     {
         let last = self.last_text(parent);
         nodes::put_text(alloc, &mut self.nodes, parent, last, text)
+    }
+
+    /// Puts a copy of a text behind the last child of a node, as [`append`](RcDom::append) does with a text that it is given. A
+    /// short one takes no memory beside its node.
+    ///
+    /// # Errors
+    ///
+    /// `OutOfMemory`. The document is then as it was.
+    pub fn append_str(&mut self, alloc: Global, parent: Handle, text: &str) -> Result<(), Error>
+        requires { IsNode self.old parent }
+        ensures ok { let nodes = self.old.nodes in OnOk result (self.new
+            ≡ record self.old { nodes = text_put nodes parent (last_text nodes parent) text.now }) }
+        ensures unchanged { OnErr result (self.new ≡ self.old) }
+        ensures err { IfErr result (λ e. e ≡ Error.OutOfMemory) }
+        ensures grows { node_count self.old ≤ node_count self.new }
+    {
+        self.copy_text(alloc, parent, text)?;
+        Ok(())
+    }
+
+    /// Puts a copy of the text behind the last child's, if that is a text node; else makes it the last child.
+    fn copy_text(&mut self, alloc: Global, parent: Handle, text: &str) -> Result<(), AllocError>
+        requires { IsNode self.old parent }
+        ensures ok { let nodes = self.old.nodes in OnOk result (self.new
+            ≡ record self.old { nodes = text_put nodes parent (last_text nodes parent) text.now }) }
+        ensures unchanged { OnErr result (self.new ≡ self.old) }
+        ensures grows { node_count self.old ≤ node_count self.new }
+    {
+        let last = self.last_text(parent);
+        nodes::put_str(alloc, &mut self.nodes, parent, last, text)
     }
 
     /// Makes an element of the next number, which hangs nowhere and has no children. A template's contents, a document
