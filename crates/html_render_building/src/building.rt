@@ -752,11 +752,8 @@ fn open_node(
             style,
             if_empty,
             has_children,
-            mark,
-            before,
-            after,
+            inserted,
         } => {
-            let inserted = Inserted::new(alloc, mark, before, after)?;
             let kind = OpenKind::new(alloc, kind);
             let element = Element::new(kind, style, if_empty, inserted);
             let start = drafts.len();
