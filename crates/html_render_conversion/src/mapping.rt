@@ -305,7 +305,10 @@ fn unstyled_outline(
         Mapping::Leaf(kind) => (ElementKind::Node(kind), IfEmpty::Stands, false),
         Mapping::Parent(kind, if_empty) => (kind, if_empty, true),
     };
-    let inserted = Inserted::new(alloc, mark, None, None)?;
+    let inserted = match mark {
+        Some(name) => Inserted::new(alloc, Some(name), None, None)?,
+        None => Inserted::none(),
+    };
     Ok(Outline::Over {
         kind,
         style: NodeStyle::default(),
@@ -313,6 +316,29 @@ fn unstyled_outline(
         has_children,
         inserted,
     })
+}
+
+/// What becomes of an element whose style is computed, its children aside.
+#[inline(never)]
+fn computed_outline(
+    alloc: Global,
+    rules: &[StyleRule],
+    index: &RuleIndex,
+    mapping: Mapping,
+    mark: Option<NodeText>,
+    name: &QualName,
+    attributes: &[Attribute],
+) -> Result<Outline, Error>
+    requires { Finds index.now (map rule_of rules.now) }
+    ensures ok { IfOk result (λ outline. outline ≡ styled_outline mapping mark
+        (own_style (map rule_of rules.now) (name_of name.now) (map property_of attributes.now))) }
+    ensures err { IfErr result (λ e. e ≡ Error.OutOfMemory) }
+{
+    let mut style = index.computed_style(alloc, rules, name.local.as_str(), attributes)?;
+    if is_preformatted(name) {
+        preformat(&mut style);
+    }
+    styled_outline(alloc, mapping, mark, style)
 }
 
 /// What becomes of an element, its children aside. Its style is computed only where it counts.
@@ -330,15 +356,10 @@ fn element_outline(
     ensures err { IfErr result (λ e. e ≡ Error.OutOfMemory) }
 {
     let mark = mark_of(alloc, name, attributes)?;
-    let preformatted = is_preformatted(name);
-    if !preformatted && !index.may_select(name.local.as_str(), attributes) {
-        return unstyled_outline(alloc, mapping, mark);
+    if is_preformatted(name) || index.may_select(name.local.as_str(), attributes) {
+        return computed_outline(alloc, rules, index, mapping, mark, name, attributes);
     }
-    let mut style = index.computed_style(alloc, rules, name.local.as_str(), attributes)?;
-    if preformatted {
-        preformat(&mut style);
-    }
-    styled_outline(alloc, mapping, mark, style)
+    unstyled_outline(alloc, mapping, mark)
 }
 
 /// What becomes of a text.
