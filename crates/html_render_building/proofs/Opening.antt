@@ -11,7 +11,7 @@ use Rattle.html_render_dom.specs.Dom.{Dom, IsForest, IsNode, content_at, childre
 use Rattle.html_render_dom_rules.specs.Rules.{Rule as StyleRule}
 use Rattle.html_render_insertions.specs.declared.drafts.Draft.{Draft}
 use Rattle.html_render_insertions.specs.declared.drafts.Insertions.{Insertions}
-use Rattle.html_render_insertions.specs.Drafts.{draft_of, inserted_of}
+use Rattle.html_render_insertions.specs.Drafts.{draft_of}
 use Rattle.html_render_nodes.specs.declared.tree.NodeStyle.{NodeStyle}
 use Rattle.html_render_conversion.specs.declared.mapping.IfEmpty.{IfEmpty}
 use Rattle.html_render_conversion.specs.declared.mapping.Outline.{Outline}
@@ -204,8 +204,7 @@ module _ (rules : List StyleRule) (dom : Dom) (f : IsForest dom) (h : ℕ) (at :
         ap (λ d. arrive a (record { element = top.opened.element; drafts = d })) d_is ∙ arrive-before a (holding top) (made_of_path path) in
         Converting-after rules dom path top sound es_now ds_now (arrive a (holding top))
         (subst (IsAfter (elements_of path) top.opened es_now ds_now) same (i (elements_of path) top.opened e_is)) result
-    opened (Over k style if_empty hc mark front behind) i result =
-        opened_over (opened_kind k) style if_empty hc (inserted_of mark front behind) i.0 i.1 result
+    opened (Over k style if_empty hc inserted) i result = opened_over (opened_kind k) style if_empty hc inserted i.0 i.1 result
 
 -- a node of the document was opened
 pub Converting-opened : (rules : List StyleRule) (dom : Dom) → IsForest dom → (h : ℕ) (es : List Open) (ds : Forest Draft)

@@ -8,7 +8,7 @@ use Rattle.html_render_dom.specs.Dom.{Dom, IsForest, IsNode, content_at, childre
 use Rattle.html_render_dom.specs.laws.Trees.{below-children}
 use Rattle.html_render_nodes.specs.laws.Splits.{count-followed_by}
 use Rattle.html_render_insertions.specs.declared.drafts.Draft.{Draft}
-use Rattle.html_render_insertions.specs.Drafts.{draft_of, inserted_of}
+use Rattle.html_render_insertions.specs.Drafts.{draft_of}
 use Rattle.html_render_conversion.specs.declared.mapping.Outline.{Outline}
 use Rattle.html_render_conversion.specs.declared.mapping.Outline.TheVariants.{Nothing, Alone, Over}
 use Rattle.html_render_building.specs.declared.building.Open.{Open}
@@ -100,8 +100,8 @@ module _ (dom : Dom) where
     work-opened (Alone n) below es es_now ds ds_now p is i =
         let a = arrive (leaf_arrival (draft_of n)) (record { element = p.element; drafts = ds }) in
         omega (arith, ap (work dom) (i below p is).elements_are, work-same dom below p a.element, ap (work dom) is)
-    work-opened (Over k style if_empty hc mark front behind) below es es_now ds ds_now p is i =
-        let e = (fresh (opened_kind k) style if_empty (inserted_of mark front behind)).element in
+    work-opened (Over k style if_empty hc inserted) below es es_now ds ds_now p is i =
+        let e = (fresh (opened_kind k) style if_empty inserted).element in
         omega (
           arith,
           ap (work dom) i.0,

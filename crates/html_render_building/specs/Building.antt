@@ -16,7 +16,7 @@ use Rattle.html_render_nodes.specs.RenderNodes.{no_style}
 use Rattle.html_render_nodes.specs.Tables.{TableParts, unmeasured_table}
 use Rattle.html_render_insertions.specs.declared.drafts.Draft.{Draft}
 use Rattle.html_render_insertions.specs.declared.drafts.Insertions.{Insertions}
-use Rattle.html_render_insertions.specs.Drafts.{draft, draft_of, first_kind, insert_first, inserted_of, mark_in, plain_draft, with_first_style}
+use Rattle.html_render_insertions.specs.Drafts.{draft, draft_of, first_kind, insert_first, mark_in, plain_draft, with_first_style}
 use Rattle.html_render_conversion.specs.declared.mapping.IfEmpty.{IfEmpty}
 use Rattle.html_render_conversion.specs.declared.mapping.Outline.{Outline}
 use Rattle.html_render_conversion.specs.declared.mapping.Outline.TheVariants.{Alone, Over}
@@ -228,8 +228,7 @@ come_of k style if_empty has_children inserted inside p = do
 abbrev pub come : Outline → (inside : Pick → Holding → Option Holding) → Holding → Option Holding
 come outline.Nothing inside p = Some p
 come (Alone n) inside p = Some (arrive (leaf_arrival (draft_of n)) p)
-come (Over k style if_empty has_children mark before after) inside p =
-    come_of (opened_kind k) style if_empty has_children (inserted_of mark before after) inside p
+come (Over k style if_empty has_children inserted) inside p = come_of (opened_kind k) style if_empty has_children inserted inside p
 
 -- an element once all have come of some trees that are picked from these, the last first
 abbrev pub arrivals : List StyleRule → Forest Content → Pick → Holding → Option Holding

@@ -4,7 +4,7 @@ use Rattle.html_render_values.specs.Forest.{Forest, count}
 use Rattle.html_render_dom.specs.Dom.{Dom, children_at}
 use Rattle.html_render_nodes.specs.Splits.{SplitAt}
 use Rattle.html_render_insertions.specs.declared.drafts.Draft.{Draft}
-use Rattle.html_render_insertions.specs.Drafts.{draft_of, inserted_of}
+use Rattle.html_render_insertions.specs.Drafts.{draft_of}
 use Rattle.html_render_conversion.specs.declared.mapping.Outline.{Outline}
 use Rattle.html_render_conversion.specs.declared.mapping.Outline.TheVariants.{Nothing, Alone, Over}
 use Rattle.html_render_building.specs.declared.elements.Element.{Element}
@@ -79,7 +79,7 @@ IsOpened dom handle Nothing elements drafts elements_now drafts_now = (elements_
 IsOpened dom handle (Alone n) elements drafts elements_now drafts_now =
     (below : List Open) (p : Open) → IsLast elements below p →
     IsAfter below p elements_now drafts_now (arrive (leaf_arrival (draft_of n)) (record { element = p.element; drafts = drafts }))
-IsOpened dom handle (Over k style if_empty has_children mark before after) elements drafts elements_now drafts_now =
+IsOpened dom handle (Over k style if_empty has_children inserted) elements drafts elements_now drafts_now =
     (elements_now ≡ elements ++ opened_elements dom handle (count drafts) has_children
-    (fresh (opened_kind k) style if_empty (inserted_of mark before after)).element)
+    (fresh (opened_kind k) style if_empty inserted).element)
     × (drafts_now ≡ drafts)

@@ -84,6 +84,7 @@ fn put_alone(draft: Draft, elements: &mut Vec<Open>, drafts: &mut Drafts) -> Res
 
 /// An element's node comes to the innermost open element, over what was kept since there were `start` drafts; it is taken back
 /// if that doesn't keep it.
+#[inline(always)]
 fn put_over(
     role: Role,
     draft: Draft,
@@ -107,6 +108,7 @@ fn put_over(
 }
 
 /// Whether anything is inserted into a draft.
+#[inline(always)]
 fn has_insertions(draft: &Draft) -> bool
     ensures { result ≡ are_any draft.now.inserted }
 {
@@ -114,6 +116,7 @@ fn has_insertions(draft: &Draft) -> bool
 }
 
 /// Whether what is inserted into a draft goes beside it, as it takes none among its children.
+#[inline(always)]
 fn goes_beside(draft: &Draft) -> bool
     ensures { result ≡ goes_beside draft.now }
 {
@@ -121,6 +124,7 @@ fn goes_beside(draft: &Draft) -> bool
 }
 
 /// An element's node comes to the innermost open element, in a Container of it and of what is inserted.
+#[inline(never)]
 fn put_beside(
     node: Draft,
     is_stray: bool,
@@ -161,6 +165,7 @@ fn either(first: bool, second: bool) -> bool
 }
 
 /// An element's node comes to the innermost open element, with what is inserted into it.
+#[inline(always)]
 fn put_inside(
     role: Role,
     node: Draft,
@@ -180,6 +185,7 @@ fn put_inside(
 }
 
 /// An element's node comes to the innermost open element, with what is inserted in it or round it.
+#[inline(always)]
 fn close_node(
     node: Draft,
     has_children: bool,
@@ -752,11 +758,8 @@ fn open_node(
             style,
             if_empty,
             has_children,
-            mark,
-            before,
-            after,
+            inserted,
         } => {
-            let inserted = Inserted::new(alloc, mark, before, after)?;
             let kind = OpenKind::new(alloc, kind);
             let element = Element::new(kind, style, if_empty, inserted);
             let start = drafts.len();

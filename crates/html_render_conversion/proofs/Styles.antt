@@ -7,6 +7,7 @@ use Rattle.html_render_values.specs.declared.white_space.WhiteSpace.{WhiteSpace}
 use Rattle.html_render_dom_cascade.specs.declared.specificities.Specificity.{Specificity}
 use Rattle.html_render_dom_cascade.specs.declared.updates.Update.{Update}
 use Rattle.html_render_dom_cascade.specs.laws.Winners.{winner-one}
+use Rattle.html_render_insertions.specs.Drafts.{inserted_of}
 use Rattle.html_render_conversion.specs.declared.mapping.ElementKind.{ElementKind}
 use Rattle.html_render_conversion.specs.declared.mapping.ElementKind.TheVariants.{Node}
 use Rattle.html_render_conversion.specs.declared.mapping.IfEmpty.{IfEmpty}
@@ -33,7 +34,7 @@ hidden : (kind : ElementKind) (if_empty : IfEmpty) (has_children : Bool) (mark :
     is_some style.display ≡ true → displayed_outline kind if_empty has_children mark style ≡ outline.Nothing
 hidden kind if_empty has_children mark style h =
     ap (λ b. if b then outline.Nothing
-    else Over kind (node_style style) if_empty has_children mark (value_of style.content_before) (value_of style.content_after)) h
+    else Over kind (node_style style) if_empty has_children (inserted_of mark (value_of style.content_before) (value_of style.content_after))) h
 
 pub not_displayed : (mapping : Mapping) (mark : Option (List ℕ)) (style : ElementStyle) → is_some style.display ≡ true →
     styled_outline mapping mark style ≡ outline.Nothing

@@ -1,5 +1,5 @@
 -- Which of an element's attributes names its mark.
-use Rattle.std.specs.Prelude.{ℕ, Bool, true, false, ◌&&◌, ◌||◌, List, codes, find, Option, option_map}
+use Rattle.std.specs.Prelude.{ℕ, Bool, ◌&&◌, ◌||◌, List, codes, find, Option, option_map}
 use Rattle.std.specs.Str.{bytes_eq}
 use Rattle.html_render_dom_nodes.specs.Content.{Property, is_html, Name}
 

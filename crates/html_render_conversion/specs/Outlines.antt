@@ -1,5 +1,5 @@
 -- What becomes of a node of a document, its children aside.
-use Rattle.std.specs.Prelude.{ℕ, Bool, true, false, List, Option, Some, None, is_some, if◌then◌else◌}
+use Rattle.std.specs.Prelude.{ℕ, Bool, true, false, List, [], Option, Some, None, is_some, if◌then◌else◌}
 use Rattle.html_render_values.specs.Forest.{Forest}
 use Rattle.html_render_dom_cascade.specs.Cascade.{value_of}
 use Rattle.html_render_dom_nodes.specs.Content.{Content, document, doctype, text, comment, element, instruction}
@@ -8,6 +8,7 @@ use Rattle.html_render_dom.specs.ElementStyle.{ElementStyle}
 use Rattle.html_render_dom_rules.specs.Rules.{Rule as StyleRule}
 use Rattle.html_render_nodes.specs.declared.tree.NodeKind.TheVariants.{Text, Container, FragmentStart}
 use Rattle.html_render_nodes.specs.RenderNodes.{no_style, without_style}
+use Rattle.html_render_insertions.specs.Drafts.{inserted_of}
 use Rattle.html_render_conversion.specs.declared.mapping.ElementKind.{ElementKind}
 use Rattle.html_render_conversion.specs.declared.mapping.ElementKind.TheVariants.{Node}
 use Rattle.html_render_conversion.specs.declared.mapping.IfEmpty.{IfEmpty}
@@ -27,7 +28,7 @@ mark_alone (Some name) = Alone (without_style (FragmentStart name))
 abbrev pub displayed_outline : ElementKind → IfEmpty → (has_children : Bool) → (mark : Option (List ℕ)) → ElementStyle → Outline
 displayed_outline kind if_empty has_children mark style =
     if is_some style.display then outline.Nothing
-    else Over kind (node_style style) if_empty has_children mark (value_of style.content_before) (value_of style.content_after)
+    else Over kind (node_style style) if_empty has_children (inserted_of mark (value_of style.content_before) (value_of style.content_after))
 
 abbrev pub styled_outline : Mapping → (mark : Option (List ℕ)) → ElementStyle → Outline
 styled_outline Nothing mark style = if is_some style.display then outline.Nothing else mark_alone mark
@@ -35,7 +36,7 @@ styled_outline (Leaf kind) mark style = displayed_outline (Node kind) Stands fal
 styled_outline (Parent kind if_empty) mark style = displayed_outline kind if_empty true mark style
 
 abbrev pub outline_of : List StyleRule → Content → (below : Forest Content) → Outline
-outline_of rules document below = Over (Node Container) no_style Stands true None None None
+outline_of rules document below = Over (Node Container) no_style Stands true []
 outline_of rules (text contents) below = Alone (without_style (Text contents))
 outline_of rules (element name properties template_contents integration_point) below =
     styled_outline (element_mapping name.space name.local properties below) (mark_of name properties)

@@ -24,6 +24,7 @@ use html_render_dom::dom::{Attribute, Handle, Namespace, NodeData, QualName, RcD
 use html_render_dom::style::{
     ComputedStyle, RuleIndex, Specificity, StyleOrigin, StyleRule, WhiteSpace,
 };
+use html_render_insertions::drafts::Inserted;
 use html_render_nodes::text::NodeText;
 use html_render_nodes::tree::{Emphasis, Image, NodeKind, NodeStyle, RenderNode};
 use std::alloc::Global;
@@ -64,7 +65,7 @@ pub enum Outline {
     Nothing,
     /// A node alone.
     Alone(RenderNode),
-    /// An element over what its children become, with a mark and a content before these and a content behind them.
+    /// An element over what its children become, with what it inserts among these.
     Over {
         /// What it becomes.
         kind: ElementKind,
@@ -74,12 +75,8 @@ pub enum Outline {
         if_empty: IfEmpty,
         /// Whether what stands in it is converted.
         has_children: bool,
-        /// The name of its mark.
-        mark: Option<NodeText>,
-        /// The content before its children.
-        before: Option<NodeText>,
-        /// The content behind them.
-        after: Option<NodeText>,
+        /// Its mark, the content before its children and the one behind them.
+        inserted: Inserted,
     },
 }
 
@@ -265,46 +262,84 @@ fn mark_alone(mark: Option<NodeText>) -> Outline
 }
 
 /// What becomes of an element that has a style, its children aside.
-fn styled_outline(mapping: Mapping, mark: Option<NodeText>, style: ComputedStyle) -> Outline
-    ensures { result ≡ styled_outline mapping mark (style_of style) }
+fn styled_outline(
+    alloc: Global,
+    mapping: Mapping,
+    mark: Option<NodeText>,
+    style: ComputedStyle,
+) -> Result<Outline, Error>
+    ensures ok { IfOk result (λ outline. outline ≡ styled_outline mapping mark (style_of style)) }
+    ensures err { IfErr result (λ e. e ≡ Error.OutOfMemory) }
 {
     if style.display.val().is_some() {
-        return Outline::Nothing;
+        return Ok(Outline::Nothing);
     }
     let (kind, if_empty, has_children) = match mapping {
-        Mapping::Nothing => return mark_alone(mark),
+        Mapping::Nothing => return Ok(mark_alone(mark)),
         Mapping::Leaf(kind) => (ElementKind::Node(kind), IfEmpty::Stands, false),
         Mapping::Parent(kind, if_empty) => (kind, if_empty, true),
     };
-    Outline::Over {
+    let given = node_style(&style);
+    let before = style.content_before.into_val();
+    let after = style.content_after.into_val();
+    let inserted = Inserted::new(alloc, mark, before, after)?;
+    Ok(Outline::Over {
         kind,
-        style: node_style(&style),
+        style: given,
         if_empty,
         has_children,
-        mark,
-        before: style.content_before.into_val(),
-        after: style.content_after.into_val(),
-    }
+        inserted,
+    })
 }
 
 /// What becomes of an element whose style is that of no declarations, its children aside.
-fn unstyled_outline(mapping: Mapping, mark: Option<NodeText>) -> Outline
-    ensures { result ≡ styled_outline mapping mark (style_by []) }
+fn unstyled_outline(
+    alloc: Global,
+    mapping: Mapping,
+    mark: Option<NodeText>,
+) -> Result<Outline, Error>
+    ensures ok { IfOk result (λ outline. outline ≡ styled_outline mapping mark (style_by [])) }
+    ensures err { IfErr result (λ e. e ≡ Error.OutOfMemory) }
 {
     let (kind, if_empty, has_children) = match mapping {
-        Mapping::Nothing => return mark_alone(mark),
+        Mapping::Nothing => return Ok(mark_alone(mark)),
         Mapping::Leaf(kind) => (ElementKind::Node(kind), IfEmpty::Stands, false),
         Mapping::Parent(kind, if_empty) => (kind, if_empty, true),
     };
-    Outline::Over {
+    let inserted = match mark {
+        Some(name) => Inserted::new(alloc, Some(name), None, None)?,
+        None => Inserted::none(),
+    };
+    Ok(Outline::Over {
         kind,
         style: NodeStyle::default(),
         if_empty,
         has_children,
-        mark,
-        before: None,
-        after: None,
+        inserted,
+    })
+}
+
+/// What becomes of an element whose style is computed, its children aside.
+#[inline(never)]
+fn computed_outline(
+    alloc: Global,
+    rules: &[StyleRule],
+    index: &RuleIndex,
+    mapping: Mapping,
+    mark: Option<NodeText>,
+    name: &QualName,
+    attributes: &[Attribute],
+) -> Result<Outline, Error>
+    requires { Finds index.now (map rule_of rules.now) }
+    ensures ok { IfOk result (λ outline. outline ≡ styled_outline mapping mark
+        (own_style (map rule_of rules.now) (name_of name.now) (map property_of attributes.now))) }
+    ensures err { IfErr result (λ e. e ≡ Error.OutOfMemory) }
+{
+    let mut style = index.computed_style(alloc, rules, name.local.as_str(), attributes)?;
+    if is_preformatted(name) {
+        preformat(&mut style);
     }
+    styled_outline(alloc, mapping, mark, style)
 }
 
 /// What becomes of an element, its children aside. Its style is computed only where it counts.
@@ -322,15 +357,10 @@ fn element_outline(
     ensures err { IfErr result (λ e. e ≡ Error.OutOfMemory) }
 {
     let mark = mark_of(alloc, name, attributes)?;
-    let preformatted = is_preformatted(name);
-    if !preformatted && !index.may_select(name.local.as_str(), attributes) {
-        return Ok(unstyled_outline(mapping, mark));
+    if is_preformatted(name) || index.may_select(name.local.as_str(), attributes) {
+        return computed_outline(alloc, rules, index, mapping, mark, name, attributes);
     }
-    let mut style = index.computed_style(alloc, rules, name.local.as_str(), attributes)?;
-    if preformatted {
-        preformat(&mut style);
-    }
-    Ok(styled_outline(mapping, mark, style))
+    unstyled_outline(alloc, mapping, mark)
 }
 
 /// What becomes of a text.
@@ -366,9 +396,7 @@ pub fn outline_of(
             style: NodeStyle::default(),
             if_empty: IfEmpty::Stands,
             has_children: true,
-            mark: None,
-            before: None,
-            after: None,
+            inserted: Inserted::none(),
         }),
         NodeData::Text { contents } => Ok(Outline::Alone(text_node(alloc, contents.as_str())?)),
         NodeData::Element { name, attrs, .. } => {

@@ -270,7 +270,7 @@ impl Drafts {
     /// # Errors
     ///
     /// `OutOfMemory`. The trees are then as they were.
-    #[inline]
+    #[inline(always)]
     pub fn put(&mut self, draft: Draft) -> Result<(), Error>
         ensures ok { OnOk result (self.new ≡ forest.node draft none self.old) }
         ensures unchanged { OnErr result (self.new ≡ self.old) }
@@ -285,7 +285,7 @@ impl Drafts {
     /// # Errors
     ///
     /// `OutOfMemory`. The trees are then as they were.
-    #[inline]
+    #[inline(always)]
     pub fn enclose(&mut self, draft: Draft, mark: usize) -> Result<(), Error>
         requires { SplitAt self.old mark }
         ensures ok { OnOk result ((s : SplitAt self.old mark) → self.new ≡ forest.node draft s.children s.beside) }
@@ -378,6 +378,34 @@ fn push_draft(
     ensures none_noted { OnErr result (noted.new.items ≡ noted.old.items) }
     ensures err { IfErr result (λ e. e ≡ Error.OutOfMemory) }
 {
+    // most drafts have nothing inserted and there is room for them, so these take the shortest way
+    if !draft.inserted.is_empty() || entries.len() == entries.capacity() {
+        return push_noted(entries, noted, draft, size);
+    }
+    let Draft { kind, style, .. } = draft;
+    let node = RenderNode {
+        kind,
+        style,
+        estimate: Estimate::default(),
+    };
+    entries.push(Entry { node, size })?;
+    Ok(())
+}
+
+/// The same, where something may be inserted or there may be no room.
+#[inline(never)]
+fn push_noted(
+    entries: &mut Vec<Entry<RenderNode>>,
+    noted: &mut Vec<Noted>,
+    draft: Draft,
+    size: usize,
+) -> Result<(), Error>
+    ensures pushed { OnOk result (entries.new.items ≡ entries.old.items ++ record { node = node_of draft; size = size } ∷ []) }
+    ensures noted { OnOk result (noted.new.items ≡ noted.old.items ++ note_of (length entries.old.items) draft.inserted) }
+    ensures unchanged { OnErr result (entries.new.items ≡ entries.old.items) }
+    ensures none_noted { OnErr result (noted.new.items ≡ noted.old.items) }
+    ensures err { IfErr result (λ e. e ≡ Error.OutOfMemory) }
+{
     let Draft {
         kind,
         style,
@@ -388,30 +416,13 @@ fn push_draft(
         style,
         estimate: Estimate::default(),
     };
+    let place = entries.len();
     if inserted.is_empty() {
         entries.push(Entry { node, size })?;
         return Ok(());
     }
-    push_noted(entries, noted, Entry { node, size }, inserted)
-}
-
-/// Puts a node behind others, and notes what is inserted into it.
-#[inline(never)]
-fn push_noted(
-    entries: &mut Vec<Entry<RenderNode>>,
-    noted: &mut Vec<Noted>,
-    entry: Entry<RenderNode>,
-    inserted: Inserted,
-) -> Result<(), Error>
-    ensures pushed { OnOk result (entries.new.items ≡ entries.old.items ++ entry ∷ []) }
-    ensures noted { OnOk result (noted.new.items ≡ noted.old.items ++ record { place = length entries.old.items; inserted = inserted } ∷ []) }
-    ensures unchanged { OnErr result (entries.new.items ≡ entries.old.items) }
-    ensures none_noted { OnErr result (noted.new.items ≡ noted.old.items) }
-    ensures err { IfErr result (λ e. e ≡ Error.OutOfMemory) }
-{
-    let place = entries.len();
     noted.reserve(1)?;
-    entries.push(entry)?;
+    entries.push(Entry { node, size })?;
     noted.push(Noted { place, inserted })?;
     Ok(())
 }

@@ -15,7 +15,7 @@ use Rattle.html_render_nodes.specs.RenderNodes.{no_style}
 use Rattle.html_render_nodes.specs.Tables.{TableParts, unmeasured_table}
 use Rattle.html_render_parts.specs.TableCells.{cell_grid_of}
 use Rattle.html_render_insertions.specs.declared.drafts.Insertions.{Insertions}
-use Rattle.html_render_insertions.specs.Drafts.{draft_of, inserted_of}
+use Rattle.html_render_insertions.specs.Drafts.{draft_of}
 use Rattle.html_render_conversion.specs.declared.mapping.IfEmpty.{IfEmpty}
 use Rattle.html_render_conversion.specs.declared.mapping.IfEmpty.TheVariants.{Vanishes}
 use Rattle.html_render_conversion.specs.declared.mapping.Outline.{Outline}
@@ -56,8 +56,8 @@ came_of in_table k style if_empty has_children inserted inside = do
 abbrev pub came : (in_table : Bool) → Outline → (inside : Pick → Bool → Option (List Arrival)) → Option (Option Arrival)
 came in_table outline.Nothing inside = Some None
 came in_table (Alone n) inside = Some (Some (leaf_arrival (draft_of n)))
-came in_table (Over k style if_empty has_children mark before after) inside =
-    came_of in_table (opened_kind k) style if_empty has_children (inserted_of mark before after) inside
+came in_table (Over k style if_empty has_children inserted) inside =
+    came_of in_table (opened_kind k) style if_empty has_children inserted inside
 
 -- what comes of the trees that are picked from these, in order
 abbrev pub all_came : List StyleRule → Forest Content → Pick → (in_table : Bool) → Option (List Arrival)
@@ -211,8 +211,8 @@ module _ (q : Holding) (f : Pick → Holding → Option Holding) (g : Pick → B
   of-told k style e has_children i h = all-told k style e has_children i refl refl
 
   come-told : (o : Outline) → come o f q ≡ option_map to_q (came in_table o g)
-  come-told (Over k style e has_children mark before after) =
-      of-told (opened_kind k) style e has_children (inserted_of mark before after) (opened-no_table k)
+  come-told (Over k style e has_children inserted) =
+      of-told (opened_kind k) style e has_children inserted (opened-no_table k)
   come-told o = refl
 
 -- THE ELEMENT, once all have come of some trees, is what the list of them makes of it

@@ -133,12 +133,12 @@ module _ (in_table : Bool) (style : ElementStyle) (mark : Option (List ℕ)) (in
       (Some (completed mark (value_of style.content_before) (value_of style.content_after) None)) mark-any
   styled-any caption foot (Leaf k) h =
       hidden-or (is_some style.display)
-      (Over (becomes.Node k) (node_style style) Stands false mark (value_of style.content_before) (value_of style.content_after))
+      (Over (becomes.Node k) (node_style style) Stands false (inserted_of mark (value_of style.content_before) (value_of style.content_after)))
       (Some (completed mark (value_of style.content_before) (value_of style.content_after) (Some (over (node_style style) k []))))
       (leaf-any in_table (node_style style) mark (value_of style.content_before) (value_of style.content_after) inside all f u c ha hf hu hc parted k h)
   styled-any caption foot (Parent k e) h =
       hidden-or (is_some style.display)
-      (Over k (node_style style) e true mark (value_of style.content_before) (value_of style.content_after))
+      (Over k (node_style style) e true (inserted_of mark (value_of style.content_before) (value_of style.content_after)))
       (do
         made ← mapped (Parent k e) (node_style style) all
         Some (completed mark (value_of style.content_before) (value_of style.content_after) made))
