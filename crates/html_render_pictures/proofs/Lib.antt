@@ -1,3 +1,4 @@
+pub mod Blanks
 pub mod Ends
 pub mod LawSets
 pub mod RowLines

@@ -7,6 +7,8 @@ pub mod Stretch
 pub mod Picture
 -- a row line by line
 pub mod Rows
+-- what stands on a row's line where no cell has one
+pub mod Blank
 -- the picture row by row
 pub mod Drawing
 -- how wide a row is

@@ -1,6 +1,7 @@
 //! Pictures of tables whose cells stand side by side.
 #![tactic(auto)]
 
+mod blank;
 pub mod fillers;
 pub mod finished;
 mod laws;
