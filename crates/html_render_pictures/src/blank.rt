@@ -2,6 +2,7 @@
 //! row, and what stands on a line between two cells that have one is a piece of it.
 
 ghost use Rattle.std.specs.Prelude.{◌≡◌, ◌-◌, ◌≤◌, ◌++◌, ◌∷◌, [], cond, drop, OnOk, IfOk, replicate};
+ghost use Rattle.std.specs.Char.{len_utf8};
 ghost use Rattle.std.specs.Str.{chars};
 ghost use Rattle.std.specs.String.{string_bytes};
 ghost use Rattle.html_render_glyphs.specs.declared.borders.TheConstants.{BORDERS};
@@ -15,11 +16,16 @@ use html_render_lines::tag::Tag;
 use std::alloc::{AllocError, Global};
 use std::marker::Model;
 
-/// What stands between two cells.
-fn separator(borders: bool) -> char
-    ensures { result ≡ cond borders BORDERS.separator 0x20 }
+/// How many bytes stand between two cells.
+#[inline]
+fn separator_bytes(borders: bool) -> usize
+    ensures { result ≡ len_utf8 (cond borders BORDERS.separator 0x20) }
 {
-    if borders { BORDERS.separator } else { ' ' }
+    if borders {
+        BORDERS.separator.len_utf8()
+    } else {
+        ' '.len_utf8()
+    }
 }
 
 /// Adds spaces to a text.
@@ -96,7 +102,7 @@ impl<'a> Blank<'a> {
         requires { self.old.after ≡ cond borders BORDERS.separator 0x20 ∷ drop 1 self.old.after }
         ensures { self.new ≡ record { due = self.old.due ++ cond borders BORDERS.separator 0x20 ∷ []; after = drop 1 self.old.after } }
     {
-        self.due += separator(borders).len_utf8();
+        self.due += separator_bytes(borders);
         self.columns += 1;
     }
 

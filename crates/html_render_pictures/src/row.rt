@@ -216,6 +216,7 @@ impl<T: Tag> Frame<T> {
     }
 
     /// Puts a line of a cell that begins at this place of the blank text, and what is due before it.
+    #[inline(never)]
     fn put_own<M: Copy>(
         &self,
         line: &mut Line<T, M>,
@@ -235,7 +236,7 @@ impl<T: Tag> Frame<T> {
     }
 
     /// Puts a cell's line of this number, if it is as high, or passes its blank text, at whose place the cell begins.
-    #[inline]
+    #[inline(always)]
     #[tactic(auto, using(crate::proofs::Blanks::spaces_due))]
     fn put_over<M: Copy>(
         &self,
@@ -259,7 +260,7 @@ impl<T: Tag> Frame<T> {
     }
 
     /// Puts a cell's line of this number, or its blank text, beside those of the cells before it.
-    #[inline]
+    #[inline(always)]
     fn put_next<M: Copy>(
         &self,
         line: &mut Line<T, M>,
