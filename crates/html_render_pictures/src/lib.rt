@@ -2,6 +2,7 @@
 #![tactic(auto)]
 
 mod blank;
+mod border;
 pub mod fillers;
 pub mod finished;
 mod laws;
