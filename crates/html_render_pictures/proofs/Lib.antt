@@ -1,5 +1,7 @@
+pub mod Blanks
 pub mod Ends
 pub mod LawSets
-pub mod RowLines
-pub mod Stretches
 pub mod OnlyCell
+pub mod RowLines
+pub mod Separators
+pub mod Stretches

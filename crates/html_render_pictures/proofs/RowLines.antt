@@ -1,13 +1,13 @@
 -- The lines of a row, one by one.
-use Rattle.std.proofs.Common.{◌≡◌, ◌==◌, true, false, ℕ, zero, suc, ◌+◌, ◌-◌, ◌≤◌, ◌<◌, max, List, [], ◌∷◌, ◌++◌, All, length, map, fold, replicate, take, get_or, Some, refl, sym, ap, ◌∙◌, arith, append_assoc, append-nil}
+use Rattle.std.proofs.Common.{◌≡◌, ◌==◌, false, ℕ, zero, suc, ◌+◌, ◌-◌, ◌<◌, max, List, [], ◌∷◌, ◌++◌, All, length, map, fold, replicate, take, get_or, Some, refl, sym, ap, ◌∙◌, arith, append_assoc, append-nil}
 use Rattle.std.specs.List.{range_with_len, flat_map}
 use Rattle.std.proofs.lemmas.List.{length-append, length-replicate, take_more}
 use Rattle.std.proofs.lemmas.List.Concat.{flat_map-append}
 use Rattle.std.proofs.lemmas.List.FromFn.{fill_by_all}
 use Rattle.std.proofs.lemmas.List.Elements.{All-head, All-tail}
-use Rattle.html_render_lines.specs.Line.{Line, columns, marks_line}
+use Rattle.html_render_lines.specs.Line.{Line}
 use Rattle.html_render_pictures.specs.Marked.{marked_behind}
-use Rattle.html_render_pictures.specs.Padding.{repeated, filled}
+use Rattle.html_render_pictures.specs.Padding.{filled}
 use Rattle.html_render_pictures.specs.laws.Padding.{filled_line}
 use Rattle.html_render_pictures.specs.declared.picture.Frame.{Frame}
 use Rattle.html_render_pictures.specs.Picture.{KeptCell, separator, beside, cell_lines, height, row_lines}

@@ -5,8 +5,12 @@ pub mod Padding
 pub mod Stretch
 -- THE DEFINITION of a picture
 pub mod Picture
+-- where the separators of a row stand
+pub mod Separators
 -- a row line by line
 pub mod Rows
+-- what stands on a row's line where no cell has one
+pub mod Blank
 -- the picture row by row
 pub mod Drawing
 -- how wide a row is

@@ -9,9 +9,9 @@ ghost use Rattle.html_render_pictures.specs.Picture.{TableRow};
 ghost use Rattle.html_render_pictures.specs.Drawing as drawing;
 ghost use Rattle.html_render_pictures.specs.declared.fillers.Filler.TheVariants as filler;
 ghost use Rattle.html_render_pictures.specs.Marked.{marked_behind};
-ghost use Rattle.html_render_pictures.specs.Padding.{filled, repeated, character_of};
+ghost use Rattle.html_render_pictures.specs.Padding.{filled};
+ghost use Rattle.html_render_pictures.specs.Separators.{separators_between};
 
-use crate::fillers::{Filler, push_fillers};
 use crate::finished::put_marks_front;
 use crate::lines::Lines;
 use crate::row::{keep_memory, row_cells};
@@ -123,109 +123,18 @@ fn wait_for_lines<T: Tag, M: Copy>(
     Ok(())
 }
 
-/// Adds columns without a separator.
-fn add_columns(separators: &mut Vec<bool>, width: usize) -> Result<(), AllocError>
-    ensures { OnOk result (separators.new.items ≡ separators.old.items ++ replicate width false) }
+/// The columns of a row's cells.
+fn widths_of<T, M>(alloc: Global, cells: &[Cell<T, M>]) -> Result<Vec<usize>, AllocError>
+    ensures { IfOk result (λ v. separators_between v.items ≡ definition.separators_of cells.now) }
 {
-    separators.reserve(width)?;
-    for _k in 0..width {
-        separators.push(false)?;
+    let mut widths = Vec::with_capacity(alloc, cells.len())?;
+    for cell in cells {
+        widths.push(cell.width)?;
     }
-    Ok(())
-}
-
-/// For each column of a row whether a separator stands there.
-fn separators_of<T, M>(alloc: Global, cells: &[Cell<T, M>]) -> Result<Vec<bool>, AllocError>
-    ensures { IfOk result (λ v. v.items ≡ definition.separators_of cells.now) }
-{
-    let mut separators = Vec::with_capacity(alloc, room_of(cells))?;
-    if let [first, others @ ..] = cells {
-        add_columns(&mut separators, first.width)?;
-        for cell in others {
-            separators.push(true)?;
-            add_columns(&mut separators, cell.width)?;
-        }
-    }
-    Ok(separators)
-}
-
-/// What a border has at a column, by whether the row above and the row below have a separator there.
-fn joint(above: bool, below: bool) -> char
-    ensures { result ≡ definition.joint above below }
-{
-    match (above, below) {
-        (true, true) => BORDERS.cross,
-        (true, false) => BORDERS.above,
-        (false, true) => BORDERS.below,
-        (false, false) => BORDERS.line,
-    }
-}
-
-/// Whether a separator stands at a column.
-fn separator_at(separators: &[bool], column: usize) -> bool
-    ensures { result ≡ get_or separators.now column false }
-{
-    separators.get(column).copied().unwrap_or(false)
+    Ok(widths)
 }
 
 impl<T: Tag> Frame<T> {
-    /// Draws what a border has where a separator stands above or below.
-    #[tactic(auto, using(crate::specs::laws::Glyphs::joint_width))]
-    fn draw_joint<M: Copy>(
-        &self,
-        line: &mut Line<T, M>,
-        above: bool,
-        below: bool,
-    ) -> Result<(), AllocError>
-        ensures { OnOk result (line.new ≡ line.old ++ Character (definition.joint above below) self.now.tag ∷ []) }
-    {
-        line.push_char(joint(above, below), 1, self.tag)
-    }
-
-    /// Draws a border at a column. Dashes are counted, and drawn once another character stands behind them.
-    #[tactic(auto, using(crate::proofs::LawSets::dashes))]
-    fn draw_column<M: Copy>(
-        &self,
-        line: &mut Line<T, M>,
-        dashes: &mut usize,
-        above: bool,
-        below: bool,
-    ) -> Result<(), AllocError>
-        requires { dashes.old + 1 < 2 ^ 64 }
-        ensures drawn { OnOk result (line.new ++ repeated self.now.tag (character_of filler.Dash) dashes.new
-            ≡ (line.old ++ repeated self.now.tag (character_of filler.Dash) dashes.old) ++ Character (definition.joint above below) self.now.tag ∷ []) }
-        ensures due { OnOk result (dashes.new ≤ dashes.old + 1) }
-    {
-        if above || below {
-            push_fillers(line, Filler::Dash, *dashes, self.tag)?;
-            self.draw_joint(line, above, below)?;
-            *dashes = 0;
-        } else {
-            *dashes += 1;
-        }
-        Ok(())
-    }
-
-    /// A border between rows with these separators.
-    fn border<M: Copy>(
-        &self,
-        alloc: Global,
-        above: &[bool],
-        below: &[bool],
-    ) -> Result<Line<T, M>, AllocError>
-        ensures { IfOk result (λ l. l ≡ definition.border self.now above.now below.now) }
-    {
-        let width = above.len().max(below.len());
-        let mut line = Line::with_capacity(alloc, width.saturating_mul(BORDERS.line.len_utf8()))?;
-        let mut dashes = 0;
-        for column in 0..width {
-            let (up, down) = (separator_at(above, column), separator_at(below, column));
-            self.draw_column(&mut line, &mut dashes, up, down)?;
-        }
-        push_fillers(&mut line, Filler::Dash, dashes, self.tag)?;
-        Ok(line)
-    }
-
     /// The lines of a row, over the lines of each cell, whose memory is kept.
     fn lines_beside<M: Copy>(
         &self,
@@ -299,31 +208,32 @@ impl<T: Tag> Frame<T> {
     }
 }
 
-/// A border that is due: the marks before it, and the separators above it.
+/// A border that is due: the marks before it, and the columns of the cells above it.
 #[derive(Drop)]
 struct Border<M> {
     marks: Vec<M>,
-    above: Vec<bool>,
+    above: Vec<usize>,
 }
 
 impl<M> Model for Border<M> {
     ghost use Rattle.html_render_pictures.specs.Drawing.{DueBorder};
+    ghost use Rattle.html_render_pictures.specs.Separators.{separators_between};
 
     ghost Value = { DueBorder M };
 
-    ghost view = { λ b. record { marks = b.marks.items; above = b.above.items } };
+    ghost view = { λ b. record { marks = b.marks.items; above = separators_between b.above.items } };
 }
 
 impl<T: Tag> Frame<T> {
-    /// Adds the border that is due, above a row with these separators.
+    /// Adds the border that is due, above a row whose cells have these columns.
     fn add_due<M: Copy>(
         &self,
         alloc: Global,
         lines: &mut Lines<T, M>,
         due: Option<Border<M>>,
-        below: &[bool],
+        below: &[usize],
     ) -> Result<(), AllocError>
-        ensures { OnOk result (lines.new ≡ lines.old ++ drawing.due_lines self.now due below.now) }
+        ensures { OnOk result (lines.new ≡ lines.old ++ drawing.due_lines self.now due (separators_between below.now)) }
     {
         match due {
             Some(Border { marks, above }) => {
@@ -336,9 +246,9 @@ impl<T: Tag> Frame<T> {
         }
     }
 
-    /// The border below a row.
-    fn due_below<M: Copy>(&self, alloc: Global, above: Vec<bool>) -> Option<Border<M>>
-        ensures { result ≡ drawing.due_below self.now above.items }
+    /// The border below a row whose cells have these columns.
+    fn due_below<M: Copy>(&self, alloc: Global, above: Vec<usize>) -> Option<Border<M>>
+        ensures { result ≡ drawing.due_below self.now (separators_between above.items) }
     {
         if self.borders {
             Some(Border {
@@ -402,7 +312,7 @@ impl<T: Tag, M: Copy> Picture<T, M> {
             });
         }
         let mut above = Vec::new(alloc);
-        add_columns(&mut above, frame.width)?;
+        above.push(frame.width)?;
         Ok(Picture {
             alloc,
             frame,
@@ -442,33 +352,33 @@ impl<T: Tag, M: Copy> Picture<T, M> {
         Some(Lines::in_memory_of(self.alloc, lines))
     }
 
-    /// The separators of a row, where a border may show them.
-    fn shown_separators(&self, cells: &[Cell<T, M>]) -> Result<Vec<bool>, AllocError>
-        ensures above { IfOk result (λ v. drawing.due_lines {M = M} self.now.frame self.now.due v.items
+    /// The columns of a row's cells, where a border may show what stands between them.
+    fn shown_widths(&self, cells: &[Cell<T, M>]) -> Result<Vec<usize>, AllocError>
+        ensures above { IfOk result (λ v. drawing.due_lines {M = M} self.now.frame self.now.due (separators_between v.items)
             ≡ drawing.due_lines self.now.frame self.now.due (definition.separators_of cells.now)) }
-        ensures below { IfOk result (λ v. drawing.due_below {M = M} self.now.frame v.items
+        ensures below { IfOk result (λ v. drawing.due_below {M = M} self.now.frame (separators_between v.items)
             ≡ drawing.due_below self.now.frame (definition.separators_of cells.now)) }
     {
         if !self.frame.borders && self.due.is_none() {
             return Ok(Vec::new(self.alloc));
         }
-        separators_of(self.alloc, cells)
+        widths_of(self.alloc, cells)
     }
 
     /// Adds the lines of a row, behind the border that is due.
     fn draw_row(&mut self, cells: Vec<Cell<T, M>>) -> Result<(), AllocError>
         ensures { OnOk result (self.new ≡ drawing.with_cells self.old cells.items) }
     {
-        let separators = self.shown_separators(cells.as_slice())?;
+        let widths = self.shown_widths(cells.as_slice())?;
         let due = mem::replace(&mut self.due, None);
         self.frame
-            .add_due(self.alloc, &mut self.lines, due, separators.as_slice())?;
+            .add_due(self.alloc, &mut self.lines, due, widths.as_slice())?;
         wait_for_lines(&mut self.waiting, cells.as_slice())?;
         let mut lines = self.frame.row_lines(self.alloc, cells, &mut self.spare)?;
         lines.mark_first(self.waiting.as_slice())?;
         self.waiting.clear();
         self.lines.append(lines)?;
-        self.due = self.frame.due_below(self.alloc, separators);
+        self.due = self.frame.due_below(self.alloc, widths);
         Ok(())
     }
 

@@ -1,11 +1,20 @@
 //! The lines of a row, each written from left to right over the row's cells.
+//!
+//! In a high row most cells have no line of a given number. So its lines are written over its blank text: all that stands
+//! between two cells that have one is put at once.
 
-ghost use Rattle.std.specs.Prelude.{◌≡◌, ◌++◌, ◌∷◌, [], map, OnOk, IfOk};
+ghost use Rattle.std.specs.Prelude.{◌≡◌, ◌+◌, ◌-◌, ◌++◌, ◌∷◌, [], map, drop, replicate, OnOk, IfOk};
 ghost use Rattle.std.specs.List.{range_with_len, flat_map};
+ghost use Rattle.std.specs.Str.{chars};
+ghost use Rattle.std.specs.String.{string_bytes};
+ghost use Rattle.html_render_lines.specs.Line.{columns};
+ghost use Rattle.html_render_lines.specs.TaggedText.{under};
+ghost use Rattle.html_render_pictures.specs.Blank.{blank_cell, blank_cells};
 ghost use Rattle.html_render_pictures.specs.Picture as definition;
 ghost use Rattle.html_render_pictures.specs.Rows.{filled_at, marked_cell, row_line};
 ghost use Rattle.html_render_pictures.specs.Padding.{repeated};
 
+use crate::blank::{Blank, add_blank_cell, first_blank_cell};
 use crate::fillers::{FEW, Filler, gap, push_fillers};
 use crate::finished::{mark_behind, missing};
 use crate::picture::{Cell, Frame};
@@ -77,6 +86,9 @@ pub(crate) fn keep_memory<T: Tag, M: Copy>(
     }
     Ok(())
 }
+
+/// The lines of a row that is no higher than this are written cell by cell.
+const LOW: usize = 8;
 
 /// A row is as high as its highest cell, and at least 1.
 fn height<T: Tag, M: Copy>(cells: &[RowCell<T, M>]) -> usize
@@ -186,6 +198,159 @@ impl<T: Tag> Frame<T> {
         Ok(Line::new(alloc))
     }
 
+    /// So many of the row's lines, written cell by cell, each with room for `room` bytes.
+    fn low_lines<M: Copy>(
+        &self,
+        alloc: Global,
+        cells: &[RowCell<T, M>],
+        height: usize,
+        room: usize,
+    ) -> Result<Vec<Line<T, M>>, AllocError>
+        ensures { IfOk result (λ v. v.items ≡ map (λ n. row_line self.now n cells.now) (range_with_len 0 height)) }
+    {
+        let mut lines = Vec::with_capacity(alloc, height)?;
+        for number in 0..height {
+            lines.push(self.row_line(alloc, cells, number, room)?)?;
+        }
+        Ok(lines)
+    }
+
+    /// Puts a line of a cell that begins at this place of the blank text, and what is due before it.
+    #[inline(never)]
+    fn put_own<M: Copy>(
+        &self,
+        line: &mut Line<T, M>,
+        blank: &mut Blank<'_>,
+        own: &Line<T, M>,
+        width: usize,
+    ) -> Result<(), AllocError>
+        requires { blank.old.after ≡ replicate width 0x20 ++ drop width blank.old.after }
+        ensures line { OnOk result (line.new ++ under self.now.tag blank.new.due
+            ≡ (line.old ++ under self.now.tag blank.old.due) ++ (own.now ++ repeated self.now.tag 0x20 (width - columns own.now))) }
+        ensures left { OnOk result (blank.new.after ≡ drop width blank.old.after) }
+    {
+        blank.put(line, self.tag)?;
+        line.append(own)?;
+        blank.pass_all_but(width, missing(own, width));
+        Ok(())
+    }
+
+    /// Puts a cell's line of this number, if it is as high, or passes its blank text, at whose place the cell begins.
+    #[inline(always)]
+    #[tactic(auto, using(crate::proofs::Blanks::spaces_due))]
+    fn put_over<M: Copy>(
+        &self,
+        line: &mut Line<T, M>,
+        blank: &mut Blank<'_>,
+        cell: &RowCell<T, M>,
+        number: usize,
+    ) -> Result<(), AllocError>
+        requires { blank.old.after ≡ replicate cell.now.width 0x20 ++ drop cell.now.width blank.old.after }
+        ensures line { OnOk result (line.new ++ under self.now.tag blank.new.due
+            ≡ (line.old ++ under self.now.tag blank.old.due) ++ filled_at self.now.tag number cell.now) }
+        ensures left { OnOk result (blank.new.after ≡ drop cell.now.width blank.old.after) }
+    {
+        match cell.lines.get(number) {
+            Some(own) => self.put_own(line, blank, own, cell.width),
+            None => {
+                blank.pass_spaces(cell.width);
+                Ok(())
+            }
+        }
+    }
+
+    /// Puts a cell's line of this number, or its blank text, beside those of the cells before it.
+    #[inline(always)]
+    fn put_next<M: Copy>(
+        &self,
+        line: &mut Line<T, M>,
+        blank: &mut Blank<'_>,
+        cell: &RowCell<T, M>,
+        number: usize,
+    ) -> Result<(), AllocError>
+        requires { blank.old.after ≡ blank_cell self.now.borders cell.now.width ++ drop (cell.now.width + 1) blank.old.after }
+        ensures line { OnOk result (line.new ++ under self.now.tag blank.new.due
+            ≡ (line.old ++ under self.now.tag blank.old.due) ++ definition.separator self.now ∷ filled_at self.now.tag number cell.now) }
+        ensures left { OnOk result (blank.new.after ≡ drop (cell.now.width + 1) blank.old.after) }
+    {
+        blank.pass_separator(self.borders);
+        self.put_over(line, blank, cell, number)
+    }
+
+    /// Puts the lines of this number of cells, or their blank text, beside those of the cells before them.
+    fn put_all_next<M: Copy>(
+        &self,
+        line: &mut Line<T, M>,
+        blank: &mut Blank<'_>,
+        others: &[RowCell<T, M>],
+        number: usize,
+    ) -> Result<(), AllocError>
+        requires { blank.old.after ≡ blank_cells self.now.borders others.now }
+        ensures { OnOk result (line.new ++ under self.now.tag blank.new.due ≡ (line.old ++ under self.now.tag blank.old.due)
+            ++ flat_map (λ d. definition.separator self.now ∷ filled_at self.now.tag number d) others.now) }
+    {
+        for cell in others {
+            self.put_next(line, blank, cell, number)?;
+        }
+        Ok(())
+    }
+
+    /// The line of this number over the blank text of a row's first cell and the others, with room for `room` bytes.
+    fn line_over_blank<M: Copy>(
+        &self,
+        alloc: Global,
+        text: &str,
+        first: &RowCell<T, M>,
+        others: &[RowCell<T, M>],
+        number: usize,
+        room: usize,
+    ) -> Result<Line<T, M>, AllocError>
+        requires { chars text.now ≡ replicate first.now.width 0x20 ++ blank_cells self.now.borders others.now }
+        ensures { IfOk result (λ l. l ≡ row_line self.now number (first.now ∷ others.now)) }
+    {
+        let mut line = Line::with_capacity(alloc, room)?;
+        let mut blank = Blank::new(text);
+        self.put_over(&mut line, &mut blank, first, number)?;
+        self.put_all_next(&mut line, &mut blank, others, number)?;
+        blank.put(&mut line, self.tag)?;
+        Ok(line)
+    }
+
+    /// The blank text of a row's first cell and the others.
+    fn blank_text<M: Copy>(
+        &self,
+        alloc: Global,
+        first: &RowCell<T, M>,
+        others: &[RowCell<T, M>],
+    ) -> Result<String, AllocError>
+        ensures { IfOk result (λ t. chars (string_bytes t) ≡ replicate first.now.width 0x20 ++ blank_cells self.now.borders others.now) }
+    {
+        let mut text = first_blank_cell(alloc, first.width)?;
+        for cell in others {
+            add_blank_cell(&mut text, self.borders, cell.width)?;
+        }
+        Ok(text)
+    }
+
+    /// So many of the row's lines, over its blank text, each with room for `room` bytes.
+    fn high_lines<M: Copy>(
+        &self,
+        alloc: Global,
+        first: &RowCell<T, M>,
+        others: &[RowCell<T, M>],
+        height: usize,
+        room: usize,
+    ) -> Result<Vec<Line<T, M>>, AllocError>
+        ensures { IfOk result (λ v. v.items ≡ map (λ n. row_line self.now n (first.now ∷ others.now)) (range_with_len 0 height)) }
+    {
+        let text = self.blank_text(alloc, first, others)?;
+        let mut lines = Vec::with_capacity(alloc, height)?;
+        for number in 0..height {
+            lines.push(self.line_over_blank(alloc, text.as_str(), first, others, number, room)?)?;
+        }
+        Ok(lines)
+    }
+
     /// The row's lines, each with room for `room` bytes.
     pub(crate) fn lines_of_row<M: Copy>(
         &self,
@@ -196,10 +361,11 @@ impl<T: Tag> Frame<T> {
         ensures { IfOk result (λ v. v.items ≡ map (λ n. row_line self.now n cells.now) (range_with_len 0 (definition.height cells.now))) }
     {
         let height = height(cells);
-        let mut lines = Vec::with_capacity(alloc, height)?;
-        for number in 0..height {
-            lines.push(self.row_line(alloc, cells, number, room)?)?;
+        match cells {
+            [first, others @ ..] if height > LOW => {
+                self.high_lines(alloc, first, others, height, room)
+            }
+            _ => self.low_lines(alloc, cells, height, room),
         }
-        Ok(lines)
     }
 }

@@ -7,7 +7,6 @@ use Rattle.std.proofs.lemmas.List.{take_at, drop_at, replicate-append-replicate}
 use Rattle.std.proofs.lemmas.List.Elements.{All-replicate}
 use Rattle.std.proofs.lemmas.List.Folds.{sum_by-replicate}
 use Rattle.std.proofs.lemmas.List.Sums.{sum_by-append}
-use Rattle.std.specs.List.{sum_by}
 use Rattle.std.proofs.lemmas.Str.{chars-IsAscii, chars-encodes, encodes-append, length-encode, IsCharBoundary-at_seam}
 use Rattle.std.proofs.lemmas.Str.Ascii.{IsAscii-from_all}
 use Rattle.std.specs.Char.{len_utf8}
@@ -26,7 +25,7 @@ use Rattle.html_render_pictures.specs.laws.Glyphs.{space_width, slash_width, joi
 
 -- ---- the first of more are spelt by the first bytes
 
-encodes-length : (c n : ℕ) → length (encodes (replicate n c)) ≡ n * len_utf8 c
+pub encodes-length : (c n : ℕ) → length (encodes (replicate n c)) ≡ n * len_utf8 c
 encodes-length c zero = omega arith
 encodes-length c (suc n) = grind (arith, length-append (encode c) (encodes (replicate n c)), length-encode c, encodes-length c n)
 
@@ -109,7 +108,7 @@ pub fillers_width : (filler : Filler) (count : ℕ) → text_columns (replicate 
 fillers_width filler count =
     omega (arith, sum_by-replicate width_of count (character_of filler), ap (λ w. count * w) (character_width filler))
 
-under-replicate : {T : Type 0} (M : Type 0) (tag : T) (c count : ℕ) → under {M = M} tag (replicate count c) ≡ repeated tag c count
+pub under-replicate : {T : Type 0} (M : Type 0) (tag : T) (c count : ℕ) → under {M = M} tag (replicate count c) ≡ repeated tag c count
 under-replicate M tag c zero = refl
 under-replicate M tag c (suc count) = ap (λ l. Character c tag ∷ l) (under-replicate M tag c count)
 
