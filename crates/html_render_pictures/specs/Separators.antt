@@ -1,5 +1,5 @@
 -- Where the separators of a row stand, told by the columns that stand before, between and behind them.
-use Rattle.std.specs.Prelude.{ℕ, ◌-◌, ◌^◌, Bool, true, false, List, [], ◌∷◌, ◌++◌, get_or, map, replicate}
+use Rattle.std.specs.Prelude.{ℕ, ◌-◌, ◌^◌, Bool, true, false, List, [], ◌∷◌, ◌++◌, get_or, replicate}
 use Rattle.std.specs.List.{flat_map}
 use Rattle.html_render_lines.specs.declared.line.Element.{Element}
 use Rattle.html_render_lines.specs.declared.line.Element.TheVariants.{Character}

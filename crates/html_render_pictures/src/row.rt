@@ -102,14 +102,25 @@ fn height<T: Tag, M: Copy>(cells: &[RowCell<T, M>]) -> usize
 }
 
 impl<T: Tag> Frame<T> {
-    /// Puts what stands between a cell and the next one: the spaces that are missing behind its line, and a separator.
+    /// Puts what stands between a cell and the next one, where many spaces are missing behind its line.
     #[tactic(auto, using(crate::proofs::LawSets::gaps_put))]
-    fn put_gap<M: Copy>(&self, line: &mut Line<T, M>, missing: usize) -> Result<(), AllocError>
+    fn put_wide_gap<M: Copy>(&self, line: &mut Line<T, M>, missing: usize) -> Result<(), AllocError>
         ensures { OnOk result (line.new ≡ (line.old ++ repeated self.now.tag 0x20 missing) ++ definition.separator self.now ∷ []) }
     {
         let few = missing.min(FEW - 1);
         push_fillers(line, Filler::Space, missing - few, self.tag)?;
         line.push_str(gap(self.borders, few), few + 1, self.tag)
+    }
+
+    /// Puts what stands between a cell and the next one: the spaces that are missing behind its line, and a separator.
+    #[tactic(auto, using(crate::proofs::LawSets::gaps_put))]
+    fn put_gap<M: Copy>(&self, line: &mut Line<T, M>, missing: usize) -> Result<(), AllocError>
+        ensures { OnOk result (line.new ≡ (line.old ++ repeated self.now.tag 0x20 missing) ++ definition.separator self.now ∷ []) }
+    {
+        if missing >= FEW {
+            return self.put_wide_gap(line, missing);
+        }
+        line.push_str(gap(self.borders, missing), missing + 1, self.tag)
     }
 
     /// Puts a cell's line of this number, if it is as high, and answers how many columns are missing behind that.

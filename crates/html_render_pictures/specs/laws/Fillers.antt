@@ -148,6 +148,12 @@ under-push : {T : Type 0} (M : Type 0) (tag : T) (count c : ℕ) →
 under-push M tag zero c = refl
 under-push M tag (suc count) c = ap (λ l. Character 0x20 tag ∷ l) (under-push M tag count c)
 
+-- spaces with a separator behind them
+pub few_put : {T M : Type 0} (tag : T) (line : Line T M) (few c : ℕ) →
+    line ++ under tag (replicate few 0x20 ++ c ∷ []) ≡ (line ++ repeated tag 0x20 few) ++ Character c tag ∷ []
+few_put {T} {M} tag line few c =
+    ap (λ l. line ++ l) (under-push M tag few c) ∙ sym (append_assoc line (repeated tag 0x20 few) (Character c tag ∷ []))
+
 -- spaces, and the last of them with a separator behind them
 pub gap_put : {T M : Type 0} (tag : T) (line : Line T M) (count few c : ℕ) → few ≤ count →
     (line ++ repeated tag (character_of Space) (count - few)) ++ under tag (replicate few 0x20 ++ c ∷ [])

@@ -1,4 +1,4 @@
-use Rattle.std.proofs.Common.{◌++◌, ◌<◌, ◌-◌, map, append_assoc, ap, ◌∙◌, arith}
+use Rattle.std.proofs.Common.{◌++◌, map, append_assoc, ap, ◌∙◌, arith}
 use Rattle.std.specs.List.{range_with_len}
 use Rattle.html_render_lines.specs.Line.{Line}
 use Rattle.html_render_pictures.specs.Separators.{separators_from, joint_at}
