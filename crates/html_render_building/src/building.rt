@@ -214,6 +214,7 @@ fn close_node(
 }
 
 /// Takes back what was made of an element that becomes nothing: its mark is left.
+#[inline(never)]
 fn vanish(
     inserted: Inserted,
     start: usize,
@@ -305,6 +306,7 @@ fn close_row(
 }
 
 /// Rows beside each other come to the innermost open element. What is inserted goes into the first cell of the first of these.
+#[inline(never)]
 fn close_rows(
     behind: bool,
     rows: Gathered<RowCells>,
@@ -378,6 +380,7 @@ fn put_table(
 
 /// A table comes to the innermost open element: below its captions, in a container with these; or alone, with the style of its
 /// element, and what that inserts in its first cell.
+#[inline(never)]
 fn close_captioned(
     style: NodeStyle,
     inserted: Inserted,
@@ -427,6 +430,7 @@ fn caption_kind(in_table: bool) -> NodeKind
 }
 
 /// A caption comes to the innermost open element: a block before its table, and a container elsewhere.
+#[inline(never)]
 fn close_caption(
     style: NodeStyle,
     inserted: Inserted,
@@ -469,6 +473,7 @@ fn tell_of_table(is_stray: bool, elements: &mut Vec<Open>)
 }
 
 /// A table with its grid comes to its wrapper, over its rows, if there are any.
+#[inline(never)]
 fn close_table(
     grid: Grid,
     has_rows: bool,

@@ -68,6 +68,7 @@ impl OpenKind {
     }
 
     /// Whether what comes in this role, of this kind, is kept.
+    #[inline(always)]
     fn keeps(&self, role: &Role, kind: &NodeKind) -> bool
         ensures { result ≡ keeps self.now (meant role.now) kind.now }
     {
@@ -82,6 +83,7 @@ impl OpenKind {
     }
 
     /// Whether it counts as a result of a child.
+    #[inline(always)]
     fn counts(&self, role: &Role, kind: &NodeKind, has_children: bool) -> bool
         ensures { result ≡ counts self.now (meant role.now) kind.now has_children }
     {
@@ -96,6 +98,7 @@ impl OpenKind {
     }
 
     /// Whether what comes in this role has its place here, if it is kept.
+    #[inline(always)]
     fn has_place(&self, role: &Role) -> bool
         ensures { result ≡ has_place self.now (meant role.now) }
     {
@@ -124,6 +127,7 @@ impl OpenKind {
     }
 
     /// Gathers what comes in this role, if it belongs here.
+    #[inline(always)]
     fn gather(&mut self, role: Role) -> Result<(), Error>
         ensures ok { OnOk result (self.new ≡ gathered (meant role) self.old) }
         ensures err { IfErr result (λ e. e ≡ Error.OutOfMemory) }

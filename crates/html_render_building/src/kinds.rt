@@ -25,6 +25,7 @@ fn is_blank(text: &str) -> bool
 }
 
 /// Whether a node shows nothing, as far as is seen without going into its children.
+#[inline(never)]
 pub fn shows_nothing(kind: &NodeKind, has_children: bool) -> bool
     ensures { result ≡ shows_nothing kind.now has_children }
 {

@@ -1,6 +1,6 @@
 //! Which render node a node of a document becomes.
 
-ghost use Rattle.std.specs.Prelude.{◌≡◌, ◌&&◌, [], IfOk, IfErr, codes, if◌then◌else◌, map};
+ghost use Rattle.std.specs.Prelude.{◌≡◌, ◌&&◌, [], None, IfOk, IfErr, codes, if◌then◌else◌, map};
 ghost use Rattle.std.specs.Str.{bytes_eq};
 ghost use Rattle.html_render_dom_nodes.specs.Content.{name_of, property_of, space_of, is_html};
 ghost use Rattle.html_render_dom.specs.Dom.{IsForest, IsNode, children_at, trees_of};
@@ -292,6 +292,29 @@ fn styled_outline(
     })
 }
 
+/// What becomes of an element without a mark whose style is that of no declarations, its children aside.
+fn bare_outline(mapping: Mapping) -> Outline
+    ensures { result ≡ styled_outline mapping None (style_by []) }
+{
+    match mapping {
+        Mapping::Nothing => Outline::Nothing,
+        Mapping::Leaf(kind) => Outline::Over {
+            kind: ElementKind::Node(kind),
+            style: NodeStyle::default(),
+            if_empty: IfEmpty::Stands,
+            has_children: false,
+            inserted: Inserted::none(),
+        },
+        Mapping::Parent(kind, if_empty) => Outline::Over {
+            kind,
+            style: NodeStyle::default(),
+            if_empty,
+            has_children: true,
+            inserted: Inserted::none(),
+        },
+    }
+}
+
 /// What becomes of an element whose style is that of no declarations, its children aside.
 fn unstyled_outline(
     alloc: Global,
@@ -301,15 +324,15 @@ fn unstyled_outline(
     ensures ok { IfOk result (λ outline. outline ≡ styled_outline mapping mark (style_by [])) }
     ensures err { IfErr result (λ e. e ≡ Error.OutOfMemory) }
 {
+    let Some(name) = mark else {
+        return Ok(bare_outline(mapping));
+    };
     let (kind, if_empty, has_children) = match mapping {
-        Mapping::Nothing => return Ok(mark_alone(mark)),
+        Mapping::Nothing => return Ok(mark_alone(Some(name))),
         Mapping::Leaf(kind) => (ElementKind::Node(kind), IfEmpty::Stands, false),
         Mapping::Parent(kind, if_empty) => (kind, if_empty, true),
     };
-    let inserted = match mark {
-        Some(name) => Inserted::new(alloc, Some(name), None, None)?,
-        None => Inserted::none(),
-    };
+    let inserted = Inserted::new(alloc, Some(name), None, None)?;
     Ok(Outline::Over {
         kind,
         style: NodeStyle::default(),
@@ -342,8 +365,9 @@ fn computed_outline(
     styled_outline(alloc, mapping, mark, style)
 }
 
-/// What becomes of an element, its children aside. Its style is computed only where it counts.
-fn element_outline(
+/// What becomes of an element that may have a mark or a style, its children aside. Its style is computed only where it counts.
+#[inline(never)]
+fn attributed_outline(
     alloc: Global,
     rules: &[StyleRule],
     index: &RuleIndex,
@@ -361,6 +385,30 @@ fn element_outline(
         return computed_outline(alloc, rules, index, mapping, mark, name, attributes);
     }
     unstyled_outline(alloc, mapping, mark)
+}
+
+/// What becomes of an element, its children aside.
+fn element_outline(
+    alloc: Global,
+    rules: &[StyleRule],
+    index: &RuleIndex,
+    mapping: Mapping,
+    name: &QualName,
+    attributes: &[Attribute],
+) -> Result<Outline, Error>
+    requires { Finds index.now (map rule_of rules.now) }
+    ensures ok { IfOk result (λ outline. outline ≡ styled_outline mapping (mark_of (name_of name.now) (map property_of attributes.now))
+        (own_style (map rule_of rules.now) (name_of name.now) (map property_of attributes.now))) }
+    ensures err { IfErr result (λ e. e ≡ Error.OutOfMemory) }
+{
+    // most elements have no attributes, so these take the shortest way
+    if attributes.is_empty()
+        && !is_preformatted(name)
+        && !index.may_select(name.local.as_str(), attributes)
+    {
+        return Ok(bare_outline(mapping));
+    }
+    attributed_outline(alloc, rules, index, mapping, name, attributes)
 }
 
 /// What becomes of a text.

@@ -364,8 +364,9 @@ impl Drafts {
     }
 }
 
-/// Puts the node of a draft behind others, and notes what is inserted into it.
-#[inline(always)]
+/// Puts the node of a draft behind others, and notes what is inserted into it. It is a function of its own, so that a node is
+/// moved in few steps however much surrounds the call.
+#[inline(never)]
 fn push_draft(
     entries: &mut Vec<Entry<RenderNode>>,
     noted: &mut Vec<Noted>,
