@@ -164,14 +164,14 @@ impl Role {
 pub struct Element {
     /// What it becomes.
     pub kind: OpenKind,
-    /// What its style gives its node.
-    pub style: NodeStyle,
-    /// What becomes of it if its children have no results that count.
-    pub if_empty: IfEmpty,
     /// Whether a child has become something that counts, also where that isn't kept.
     pub has_results: bool,
     /// Whether a child has become something that is kept.
     pub has_children: bool,
+    /// What its style gives its node.
+    pub style: NodeStyle,
+    /// What becomes of it if its children have no results that count.
+    pub if_empty: IfEmpty,
     /// Whether a part of a table stands below that is in no table.
     pub is_stray: bool,
     /// What is inserted into it.
