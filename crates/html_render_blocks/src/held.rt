@@ -40,13 +40,16 @@ impl<T: Tag, M: Copy> HeldBlock<T, M> {
     }
 }
 
-/// The block that is laid out into, and the memory that a block left which is over.
+/// What so many blocks left that are over is kept, at most, for those that come.
+const KEPT: usize = 16;
+
+/// The block that is laid out into, and the memory that blocks left which are over.
 #[derive(Drop)]
 pub struct OpenBlock<T, M> {
     /// The block.
     pub held: Box<Block<T, M>>,
-    /// What a block that is over left, for the next one.
-    spare: Option<Box<Block<T, M>>>,
+    /// What blocks that are over left, for those that come.
+    spare: Vec<Box<Block<T, M>>>,
 }
 
 impl<T, M> Model for OpenBlock<T, M> {
@@ -68,7 +71,10 @@ impl<T: Tag, M: Copy> OpenBlock<T, M> {
         ensures err { IfErr result (λ e. e ≡ Error.OutOfMemory) }
     {
         let held = Box::new(alloc, block)?;
-        Ok(OpenBlock { held, spare: None })
+        Ok(OpenBlock {
+            held,
+            spare: Vec::new(alloc),
+        })
     }
 
     /// Goes on with this block, and answers the one before.
@@ -85,7 +91,17 @@ impl<T: Tag, M: Copy> OpenBlock<T, M> {
     fn take_spare(&mut self) -> Option<Box<Block<T, M>>>
         ensures { self.new ≡ self.old }
     {
-        self.spare.take()
+        self.spare.pop()
+    }
+
+    /// Keeps what a block left that is over, where not many are kept.
+    fn keep(&mut self, over: Box<Block<T, M>>) -> Result<(), AllocError>
+        ensures { OnOk result (self.new ≡ self.old) }
+    {
+        if self.spare.len() < KEPT {
+            self.spare.push(over)?;
+        }
+        Ok(())
     }
 
     /// An empty block of this width inside this one, in the memory of another.
@@ -149,13 +165,14 @@ impl<T: Tag, M: Copy> OpenBlock<T, M> {
     /// # Errors
     ///
     /// As [`Block::add_cell`].
+    #[tactic(auto, using(html_render_values::specs::laws::Outcome::refusals))]
     pub fn add_cell(&mut self, cell: HeldBlock<T, M>) -> Result<(), Error>
         ensures ok { OnOk result (machine.operations.add_cell self.old cell ≡ Some self.new) }
         ensures err { IfErr result (λ e. Refuses e (machine.operations.add_cell self.old cell)) }
     {
         let mut inner = cell.block;
         self.held.add_cell(&mut inner)?;
-        self.spare = Some(inner);
+        self.keep(inner)?;
         Ok(())
     }
 
@@ -164,6 +181,7 @@ impl<T: Tag, M: Copy> OpenBlock<T, M> {
     /// # Errors
     ///
     /// As [`Block::append`].
+    #[tactic(auto, using(html_render_values::specs::laws::Outcome::refusals))]
     pub fn append(
         &mut self,
         sub: HeldBlock<T, M>,
@@ -176,7 +194,7 @@ impl<T: Tag, M: Copy> OpenBlock<T, M> {
     {
         let mut inner = sub.block;
         self.held.append(&mut inner, tag, first, later)?;
-        self.spare = Some(inner);
+        self.keep(inner)?;
         Ok(())
     }
 
