@@ -131,7 +131,22 @@ fn take_call(
     }
 }
 
-/// Appends the texts that wait to the current node, as one.
+/// Appends a text to the current node.
+#[inline(never)]
+fn append_text(
+    alloc: Global,
+    dom: &mut RcDom,
+    current: Handle,
+    text: &str,
+) -> Result<(), ScriptError>
+    requires { IsNode dom.old current }
+    ensures { OnOk result (IsNode dom.new current) }
+{
+    Ok(dom.append_str(alloc, current, text)?)
+}
+
+/// Appends the texts that wait to the current node, as one. Most lines find none.
+#[inline(always)]
 fn append_texts(
     alloc: Global,
     dom: &mut RcDom,
@@ -142,7 +157,7 @@ fn append_texts(
     ensures { OnOk result (IsNode dom.new current) }
 {
     if let Some(text) = texts.as_one() {
-        dom.append_str(alloc, current, text)?;
+        append_text(alloc, dom, current, text)?;
         texts.clear();
     }
     Ok(())
