@@ -4,7 +4,7 @@ use Rattle.std.specs.List.{IsDistinct}
 use Rattle.std.proofs.lemmas.Bool.Decides.{eqb_tells}
 use Rattle.html_render_dom_nodes.specs.Content.{Content, document}
 use Rattle.html_render_dom_nodes.specs.Elements.{contents_in}
-use Rattle.html_render_values.specs.Forest.{Forest, none, node}
+use Rattle.html_render_dom_values.specs.Forest.{Forest, none, node}
 use Rattle.html_render_dom.specs.Dom.{Dom, node_count, IsNode, content_at, children_at, parent_at, IsInclusiveAncestor, itself, above, HaveTrees, IsForest}
 use Rattle.html_render_dom.specs.laws.Changes.{SameShape, Rewrites}
 use Rattle.html_render_dom.specs.laws.Forests.{below_or_not, children_at-past}

@@ -6,7 +6,7 @@ use Rattle.std.proofs.lemmas.List.Elements.{Contains-get_or}
 use Rattle.std.proofs.lemmas.List.Sums.{sum_by-append}
 use Rattle.html_render_dom.specs.declared.dom.dump.Frame.{Frame}
 use Rattle.html_render_dom_nodes.specs.Content.{Content, Name, Property, document, comment, element, instruction}
-use Rattle.html_render_values.specs.Forest.{Forest, none, node, count, depth}
+use Rattle.html_render_dom_values.specs.Forest.{Forest, none, node, count, depth}
 use Rattle.html_render_dom.specs.Dom.{Dom, node_count, IsNode, content_at, children_at, trees_of, tree_of, IsForest}
 use Rattle.html_render_dom.specs.laws.Trees.{trees_of-cons}
 use Rattle.html_render_dom.specs.Dump.{dump, start_line, end_line}

@@ -7,7 +7,7 @@ use Rattle.html_render_dom.specs.declared.dom.settings.QuirksMode.TheVariants.{N
 use Rattle.html_render_dom_nodes.specs.Content.{Content, document, element}
 use Rattle.html_render_dom_nodes.specs.Nodes.{Node, lone, node_in}
 use Rattle.html_render_dom_nodes.specs.Elements.{contents_in}
-use Rattle.html_render_values.specs.Forest.{Forest, none, node}
+use Rattle.html_render_dom_values.specs.Forest.{Forest, none, node}
 
 -- the nodes by their numbers, the messages of a parser's errors, and the quirks mode
 pub record Dom : Type 0 where

@@ -2,7 +2,7 @@
 use Rattle.std.specs.Prelude.{ℕ, ◌+◌, ◌==◌, Bool, if◌then◌else◌, List, [], ◌∷◌, ◌++◌, length, codes, replicate}
 use Rattle.std.specs.Str.{trim}
 use Rattle.html_render_dom_nodes.specs.Content.{Content, document, doctype, text, comment, element, instruction}
-use Rattle.html_render_values.specs.Forest.{Forest, none, node}
+use Rattle.html_render_dom_values.specs.Forest.{Forest, none, node}
 
 -- a piece behind its indent in spaces, and a line feed
 abbrev pub line : (indent : ℕ) → List ℕ → List ℕ

@@ -1,13 +1,22 @@
 -- What each call that changes a document makes of its nodes.
-use Rattle.std.specs.Prelude.{◌≡◌, ℕ, None, string_bytes}
+use Rattle.std.specs.Prelude.{◌≡◌, ℕ, false, List, [], None, string_bytes}
 use Rattle.html_render_dom_nodes.specs.declared.contents.NodeOrText.{NodeOrText}
 use Rattle.html_render_dom_nodes.specs.declared.contents.NodeOrText.TheVariants.{AppendNode, AppendText}
 use Rattle.html_render_dom.specs.Dom.{Dom, IsNode, parent_at, IsInclusiveAncestor}
-use Rattle.html_render_dom_nodes.specs.Edits.{attached, last_text, text_put}
+use Rattle.html_render_dom_nodes.specs.Content.{Name, html, element}
+use Rattle.html_render_dom_nodes.specs.Edits.{attached, attached_new, last_text, text_put}
 
 abbrev pub appended : Dom → (parent : ℕ) → NodeOrText → Dom
 appended dom parent (AppendNode child) = record dom { nodes = attached dom.nodes parent child }
 appended dom parent (AppendText more) = record dom { nodes = text_put dom.nodes parent (last_text dom.nodes parent) (string_bytes more) }
+
+-- an element more, without attributes: the parent's last child
+abbrev pub element_appended : Dom → (parent : ℕ) → Name → Dom
+element_appended dom parent name = record dom { nodes = attached_new dom.nodes (element name [] None false) parent }
+
+-- an HTML name
+abbrev pub html_name : List ℕ → Name
+html_name local = record { space = html; local = local }
 
 -- a node that was made between the two: it hangs nowhere, and no older node is below it
 pub record IsFresh (old new : Dom) (h : ℕ) : Type 0 where

@@ -1,10 +1,10 @@
 -- The style of an element: for each property the winner among the declarations of the rules that select it.
 use Rattle.std.specs.Prelude.{ℕ, Bool, false, List, ◌++◌, codes, Option, Some, None, map, filter, option_map, option_to_list}
 use Rattle.std.specs.List.{filter_map, flat_map}
-use Rattle.html_render_values.specs.declared.colours.Colour.{Colour}
+use Rattle.html_render_dom_values.specs.declared.colours.Colour.{Colour}
 use Rattle.html_render_dom_cascade.specs.declared.origins.StyleOrigin.{StyleOrigin}
 use Rattle.html_render_dom_cascade.specs.declared.specificities.Specificity.{Specificity}
-use Rattle.html_render_values.specs.declared.white_space.WhiteSpace.{WhiteSpace}
+use Rattle.html_render_dom_values.specs.declared.white_space.WhiteSpace.{WhiteSpace}
 use Rattle.html_render_dom_rules.specs.declared.rules.Display.{Display}
 use Rattle.html_render_dom_rules.specs.declared.rules.PseudoElement.{PseudoElement}
 use Rattle.html_render_dom_rules.specs.declared.rules.PseudoElement.TheVariants.{Before, After}

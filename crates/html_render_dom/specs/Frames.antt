@@ -2,7 +2,7 @@
 use Rattle.std.specs.Prelude.{ℕ, ◌+◌, ◌-◌, ◌*◌, ◌≤◌, List, [], ◌∷◌, ◌++◌, sum_by, drop}
 use Rattle.html_render_dom.specs.declared.dom.dump.Frame.{Frame}
 use Rattle.html_render_dom_nodes.specs.Content.{Content, document, doctype, text, comment, element, instruction}
-use Rattle.html_render_values.specs.Forest.{Forest, count, depth}
+use Rattle.html_render_dom_values.specs.Forest.{Forest, count, depth}
 use Rattle.html_render_dom.specs.Dom.{Dom, node_count, IsNode, content_at, children_at, trees_of}
 use Rattle.html_render_dom.specs.Dump.{dump, end_line}
 

@@ -4,4 +4,4 @@
 pub mod dom;
 pub mod style;
 
-pub use html_render_values::Error;
+pub use html_render_dom_values::{Error, text};

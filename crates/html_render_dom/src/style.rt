@@ -13,6 +13,6 @@ mod index;
 pub use computed::{ComputedStyle, ContentText, computed_style};
 pub use html_render_dom_cascade::{Specificity, StyleOrigin, WithSpec};
 pub use html_render_dom_rules::{Declaration, Display, PseudoElement, Style, StyleRule};
-pub use html_render_values::colours::Colour;
-pub use html_render_values::white_space::WhiteSpace;
+pub use html_render_dom_values::colours::Colour;
+pub use html_render_dom_values::white_space::WhiteSpace;
 pub use index::RuleIndex;

@@ -8,7 +8,7 @@ ghost use Rattle.std.specs.Prelude.{◌≡◌, map, string_bytes};
 ghost use Rattle.html_render_dom_nodes.specs.Elements.{has_name};
 ghost use Rattle.html_render_dom_nodes.specs.Content as content;
 
-use html_render_values::small_text::SmallText;
+use html_render_dom_values::small_text::SmallText;
 
 /// The namespace of a name.
 #[derive(Debug, Drop)]

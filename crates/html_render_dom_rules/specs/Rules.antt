@@ -1,8 +1,8 @@
 -- The rules of a style sheet, with each text as its list of bytes.
 use Rattle.std.specs.Prelude.{ℕ, Bool, List, Option, map, option_map, string_bytes}
-use Rattle.html_render_values.specs.declared.colours.Colour.{Colour as TheColour}
+use Rattle.html_render_dom_values.specs.declared.colours.Colour.{Colour as TheColour}
 use Rattle.html_render_dom_cascade.specs.declared.origins.StyleOrigin.{StyleOrigin}
-use Rattle.html_render_values.specs.declared.white_space.WhiteSpace.{WhiteSpace as TheWhiteSpace}
+use Rattle.html_render_dom_values.specs.declared.white_space.WhiteSpace.{WhiteSpace as TheWhiteSpace}
 use Rattle.html_render_dom_rules.specs.declared.rules.Display.{Display as TheDisplay}
 use Rattle.html_render_dom_rules.specs.declared.rules.PseudoElement.{PseudoElement}
 use Rattle.html_render_dom_rules.specs.declared.rules.Style.{Style}

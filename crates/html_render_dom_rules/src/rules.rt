@@ -5,8 +5,8 @@ ghost use Rattle.html_render_dom_rules.specs.Rules.{declared_of, rule_of};
 ghost use Rattle.html_render_dom_rules.specs.Selectors.{specificity_of};
 
 use html_render_dom_cascade::{Specificity, StyleOrigin};
-use html_render_values::colours::Colour;
-use html_render_values::white_space::WhiteSpace;
+use html_render_dom_values::colours::Colour;
+use html_render_dom_values::white_space::WhiteSpace;
 use std::alloc::Global;
 
 /// What kind of box an element makes: the CSS property `display`.

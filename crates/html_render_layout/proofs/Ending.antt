@@ -5,13 +5,13 @@ use Rattle.std.proofs.lemmas.Simd.{map-map}
 use Rattle.std.specs.Fmt.{decimal}
 use Rattle.std.specs.Prelude.{codes}
 use Rattle.std.specs.Str.{chars}
-use Rattle.html_render_values.specs.declared.errors.Error.{Error}
-use Rattle.html_render_values.specs.declared.errors.Error.TheVariants.{TooNarrow, Fail, OutOfMemory}
-use Rattle.html_render_values.specs.Outcome.{Refuses}
-use Rattle.html_render_decorators.specs.Decoration.{Decoration}
-use Rattle.html_render_blocks.specs.Operations.{DocumentEnd}
-use Rattle.html_render_states.specs.declared.state.LayoutState.{LayoutState}
-use Rattle.html_render_states.specs.Ending.{footnotes, closing_texts, ended}
+use Rattle.html_render_dom_values.specs.declared.errors.Error.{Error}
+use Rattle.html_render_dom_values.specs.declared.errors.Error.TheVariants.{TooNarrow, Fail, OutOfMemory}
+use Rattle.html_render_dom_values.specs.Outcome.{Refuses}
+use Rattle.html_render_parts_decorators.specs.Decoration.{Decoration}
+use Rattle.html_render_layout_blocks.specs.Operations.{DocumentEnd}
+use Rattle.html_render_layout_states.specs.declared.state.LayoutState.{LayoutState}
+use Rattle.html_render_layout_states.specs.Ending.{footnotes, closing_texts, ended}
 
 pub ruleset joined = (append_assoc)
 

@@ -1,8 +1,8 @@
 -- How characters are written one by one.
 use Rattle.std.proofs.Common.{◌≡◌, ℕ, List, [], ◌∷◌, ◌++◌, Bool, true, false, cond, refl, sym, ap, ◌∙◌}
 use Rattle.std.proofs.lemmas.Str.{encodes-append}
-use Rattle.html_render_lines.specs.Character.{is_collapsible}
-use Rattle.html_render_states.specs.Layout.{struck}
+use Rattle.html_render_layout_lines.specs.Character.{is_collapsible}
+use Rattle.html_render_layout_states.specs.Layout.{struck}
 use lib.Utf8.{encodes}
 
 both-ways : (b : Bool) (c : ℕ) (all front back : List ℕ) → all ≡ front ++ back →

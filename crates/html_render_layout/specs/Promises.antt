@@ -1,14 +1,14 @@
 -- What every call that lays out a tree, or renders one, promises of the lines.
 use Rattle.std.specs.Prelude.{◌≡◌, ◌≤◌, ℕ, true, false, List, Some, IfSome, IsSome}
-use Rattle.html_render_values.specs.Forest.{Forest}
-use Rattle.html_render_decorators.specs.Decoration.{Decoration}
-use Rattle.html_render_lines.specs.Line.{Line, AllWithinWidth}
-use Rattle.html_render_nodes.specs.declared.tree.RenderNode.{RenderNode}
-use Rattle.html_render_nodes.specs.Pass.{run}
-use Rattle.html_render_estimates.specs.declared.settings.LayoutSettings.{LayoutSettings}
-use Rattle.html_render_blocks.specs.declared.block.BlockSetting.{BlockSetting}
+use Rattle.html_render_dom_values.specs.Forest.{Forest}
+use Rattle.html_render_parts_decorators.specs.Decoration.{Decoration}
+use Rattle.html_render_layout_lines.specs.Line.{Line, AllWithinWidth}
+use Rattle.html_render_layout_nodes.specs.declared.tree.RenderNode.{RenderNode}
+use Rattle.html_render_layout_nodes.specs.Pass.{run}
+use Rattle.html_render_layout_estimates.specs.declared.settings.LayoutSettings.{LayoutSettings}
+use Rattle.html_render_layout_blocks.specs.declared.block.BlockSetting.{BlockSetting}
 use Rattle.html_render_layout.specs.Kept.{visited_nodes, KeepsTexts}
-use Rattle.html_render_states.specs.Layout.{layout_lines, Defined, defined}
+use Rattle.html_render_layout_states.specs.Layout.{layout_lines, Defined, defined}
 
 -- of the lines that it answers: they are those of the tree in a block; with overflow off and links wrapped none passes the width;
 -- where overflow off gives lines, they are these; and each visible character of the texts that are visited stands in them

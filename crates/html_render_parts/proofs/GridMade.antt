@@ -3,8 +3,8 @@ use Rattle.std.proofs.Common.{◌≡◌, ℕ, ◌≤◌, List, Some, map, All, r
 use Rattle.std.specs.Global.{Vec}
 use Rattle.std.proofs.lemmas.Bool.{cases_Bool}
 use Rattle.std.proofs.lemmas.List.Elements.{All-map}
-use Rattle.html_render_values.specs.declared.errors.Error.{Error}
-use Rattle.html_render_values.specs.declared.errors.Error.TheVariants.{TooNarrow, Fail, OutOfMemory}
+use Rattle.html_render_dom_values.specs.declared.errors.Error.{Error}
+use Rattle.html_render_dom_values.specs.declared.errors.Error.TheVariants.{TooNarrow, Fail, OutOfMemory}
 use Rattle.html_render_parts.specs.declared.table.Span.{Span}
 use Rattle.html_render_parts.specs.declared.table.PlacedCell.{PlacedCell}
 use Rattle.html_render_parts.specs.declared.table.placement.Place.{Place}

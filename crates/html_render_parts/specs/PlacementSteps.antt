@@ -2,7 +2,7 @@
 -- past the last position.
 use Rattle.std.specs.Prelude.{◌≡◌, ℕ, ◌+◌, ◌^◌, ◌<◌, ◌≤◌, Bool, true, List, [], ◌∷◌, ◌++◌, Option, Some, None, All, length, max, map, drop, filter, nat_lt, nat_le, if◌then◌else◌}
 use Rattle.std.specs.List.{list_all}
-use Rattle.html_render_values.specs.Outcome.{◌>>=◌}
+use Rattle.html_render_dom_values.specs.Outcome.{◌>>=◌}
 use Rattle.html_render_parts.specs.declared.table.Span.{Span}
 use Rattle.html_render_parts.specs.declared.table.PlacedCell.{PlacedCell}
 use Rattle.html_render_parts.specs.declared.table.CellKind.{CellKind}

@@ -15,7 +15,7 @@ mod gathering;
 mod numbering;
 mod placement;
 
-use html_render_values::Error;
+use html_render_dom_values::Error;
 use std::alloc::Global;
 
 /// How many columns and rows a cell asks for, each at least 1.

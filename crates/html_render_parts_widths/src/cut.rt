@@ -9,7 +9,7 @@ use super::Meter;
 use super::fit::{sum_up, wanted};
 use super::levels::{Level, find_level};
 use super::lowering::lowered;
-use html_render_values::Error;
+use html_render_dom_values::Error;
 use std::alloc::{AllocError, Global};
 
 /// The widths that columns are cut to, and how they come about.

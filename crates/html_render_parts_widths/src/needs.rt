@@ -5,7 +5,7 @@ ghost use Rattle.html_render_parts_widths.specs.Needs.{no_need, part, column_nee
 
 use super::shares::{ColumnNeed, widths_across};
 use super::spans::{Span, greatest_values};
-use html_render_values::Error;
+use html_render_dom_values::Error;
 use std::alloc::{AllocError, Global};
 
 /// What a cell needs over its columns, in columns of text.

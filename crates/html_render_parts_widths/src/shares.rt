@@ -6,7 +6,7 @@ ghost use Rattle.std.specs.Prelude.{◌≡◌, ◌≤◌, option_map, sum_by, If
 ghost use Rattle.html_render_parts_widths.specs.Shares.{least_widths, share, shares, stand_side_by_side, widths_across};
 
 use super::cut::column_widths;
-use html_render_values::Error;
+use html_render_dom_values::Error;
 use std::alloc::{AllocError, Global};
 
 /// What a column of a table needs for its content, in columns of text.

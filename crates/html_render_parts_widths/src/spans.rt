@@ -4,7 +4,7 @@ ghost use Rattle.std.specs.Prelude.{◌≡◌, ◌≤◌, ◌<◌, ◌+◌, ◌-
 ghost use Rattle.html_render_parts_widths.specs.Spans.{AreOver, AreGreatest};
 ghost use Rattle.html_render_parts_widths.specs.SpanSteps.{IsSpread, span_at, split_at, raised_at};
 
-use html_render_values::Error;
+use html_render_dom_values::Error;
 use std::alloc::{AllocError, Global};
 
 /// A value over columns beside each other.

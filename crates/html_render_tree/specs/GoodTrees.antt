@@ -1,10 +1,10 @@
 -- What a finished render tree is like where its tables stand.
 use Rattle.std.specs.Prelude.{Bool, true, false, ◌&&◌, List, ◌∷◌, Option, Some, None}
-use Rattle.html_render_values.specs.Forest.{Forest, none, node}
+use Rattle.html_render_dom_values.specs.Forest.{Forest, none, node}
 use Rattle.html_render_parts.specs.declared.table.cells.GridCell.{GridCell}
-use Rattle.html_render_nodes.specs.declared.tree.NodeKind.{NodeKind}
-use Rattle.html_render_nodes.specs.declared.tree.NodeKind.TheVariants.{Table, TableRow, TableCell}
-use Rattle.html_render_nodes.specs.declared.tree.RenderNode.{RenderNode}
+use Rattle.html_render_layout_nodes.specs.declared.tree.NodeKind.{NodeKind}
+use Rattle.html_render_layout_nodes.specs.declared.tree.NodeKind.TheVariants.{Table, TableRow, TableCell}
+use Rattle.html_render_layout_nodes.specs.declared.tree.RenderNode.{RenderNode}
 
 -- where trees stand: below a table of which these rows are still to come, below a row of which these cells are, or anywhere else
 pub data Place : Type 0 where

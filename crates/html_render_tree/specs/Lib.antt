@@ -9,23 +9,23 @@ pub mod GoodTrees
 -- laws of the definitions
 pub mod laws
 -- what the calls of the program's scripts make of a document
-pub use Rattle.html_render_scripts.specs.Scripts
+pub use Rattle.html_render_tree_scripts.specs.Scripts
 -- which render tree a document becomes
-pub use Rattle.html_render_conversion.specs.Tables
-pub use Rattle.html_render_conversion.specs.Conversion
-pub use Rattle.html_render_conversion.specs.Results
+pub use Rattle.html_render_tree_mapping.specs.Tables
+pub use Rattle.html_render_tree_mapping.specs.Conversion
+pub use Rattle.html_render_tree_mapping.specs.Results
 -- what an error says of a definition
 pub use Rattle.html_render_parts.specs.Refusal
 -- tagged lines, their strings, and their text under a colour map
-pub use Rattle.html_render_tagged.specs.TaggedLine
-pub use Rattle.html_render_tagged.specs.Grouping
-pub use Rattle.html_render_tagged.specs.Colouring
+pub use Rattle.html_render_layout_tagged.specs.TaggedLine
+pub use Rattle.html_render_layout_tagged.specs.Grouping
+pub use Rattle.html_render_layout_tagged.specs.Colouring
 -- what is said of each kind of node, and what a render tree is displayed as
-pub use Rattle.html_render_nodes.specs.Kinds
-pub use Rattle.html_render_nodes.specs.Dump
+pub use Rattle.html_render_layout_nodes.specs.Kinds
+pub use Rattle.html_render_layout_nodes.specs.Dump
 -- what a decorator answers, and what those of plain and of rich text do, for callers that implement one
-pub use Rattle.html_render_decorators.specs.Decoration
-pub use Rattle.html_render_decorators.specs.Decorators
+pub use Rattle.html_render_parts_decorators.specs.Decoration
+pub use Rattle.html_render_parts_decorators.specs.Decorators
 -- what a decorator answers that changes some answers of another one
-pub use Rattle.html_render_alterations.specs.Alteration
-pub use Rattle.html_render_alterations.specs.declared.place.Place
+pub use Rattle.html_render_parts_decorators.specs.Alteration
+pub use Rattle.html_render_parts_decorators.specs.declared.decorate.place.Place

@@ -1,18 +1,18 @@
 -- What a configuration makes of a render tree.
 use Rattle.std.specs.Prelude.{◌≡◌, ℕ, Bool, false, List, [], Option, Some, None, IfSome, map}
 use Rattle.std.specs.Cmp.Lexicographic.{pointwise}
-use Rattle.html_render_values.specs.Forest.{Forest}
-use Rattle.html_render_values.specs.Outcome.{◌>>=◌}
+use Rattle.html_render_dom_values.specs.Forest.{Forest}
+use Rattle.html_render_dom_values.specs.Outcome.{◌>>=◌}
 use Rattle.html_render_dom_rules.specs.Rules.{Rule}
-use Rattle.html_render_lines.specs.Line.{Line}
-use Rattle.html_render_decorators.specs.Decoration.{Decoration}
-use Rattle.html_render_nodes.specs.declared.tree.RenderNode.{RenderNode}
-use Rattle.html_render_estimates.specs.declared.settings.LayoutSettings.{LayoutSettings}
-use Rattle.html_render_blocks.specs.declared.block.BlockSetting.{BlockSetting}
-use Rattle.html_render_states.specs.Layout.{layout_lines, mark_names}
+use Rattle.html_render_layout_lines.specs.Line.{Line}
+use Rattle.html_render_parts_decorators.specs.Decoration.{Decoration}
+use Rattle.html_render_layout_nodes.specs.declared.tree.RenderNode.{RenderNode}
+use Rattle.html_render_layout_estimates.specs.declared.settings.LayoutSettings.{LayoutSettings}
+use Rattle.html_render_layout_blocks.specs.declared.block.BlockSetting.{BlockSetting}
+use Rattle.html_render_layout_states.specs.Layout.{layout_lines, mark_names}
 use Rattle.html_render_layout.specs.Promises.{Lines}
-use Rattle.html_render_estimates.specs.Settings.{default_settings}
-use Rattle.html_render_tagged.specs.Grouping.{Piece, grouped}
+use Rattle.html_render_layout_estimates.specs.Settings.{default_settings}
+use Rattle.html_render_layout_tagged.specs.Grouping.{Piece, grouped}
 
 -- the settings of a configuration: its decorator, its rules in the order in which they were added, whether a character
 -- that is wider than a line stands alone on its line, the columns of a paragraph's lines at most, and how nodes are laid out

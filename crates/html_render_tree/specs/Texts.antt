@@ -1,7 +1,7 @@
 -- The text of lines.
 use Rattle.std.specs.Prelude.{ℕ, List, [], ◌∷◌, ◌++◌}
 use Rattle.std.specs.List.{flat_map}
-use Rattle.html_render_lines.specs.Line.{Line, text_bytes}
+use Rattle.html_render_layout_lines.specs.Line.{Line, text_bytes}
 
 -- a line's characters, and a newline
 abbrev pub line_bytes : {T M : Type 0} → Line T M → List ℕ

@@ -4,22 +4,22 @@
 //! render tree, and `render_to_string(alloc, tree, 80)?` the text of that, in 80 columns.
 
 ghost use Rattle.std.specs.Prelude.{◌≡◌, ◌∷◌, ◌++◌, [], Some, true, false, IfOk, IfErr};
-ghost use Rattle.html_render_conversion.specs.Results.{render_tree_of};
+ghost use Rattle.html_render_tree_mapping.specs.Results.{render_tree_of};
 ghost use Rattle.html_render_dom_rules.specs.Rules.{rule_of};
-ghost use Rattle.html_render_estimates.specs.Settings.{default_settings};
+ghost use Rattle.html_render_layout_estimates.specs.Settings.{default_settings};
 ghost use Rattle.html_render_parts.specs.Refusal.{Fails};
 ghost use Rattle.html_render_tree.specs.GoodTrees.{Anywhere, are_good};
 ghost use Rattle.html_render_tree.specs.Decorations.{decorations};
 ghost use Rattle.html_render_tree.specs.Rendering.{initial_options};
 
-use html_render_building::building;
-use html_render_decorators::decorate::{PlainDecorator, RichDecorator, TextDecorator};
 use html_render_dom::Error;
 use html_render_dom::dom::RcDom;
 use html_render_dom::style::StyleRule;
-pub use html_render_estimates::settings::ImageRenderMode;
-use html_render_estimates::settings::LayoutSettings;
-use html_render_nodes::tree::RenderTree;
+pub use html_render_layout_estimates::settings::ImageRenderMode;
+use html_render_layout_estimates::settings::LayoutSettings;
+use html_render_layout_nodes::tree::RenderTree;
+use html_render_parts_decorators::decorate::{PlainDecorator, RichDecorator, TextDecorator};
+use html_render_tree_convert::convert;
 use std::alloc::Global;
 use std::marker::Model;
 
@@ -233,7 +233,7 @@ impl<D: TextDecorator> Config<D> {
         ensures good { IfOk result (λ tree. are_good Anywhere tree ≡ true) }
         ensures err { IfErr result (λ e. Fails e (render_tree_of self.now.rules dom.now)) }
     {
-        let nodes = building::dom_to_render_tree(alloc, &self.rules, dom)?;
+        let nodes = convert::dom_to_render_tree(alloc, &self.rules, dom)?;
         RenderTree::new(alloc, nodes)
     }
 
@@ -248,7 +248,7 @@ impl<D: TextDecorator> Config<D> {
         ensures good { IfOk result (λ tree. are_good Anywhere tree ≡ true) }
         ensures err { IfErr result (λ e. Fails e (render_tree_of self.now.rules dom)) }
     {
-        let nodes = building::dom_into_render_tree(alloc, &self.rules, dom)?;
+        let nodes = convert::dom_into_render_tree(alloc, &self.rules, dom)?;
         RenderTree::new(alloc, nodes)
     }
 }

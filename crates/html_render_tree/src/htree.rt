@@ -7,10 +7,10 @@ ghost use Rattle.std.specs.Prelude.{◌≡◌, ◌≤◌};
 ghost use Rattle.html_render_tree.specs.Program.{status_of};
 
 use crate::config::{Config, plain, plain_no_decorate, rich};
-use html_render_decorators::decorate::TextDecorator;
 use html_render_dom::Error;
 use html_render_dom::dom::RcDom;
-use html_render_scripts::building::{ScriptError, built};
+use html_render_parts_decorators::decorate::TextDecorator;
+use html_render_tree_scripts::building::{ScriptError, built};
 use std::alloc::Global;
 use std::io;
 use std::io::{ErrorKind, Read, Write};

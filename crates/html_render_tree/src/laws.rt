@@ -3,17 +3,17 @@
 ghost use Rattle.std.specs.Prelude.{◌≡◌, ◌↔◌, true, None, IfSome, map, replicate};
 ghost use Rattle.html_render_dom_rules.specs.Selectors.{specificity_of};
 ghost use Rattle.html_render_dom_cascade.specs.declared.origins.StyleOrigin.TheVariants as origin;
-ghost use Rattle.html_render_values.specs.Forest.{Forest};
-ghost use Rattle.html_render_blocks.specs.declared.block.BlockSetting.{BlockSetting};
-ghost use Rattle.html_render_states.specs.Layout.{layout_lines, mark_names};
+ghost use Rattle.html_render_dom_values.specs.Forest.{Forest};
+ghost use Rattle.html_render_layout_blocks.specs.declared.block.BlockSetting.{BlockSetting};
+ghost use Rattle.html_render_layout_states.specs.Layout.{layout_lines, mark_names};
 ghost use Rattle.html_render_layout.specs.Promises.{AreLines};
 ghost use Rattle.html_render_tree.specs.Decorations.{decorations, decoration_specificity};
 
-use html_render_decorators::decorate::{RichAnnotation, TextDecorator};
 use html_render_dom::Error;
 use html_render_dom::dom::Handle;
-use html_render_estimates::settings::{ImageRenderMode, LayoutSettings};
-use html_render_nodes::tree::RenderNode;
+use html_render_layout_estimates::settings::{ImageRenderMode, LayoutSettings};
+use html_render_layout_nodes::tree::RenderNode;
+use html_render_parts_decorators::decorate::{RichAnnotation, TextDecorator};
 
 /// The decorations are ten rules of the agent, each as specific as an element's name and a pseudo-element.
 fn decorations_are_ten_rules_of_the_agent()

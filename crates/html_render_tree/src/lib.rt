@@ -9,16 +9,9 @@ pub mod htree;
 mod laws;
 mod texts;
 
-pub use html_render_dom::{Error, dom, style};
-pub use html_render_values::text;
-
-/// What is written round the parts of a document, and what its characters are annotated with.
-pub mod decorate {
-    pub use html_render_alterations::{Altered, Changes, Given, Place};
-    pub use html_render_decorators::decorate::{
-        PlainDecorator, RichAnnotation, RichDecorator, TextDecorator,
-    };
-}
+pub use html_render_dom::{Error, dom, style, text};
+pub use html_render_layout::{block, tree};
+pub use html_render_parts::{decorate, widths};
 
 /// The grid of a table.
 pub mod table {
@@ -27,21 +20,7 @@ pub mod table {
     };
 }
 
-/// Column widths, cut fairly, and what a metered call counts.
-pub mod widths {
-    pub use html_render_parts_widths::{
-        ColumnCut, Meter, check_cut, column_widths, column_widths_metered, cut_fits,
-    };
-}
-
-/// Lines of tagged strings.
-pub mod block {
-    pub use html_render_tagged::line::{
-        LineElements, TaggedLine, TaggedLineElement, TaggedString, TaggedStrings,
-    };
-}
-
-/// What a document becomes before it is wrapped.
-pub mod tree {
-    pub use html_render_nodes::tree::RenderTree;
+/// Documents that scripts build: texts whose lines are calls on a DOM.
+pub mod script {
+    pub use html_render_tree_scripts::building::built;
 }

@@ -3,8 +3,8 @@
 ghost use Rattle.std.specs.Prelude.{◌≡◌, ◌++◌, IfOk, OnOk, string_bytes};
 ghost use Rattle.html_render_tree.specs.Texts.{line_bytes, text_of};
 
-use html_render_lines::line::{Line, Parts};
-use html_render_lines::tag::Tag;
+use html_render_layout_lines::line::{Line, Parts};
+use html_render_layout_lines::tag::Tag;
 use std::alloc::{AllocError, Global};
 
 /// Adds a line's characters and a newline.

@@ -1,6 +1,6 @@
 //! Calls on documents that are deep: dumps and paths.
 
-use html_render_scripts::building::built;
+use html_render_tree_scripts::building::built;
 use std::alloc::{AllocError, Global};
 use std::test::Fail;
 

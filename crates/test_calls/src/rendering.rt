@@ -1,9 +1,9 @@
 //! Documents of scripts as tagged lines.
 
-use html_render_scripts::building::built;
 use html_render_tree::block::TaggedLine;
 use html_render_tree::config::Config;
 use html_render_tree::decorate::TextDecorator;
+use html_render_tree_scripts::building::built;
 use std::alloc::Global;
 use std::test::Fail;
 

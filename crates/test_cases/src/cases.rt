@@ -3,16 +3,16 @@
 use crate::configs::{is_preset, is_setting};
 use crate::programs;
 use crate::rendering::{self, Question, is_rendering};
-use case_calls::calls::is_call;
-use case_calls::faults::Fault;
-use case_calls::pages::Page;
-use case_calls::seen::seen;
-use case_calls::texts::split_word;
-use case_calls::watch::Watch;
-use case_calls::{answers, decorators, styles, tables};
 use html_render_tree::Error;
 use std::alloc::{AllocError, Global};
 use std::mem;
+use test_case_calls::calls::is_call;
+use test_case_calls::faults::Fault;
+use test_case_calls::pages::Page;
+use test_case_calls::seen::seen;
+use test_case_calls::texts::split_word;
+use test_case_calls::watch::Watch;
+use test_case_calls::{answers, decorators, styles, tables};
 
 /// What is wanted of a question, in the form in which answers are made: each line that is printed behind `|`.
 #[derive(Drop)]

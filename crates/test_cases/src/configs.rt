@@ -1,13 +1,13 @@
 //! Configurations by the names of their calls.
 
-use case_calls::faults::Fault;
-use case_calls::rules::rule;
-use case_calls::texts::{number, split_word, truth, unescaped};
-use case_calls::watch::Watch;
 use html_render_tree::config::ImageRenderMode;
 use html_render_tree::text::Text;
-use named_configs::calls::{DecoratorName, Preset, Setting};
+use htree_configs::calls::{DecoratorName, Preset, Setting};
 use std::alloc::Global;
+use test_case_calls::faults::Fault;
+use test_case_calls::rules::rule;
+use test_case_calls::texts::{number, split_word, truth, unescaped};
+use test_case_calls::watch::Watch;
 
 /// Whether a word is the name of a call that makes a configuration.
 pub fn is_preset(word: &str) -> bool {

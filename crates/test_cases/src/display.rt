@@ -1,13 +1,13 @@
 //! What a render tree is displayed as.
 
-use case_calls::faults::Fault;
-use case_calls::texts::printed;
-use case_calls::watch::Watch;
 use html_render_tree::Error;
 use html_render_tree::tree::RenderTree;
 use std::alloc::Global;
 use std::fmt;
 use std::fmt::Write;
+use test_case_calls::faults::Fault;
+use test_case_calls::texts::printed;
+use test_case_calls::watch::Watch;
 
 /// What is left of a text that is written once more, which takes no memory.
 #[derive(Drop)]

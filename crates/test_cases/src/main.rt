@@ -51,11 +51,11 @@ mod refusing;
 mod rendering;
 mod sweeps;
 
-use case_calls::watch::Watch;
 use cases::Played;
 use std::process::ExitCode;
 use std::rt::{Env, Files};
 use std::{env, fs, io};
+use test_case_calls::watch::Watch;
 
 /// The names of the files that lie where the program runs, sorted.
 fn names_here<R: Files + AllocGlobal + Clone + Drop>(rt: &R) -> io::Result<Vec<String>> {

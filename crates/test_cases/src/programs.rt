@@ -1,9 +1,9 @@
 //! Questions for what the program `htree` does with an input.
 
-use case_calls::faults::Fault;
-use case_calls::texts::push_lines;
 use html_render_tree::htree::run;
 use std::alloc::Global;
+use test_case_calls::faults::Fault;
+use test_case_calls::texts::push_lines;
 
 /// Bytes that are to be a text.
 fn text(bytes: &[u8]) -> &str {

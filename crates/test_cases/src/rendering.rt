@@ -6,10 +6,6 @@ use crate::configs::{preset, settings};
 use crate::display::displayed;
 use crate::refusing::plain_but;
 use crate::sweeps::{Kept, sweep};
-use case_calls::annotations::Shown;
-use case_calls::faults::Fault;
-use case_calls::texts::{number, printed, split_word};
-use case_calls::watch::Watch;
 use html_render_tree::Error;
 use html_render_tree::block::{TaggedLine, TaggedLineElement};
 use html_render_tree::config::{Config, plain, plain_no_decorate, rich, with_decorator};
@@ -17,8 +13,12 @@ use html_render_tree::decorate::{PlainDecorator, RichDecorator, TextDecorator};
 use html_render_tree::dom::RcDom;
 use html_render_tree::tree::RenderTree;
 use html_render_tree::widths::Meter;
-use named_configs::calls::{DecoratorName, Preset, Setting, with_settings};
+use htree_configs::calls::{DecoratorName, Preset, Setting, with_settings};
 use std::alloc::{AllocError, Global};
+use test_case_calls::annotations::Shown;
+use test_case_calls::faults::Fault;
+use test_case_calls::texts::{number, printed, split_word};
+use test_case_calls::watch::Watch;
 
 /// Whether a word is the name of a question that a configuration answers. `preset` and `settings` ask nothing: by these the
 /// calls are watched that make the configuration and that change it.

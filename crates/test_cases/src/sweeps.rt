@@ -2,7 +2,6 @@
 
 ghost use Rattle.std.specs.Prelude.{◌≡◌, IfErr};
 
-use case_calls::faults::Fault;
 use html_render_tree::Error;
 use html_render_tree::config::Config;
 use html_render_tree::decorate::TextDecorator;
@@ -10,6 +9,7 @@ use html_render_tree::dom::{NodeData, RcDom};
 use html_render_tree::tree::RenderTree;
 use html_render_tree::widths::Meter;
 use std::alloc::{AllocError, Global};
+use test_case_calls::faults::Fault;
 use unicode_width::UnicodeWidthChar;
 
 /// The widths that are tried.

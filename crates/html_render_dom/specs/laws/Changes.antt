@@ -4,7 +4,7 @@ use Rattle.std.proofs.Common.{◌⊎◌, inl, inr, refl, sym, ap, ◌∙◌, sub
 use Rattle.std.proofs.lemmas.Bool.Decides.{eqb_tells}
 use Rattle.std.proofs.lemmas.List.{get_or-set_same, get_or-set_other, length-set, get_or_past, get_or_append_left, get_or-append_right}
 use Rattle.std.proofs.lemmas.List.{get_or-append-add}
-use Rattle.html_render_values.specs.Forest.{Forest, none, node, followed_by}
+use Rattle.html_render_dom_values.specs.Forest.{Forest, none, node, followed_by}
 use Rattle.html_render_dom_nodes.specs.Content.{Content, document}
 use Rattle.html_render_dom_nodes.specs.Nodes.{Node, lone, node_in}
 use Rattle.html_render_dom.specs.Dom.{Dom, node_count, IsNode, content_at, children_at, parent_at, HaveTrees}

@@ -7,7 +7,7 @@ use Rattle.std.proofs.lemmas.List.{get_or_past}
 use Rattle.std.proofs.lemmas.List.Elements.{Contains-get_or}
 use Rattle.html_render_dom_nodes.specs.Content.{document}
 use Rattle.html_render_dom_nodes.specs.Elements.{contents_in}
-use Rattle.html_render_values.specs.Forest.{none, node}
+use Rattle.html_render_dom_values.specs.Forest.{none, node}
 use Rattle.html_render_dom.specs.Dom.{Dom, empty_dom, node_count, IsNode, IsElement, content_at, children_at, parent_at, IsForest}
 use Rattle.html_render_dom_nodes.specs.Nodes.{lone, node_in}
 

@@ -7,7 +7,7 @@ use Rattle.std.proofs.lemmas.List.Elements.{All-head, All-tail, Contains-push_ca
 use Rattle.std.proofs.lemmas.Map.Keys.{IsDistinct-push}
 use Rattle.std.proofs.lemmas.Map.Steps.{length-le_from_distinct_below}
 use Rattle.html_render_dom_nodes.specs.Content.{Content}
-use Rattle.html_render_values.specs.Forest.{Forest, none, node, count, depth}
+use Rattle.html_render_dom_values.specs.Forest.{Forest, none, node, count, depth}
 use Rattle.html_render_dom.specs.laws.Members.{Contains-nil, Contains-head, Contains-tail, Contains-cons_cases, Contains-from_any, any-from_absent}
 use Rattle.html_render_dom.specs.laws.Forests.{IsDistinct-nil, All-children}
 use Rattle.html_render_dom.specs.Dom.{Dom, node_count, IsNode, content_at, children_at, parent_at, IsInclusiveAncestor, itself, above, HaveTrees}

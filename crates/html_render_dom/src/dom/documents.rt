@@ -9,7 +9,7 @@ ghost use Rattle.html_render_dom_nodes.specs.Edits.{last_text};
 use super::settings::QuirksMode;
 use html_render_dom_nodes::nodes::Node;
 use html_render_dom_nodes::{Handle, NodeData};
-use html_render_values::Error;
+use html_render_dom_values::Error;
 use std::alloc::Global;
 use std::marker::Model;
 

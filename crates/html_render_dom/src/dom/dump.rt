@@ -1,14 +1,14 @@
 //! A dump of nodes as lines of text, to look at: `<p>`, ` Text:x` and `</p>` for a paragraph with an `x`.
 
 ghost use Rattle.std.specs.Prelude.{◌≡◌, ◌+◌, ◌*◌, ◌<◌, ◌≤◌, ◌++◌, ◌∷◌, [], All, IfOk, IfErr, OnOk, codes, replicate, string_bytes};
-ghost use Rattle.html_render_values.specs.Forest.{count, depth};
+ghost use Rattle.html_render_dom_values.specs.Forest.{count, depth};
 ghost use Rattle.html_render_dom.specs.Dom.{IsForest, IsNode, content_at, node_count, tree_of};
 ghost use Rattle.html_render_dom.specs.Dump.{dump, line, text_line};
 ghost use Rattle.html_render_dom.specs.Frames.{FrameFits, end_of, rest, rest_of, steps, steps_of};
 
 use super::documents::RcDom;
 use html_render_dom_nodes::{Handle, NodeData};
-use html_render_values::Error;
+use html_render_dom_values::Error;
 use std::alloc::{AllocError, Global};
 
 /// A node whose start is written, and whose end is not.

@@ -4,14 +4,16 @@ ghost use Rattle.std.specs.Prelude.{◌≡◌, ◌≤◌, ◌++◌, ◌∷◌, [
 ghost use Rattle.html_render_dom_nodes.specs.Content.{name_of, property_of, content_of, doctype, comment, instruction};
 ghost use Rattle.html_render_dom.specs.Dom.{IsNode, IsElement, node_count, content_at};
 ghost use Rattle.html_render_dom_nodes.specs.Elements.{completed, contents_in};
-ghost use Rattle.html_render_dom.specs.Edits.{CanAppend, IsFresh, appended};
+ghost use Rattle.html_render_dom.specs.Edits.{CanAppend, IsFresh, appended, element_appended, html_name};
 ghost use Rattle.html_render_dom_nodes.specs.Edits.{attached_new, created, element_created, last_text, text_put, with_content};
 
 use super::documents::RcDom;
 use super::settings::QuirksMode;
 use html_render_dom_nodes::nodes::{self, Node};
-use html_render_dom_nodes::{Attribute, ElementFlags, Handle, NodeData, NodeOrText, QualName};
-use html_render_values::Error;
+use html_render_dom_nodes::{
+    Attribute, ElementFlags, Handle, LocalName, NodeData, NodeOrText, QualName,
+};
+use html_render_dom_values::Error;
 use std::alloc::{AllocError, Global};
 
 impl RcDom {
@@ -88,6 +90,33 @@ impl RcDom {
     {
         let last = self.last_text(parent);
         nodes::put_str(alloc, &mut self.nodes, parent, last, text)
+    }
+
+    /// Makes an HTML element of this name, without attributes, the parent's last child, and answers its handle, which is the
+    /// next number. Of a `template` it makes no contents.
+    ///
+    /// # Errors
+    ///
+    /// `OutOfMemory`. The document is then as it was.
+    pub fn append_element(
+        &mut self,
+        alloc: Global,
+        parent: Handle,
+        name: &str,
+    ) -> Result<Handle, Error>
+        requires { IsNode self.old parent }
+        ensures number { IfOk result (λ made. made ≡ node_count self.old) }
+        ensures ok { OnOk result (self.new ≡ element_appended self.old parent (html_name name.now)) }
+        ensures is_node { IfOk result (λ made. IsNode self.new made) }
+        ensures unchanged { OnErr result (self.new ≡ self.old) }
+        ensures err { IfErr result (λ e. e ≡ Error.OutOfMemory) }
+        ensures grows { node_count self.old ≤ node_count self.new }
+    {
+        let name = QualName::html(LocalName::from_str(alloc, name)?);
+        let appended = Handle::new(self.nodes.len());
+        let contents = NodeData::element(alloc, name);
+        nodes::attach_new(alloc, &mut self.nodes, parent, contents)?;
+        Ok(appended)
     }
 
     /// Makes an element of the next number, which hangs nowhere and has no children. A template's contents, a document

@@ -7,7 +7,7 @@ ghost use Rattle.html_render_dom_nodes.specs.Moves.{placed, reparented, taken_ou
 
 use super::documents::RcDom;
 use html_render_dom_nodes::{Handle, NodeData, NodeOrText, lists};
-use html_render_values::Error;
+use html_render_dom_values::Error;
 use std::alloc::{AllocError, Global};
 
 impl RcDom {

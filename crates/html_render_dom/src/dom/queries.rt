@@ -8,7 +8,7 @@ ghost use Rattle.html_render_dom_nodes.specs.Elements.{name_in, local_name_in, c
 
 use super::documents::RcDom;
 use html_render_dom_nodes::{Handle, NodeData, QualName};
-use html_render_values::Error;
+use html_render_dom_values::Error;
 use std::alloc::Global;
 
 impl RcDom {

@@ -3,7 +3,7 @@
 ghost use Rattle.std.specs.Prelude.{◌≡◌, [], ◌∷◌, ◌++◌, IfErr, IfOk, None, OnOk, Some, filter, map, option_copied, option_to_list, string_bytes};
 ghost use Rattle.std.specs.List.{flat_map};
 ghost use Rattle.std.specs.List.Sorted.{IsNonDecreasing};
-ghost use Rattle.html_render_values.specs.declared.errors.Error.TheVariants.{OutOfMemory};
+ghost use Rattle.html_render_dom_values.specs.declared.errors.Error.TheVariants.{OutOfMemory};
 ghost use Rattle.html_render_dom_nodes.specs.Content.{property_of};
 ghost use Rattle.html_render_dom_cascade.specs.Cascade.{winner};
 ghost use Rattle.html_render_dom.specs.ElementStyle.{applied, element_style, style_by, style_of, with_declarations};
@@ -15,10 +15,10 @@ use super::attributes::first_value;
 use html_render_dom_cascade::{Specificity, StyleOrigin, WithSpec};
 use html_render_dom_nodes::Attribute;
 use html_render_dom_rules::{Declaration, Display, PseudoElement, Style, StyleRule};
-use html_render_values::Error;
-use html_render_values::colours::Colour;
-use html_render_values::small_text::SmallText;
-use html_render_values::white_space::WhiteSpace;
+use html_render_dom_values::Error;
+use html_render_dom_values::colours::Colour;
+use html_render_dom_values::small_text::SmallText;
+use html_render_dom_values::white_space::WhiteSpace;
 use std::alloc::{AllocError, Global};
 
 /// A text that a rule gives an element as content: 24 bytes at most stand in the value itself.

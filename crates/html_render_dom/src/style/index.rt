@@ -16,7 +16,7 @@ use super::attributes::first_value;
 use super::computed::{ComputedStyle, computed_style, style_of_rules};
 use html_render_dom_nodes::Attribute;
 use html_render_dom_rules::StyleRule;
-use html_render_values::Error;
+use html_render_dom_values::Error;
 use std::alloc::{AllocError, Global};
 use std::collections::BTreeMap;
 

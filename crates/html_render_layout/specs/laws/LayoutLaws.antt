@@ -4,26 +4,26 @@ use Rattle.std.proofs.Common.{◌≡◌, ℕ, ◌<◌, ◌==◌, Bool, true, fal
 use Rattle.std.proofs.Common.{IfSome, IsSome}
 use Rattle.std.proofs.lemmas.Bool.{eqb-true}
 use Rattle.std.proofs.lemmas.Option.{IfSome_then, same_Some}
-use Rattle.html_render_values.specs.Forest.{Forest}
-use Rattle.html_render_decorators.specs.Decoration.{Decoration}
-use Rattle.html_render_lines.specs.Line.{Line, AllWithinWidth}
-use Rattle.html_render_lines.specs.laws.Cases.{if_cases}
-use Rattle.html_render_nodes.specs.declared.tree.RenderNode.{RenderNode}
-use Rattle.html_render_paragraphs.specs.Paragraph.{Setting}
-use Rattle.html_render_blocks.specs.declared.block.BlockSetting.{BlockSetting}
-use Rattle.html_render_blocks.specs.Block.{empty_block}
-use Rattle.html_render_blocks.specs.Definition as definition
-use Rattle.html_render_blocks.specs.Definition.{definition as defined_parts, DefinedBlock}
-use Rattle.html_render_blocks.specs.OpenRows.{OpenRow}
-use Rattle.html_render_blocks.specs.Tables.{Rows}
-use Rattle.html_render_paragraphs.specs.laws.Answers.{Both}
-use Rattle.html_render_blocks.specs.laws.Related.{OptionTags}
-use Rattle.html_render_blocks.specs.laws.Beside.{Holds, Blocks, operations-beside, ends-beside, empty-beside, later-beside, lines-beside}
-use Rattle.html_render_blocks.specs.laws.BlockHolds.{OwnWithin, PictureWithin, within, answers, refines}
-use Rattle.html_render_blocks.specs.laws.TableWithin.{OpenWithin}
-use Rattle.html_render_estimates.specs.declared.settings.LayoutSettings.{LayoutSettings}
-use Rattle.html_render_states.specs.Layout.{by_stacks, shown_after, Defined, empty_state, estimated, layout_lines, mark_names}
-use Rattle.html_render_states.specs.Working.{padding}
+use Rattle.html_render_dom_values.specs.Forest.{Forest}
+use Rattle.html_render_parts_decorators.specs.Decoration.{Decoration}
+use Rattle.html_render_layout_lines.specs.Line.{Line, AllWithinWidth}
+use Rattle.html_render_layout_lines.specs.laws.Cases.{if_cases}
+use Rattle.html_render_layout_nodes.specs.declared.tree.RenderNode.{RenderNode}
+use Rattle.html_render_layout_paragraphs.specs.Paragraph.{Setting}
+use Rattle.html_render_layout_blocks.specs.declared.block.BlockSetting.{BlockSetting}
+use Rattle.html_render_layout_blocks.specs.Block.{empty_block}
+use Rattle.html_render_layout_blocks.specs.Definition as definition
+use Rattle.html_render_layout_blocks.specs.Definition.{definition as defined_parts, DefinedBlock}
+use Rattle.html_render_layout_blocks.specs.OpenRows.{OpenRow}
+use Rattle.html_render_layout_blocks.specs.Tables.{Rows}
+use Rattle.html_render_layout_paragraphs.specs.laws.Answers.{Both}
+use Rattle.html_render_layout_blocks.specs.laws.Related.{OptionTags}
+use Rattle.html_render_layout_blocks.specs.laws.Beside.{Holds, Blocks, operations-beside, ends-beside, empty-beside, later-beside, lines-beside}
+use Rattle.html_render_layout_blocks.specs.laws.BlockHolds.{OwnWithin, PictureWithin, within, answers, refines}
+use Rattle.html_render_layout_blocks.specs.laws.TableWithin.{OpenWithin}
+use Rattle.html_render_layout_estimates.specs.declared.settings.LayoutSettings.{LayoutSettings}
+use Rattle.html_render_layout_states.specs.Layout.{by_stacks, shown_after, Defined, empty_state, estimated, layout_lines, mark_names}
+use Rattle.html_render_layout_states.specs.Working.{padding}
 use Rattle.html_render_layout.specs.laws.Related.{Other, with_other, shown-related}
 
 -- a layout beside one that may have overflow on: stacks are the same, and what is said of the block's lines is said of those that are shown

@@ -7,40 +7,40 @@ use Rattle.std.specs.Prelude.{flat_map, sum_by, not, ◌&&◌, if◌then◌else�
 use Rattle.std.proofs.lemmas.List.Concat.{flat_map-append}
 use Rattle.std.proofs.lemmas.List.Sums.{sum_by-cons, sum_by-append}
 use Rattle.std.proofs.lemmas.Option.{IfSome_then}
-use Rattle.html_render_values.specs.Forest.{Forest, none, node}
-use Rattle.html_render_values.specs.declared.white_space.WhiteSpace.TheVariants.{Normal}
-use Rattle.html_render_decorators.specs.Decoration.{Decoration}
-use Rattle.html_render_lines.specs.Character.{is_collapsible}
-use Rattle.html_render_lines.specs.Line.{Line}
-use Rattle.html_render_lines.specs.Visible.{if_visible, visible_in_lines}
-use Rattle.html_render_lines.specs.laws.Cases.{bind_some, map_if, if_cases}
-use Rattle.html_render_nodes.specs.declared.tree.Estimate.{Estimate}
-use Rattle.html_render_nodes.specs.declared.tree.NodeKind.{NodeKind}
-use Rattle.html_render_nodes.specs.declared.tree.NodeKind.TheVariants.{Text}
-use Rattle.html_render_nodes.specs.declared.tree.RenderNode.{RenderNode}
-use Rattle.html_render_nodes.specs.Pass.{Place, Bare, Skipped, Within, is_skipped, Places, bare, Visit, Leaf, Inner, through_visit, inside, followed}
-use Rattle.html_render_nodes.specs.Pass.{placed, run_at, run, nodes_at}
-use Rattle.html_render_nodes.specs.laws.Visits.{from, from_state}
-use Rattle.html_render_blocks.specs.declared.block.BlockSetting.{BlockSetting}
-use Rattle.html_render_blocks.specs.Definition as definition
-use Rattle.html_render_blocks.specs.Definition.{DefinedBlock}
-use Rattle.html_render_blocks.specs.Visible.{visible_in_text}
-use Rattle.html_render_blocks.specs.laws.BlockVisible.{text_count, visible_count, operations_keep_visible}
-use Rattle.html_render_pictures.specs.Visible.{count}
-use Rattle.html_render_pictures.specs.laws.Lines.{count-append}
-use Rattle.html_render_blocks.specs.laws.Operations.{Counts}
-use Rattle.html_render_blocks.specs.laws.Closing.{IsClear, finish_count, closed_count}
-use Rattle.html_render_states.specs.declared.nesting.OwnBlock.{OwnBlock}
-use Rattle.html_render_states.specs.declared.nesting.OwnBlock.TheVariants.{Shared, Prefixed, Indented}
-use Rattle.html_render_states.specs.declared.state.LayoutState.{LayoutState}
-use Rattle.html_render_estimates.specs.declared.settings.LayoutSettings.{LayoutSettings}
+use Rattle.html_render_dom_values.specs.Forest.{Forest, none, node}
+use Rattle.html_render_dom_values.specs.declared.white_space.WhiteSpace.TheVariants.{Normal}
+use Rattle.html_render_parts_decorators.specs.Decoration.{Decoration}
+use Rattle.html_render_layout_lines.specs.Character.{is_collapsible}
+use Rattle.html_render_layout_lines.specs.Line.{Line}
+use Rattle.html_render_layout_lines.specs.Visible.{if_visible, visible_in_lines}
+use Rattle.html_render_layout_lines.specs.laws.Cases.{bind_some, map_if, if_cases}
+use Rattle.html_render_layout_nodes.specs.declared.tree.Estimate.{Estimate}
+use Rattle.html_render_layout_nodes.specs.declared.tree.NodeKind.{NodeKind}
+use Rattle.html_render_layout_nodes.specs.declared.tree.NodeKind.TheVariants.{Text}
+use Rattle.html_render_layout_nodes.specs.declared.tree.RenderNode.{RenderNode}
+use Rattle.html_render_layout_nodes.specs.Pass.{Place, Bare, Skipped, Within, is_skipped, Places, bare, Visit, Leaf, Inner, through_visit, inside, followed}
+use Rattle.html_render_layout_nodes.specs.Pass.{placed, run_at, run, nodes_at}
+use Rattle.html_render_layout_nodes.specs.laws.Visits.{from, from_state}
+use Rattle.html_render_layout_blocks.specs.declared.block.BlockSetting.{BlockSetting}
+use Rattle.html_render_layout_blocks.specs.Definition as definition
+use Rattle.html_render_layout_blocks.specs.Definition.{DefinedBlock}
+use Rattle.html_render_layout_blocks.specs.Visible.{visible_in_text}
+use Rattle.html_render_layout_blocks.specs.laws.BlockVisible.{text_count, visible_count, operations_keep_visible}
+use Rattle.html_render_layout_pictures.specs.Visible.{count}
+use Rattle.html_render_layout_pictures.specs.laws.Lines.{count-append}
+use Rattle.html_render_layout_blocks.specs.laws.Operations.{Counts}
+use Rattle.html_render_layout_blocks.specs.laws.Closing.{IsClear, finish_count, closed_count}
+use Rattle.html_render_layout_states.specs.declared.nesting.OwnBlock.{OwnBlock}
+use Rattle.html_render_layout_states.specs.declared.nesting.OwnBlock.TheVariants.{Shared, Prefixed, Indented}
+use Rattle.html_render_layout_states.specs.declared.state.LayoutState.{LayoutState}
+use Rattle.html_render_layout_estimates.specs.declared.settings.LayoutSettings.{LayoutSettings}
 use Rattle.html_render_layout.specs.Kept.{visited_nodes, node_characters, KeepsTexts}
-use Rattle.html_render_states.specs.Layout.{Means, Step, Write, WriteNumber, Annotate, Treat, Strike, Unstrike, Restore, NewLine, NewLineHard}
-use Rattle.html_render_states.specs.Layout.{StartBlock, EndBlock, Fence, BeginTable, EndTable, AddTarget, AddMark}
-use Rattle.html_render_states.specs.Layout.{Shape, Steps, Around, Items, Cells, block_of, shape_of, style_steps}
-use Rattle.html_render_states.specs.Layout.{annotated, struck, on_block, text_style, write, perform, perform_all, joined, appended, appended_block}
-use Rattle.html_render_states.specs.Layout.{block_place, cell_place, shape_layout, kind_layout, layout_of, Defined, defined, by_stacks, empty_state, estimated, layout_lines}
-use Rattle.html_render_states.specs.Ending.{closing_texts, ended}
+use Rattle.html_render_layout_states.specs.Layout.{Means, Step, Write, WriteNumber, Annotate, Treat, Strike, Unstrike, Restore, NewLine, NewLineHard}
+use Rattle.html_render_layout_states.specs.Layout.{StartBlock, EndBlock, Fence, BeginTable, EndTable, AddTarget, AddMark}
+use Rattle.html_render_layout_states.specs.Layout.{Shape, Steps, Around, Items, Cells, block_of, shape_of, style_steps}
+use Rattle.html_render_layout_states.specs.Layout.{annotated, struck, on_block, text_style, write, perform, perform_all, joined, appended, appended_block}
+use Rattle.html_render_layout_states.specs.Layout.{block_place, cell_place, shape_layout, kind_layout, layout_of, Defined, defined, by_stacks, empty_state, estimated, layout_lines}
+use Rattle.html_render_layout_states.specs.Ending.{closing_texts, ended}
 
 -- whatever there is
 whatever : {X Y : Type 0} (Q : Y → Type 0) (o : Option X) (f : X → Y) → ((x : X) → Q (f x)) → IfSome (option_map f o) Q

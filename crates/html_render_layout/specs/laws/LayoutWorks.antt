@@ -4,36 +4,36 @@ use Rattle.std.proofs.Common.{◌≡◌, ◌≢◌, ◌==◌, ℕ, Bool, true, f
 use Rattle.std.proofs.Common.{refl, sym, ap, ◌∙◌, subst, append_assoc, append-nil, option_map}
 use Rattle.std.proofs.lemmas.Bool.{ne_eqb}
 use Rattle.std.proofs.Math.Seq.{get_or-append_seam}
-use Rattle.html_render_values.specs.declared.errors.Error.{Error}
-use Rattle.html_render_values.specs.Forest.{Forest}
-use Rattle.html_render_decorators.specs.Decoration.{Decoration}
+use Rattle.html_render_dom_values.specs.declared.errors.Error.{Error}
+use Rattle.html_render_dom_values.specs.Forest.{Forest}
+use Rattle.html_render_parts_decorators.specs.Decoration.{Decoration}
 use Rattle.html_render_parts_widths.specs.declared.Meter.{Meter}
-use Rattle.html_render_lines.specs.declared.line.Element.{Element}
-use Rattle.html_render_lines.specs.declared.line.Element.TheVariants.{Character, Mark}
-use Rattle.html_render_lines.specs.Line.{Line}
-use Rattle.html_render_lines.specs.laws.Cases.{if_false}
-use Rattle.html_render_lines.specs.Tags.{element_with, line_with, lines_with}
-use Rattle.html_render_nodes.specs.declared.tree.RenderNode.{RenderNode}
-use Rattle.html_render_estimates.specs.Passes.{with_needed_sizes}
-use Rattle.html_render_blocks.specs.declared.block.BlockSetting.{BlockSetting}
-use Rattle.html_render_blocks.specs.Block.{empty_block}
-use Rattle.html_render_blocks.specs.Definition as definition
-use Rattle.html_render_blocks.specs.Definition.{definition, DefinedBlock}
-use Rattle.html_render_blocks.specs.Machine as machine
-use Rattle.html_render_blocks.specs.Machine.{machine}
-use Rattle.html_render_blocks.specs.laws.BlockSeen.{Tags, empty-seen}
-use Rattle.html_render_blocks.specs.laws.Related.{OptionTags}
-use Rattle.html_render_tagged.specs.Stacks.{stack_at}
-use Rattle.html_render_tagged.specs.LaidOut.{tagged}
-use Rattle.html_render_nodes.specs.Counts.{CountsNodes}
-use Rattle.html_render_nodes.specs.Pass.{visited, most_open}
-use Rattle.html_render_nodes.specs.laws.Counts.{counts-same}
-use Rattle.html_render_estimates.specs.declared.settings.LayoutSettings.{LayoutSettings}
-use Rattle.html_render_states.specs.Layout.{by_stacks, layout_of, shown_after, Defined, defined, begin_with, empty_state}
-use Rattle.html_render_states.specs.Layout.{estimated, layout, layout_lines, mark_names, unannotated}
+use Rattle.html_render_layout_lines.specs.declared.line.Element.{Element}
+use Rattle.html_render_layout_lines.specs.declared.line.Element.TheVariants.{Character, Mark}
+use Rattle.html_render_layout_lines.specs.Line.{Line}
+use Rattle.html_render_layout_lines.specs.laws.Cases.{if_false}
+use Rattle.html_render_layout_lines.specs.Tags.{element_with, line_with, lines_with}
+use Rattle.html_render_layout_nodes.specs.declared.tree.RenderNode.{RenderNode}
+use Rattle.html_render_layout_estimates.specs.Passes.{with_needed_sizes}
+use Rattle.html_render_layout_blocks.specs.declared.block.BlockSetting.{BlockSetting}
+use Rattle.html_render_layout_blocks.specs.Block.{empty_block}
+use Rattle.html_render_layout_blocks.specs.Definition as definition
+use Rattle.html_render_layout_blocks.specs.Definition.{definition, DefinedBlock}
+use Rattle.html_render_layout_blocks.specs.Machine as machine
+use Rattle.html_render_layout_blocks.specs.Machine.{machine}
+use Rattle.html_render_layout_blocks.specs.laws.BlockSeen.{Tags, empty-seen}
+use Rattle.html_render_layout_blocks.specs.laws.Related.{OptionTags}
+use Rattle.html_render_layout_tagged.specs.Stacks.{stack_at}
+use Rattle.html_render_layout_tagged.specs.LaidOut.{tagged}
+use Rattle.html_render_layout_nodes.specs.Counts.{CountsNodes}
+use Rattle.html_render_layout_nodes.specs.Pass.{visited, most_open}
+use Rattle.html_render_layout_nodes.specs.laws.Counts.{counts-same}
+use Rattle.html_render_layout_estimates.specs.declared.settings.LayoutSettings.{LayoutSettings}
+use Rattle.html_render_layout_states.specs.Layout.{by_stacks, layout_of, shown_after, Defined, defined, begin_with, empty_state}
+use Rattle.html_render_layout_states.specs.Layout.{estimated, layout, layout_lines, mark_names, unannotated}
 use Rattle.html_render_layout.specs.laws.Related.{Other}
 use Rattle.html_render_layout.specs.laws.Sizes.{shown-needed, counts-needed}
-use Rattle.html_render_states.specs.Working.{padding, by_tags, Worked, tabled, work_lines, work_names, Untagged, untagged, untagged_work}
+use Rattle.html_render_layout_states.specs.Working.{padding, by_tags, Worked, tabled, work_lines, work_names, Untagged, untagged, untagged_work}
 use Rattle.html_render_layout.specs.laws.Representation.{Represents, walk-represented, lines-represented, names-represented}
 
 -- ---- a map of tags that changes none

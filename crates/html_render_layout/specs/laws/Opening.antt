@@ -2,31 +2,31 @@
 use Rattle.std.specs.Prelude.{◌≡◌, ℕ, List, [], ◌∷◌, map, Option, Some, None, option_and_then, option_map, refl}
 use Rattle.std.proofs.Common.{ap, sym, subst, ◌∙◌}
 use Rattle.std.specs.Str.{chars}
-use Rattle.html_render_values.specs.Forest.{Forest}
-use Rattle.html_render_nodes.specs.declared.tree.Estimate.{Estimate}
-use Rattle.html_render_nodes.specs.declared.tree.NodeKind.{NodeKind}
-use Rattle.html_render_nodes.specs.declared.tree.NodeKind.TheVariants.{Text, Break, Header, BlockQuote, Dd, Superscript, Image, Svg, FragmentStart, Table}
-use Rattle.html_render_nodes.specs.declared.tree.RenderNode.{RenderNode}
-use Rattle.html_render_nodes.specs.Pass.{Visit, Leaf, Inner, followed, placed, places_in}
-use Rattle.html_render_nodes.specs.Pass.{Way, Past, past, opened_with, IsOpened}
-use Rattle.html_render_nodes.specs.laws.Visits.{from_state}
-use Rattle.html_render_estimates.specs.Estimates.{prefix_columns}
-use Rattle.html_render_states.specs.declared.nesting.OwnBlock.{OwnBlock}
-use Rattle.html_render_states.specs.declared.nesting.OwnBlock.TheVariants.{Shared, Prefixed, Indented}
-use Rattle.html_render_states.specs.declared.state.Closing.{Closing}
-use Rattle.html_render_states.specs.declared.state.Interruption.{Interruption}
-use Rattle.html_render_states.specs.declared.state.Interruption.TheVariants as interruption
-use Rattle.html_render_states.specs.declared.state.Interruption.TheVariants.{NoBlock, Quoted, Cell}
-use Rattle.html_render_states.specs.declared.state.KindClosing.{KindClosing}
-use Rattle.html_render_states.specs.declared.state.KindClosing.TheVariants.{EndRow}
-use Rattle.html_render_states.specs.declared.state.LayoutState.{LayoutState}
-use Rattle.html_render_states.specs.declared.state.TextContext.{TextContext}
-use Rattle.html_render_states.specs.Layout.{Write, NewLineHard, raised, image, write, perform}
-use Rattle.html_render_states.specs.Layout.{Means, superscript, digits_of, block_of, shape_of, style_steps, perform_all, within}
-use Rattle.html_render_states.specs.Layout.{block_place, cell_place, shape_layout, kind_layout, layout_of}
-use Rattle.html_render_states.specs.Images.{shown_title}
-use Rattle.html_render_states.specs.Opening.{interrupted, continued, keeping, block_begun, block_kept, kind_kept, kind_opened, kind_closed, child_block, kind_below}
-use Rattle.html_render_states.specs.Opening.{opened_in, text_opened, cell_opened, block_opened, opened_below, opened, below, closed}
+use Rattle.html_render_dom_values.specs.Forest.{Forest}
+use Rattle.html_render_layout_nodes.specs.declared.tree.Estimate.{Estimate}
+use Rattle.html_render_layout_nodes.specs.declared.tree.NodeKind.{NodeKind}
+use Rattle.html_render_layout_nodes.specs.declared.tree.NodeKind.TheVariants.{Text, Break, Header, BlockQuote, Dd, Superscript, Image, Svg, FragmentStart, Table}
+use Rattle.html_render_layout_nodes.specs.declared.tree.RenderNode.{RenderNode}
+use Rattle.html_render_layout_nodes.specs.Pass.{Visit, Leaf, Inner, followed, placed, places_in}
+use Rattle.html_render_layout_nodes.specs.Pass.{Way, Past, past, opened_with, IsOpened}
+use Rattle.html_render_layout_nodes.specs.laws.Visits.{from_state}
+use Rattle.html_render_layout_estimates.specs.Estimates.{prefix_columns}
+use Rattle.html_render_layout_states.specs.declared.nesting.OwnBlock.{OwnBlock}
+use Rattle.html_render_layout_states.specs.declared.nesting.OwnBlock.TheVariants.{Shared, Prefixed, Indented}
+use Rattle.html_render_layout_states.specs.declared.state.Closing.{Closing}
+use Rattle.html_render_layout_states.specs.declared.state.Interruption.{Interruption}
+use Rattle.html_render_layout_states.specs.declared.state.Interruption.TheVariants as interruption
+use Rattle.html_render_layout_states.specs.declared.state.Interruption.TheVariants.{NoBlock, Quoted, Cell}
+use Rattle.html_render_layout_states.specs.declared.state.KindClosing.{KindClosing}
+use Rattle.html_render_layout_states.specs.declared.state.KindClosing.TheVariants.{EndRow}
+use Rattle.html_render_layout_states.specs.declared.state.LayoutState.{LayoutState}
+use Rattle.html_render_layout_states.specs.declared.state.TextContext.{TextContext}
+use Rattle.html_render_layout_states.specs.Layout.{Write, NewLineHard, raised, image, write, perform}
+use Rattle.html_render_layout_states.specs.Layout.{Means, superscript, digits_of, block_of, shape_of, style_steps, perform_all, within}
+use Rattle.html_render_layout_states.specs.Layout.{block_place, cell_place, shape_layout, kind_layout, layout_of}
+use Rattle.html_render_layout_states.specs.Images.{shown_title}
+use Rattle.html_render_layout_states.specs.Opening.{interrupted, continued, keeping, block_begun, block_kept, kind_kept, kind_opened, kind_closed, child_block, kind_below}
+use Rattle.html_render_layout_states.specs.Opening.{opened_in, text_opened, cell_opened, block_opened, opened_below, opened, below, closed}
 
 -- nothing done behind a visit
 module _ {S : Type 0} where

@@ -2,17 +2,17 @@
 use Rattle.std.proofs.Common.{◌≡◌, ◌≢◌, ℕ, ◌<◌, Bool, true, false, List, Option, Some, None, Result, Ok, Err}
 use Rattle.std.proofs.Common.{IfErr, IfSome, IsSome, option_map, refl, sym, ap, ◌∙◌, subst, arith}
 use Rattle.std.proofs.lemmas.Option.{same_Some}
-use Rattle.html_render_values.specs.declared.errors.Error.{Error}
-use Rattle.html_render_values.specs.declared.errors.Error.TheVariants.{TooNarrow}
-use Rattle.html_render_values.specs.Outcome.{Refuses}
-use Rattle.html_render_values.specs.Forest.{Forest}
-use Rattle.html_render_decorators.specs.Decoration.{Decoration}
-use Rattle.html_render_lines.specs.Line.{Line, AllWithinWidth}
-use Rattle.html_render_nodes.specs.declared.tree.RenderNode.{RenderNode}
-use Rattle.html_render_estimates.specs.declared.settings.LayoutSettings.{LayoutSettings}
-use Rattle.html_render_blocks.specs.declared.block.BlockSetting.{BlockSetting}
+use Rattle.html_render_dom_values.specs.declared.errors.Error.{Error}
+use Rattle.html_render_dom_values.specs.declared.errors.Error.TheVariants.{TooNarrow}
+use Rattle.html_render_dom_values.specs.Outcome.{Refuses}
+use Rattle.html_render_dom_values.specs.Forest.{Forest}
+use Rattle.html_render_parts_decorators.specs.Decoration.{Decoration}
+use Rattle.html_render_layout_lines.specs.Line.{Line, AllWithinWidth}
+use Rattle.html_render_layout_nodes.specs.declared.tree.RenderNode.{RenderNode}
+use Rattle.html_render_layout_estimates.specs.declared.settings.LayoutSettings.{LayoutSettings}
+use Rattle.html_render_layout_blocks.specs.declared.block.BlockSetting.{BlockSetting}
 use Rattle.html_render_layout.specs.Kept.{visited_nodes, KeepsTexts}
-use Rattle.html_render_states.specs.Layout.{layout_lines, mark_names, unannotated}
+use Rattle.html_render_layout_states.specs.Layout.{layout_lines, mark_names, unannotated}
 use Rattle.html_render_layout.specs.Promises.{AreLines, Lines, HasLines, LeavesTexts}
 use Rattle.html_render_layout.specs.laws.LayoutLaws.{layout_within, layout_succeeds, layout_same, names_same, same_answer}
 use Rattle.html_render_layout.specs.laws.LayoutVisible.{layout_keeps_texts, layout_leaves}

@@ -6,28 +6,28 @@ use Rattle.std.proofs.Common.{◌≡◌, ℕ, ◌+◌, ◌||◌, ◌&&◌, not, 
 use Rattle.std.specs.Option.{option_map_or}
 use Rattle.std.proofs.Common.{Option, Some, None, refl, sym, ap, ◌∙◌, subst, option_and_then, arith}
 use Rattle.std.specs.Str.{chars}
-use Rattle.html_render_values.specs.Forest.{Forest, none, node}
-use Rattle.html_render_values.specs.declared.white_space.WhiteSpace.TheVariants.{Normal}
-use Rattle.html_render_nodes.specs.declared.tree.Estimate.{Estimate}
-use Rattle.html_render_nodes.specs.declared.tree.NodeKind.{NodeKind}
-use Rattle.html_render_nodes.specs.declared.tree.RenderNode.{RenderNode}
-use Rattle.html_render_estimates.specs.Estimates.{prefix_columns}
-use Rattle.html_render_nodes.specs.Pass.{Place, Bare, Skipped, Within, Places, bare, Visit, Leaf, Inner, through_visit, inside, followed}
-use Rattle.html_render_nodes.specs.Pass.{placed, run_at, run, nodes_at, visited, open_at, most_open}
-use Rattle.html_render_nodes.specs.laws.Visits.{from, from_state}
-use Rattle.html_render_paragraphs.specs.laws.Answers.{Both, Both-then, Both-map, Both-weaken}
-use Rattle.html_render_blocks.specs.Operations.{Operations, DocumentEnd}
-use Rattle.html_render_blocks.specs.laws.Related.{Relates, RelatesEnds}
-use Rattle.html_render_states.specs.declared.nesting.OwnBlock.{OwnBlock}
-use Rattle.html_render_states.specs.declared.nesting.OwnBlock.TheVariants.{Shared, Prefixed, Indented}
-use Rattle.html_render_states.specs.declared.state.LayoutState.{LayoutState}
-use Rattle.html_render_states.specs.declared.state.TextContext.{TextContext}
-use Rattle.html_render_states.specs.Ending.{closing_texts, ended}
-use Rattle.html_render_states.specs.Layout.{Means, Step, Write, WriteNumber, Annotate, Treat, Strike, Unstrike, Restore, NewLine, NewLineHard}
-use Rattle.html_render_states.specs.Layout.{StartBlock, EndBlock, Fence, BeginTable, EndTable, AddTarget, AddMark, Shape, Steps, Around, Items}
-use Rattle.html_render_states.specs.Layout.{Cells, spaces, padded, block_of, shape_of, style_steps, struck, white_space_in, on_block}
-use Rattle.html_render_states.specs.Layout.{text_style, add_styled, write, annotated, fence, perform, perform_all, within, nested, joined, appended}
-use Rattle.html_render_states.specs.Layout.{appended_block, block_place, cell_place, shape_layout, kind_layout, layout_of, shown_after}
+use Rattle.html_render_dom_values.specs.Forest.{Forest, none, node}
+use Rattle.html_render_dom_values.specs.declared.white_space.WhiteSpace.TheVariants.{Normal}
+use Rattle.html_render_layout_nodes.specs.declared.tree.Estimate.{Estimate}
+use Rattle.html_render_layout_nodes.specs.declared.tree.NodeKind.{NodeKind}
+use Rattle.html_render_layout_nodes.specs.declared.tree.RenderNode.{RenderNode}
+use Rattle.html_render_layout_estimates.specs.Estimates.{prefix_columns}
+use Rattle.html_render_layout_nodes.specs.Pass.{Place, Bare, Skipped, Within, Places, bare, Visit, Leaf, Inner, through_visit, inside, followed}
+use Rattle.html_render_layout_nodes.specs.Pass.{placed, run_at, run, nodes_at, visited, open_at, most_open}
+use Rattle.html_render_layout_nodes.specs.laws.Visits.{from, from_state}
+use Rattle.html_render_layout_paragraphs.specs.laws.Answers.{Both, Both-then, Both-map, Both-weaken}
+use Rattle.html_render_layout_blocks.specs.Operations.{Operations, DocumentEnd}
+use Rattle.html_render_layout_blocks.specs.laws.Related.{Relates, RelatesEnds}
+use Rattle.html_render_layout_states.specs.declared.nesting.OwnBlock.{OwnBlock}
+use Rattle.html_render_layout_states.specs.declared.nesting.OwnBlock.TheVariants.{Shared, Prefixed, Indented}
+use Rattle.html_render_layout_states.specs.declared.state.LayoutState.{LayoutState}
+use Rattle.html_render_layout_states.specs.declared.state.TextContext.{TextContext}
+use Rattle.html_render_layout_states.specs.Ending.{closing_texts, ended}
+use Rattle.html_render_layout_states.specs.Layout.{Means, Step, Write, WriteNumber, Annotate, Treat, Strike, Unstrike, Restore, NewLine, NewLineHard}
+use Rattle.html_render_layout_states.specs.Layout.{StartBlock, EndBlock, Fence, BeginTable, EndTable, AddTarget, AddMark, Shape, Steps, Around, Items}
+use Rattle.html_render_layout_states.specs.Layout.{Cells, spaces, padded, block_of, shape_of, style_steps, struck, white_space_in, on_block}
+use Rattle.html_render_layout_states.specs.Layout.{text_style, add_styled, write, annotated, fence, perform, perform_all, within, nested, joined, appended}
+use Rattle.html_render_layout_states.specs.Layout.{appended_block, block_place, cell_place, shape_layout, kind_layout, layout_of, shown_after}
 
 -- how texts are treated, under another tag
 abbrev pub context : {T U : Type 0} → TextContext T → U → TextContext U

@@ -1,21 +1,21 @@
 -- THE THEOREM: a layout whose characters carry tags represents the layout by stacks.
 use Rattle.std.proofs.Common.{◌≡◌, ℕ, List, ◌∷◌, [], ◌++◌, Option, Some, None, refl, ap, ◌∙◌, option_map}
 use Rattle.std.proofs.lemmas.Iterator.Adapters.{option_map_id}
-use Rattle.html_render_values.specs.Forest.{Forest}
-use Rattle.html_render_decorators.specs.Decoration.{Decoration}
-use Rattle.html_render_lines.specs.Line.{Line}
-use Rattle.html_render_lines.specs.Tags.{lines_with}
-use Rattle.html_render_nodes.specs.declared.tree.RenderNode.{RenderNode}
-use Rattle.html_render_nodes.specs.Pass.{visited, most_open}
-use Rattle.html_render_blocks.specs.Definition as definition
-use Rattle.html_render_blocks.specs.Definition.{DefinedBlock}
-use Rattle.html_render_blocks.specs.Machine as machine
-use Rattle.html_render_blocks.specs.Machine.{MachineBlock}
-use Rattle.html_render_paragraphs.specs.laws.Answers.{Both}
-use Rattle.html_render_blocks.specs.laws.BlockSeen.{Tags, Blocks, operations-seen, ends-seen, later-seen, lines-seen}
-use Rattle.html_render_states.specs.declared.state.LayoutState.{LayoutState}
-use Rattle.html_render_states.specs.Layout.{by_stacks, layout_of, shown_after, Defined, defined}
-use Rattle.html_render_states.specs.Working.{by_tags}
+use Rattle.html_render_dom_values.specs.Forest.{Forest}
+use Rattle.html_render_parts_decorators.specs.Decoration.{Decoration}
+use Rattle.html_render_layout_lines.specs.Line.{Line}
+use Rattle.html_render_layout_lines.specs.Tags.{lines_with}
+use Rattle.html_render_layout_nodes.specs.declared.tree.RenderNode.{RenderNode}
+use Rattle.html_render_layout_nodes.specs.Pass.{visited, most_open}
+use Rattle.html_render_layout_blocks.specs.Definition as definition
+use Rattle.html_render_layout_blocks.specs.Definition.{DefinedBlock}
+use Rattle.html_render_layout_blocks.specs.Machine as machine
+use Rattle.html_render_layout_blocks.specs.Machine.{MachineBlock}
+use Rattle.html_render_layout_paragraphs.specs.laws.Answers.{Both}
+use Rattle.html_render_layout_blocks.specs.laws.BlockSeen.{Tags, Blocks, operations-seen, ends-seen, later-seen, lines-seen}
+use Rattle.html_render_layout_states.specs.declared.state.LayoutState.{LayoutState}
+use Rattle.html_render_layout_states.specs.Layout.{by_stacks, layout_of, shown_after, Defined, defined}
+use Rattle.html_render_layout_states.specs.Working.{by_tags}
 use Rattle.html_render_layout.specs.laws.Related.{Other, with_other, walked-related, shown-related}
 
 -- push puts an annotation onto a tag of what is kept, shown is what is seen of a tag and seen of a stack; Later says how

@@ -2,23 +2,23 @@
 use Rattle.std.proofs.Common.{◌≡◌, ◌||◌, true, false, ℕ, ◌+◌, max, length, Option, Some, Result, OnOk, option_and_then}
 use Rattle.std.proofs.Common.{refl, ap, ◌≤◌, subst, arith, length-append}
 use Rattle.std.proofs.lemmas.Bool.{or_parts, true≢false}
-use Rattle.html_render_values.specs.Forest.{Forest, none, node, count, depth}
+use Rattle.html_render_dom_values.specs.Forest.{Forest, none, node, count, depth}
 use Rattle.html_render_parts_widths.specs.declared.Meter.{Meter}
-use Rattle.html_render_lines.specs.laws.Cases.{if_cases}
-use Rattle.html_render_nodes.specs.declared.tree.Estimate.{Estimate}
-use Rattle.html_render_nodes.specs.declared.tree.NodeKind.{NodeKind}
-use Rattle.html_render_nodes.specs.declared.tree.NodeKind.TheVariants.{BlockQuote, Superscript, Table}
-use Rattle.html_render_nodes.specs.declared.tree.RenderNode.{RenderNode}
-use Rattle.html_render_nodes.specs.Counts.{CountsNodes}
-use Rattle.html_render_nodes.specs.Pass.{Place, Bare, Skipped, Within, Places, bare, through_visit, inside, followed}
-use Rattle.html_render_nodes.specs.Pass.{placed, run_at, run, nodes_at, open_at}
-use Rattle.html_render_nodes.specs.laws.Visits.{from, from_state, count_from, length-from}
-use Rattle.html_render_estimates.specs.Passes.{is_table, has_table, without_size, without_sizes, with_needed_sizes}
-use Rattle.html_render_blocks.specs.Operations.{DocumentEnd}
-use Rattle.html_render_states.specs.declared.state.LayoutState.{LayoutState}
-use Rattle.html_render_estimates.specs.declared.settings.LayoutSettings.{LayoutSettings}
-use Rattle.html_render_states.specs.Layout.{Means, digits_of, superscript, block_of, shape_of, style_steps, perform_all, block_place, shape_layout}
-use Rattle.html_render_states.specs.Layout.{kind_layout, layout_of, shown_after}
+use Rattle.html_render_layout_lines.specs.laws.Cases.{if_cases}
+use Rattle.html_render_layout_nodes.specs.declared.tree.Estimate.{Estimate}
+use Rattle.html_render_layout_nodes.specs.declared.tree.NodeKind.{NodeKind}
+use Rattle.html_render_layout_nodes.specs.declared.tree.NodeKind.TheVariants.{BlockQuote, Superscript, Table}
+use Rattle.html_render_layout_nodes.specs.declared.tree.RenderNode.{RenderNode}
+use Rattle.html_render_layout_nodes.specs.Counts.{CountsNodes}
+use Rattle.html_render_layout_nodes.specs.Pass.{Place, Bare, Skipped, Within, Places, bare, through_visit, inside, followed}
+use Rattle.html_render_layout_nodes.specs.Pass.{placed, run_at, run, nodes_at, open_at}
+use Rattle.html_render_layout_nodes.specs.laws.Visits.{from, from_state, count_from, length-from}
+use Rattle.html_render_layout_estimates.specs.Passes.{is_table, has_table, without_size, without_sizes, with_needed_sizes}
+use Rattle.html_render_layout_blocks.specs.Operations.{DocumentEnd}
+use Rattle.html_render_layout_states.specs.declared.state.LayoutState.{LayoutState}
+use Rattle.html_render_layout_estimates.specs.declared.settings.LayoutSettings.{LayoutSettings}
+use Rattle.html_render_layout_states.specs.Layout.{Means, digits_of, superscript, block_of, shape_of, style_steps, perform_all, block_place, shape_layout}
+use Rattle.html_render_layout_states.specs.Layout.{kind_layout, layout_of, shown_after}
 
 -- a node without its size
 abbrev unsized : RenderNode → RenderNode

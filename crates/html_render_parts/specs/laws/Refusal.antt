@@ -1,7 +1,7 @@
 -- How an error's word of a definition goes on to others.
 use Rattle.std.specs.Prelude.{◌≡◌, Option, Some, None, option_and_then, refl}
-use Rattle.html_render_values.specs.declared.errors.Error.{Error}
-use Rattle.html_render_values.specs.declared.errors.Error.TheVariants.{TooNarrow, Fail, OutOfMemory}
+use Rattle.html_render_dom_values.specs.declared.errors.Error.{Error}
+use Rattle.html_render_dom_values.specs.declared.errors.Error.TheVariants.{TooNarrow, Fail, OutOfMemory}
 use Rattle.html_render_parts.specs.Refusal.{Fails}
 
 -- what has no answer has none with more after it

@@ -14,7 +14,7 @@ ghost use Rattle.html_render_parts.specs.Refusal.{Fails};
 use crate::table::gathering::Positions;
 use crate::table::placement::{RowPlacer, Standing};
 use crate::table::{PlacedCell, Span, numbering};
-use html_render_values::Error;
+use html_render_dom_values::Error;
 use std::alloc::{AllocError, Global};
 use std::marker::Model;
 

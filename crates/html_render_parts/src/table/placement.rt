@@ -7,7 +7,7 @@ ghost use Rattle.html_render_parts.specs.PlacementSteps.{with_gap, with_rest, wi
 ghost use Rattle.html_render_parts.specs.Refusal.{Fails};
 
 use crate::table::{CellKind, Span};
-use html_render_values::Error;
+use html_render_dom_values::Error;
 use std::alloc::Global;
 use std::marker::Model;
 use std::mem;

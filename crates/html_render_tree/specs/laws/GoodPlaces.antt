@@ -1,17 +1,17 @@
 -- Good trees beside each other, what is inserted into them, and which rows a grid has.
 use Rattle.std.proofs.Common.{◌≡◌, ℕ, ◌+◌, ◌-◌, Bool, true, ◌&&◌, List, [], ◌∷◌, ◌++◌, map, refl, ap, ◌∙◌}
 use Rattle.std.proofs.lemmas.Bool.{and_from, and_parts}
-use Rattle.html_render_values.specs.Forest.{none, node, followed_by}
+use Rattle.html_render_dom_values.specs.Forest.{none, node, followed_by}
 use Rattle.html_render_parts.specs.Placement.{own_from, own_rows_from, due_end, not_due, hanging}
 use Rattle.html_render_parts.specs.TableCells.{on_columns}
 use Rattle.html_render_parts.specs.declared.table.Span.{Span}
 use Rattle.html_render_parts.specs.declared.table.cells.GridCell.{GridCell}
 use Rattle.html_render_parts.specs.declared.table.placement.Standing.{Standing}
-use Rattle.html_render_conversion.specs.declared.tables.CellSpan.{CellSpan}
-use Rattle.html_render_nodes.specs.declared.tree.NodeKind.{NodeKind}
-use Rattle.html_render_nodes.specs.declared.tree.NodeKind.TheVariants.{Table, TableRow, TableCell}
-use Rattle.html_render_conversion.specs.Tables.{spanned, spanned_in, width_of}
-use Rattle.html_render_conversion.specs.Results.{Nodes, in_first}
+use Rattle.html_render_tree_mapping.specs.declared.tables.CellSpan.{CellSpan}
+use Rattle.html_render_layout_nodes.specs.declared.tree.NodeKind.{NodeKind}
+use Rattle.html_render_layout_nodes.specs.declared.tree.NodeKind.TheVariants.{Table, TableRow, TableCell}
+use Rattle.html_render_tree_mapping.specs.Tables.{spanned, spanned_in, width_of}
+use Rattle.html_render_tree_mapping.specs.Results.{Nodes, in_first}
 use Rattle.html_render_tree.specs.GoodTrees.{Place, Anywhere, InTable, InRow, around, are_good_below, are_good}
 
 -- two tests

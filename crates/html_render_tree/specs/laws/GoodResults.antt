@@ -5,19 +5,19 @@ use Rattle.std.specs.Prelude.{option_and_then, is_some, if◌then◌else◌}
 use Rattle.std.specs.List.{list_all, AllByRecursion}
 use Rattle.std.proofs.lemmas.Bool.{and_from, and_parts, cond_both}
 use Rattle.std.proofs.lemmas.Option.{IfSome_then}
-use Rattle.html_render_values.specs.Forest.{none, node, followed_by}
-use Rattle.html_render_values.specs.Outcome.{◌>>=◌}
-use Rattle.html_render_nodes.specs.declared.tree.Estimate.{Estimate}
-use Rattle.html_render_nodes.specs.declared.tree.NodeKind.{NodeKind}
-use Rattle.html_render_nodes.specs.declared.tree.NodeKind.TheVariants.{Container, FragmentStart, Table, TableCell, TableRow, Text}
-use Rattle.html_render_nodes.specs.declared.tree.NodeStyle.{NodeStyle}
-use Rattle.html_render_nodes.specs.declared.tree.RenderNode.{RenderNode}
-use Rattle.html_render_nodes.specs.Kinds.{holds_insertions}
-use Rattle.html_render_nodes.specs.RenderNodes.{without_style}
-use Rattle.html_render_conversion.specs.Results.{Nodes, Result, Role, Contents, Caption, Rows, Row, Cell, beside, stands_alone}
-use Rattle.html_render_conversion.specs.Results.{level_in, in_first, of_role, trees_of, over, spans_of, inserted, leaf, completed}
-use Rattle.html_render_building.specs.laws.Roles.{cell_spans, in_style, is_cell, is_row, joined, row_spans}
-use Rattle.html_render_conversion.specs.Tables.{greatest_width, spanned_in}
+use Rattle.html_render_dom_values.specs.Forest.{none, node, followed_by}
+use Rattle.html_render_dom_values.specs.Outcome.{◌>>=◌}
+use Rattle.html_render_layout_nodes.specs.declared.tree.Estimate.{Estimate}
+use Rattle.html_render_layout_nodes.specs.declared.tree.NodeKind.{NodeKind}
+use Rattle.html_render_layout_nodes.specs.declared.tree.NodeKind.TheVariants.{Container, FragmentStart, Table, TableCell, TableRow, Text}
+use Rattle.html_render_layout_nodes.specs.declared.tree.NodeStyle.{NodeStyle}
+use Rattle.html_render_layout_nodes.specs.declared.tree.RenderNode.{RenderNode}
+use Rattle.html_render_layout_nodes.specs.Kinds.{holds_insertions}
+use Rattle.html_render_layout_nodes.specs.RenderNodes.{without_style}
+use Rattle.html_render_tree_mapping.specs.Results.{Nodes, Result, Role, Contents, Caption, Rows, Row, Cell, beside, stands_alone}
+use Rattle.html_render_tree_mapping.specs.Results.{level_in, in_first, of_role, trees_of, over, spans_of, inserted, leaf, completed}
+use Rattle.html_render_tree_convert.specs.laws.Roles.{cell_spans, in_style, is_cell, is_row, joined, row_spans}
+use Rattle.html_render_tree_mapping.specs.Tables.{greatest_width, spanned_in}
 use Rattle.html_render_tree.specs.GoodTrees.{Place, Anywhere, InTable, InRow, around, is_over, are_good_below, are_good}
 use Rattle.html_render_tree.specs.laws.GoodPlaces.{some_cell, cells_like, rows_like, spanned_in-alike, at-row}
 use Rattle.html_render_tree.specs.laws.GoodPlaces.{followed-anywhere, followed-rows, into_cell-good, into_row-good, between-good}

@@ -5,8 +5,8 @@ use Rattle.std.specs.Prelude.{codes}
 use Rattle.std.specs.List.{list_any}
 use Rattle.std.proofs.lemmas.Bool.{and_from, cond_both}
 use Rattle.std.specs.Str.{bytes_eq}
-use Rattle.html_render_values.specs.Forest.{Forest, none, node}
-use Rattle.html_render_values.specs.Outcome.{◌>>=◌}
+use Rattle.html_render_dom_values.specs.Forest.{Forest, none, node}
+use Rattle.html_render_dom_values.specs.Outcome.{◌>>=◌}
 use Rattle.html_render_dom_cascade.specs.Cascade.{value_of}
 use Rattle.html_render_dom_nodes.specs.Content.{Content, document, doctype, text, comment, element, instruction, is_html}
 use Rattle.html_render_dom.specs.Dom.{Dom, tree_of}
@@ -17,25 +17,25 @@ use Rattle.html_render_parts.specs.Grid.{edges_of, positions_fit}
 use Rattle.html_render_parts.specs.Placement.{placed_rows, own_rows_from}
 use Rattle.html_render_parts.specs.TableCells.{CellGrid, on_columns}
 use Rattle.html_render_parts.specs.declared.table.Span.{Span}
-use Rattle.html_render_nodes.specs.Tables.{TableParts, unmeasured_table}
-use Rattle.html_render_nodes.specs.declared.tree.NodeKind.{NodeKind}
-use Rattle.html_render_nodes.specs.declared.tree.NodeKind.TheVariants.{Container, Table, TableRow, TableCell}
-use Rattle.html_render_nodes.specs.declared.tree.NodeStyle.{NodeStyle}
-use Rattle.html_render_conversion.specs.declared.mapping.ElementKind.{ElementKind}
-use Rattle.html_render_conversion.specs.declared.mapping.ElementKind.TheVariants.{Node, Part}
-use Rattle.html_render_conversion.specs.declared.tables.Part.TheVariants as part
-use Rattle.html_render_nodes.specs.declared.tree.RenderNode.{RenderNode}
-use Rattle.html_render_nodes.specs.RenderNodes.{no_style, without_style}
-use Rattle.html_render_conversion.specs.declared.mapping.IfEmpty.{IfEmpty}
-use Rattle.html_render_conversion.specs.declared.mapping.Mapping.{Mapping}
-use Rattle.html_render_conversion.specs.declared.mapping.Mapping.TheVariants.{Nothing, Leaf, Parent}
-use Rattle.html_render_conversion.specs.Conversion.{element_mapping, own_style, node_style, vanishes}
-use Rattle.html_render_conversion.specs.Marks.{mark_of}
-use Rattle.html_render_conversion.specs.Results.{Nodes, Result, Role, Contents, Caption, Rows, Row, Cell, beside, trees_of, of_role, stands_alone}
-use Rattle.html_render_conversion.specs.Results.{is_caption, are_rows, row_over, rows_over, spans_of, table_over, captioned, table_of, keeps, counts}
-use Rattle.html_render_conversion.specs.Results.{built, mapped, styled, result_of, results, render_tree_of}
-use Rattle.html_render_building.specs.laws.Roles.{as_block, cell_spans, have_rows, in_style, is_cell, is_row, joined, row_spans}
-use Rattle.html_render_building.specs.laws.Mappings.{fits_kind, stands_as_is, fits, element_fits}
+use Rattle.html_render_layout_nodes.specs.Tables.{TableParts, unmeasured_table}
+use Rattle.html_render_layout_nodes.specs.declared.tree.NodeKind.{NodeKind}
+use Rattle.html_render_layout_nodes.specs.declared.tree.NodeKind.TheVariants.{Container, Table, TableRow, TableCell}
+use Rattle.html_render_layout_nodes.specs.declared.tree.NodeStyle.{NodeStyle}
+use Rattle.html_render_tree_mapping.specs.declared.mapping.ElementKind.{ElementKind}
+use Rattle.html_render_tree_mapping.specs.declared.mapping.ElementKind.TheVariants.{Node, Part}
+use Rattle.html_render_tree_mapping.specs.declared.tables.Part.TheVariants as part
+use Rattle.html_render_layout_nodes.specs.declared.tree.RenderNode.{RenderNode}
+use Rattle.html_render_layout_nodes.specs.RenderNodes.{no_style, without_style}
+use Rattle.html_render_tree_mapping.specs.declared.mapping.IfEmpty.{IfEmpty}
+use Rattle.html_render_tree_mapping.specs.declared.mapping.Mapping.{Mapping}
+use Rattle.html_render_tree_mapping.specs.declared.mapping.Mapping.TheVariants.{Nothing, Leaf, Parent}
+use Rattle.html_render_tree_mapping.specs.Conversion.{element_mapping, own_style, node_style, vanishes}
+use Rattle.html_render_tree_mapping.specs.Marks.{mark_of}
+use Rattle.html_render_tree_mapping.specs.Results.{Nodes, Result, Role, Contents, Caption, Rows, Row, Cell, beside, trees_of, of_role, stands_alone}
+use Rattle.html_render_tree_mapping.specs.Results.{is_caption, are_rows, row_over, rows_over, spans_of, table_over, captioned, table_of, keeps, counts}
+use Rattle.html_render_tree_mapping.specs.Results.{built, mapped, styled, result_of, results, render_tree_of}
+use Rattle.html_render_tree_convert.specs.laws.Roles.{as_block, cell_spans, have_rows, in_style, is_cell, is_row, joined, row_spans}
+use Rattle.html_render_tree_convert.specs.laws.Mappings.{fits_kind, stands_as_is, fits, element_fits}
 use Rattle.html_render_tree.specs.GoodTrees.{Anywhere, InTable, InRow, are_good}
 use Rattle.html_render_tree.specs.laws.GoodPlaces.{cells_like, rows_like, own_rows-alike, rows-good-same}
 use Rattle.html_render_tree.specs.laws.GoodResults.{good-then, good-map, IsPlain, IsGoodIn, IsGoodResult, IsGoodIfAny, AllGood, AllGoodOf, AreGoodIn}

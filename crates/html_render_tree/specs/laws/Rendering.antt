@@ -3,19 +3,19 @@ use Rattle.std.proofs.Common.{◌≡◌, ℕ, Bool, true, false, List, [], ◌�
 use Rattle.std.proofs.Common.{map, sym, ap, ◌∙◌}
 use Rattle.std.specs.Prelude.{encode_utf8}
 use Rattle.std.specs.Cmp.Lexicographic.{pointwise}
-use Rattle.html_render_values.specs.Forest.{Forest}
-use Rattle.html_render_decorators.specs.Decoration.{Decoration}
-use Rattle.html_render_lines.specs.declared.line.Element.TheVariants.{Character, Mark}
-use Rattle.html_render_lines.specs.Line.{Line, text_bytes}
-use Rattle.html_render_lines.specs.Tags.{line_with, lines_with}
-use Rattle.html_render_nodes.specs.declared.tree.RenderNode.{RenderNode}
-use Rattle.html_render_estimates.specs.declared.settings.LayoutSettings.{LayoutSettings}
-use Rattle.html_render_nodes.specs.Pass.{run}
-use Rattle.html_render_blocks.specs.declared.block.BlockSetting.{BlockSetting}
-use Rattle.html_render_states.specs.Layout.{layout_lines, mark_names, Defined, defined, estimated, empty_state, unannotated}
+use Rattle.html_render_dom_values.specs.Forest.{Forest}
+use Rattle.html_render_parts_decorators.specs.Decoration.{Decoration}
+use Rattle.html_render_layout_lines.specs.declared.line.Element.TheVariants.{Character, Mark}
+use Rattle.html_render_layout_lines.specs.Line.{Line, text_bytes}
+use Rattle.html_render_layout_lines.specs.Tags.{line_with, lines_with}
+use Rattle.html_render_layout_nodes.specs.declared.tree.RenderNode.{RenderNode}
+use Rattle.html_render_layout_estimates.specs.declared.settings.LayoutSettings.{LayoutSettings}
+use Rattle.html_render_layout_nodes.specs.Pass.{run}
+use Rattle.html_render_layout_blocks.specs.declared.block.BlockSetting.{BlockSetting}
+use Rattle.html_render_layout_states.specs.Layout.{layout_lines, mark_names, Defined, defined, estimated, empty_state, unannotated}
 use Rattle.html_render_layout.specs.Promises.{AreLines}
 use Rattle.html_render_layout.specs.laws.Promises.{same-names}
-use Rattle.html_render_tagged.specs.Grouping.{Piece, grouped}
+use Rattle.html_render_layout_tagged.specs.Grouping.{Piece, grouped}
 use Rattle.html_render_tree.specs.Rendering.{document_block, Options, rendered_lines, rendered_names, rendered_strings, Rendered, AreStrings}
 use Rattle.html_render_tree.specs.Texts.{line_bytes, text_of}
 

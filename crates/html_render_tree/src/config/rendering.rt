@@ -1,27 +1,27 @@
 //! The calls of a configuration that render: to a text, to tagged lines, and to a text under a colour map.
 
 ghost use Rattle.std.specs.Prelude.{◌≡◌, ◌≢◌, ◌≤◌, List, true, false, Some, Err, IfOk, IfErr, option_map, string_bytes};
-ghost use Rattle.html_render_values.specs.Outcome.{Refuses};
-ghost use Rattle.html_render_nodes.specs.Counts.{CountsNodes};
-ghost use Rattle.html_render_states.specs.Layout.{defined, estimated, empty_state};
+ghost use Rattle.html_render_dom_values.specs.Outcome.{Refuses};
+ghost use Rattle.html_render_layout_nodes.specs.Counts.{CountsNodes};
+ghost use Rattle.html_render_layout_states.specs.Layout.{defined, estimated, empty_state};
 ghost use Rattle.html_render_layout.specs.Promises.{HasLines, LeavesTexts};
-ghost use Rattle.html_render_tagged.specs.Colouring.{IsColoured};
-ghost use Rattle.html_render_tagged.specs.Grouping.{Piece, lines_of};
-ghost use Rattle.html_render_tagged.specs.TaggedLine.{AllTaggedWithinWidth};
+ghost use Rattle.html_render_layout_tagged.specs.Colouring.{IsColoured};
+ghost use Rattle.html_render_layout_tagged.specs.Grouping.{Piece, lines_of};
+ghost use Rattle.html_render_layout_tagged.specs.TaggedLine.{AllTaggedWithinWidth};
 ghost use Rattle.html_render_tree.specs.Rendering.{document_block, rendered_lines, rendered_strings, AreStrings, Rendered};
 ghost use Rattle.html_render_tree.specs.Texts.{text_of};
 
 use crate::config::Config;
 use crate::texts::string_of;
-use html_render_blocks::block::BlockSetting;
-use html_render_decorators::decorate::TextDecorator;
 use html_render_dom::Error;
-use html_render_layout::layout::{lay_out, lay_out_untagged};
-use html_render_nodes::tree::RenderTree;
+use html_render_layout::walk::{lay_out, lay_out_untagged};
+use html_render_layout_blocks::block::BlockSetting;
+use html_render_layout_nodes::tree::RenderTree;
+use html_render_layout_tagged::colours::coloured;
+use html_render_layout_tagged::grouping::tagged_lines;
+use html_render_layout_tagged::line::TaggedLine;
+use html_render_parts_decorators::decorate::TextDecorator;
 use html_render_parts_widths::Meter;
-use html_render_tagged::colours::coloured;
-use html_render_tagged::grouping::tagged_lines;
-use html_render_tagged::line::TaggedLine;
 use std::alloc::Global;
 
 impl<D: TextDecorator> Config<D> {

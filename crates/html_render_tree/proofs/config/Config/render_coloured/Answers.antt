@@ -1,5 +1,5 @@
 use Rattle.std.proofs.lemmas.Result.{IfOk-weaker}
-use Rattle.html_render_tagged.specs.Grouping.{lines_of}
+use Rattle.html_render_layout_tagged.specs.Grouping.{lines_of}
 use Rattle.html_render_tree.proofs.config.Config.render_coloured.Goals as goal
 
 pub returns-clause-ok : goal.returns-clause-ok

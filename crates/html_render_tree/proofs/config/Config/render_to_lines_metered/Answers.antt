@@ -1,10 +1,10 @@
 use Rattle.std.proofs.Common.{◌≡◌, subst, Some}
 use Rattle.std.proofs.lemmas.Result.{IfOk-weaker}
-use Rattle.html_render_states.specs.Layout.{mark_names}
+use Rattle.html_render_layout_states.specs.Layout.{mark_names}
 use Rattle.html_render_layout.specs.Promises.{AreLines}
-use Rattle.html_render_tagged.specs.LaidOut.{laid_out}
-use Rattle.html_render_tagged.specs.Grouping.{lines_of}
-use Rattle.html_render_tagged.specs.laws.Grouping.{within-lines}
+use Rattle.html_render_layout_tagged.specs.LaidOut.{laid_out}
+use Rattle.html_render_layout_tagged.specs.Grouping.{lines_of}
+use Rattle.html_render_layout_tagged.specs.laws.Grouping.{within-lines}
 use Rattle.html_render_tree.specs.Rendering.{Options, document_block}
 use Rattle.html_render_tree.specs.laws.Rendering.{strings-answered, strings-rendered}
 use Rattle.html_render_tree.proofs.config.Config.render_to_lines_metered.Goals as goal

@@ -1,5 +1,5 @@
 use Rattle.std.proofs.Common.{◌-◌, ◌↔◌}
-use Rattle.html_render_values.specs.Forest.{depth}
+use Rattle.html_render_dom_values.specs.Forest.{depth}
 use Rattle.html_render_dom.specs.Dom.{IsNode, IsInclusiveAncestor, node_count, tree_of}
 use Rattle.html_render_dom.proofs.dom.documents.RcDom.is_inclusive_ancestor.Given as goal
 

@@ -1,8 +1,0 @@
-use Rattle.std.proofs.Common.{◌≡◌, drop}
-use Rattle.html_render_paragraphs.specs.Stream.{after}
-use Rattle.html_render_blocks.specs.Block.{mark_items}
-use Rattle.html_render_blocks.proofs.block.add_each_mark.Given as goal
-
--- what is wanted is what the marks that are left give from here
-abbrev pub invariant-loop-mark : goal.invariant-loop-mark
-invariant-loop-mark g l = after l.initial.paragraph (mark_items l.marks) ≡ after l.paragraph (mark_items (drop l.mark-index l.marks))

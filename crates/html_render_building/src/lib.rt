@@ -1,7 +1,0 @@
-//! The nodes of a document, made in one pass from the last to the first.
-#![tactic(auto)]
-
-pub mod building;
-pub mod elements;
-mod kinds;
-pub mod spans;

@@ -1,0 +1,302 @@
+//! Texts of which short ones take no memory of their own.
+//!
+//! `SmallText::<16>::from_str(alloc, "div")?.as_str()` is `div`. A clone is the same value as its source.
+
+ghost use Rattle.std.specs.Prelude.{◌≡◌, ◌++◌, [], List, ℕ, IfOk, OnOk, OnErr, encode_utf8, length, string_bytes};
+ghost use Rattle.std.specs.Str.{bytes_eq};
+ghost use Rattle.std.specs.Cmp.{partial_equiv_from_equiv};
+ghost use Rattle.std.specs.Cmp.Lexicographic.{nat_list_eq_equiv};
+ghost use Rattle.html_render_dom_values.specs.SmallText.{bytes_in};
+
+use arrayvec::ArrayString;
+use std::alloc::{AllocError, Global};
+use std::fmt;
+use std::marker::Model;
+
+/// How many bytes more a text has room for once it grows into memory of its own.
+const MORE: usize = 32;
+
+/// The bytes of a text.
+#[derive(Drop)]
+enum Bytes<const SHORT: usize> {
+    /// At most so many of them, in the value itself.
+    Short(ArrayString<SHORT>),
+    /// More.
+    Long(String),
+}
+
+/// A text, which a clause sees as its bytes: at most `SHORT` of them stand in the value itself.
+#[derive(Drop)]
+pub struct SmallText<const SHORT: usize> {
+    bytes: Bytes<SHORT>,
+}
+
+impl<const SHORT: usize> Model for SmallText<SHORT> {
+    ghost Value = { List ℕ };
+
+    ghost view = { λ t. bytes_in t.bytes };
+}
+
+impl<const SHORT: usize> Clone for SmallText<SHORT> {
+    ghost is_clone = { λ a b. b ≡ a };
+
+    fn clone(&self) -> Result<SmallText<SHORT>, AllocError> {
+        let bytes = match &self.bytes {
+            Bytes::Short(bytes) => Bytes::Short(*bytes),
+            Bytes::Long(bytes) => Bytes::Long(bytes.clone()?),
+        };
+        Ok(SmallText { bytes })
+    }
+}
+
+impl<const SHORT: usize> PartialEq for SmallText<SHORT> {
+    ghost eq = { bytes_eq };
+
+    ghost laws = { partial_equiv_from_equiv nat_list_eq_equiv };
+
+    fn eq(&self, other: &SmallText<SHORT>) -> bool {
+        self.as_str() == other.as_str()
+    }
+}
+
+impl<const SHORT: usize> Eq for SmallText<SHORT> {
+    ghost laws = { nat_list_eq_equiv };
+}
+
+impl<const SHORT: usize> fmt::Debug for SmallText<SHORT> {
+    fn fmt<W: fmt::Write>(&self, f: &mut fmt::Formatter<W>) -> fmt::Result {
+        fmt::Debug::fmt(self.as_str(), f)
+    }
+}
+
+impl<const SHORT: usize> From<String> for SmallText<SHORT> {
+    ghost from_gives = { λ string text. text ≡ string_bytes string };
+
+    /// The text of a string. It takes no memory.
+    fn from(string: String) -> SmallText<SHORT> {
+        if let Ok(short) = ArrayString::from(string.as_str()) {
+            return SmallText {
+                bytes: Bytes::Short(short),
+            };
+        }
+        SmallText {
+            bytes: Bytes::Long(string),
+        }
+    }
+}
+
+impl<const SHORT: usize> SmallText<SHORT> {
+    /// A copy of a text.
+    ///
+    /// # Errors
+    ///
+    /// Memory ran out.
+    pub fn from_str(alloc: Global, text: &str) -> Result<SmallText<SHORT>, AllocError>
+        ensures { IfOk result (λ t. t ≡ text.now) }
+    {
+        if let Ok(short) = ArrayString::from(text) {
+            return Ok(SmallText {
+                bytes: Bytes::Short(short),
+            });
+        }
+        let bytes = String::from_str(alloc, text)?;
+        Ok(SmallText {
+            bytes: Bytes::Long(bytes),
+        })
+    }
+
+    /// The text, borrowed.
+    pub fn as_str(&self) -> &str
+        ensures { result.now ≡ self.now }
+    {
+        match &self.bytes {
+            Bytes::Short(bytes) => bytes.as_str(),
+            Bytes::Long(bytes) => bytes.as_str(),
+        }
+    }
+}
+
+impl<const SHORT: usize> SmallText<SHORT> {
+    /// An empty text.
+    #[inline]
+    pub fn new() -> SmallText<SHORT>
+        ensures { result ≡ [] }
+    {
+        SmallText {
+            bytes: Bytes::Short(ArrayString::new()),
+        }
+    }
+
+    /// An empty text with room for `bytes` bytes.
+    ///
+    /// # Errors
+    ///
+    /// Memory ran out.
+    #[inline]
+    pub fn with_capacity(alloc: Global, bytes: usize) -> Result<SmallText<SHORT>, AllocError>
+        ensures { IfOk result (λ t. t ≡ []) }
+    {
+        if bytes <= SHORT {
+            return Ok(SmallText::new());
+        }
+        let text = String::with_capacity(alloc, bytes)?;
+        Ok(SmallText {
+            bytes: Bytes::Long(text),
+        })
+    }
+
+    /// How many bytes it has.
+    #[inline]
+    pub fn len(&self) -> usize
+        ensures { result ≡ length self.now }
+    {
+        self.as_str().len()
+    }
+
+    /// Leaves it empty, and keeps its memory.
+    #[inline]
+    pub fn clear(&mut self)
+        ensures { self.new ≡ [] }
+    {
+        match &mut self.bytes {
+            Bytes::Short(text) => text.clear(),
+            Bytes::Long(text) => text.clear(),
+        }
+    }
+
+    /// This text in memory of its own, behind one text and before another, with room for `room` bytes more.
+    fn between(
+        &self,
+        alloc: Global,
+        front: &str,
+        back: &str,
+        room: usize,
+    ) -> Result<String, AllocError>
+        ensures { IfOk result (λ s. string_bytes s ≡ (front.now ++ self.now) ++ back.now) }
+    {
+        let own = self.as_str();
+        let bytes = front.len().saturating_add(back.len());
+        let mut text = String::with_capacity(
+            alloc,
+            bytes.saturating_add(own.len()).saturating_add(room),
+        )?;
+        text.push_str(front)?;
+        text.push_str(own)?;
+        text.push_str(back)?;
+        Ok(text)
+    }
+
+    /// Becomes a text in memory of its own.
+    fn hold(&mut self, text: String)
+        ensures { self.new ≡ string_bytes text }
+    {
+        self.bytes = Bytes::Long(text);
+    }
+
+    /// Makes room for `bytes` more bytes, in memory of its own.
+    #[inline(never)]
+    fn move_out(&mut self, alloc: Global, bytes: usize) -> Result<(), AllocError>
+        ensures { self.new ≡ self.old }
+    {
+        let text = self.between(alloc, "", "", bytes)?;
+        self.hold(text);
+        Ok(())
+    }
+
+    /// Makes room for `bytes` more bytes.
+    ///
+    /// # Errors
+    ///
+    /// Memory ran out. The text is then as it was.
+    #[inline]
+    pub fn reserve(&mut self, alloc: Global, bytes: usize) -> Result<(), AllocError>
+        ensures { self.new ≡ self.old }
+    {
+        match &mut self.bytes {
+            Bytes::Long(text) => return text.reserve(bytes),
+            Bytes::Short(text) => {
+                if bytes <= text.remaining_capacity() {
+                    return Ok(());
+                }
+            }
+        }
+        self.move_out(alloc, bytes)
+    }
+
+    /// Puts a text that isn't short any more.
+    #[inline(never)]
+    fn push_long(&mut self, alloc: Global, more: &str) -> Result<(), AllocError>
+        ensures ok { OnOk result (self.new ≡ self.old ++ more.now) }
+        ensures err { OnErr result (self.new ≡ self.old) }
+    {
+        let text = self.between(alloc, "", more, MORE)?;
+        self.hold(text);
+        Ok(())
+    }
+
+    /// Puts a text at the end.
+    ///
+    /// # Errors
+    ///
+    /// Memory ran out. The text is then as it was.
+    #[inline]
+    pub fn push_str(&mut self, alloc: Global, more: &str) -> Result<(), AllocError>
+        ensures ok { OnOk result (self.new ≡ self.old ++ more.now) }
+        ensures err { OnErr result (self.new ≡ self.old) }
+    {
+        match &mut self.bytes {
+            Bytes::Long(text) => return text.push_str(more),
+            Bytes::Short(text) => {
+                if more.len() <= text.remaining_capacity() {
+                    text.push_str(more);
+                    return Ok(());
+                }
+            }
+        }
+        self.push_long(alloc, more)
+    }
+
+    /// Puts a character at the end.
+    ///
+    /// # Errors
+    ///
+    /// Memory ran out. The text is then as it was.
+    #[inline]
+    pub fn push(&mut self, alloc: Global, c: char) -> Result<(), AllocError>
+        ensures ok { OnOk result (self.new ≡ self.old ++ encode_utf8 c) }
+        ensures err { OnErr result (self.new ≡ self.old) }
+    {
+        if let Bytes::Long(text) = &mut self.bytes {
+            return text.push(c);
+        }
+        let mut buffer = [0; 4];
+        self.push_str(alloc, c.encode_utf8(&mut buffer))
+    }
+
+    /// Puts a text at the front.
+    ///
+    /// # Errors
+    ///
+    /// Memory ran out. The text is then as it was.
+    #[inline]
+    pub fn put_front(&mut self, alloc: Global, front: &str) -> Result<(), AllocError>
+        ensures ok { OnOk result (self.new ≡ front.now ++ self.old) }
+        ensures err { OnErr result (self.new ≡ self.old) }
+    {
+        match &mut self.bytes {
+            Bytes::Long(text) => return text.insert_str(0, front),
+            Bytes::Short(text) => {
+                if front.len() <= text.remaining_capacity() {
+                    let mut all = ArrayString::new();
+                    all.push_str(front);
+                    all.push_str(text.as_str());
+                    *text = all;
+                    return Ok(());
+                }
+            }
+        }
+        let text = self.between(alloc, front, "", MORE)?;
+        self.hold(text);
+        Ok(())
+    }
+}

@@ -1,5 +1,0 @@
-use Rattle.html_render_estimates.specs.laws.Least.{each_unsized}
-use Rattle.html_render_estimates.proofs.laws.sizes_are_of_trees_with_tables.Goals as goal
-
-pub returns : goal.returns
-returns g c = λ decorator settings trees. each_unsized g.D.TextDecorator.decoration decorator settings trees

@@ -1,7 +1,0 @@
-use Rattle.std.proofs.Common.{◌≡◌, take}
-use Rattle.std.specs.Prelude.{sum_by}
-use Rattle.html_render_estimates.specs.TextSize.{saturated}
-use Rattle.html_render_estimates.proofs.sized.least_of_columns.Given as goal
-
-abbrev pub invariant-loop-need : goal.invariant-loop-need
-invariant-loop-need l = l.least ≡ saturated (sum_by (λ n. n.least) (take l.need-index l.needs))

@@ -1,7 +1,0 @@
-use Rattle.std.proofs.Common.{◌≡◌}
-use Rattle.html_render_lines.specs.TaggedText.{text_columns}
-use Rattle.html_render_estimates.specs.TextSize.{saturated}
-use Rattle.html_render_estimates.proofs.text.columns.Given as goal
-
-abbrev pub invariant-loop-c : goal.invariant-loop-c
-invariant-loop-c l = l.columns ≡ saturated (text_columns l.yielded)

@@ -1,0 +1,335 @@
+//! The layout of a render tree into lines.
+//!
+//! `lay_out(alloc, &decorator, tree, block, &settings, &mut meter)?` answers the lines of the tree, wrapped to the columns of
+//! a block.
+
+ghost use Rattle.std.specs.Prelude.{◌≡◌, ◌≢◌, ◌≤◌, ◌<◌, Some, ℕ, true, Err, OnOk, OnErr, IfOk, IfErr};
+ghost use Rattle.html_render_dom_values.specs.Outcome.{Refuses};
+ghost use Rattle.html_render_layout_blocks.specs.Block.{empty_block};
+ghost use Rattle.html_render_layout_blocks.specs.Machine as machine;
+ghost use Rattle.html_render_layout_blocks.specs.Machine.{machine};
+ghost use Rattle.html_render_layout_nodes.specs.Counts.{CountsNodes};
+ghost use Rattle.html_render_layout_estimates.specs.Passes.{with_needed_sizes};
+ghost use Rattle.html_render_layout_states.specs.Layout.{layout_of, begin_with, shown_after, defined, empty_state};
+ghost use Rattle.html_render_layout_states.specs.Layout.{estimated, layout_lines, mark_names, unannotated};
+ghost use Rattle.html_render_layout.specs.Promises.{AreLines, Lines, HasLines, LeavesTexts};
+ghost use Rattle.html_render_layout_states.specs.Opening.{below, opened, closed};
+ghost use Rattle.html_render_layout.specs.laws.Opening.{layout-opened};
+ghost use Rattle.html_render_layout_states.specs.Working.{padding, by_tags, tabled, work_lines, work_names, untagged_work};
+ghost use Rattle.html_render_layout_tagged.specs.LaidOut.{laid_out};
+
+use html_render_dom_values::Error;
+use html_render_dom_values::white_space::WhiteSpace;
+use html_render_layout_blocks::block::{Block, BlockSetting};
+use html_render_layout_blocks::held::OpenBlock;
+use html_render_layout_estimates::estimate::measure;
+use html_render_layout_estimates::settings::LayoutSettings;
+use html_render_layout_lines::line::Line;
+use html_render_layout_lines::tag::Tag;
+use html_render_layout_nodes::pass::{Pass, walk};
+use html_render_layout_nodes::tree::{Entry, Flat, RenderNode, RenderTree};
+use html_render_layout_states::state::{LayoutState, TextContext};
+use html_render_layout_states::tagging::{Tagging, Untagged};
+use html_render_layout_states::working::{Kept, State};
+use html_render_layout_tagged::laid_out::{LaidOut, TextList};
+use html_render_layout_tagged::stacks::Stacks;
+use html_render_parts_decorators::decorate::TextDecorator;
+use html_render_parts_widths::Meter;
+use std::alloc::Global;
+use std::marker::PhantomData;
+
+mod emphasis;
+mod ending;
+mod images;
+mod links;
+mod steps;
+mod superscripts;
+mod tables;
+mod texts;
+
+/// The pass that lays out a tree.
+struct Layout<D, G> {
+    /// The decorator and the tagging that the layout is of.
+    of: PhantomData<(D, G)>,
+}
+
+impl<D: TextDecorator, G: Tagging<D::Annotation>> Pass for Layout<D, G> {
+    type Node = RenderNode;
+
+    type State = State<D, G>;
+
+    type Kept = Kept<D, G>;
+
+    ghost visits = { layout_of (by_tags D.decoration G.annotated) };
+
+    ghost below = { below (by_tags D.decoration G.annotated) };
+
+    ghost opened = { opened (by_tags D.decoration G.annotated) };
+
+    ghost closed = { closed (by_tags D.decoration G.annotated) };
+
+    ghost told = { layout-opened (by_tags D.decoration G.annotated) };
+
+    /// Opens a node, as its kind and its style say.
+    fn open(
+        alloc: Global,
+        node: &RenderNode,
+        children: &[Entry<RenderNode>],
+        parent: Option<&Kept<D, G>>,
+        number: usize,
+        state: &mut State<D, G>,
+    ) -> Result<Option<Kept<D, G>>, Error> {
+        steps::open(alloc, node, children, parent, number, state)
+    }
+
+    /// Closes it.
+    fn close(alloc: Global, kept: Kept<D, G>, state: &mut State<D, G>) -> Result<(), Error> {
+        steps::close(alloc, kept, state)
+    }
+}
+
+/// The state in which a layout begins.
+fn begin_with<D: TextDecorator, G: Tagging<D::Annotation>>(
+    alloc: Global,
+    settings: LayoutSettings,
+    decorator: D,
+    stacks: G,
+    tag: G::Tag,
+    block: OpenBlock<G::Tag, usize>,
+) -> State<D, G>
+    ensures { result ≡ begin_with settings decorator stacks tag block }
+{
+    LayoutState {
+        settings,
+        decorator,
+        stacks,
+        text: TextContext {
+            tag,
+            mode: WhiteSpace::Normal,
+            preformatted: false,
+            struck_out: false,
+        },
+        block,
+        blank: tag,
+        in_table: false,
+        targets: TextList::new(alloc),
+        names: TextList::new(alloc),
+    }
+}
+
+/// Lays out a tree, and closes the document under the tag that its texts begin with.
+#[tactic(auto, using(html_render_dom_values::specs::laws::Outcome::refusals))]
+fn lay_out_into<D: TextDecorator, G: Tagging<D::Annotation>>(
+    alloc: Global,
+    tree: &Flat<RenderNode>,
+    state: &mut State<D, G>,
+    meter: &mut Meter,
+) -> Result<(), Error>
+    ensures ok { OnOk result (shown_after (by_tags D.decoration G.annotated) machine.ending (λ r. r) tree.now state.old ≡ Some state.new) }
+    ensures err { IfErr result (λ e. Refuses e
+        (shown_after (by_tags D.decoration G.annotated) machine.ending (λ r. r) tree.now state.old)) }
+    ensures counts { CountsNodes result (layout_of (by_tags D.decoration G.annotated))
+        tree.now state.old meter.old meter.new }
+{
+    let tag = state.text.tag;
+    let link_footnotes = state.settings.link_footnotes;
+    let wrap_links = state.settings.wrap_links;
+    walk::<Layout<D, G>>(alloc, tree, state, meter)?;
+    ending::end(alloc, link_footnotes, wrap_links, tag, state)
+}
+
+/// The state once a tree is laid out and the document is closed.
+fn laid_out_from<D: TextDecorator, G: Tagging<D::Annotation>>(
+    alloc: Global,
+    tree: &Flat<RenderNode>,
+    state: State<D, G>,
+    meter: &mut Meter,
+) -> Result<State<D, G>, Error>
+    ensures ok { IfOk result (λ after.
+        shown_after (by_tags D.decoration G.annotated) machine.ending (λ r. r) tree.now state ≡ Some after) }
+    ensures err { IfErr result (λ e. Refuses e
+        (shown_after (by_tags D.decoration G.annotated) machine.ending (λ r. r) tree.now state)) }
+    ensures counts { CountsNodes result (layout_of (by_tags D.decoration G.annotated))
+        tree.now state meter.old meter.new }
+{
+    let mut state = state;
+    lay_out_into(alloc, tree, &mut state, meter)?;
+    Ok(state)
+}
+
+/// The lines of a tree from a state, with the stacks of their tags.
+fn lines_from<D: TextDecorator>(
+    alloc: Global,
+    tree: &Flat<RenderNode>,
+    state: LayoutState<D, Stacks<D::Annotation>, usize, OpenBlock<usize, usize>>,
+    meter: &mut Meter,
+) -> Result<LaidOut<D::Annotation>, Error>
+    ensures ok { IfOk result (λ lines. work_lines D.decoration tree.now state ≡ Some (laid_out lines)) }
+    ensures names { IfOk result (λ lines. work_names D.decoration tree.now state ≡ Some lines.names) }
+    ensures err { IfErr result (λ e. Refuses e (work_lines D.decoration tree.now state)) }
+    ensures counts { CountsNodes result (layout_of (by_tags D.decoration tabled))
+        tree.now state meter.old meter.new }
+{
+    let mut state = laid_out_from(alloc, tree, state, meter)?;
+    Ok(LaidOut {
+        lines: state.block.take_lines()?,
+        stacks: state.stacks,
+        names: state.names,
+    })
+}
+
+/// What a layout takes as its own.
+#[derive(Drop)]
+struct Prepared<D> {
+    settings: LayoutSettings,
+    /// The decorator of a sub-block.
+    decorator: D,
+    /// The tree with the estimate of each node, whose prefixes are those of a sub-block of that sub-block. Sizes are left out
+    /// of a tree without a table.
+    tree: Flat<RenderNode>,
+}
+
+/// What the layout of a tree takes as its own.
+fn prepare<D: TextDecorator>(
+    alloc: Global,
+    decorator: &D,
+    settings: &LayoutSettings,
+    tree: RenderTree,
+) -> Result<Prepared<D>, Error>
+    ensures settings { IfOk result (λ own. own.settings ≡ settings.now) }
+    ensures decorator { IfOk result (λ own. own.decorator ≡ D.decoration.subblock decorator.now) }
+    ensures tree { IfOk result (λ own. own.tree ≡ with_needed_sizes (estimated D.decoration settings.now decorator.now tree)) }
+    ensures err { IfErr result (λ e. e ≡ Error.OutOfMemory) }
+{
+    let inner = decorator.make_subblock_decorator(alloc)?;
+    let innermost = inner.make_subblock_decorator(alloc)?;
+    Ok(Prepared {
+        settings: settings.try_clone(alloc)?,
+        decorator: inner,
+        tree: measure(alloc, &innermost, settings, tree.into_nodes())?,
+    })
+}
+
+/// The tag of the spaces that lines are filled with, if they are.
+fn padding<T: Tag>(settings: &LayoutSettings, tag: T) -> Option<T>
+    ensures { result ≡ padding settings.now tag }
+{
+    if settings.pad_block_width {
+        Some(tag)
+    } else {
+        None
+    }
+}
+
+/// The empty block of a document.
+fn document_block<T: Tag>(
+    alloc: Global,
+    setting: BlockSetting,
+    padding: Option<T>,
+) -> Result<OpenBlock<T, usize>, Error>
+    ensures ok { IfOk result (λ held. held ≡ empty_block machine setting padding) }
+    ensures err { IfErr result (λ e. e ≡ Error.OutOfMemory) }
+{
+    OpenBlock::new(alloc, Block::new(alloc, setting, padding))
+}
+
+/// The lines of a tree in a block, with what a sub-block of the decorator's writes. Behind them stand the lines that close the
+/// document: the number of each link and its target with `settings.link_footnotes`, and what the decorator answers for all
+/// targets; they are wrapped with `settings.wrap_links`. With `block.overflow` a character or a prefix that has no room passes
+/// the width. The meter's `entered`, `left` and `frames` count from 0, also where the call refuses; `probes` stays.
+///
+/// # Errors
+///
+/// `TooNarrow`, at width 0, and, with overflow off, where a character is wider than a line or a prefix leaves too few
+/// columns. `OutOfMemory`.
+#[tactic(auto, using(crate::specs::laws::Promises::lines_there, crate::specs::laws::Promises::texts_left))]
+pub fn lay_out<D: TextDecorator>(
+    alloc: Global,
+    decorator: &D,
+    tree: RenderTree,
+    block: BlockSetting,
+    settings: &LayoutSettings,
+    meter: &mut Meter,
+) -> Result<LaidOut<D::Annotation>, Error>
+    // the lines are those of the tree, of which each promise holds; want of memory aside, it is too narrow exactly where there are none
+    ensures ok { IfOk result (λ lines. AreLines D.decoration settings.now tree decorator.now block (laid_out lines)) }
+    ensures names { IfOk result (λ lines. mark_names D.decoration settings.now tree decorator.now block ≡ Some lines.names) }
+    ensures err { IfErr result (λ e. Refuses e (layout_lines D.decoration settings.now tree decorator.now block)) }
+
+    // with overflow no width is too small but 0, before anything is allocated
+    ensures wide { 0 < block.width → block.overflow ≡ true → result ≢ Err Error.TooNarrow }
+    ensures no_width { block.width ≡ 0 → result ≡ Err Error.TooNarrow }
+
+    // what holds of every tree: where there are lines, and what is left as it was
+    ensures there { HasLines D.decoration settings.now tree decorator.now block }
+    ensures stacks { LeavesTexts D.decoration }
+
+    // what was counted, where there are lines, and where there are none
+    ensures counts { CountsNodes result (defined D.decoration)
+        (estimated D.decoration settings.now decorator.now tree) (empty_state D.decoration settings.now decorator.now block) meter.old meter.new }
+{
+    meter.entered = 0;
+    meter.left = 0;
+    meter.frames = 0;
+    if block.width == 0 {
+        return Err(Error::TooNarrow);
+    }
+    let own = prepare(alloc, decorator, settings, tree)?;
+    let block = document_block(alloc, block, padding(settings, 0))?;
+    let state = begin_with(
+        alloc,
+        own.settings,
+        own.decorator,
+        Stacks::new(alloc),
+        0,
+        block,
+    );
+    lines_from(alloc, &own.tree, state, meter)
+}
+
+/// The lines of a tree from a state without annotations.
+fn untagged_lines_from<D: TextDecorator>(
+    alloc: Global,
+    tree: &Flat<RenderNode>,
+    state: LayoutState<D, Untagged, (), OpenBlock<(), usize>>,
+) -> Result<Vec<Line<(), usize>>, Error>
+    ensures ok { IfOk result (λ lines. untagged_work D.decoration tree.now state ≡ Some lines.items) }
+    ensures err { IfErr result (λ e. Refuses e (untagged_work D.decoration tree.now state)) }
+{
+    let mut meter = Meter::default();
+    let mut state = laid_out_from(alloc, tree, state, &mut meter)?;
+    let lines = state.block.take_lines()?;
+    Ok(lines)
+}
+
+/// The lines of a tree, as [`lay_out`] answers them, without what their characters are annotated with. Nothing is kept
+/// of annotations meanwhile.
+///
+/// # Errors
+///
+/// `TooNarrow`, at width 0, and, with overflow off, where a character is wider than a line or a prefix leaves too few
+/// columns. `OutOfMemory`.
+#[tactic(auto, using(crate::specs::laws::Promises::lines_there, crate::specs::laws::Promises::texts_left))]
+pub fn lay_out_untagged<D: TextDecorator>(
+    alloc: Global,
+    decorator: &D,
+    tree: RenderTree,
+    block: BlockSetting,
+    settings: &LayoutSettings,
+) -> Result<Vec<Line<(), usize>>, Error>
+    // as for the lines with annotations
+    ensures ok { IfOk result (λ answer. Lines D.decoration settings.now tree decorator.now block (λ lines. answer.items ≡ unannotated lines)) }
+    ensures err { IfErr result (λ e. Refuses e (layout_lines D.decoration settings.now tree decorator.now block)) }
+    ensures wide { 0 < block.width → block.overflow ≡ true → result ≢ Err Error.TooNarrow }
+    ensures no_width { block.width ≡ 0 → result ≡ Err Error.TooNarrow }
+    ensures there { HasLines D.decoration settings.now tree decorator.now block }
+    ensures stacks { LeavesTexts D.decoration }
+{
+    if block.width == 0 {
+        return Err(Error::TooNarrow);
+    }
+    let own = prepare(alloc, decorator, settings, tree)?;
+    let block = document_block(alloc, block, padding(settings, ()))?;
+    let state = begin_with(alloc, own.settings, own.decorator, Untagged, (), block);
+    untagged_lines_from(alloc, &own.tree, state)
+}

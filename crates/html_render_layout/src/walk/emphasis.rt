@@ -1,0 +1,125 @@
+//! Parts of a line between what the decorator writes round them.
+
+ghost use Rattle.std.specs.Prelude.{◌≡◌, Some, OnOk, IfOk, IfErr, string_bytes};
+ghost use Rattle.std.specs.Str.{chars};
+ghost use Rattle.html_render_dom_values.specs.Outcome.{Refuses};
+ghost use Rattle.html_render_layout_states.specs.Layout.{emphasis_decoration, start, annotated, write, perform_all};
+ghost use Rattle.html_render_layout_states.specs.Working.{by_tags};
+
+use super::texts::add_text;
+use html_render_dom_values::Error;
+use html_render_layout_nodes::tree::Emphasis;
+use html_render_layout_states::tagging::Tagging;
+use html_render_layout_states::working::State;
+use html_render_parts_decorators::decorate::TextDecorator;
+use std::alloc::Global;
+
+/// What is written before an emphasis, and its annotation.
+fn start_of<D: TextDecorator>(
+    alloc: Global,
+    decorator: &D,
+    emphasis: Emphasis,
+) -> Result<(String, D::Annotation), Error>
+    ensures text { IfOk result (λ r. string_bytes r.0 ≡ ((emphasis_decoration D.decoration emphasis).start decorator.now).text) }
+    ensures annotation { IfOk result (λ r. r.1 ≡ ((emphasis_decoration D.decoration emphasis).start decorator.now).annotation) }
+    ensures err { IfErr result (λ e. e ≡ Error.OutOfMemory) }
+{
+    match emphasis {
+        Emphasis::Em => decorator.decorate_em_start(alloc),
+        Emphasis::Strong => decorator.decorate_strong_start(alloc),
+        Emphasis::Code => decorator.decorate_code_start(alloc),
+    }
+}
+
+/// What is written behind an emphasis.
+///
+/// # Errors
+///
+/// `OutOfMemory`.
+pub fn end_of<D: TextDecorator>(
+    alloc: Global,
+    decorator: &D,
+    emphasis: Emphasis,
+) -> Result<String, Error>
+    ensures ok { IfOk result (λ text. string_bytes text ≡ (emphasis_decoration D.decoration emphasis).end decorator.now) }
+    ensures err { IfErr result (λ e. e ≡ Error.OutOfMemory) }
+{
+    match emphasis {
+        Emphasis::Em => decorator.decorate_em_end(alloc),
+        Emphasis::Strong => decorator.decorate_strong_end(alloc),
+        Emphasis::Code => decorator.decorate_code_end(alloc),
+    }
+}
+
+/// What is written under an annotation begins: the texts that come have it too, and this is the first.
+///
+/// # Errors
+///
+/// As where a text is added.
+#[tactic(auto, using(html_render_dom_values::specs::laws::Outcome::refusals))]
+pub fn begin<D: TextDecorator, G: Tagging<D::Annotation>>(
+    alloc: Global,
+    start: (String, D::Annotation),
+    state: &mut State<D, G>,
+) -> Result<(), Error>
+    ensures ok { OnOk result (write (by_tags D.decoration G.annotated) (chars (string_bytes start.0))
+        (annotated (by_tags D.decoration G.annotated) (Some start.1) state.old) ≡ Some state.new) }
+    ensures err { IfErr result (λ e. Refuses e (write (by_tags D.decoration G.annotated) (chars (string_bytes start.0))
+        (annotated (by_tags D.decoration G.annotated) (Some start.1) state.old))) }
+{
+    let (text, annotation) = start;
+    state.text.tag = state.stacks.annotate(state.text.tag, annotation)?;
+    add_text(alloc, text.as_str(), state)
+}
+
+/// An emphasis begins.
+///
+/// # Errors
+///
+/// As where a text is added.
+#[tactic(auto, using(html_render_dom_values::specs::laws::Outcome::refusals))]
+pub fn begin_emphasis<D: TextDecorator, G: Tagging<D::Annotation>>(
+    alloc: Global,
+    emphasis: Emphasis,
+    state: &mut State<D, G>,
+) -> Result<(), Error>
+    ensures ok { OnOk result (perform_all (by_tags D.decoration G.annotated) state.old (start D.decoration (emphasis_decoration D.decoration emphasis)) state.old ≡ Some state.new) }
+    ensures err { IfErr result (λ e. Refuses e (perform_all (by_tags D.decoration G.annotated) state.old (start D.decoration (emphasis_decoration D.decoration emphasis)) state.old)) }
+{
+    let start = start_of(alloc, &state.decorator, emphasis)?;
+    begin(alloc, start, state)
+}
+
+/// A part that is struck out begins.
+///
+/// # Errors
+///
+/// As where a text is added.
+#[tactic(auto, using(html_render_dom_values::specs::laws::Outcome::refusals))]
+pub fn begin_strikeout<D: TextDecorator, G: Tagging<D::Annotation>>(
+    alloc: Global,
+    state: &mut State<D, G>,
+) -> Result<(), Error>
+    ensures ok { OnOk result (perform_all (by_tags D.decoration G.annotated) state.old (start D.decoration D.decoration.strikeout) state.old ≡ Some state.new) }
+    ensures err { IfErr result (λ e. Refuses e (perform_all (by_tags D.decoration G.annotated) state.old (start D.decoration D.decoration.strikeout) state.old)) }
+{
+    let start = state.decorator.decorate_strikeout_start(alloc)?;
+    begin(alloc, start, state)
+}
+
+/// A superscript begins.
+///
+/// # Errors
+///
+/// As where a text is added.
+#[tactic(auto, using(html_render_dom_values::specs::laws::Outcome::refusals))]
+pub fn begin_superscript<D: TextDecorator, G: Tagging<D::Annotation>>(
+    alloc: Global,
+    state: &mut State<D, G>,
+) -> Result<(), Error>
+    ensures ok { OnOk result (perform_all (by_tags D.decoration G.annotated) state.old (start D.decoration D.decoration.superscript) state.old ≡ Some state.new) }
+    ensures err { IfErr result (λ e. Refuses e (perform_all (by_tags D.decoration G.annotated) state.old (start D.decoration D.decoration.superscript) state.old)) }
+{
+    let start = state.decorator.decorate_superscript_start(alloc)?;
+    begin(alloc, start, state)
+}

@@ -1,0 +1,102 @@
+//! The end of a document: what its block is closed with.
+
+ghost use Rattle.std.specs.Prelude.{◌≡◌, ◌++◌, [], Some, codes, map, string_bytes, if◌then◌else◌};
+ghost use Rattle.std.specs.Fmt.{decimal};
+ghost use Rattle.std.specs.Prelude.{OnOk, IfOk, IfErr};
+ghost use Rattle.html_render_dom_values.specs.Outcome.{Refuses};
+ghost use Rattle.html_render_layout_blocks.specs.Machine as machine;
+ghost use Rattle.html_render_layout_states.specs.Ending.{footnotes, closing_texts, ended};
+
+use html_render_dom_values::Error;
+use html_render_dom_values::text::Text;
+use html_render_layout_states::tagging::Tagging;
+use html_render_layout_states::working::State;
+use html_render_parts_decorators::decorate::TextDecorator;
+use std::alloc::{AllocError, Global};
+
+/// As many bytes as the number of a link takes in a footnote, with what is round it.
+const NUMBER_ROOM: usize = 24;
+
+/// The number of a link and its target.
+#[tactic(auto, using(crate::proofs::Ending::joined))]
+fn footnote(alloc: Global, number: usize, target: &Text) -> Result<String, AllocError>
+    ensures { IfOk result (λ text. string_bytes text ≡ codes "[" ++ decimal number ++ codes "]: " ++ target.now) }
+{
+    let room = target.as_str().len().saturating_add(NUMBER_ROOM);
+    let mut text = String::with_capacity(alloc, room)?;
+    write!(text, "[{number}]: ")?;
+    text.push_str(target.as_str())?;
+    Ok(text)
+}
+
+/// One for each link, from 1.
+fn footnotes(alloc: Global, targets: &[Text]) -> Result<Vec<String>, AllocError>
+    ensures { IfOk result (λ texts. map string_bytes texts.items ≡ footnotes 1 targets.now) }
+{
+    let mut texts = Vec::with_capacity(alloc, targets.len())?;
+    for (index, target) in targets.iter().enumerate() {
+        let text = footnote(alloc, index + 1, target)?;
+        texts.push(text)?;
+    }
+    Ok(texts)
+}
+
+/// The footnotes, if they are chosen.
+fn chosen_footnotes(
+    alloc: Global,
+    link_footnotes: bool,
+    targets: &[Text],
+) -> Result<Vec<String>, AllocError>
+    ensures { IfOk result (λ texts. map string_bytes texts.items ≡ (if link_footnotes then footnotes 1 targets.now else [])) }
+{
+    if link_footnotes {
+        return footnotes(alloc, targets);
+    }
+    Ok(Vec::new(alloc))
+}
+
+/// What closes a document with links to these targets: the footnotes, and what the decorator answers.
+fn closing_texts<D: TextDecorator>(
+    alloc: Global,
+    link_footnotes: bool,
+    decorator: &D,
+    targets: &[Text],
+) -> Result<Vec<String>, Error>
+    ensures ok { IfOk result (λ texts. map string_bytes texts.items ≡ closing_texts D.decoration link_footnotes decorator.now targets.now) }
+    ensures err { IfErr result (λ e. e ≡ Error.OutOfMemory) }
+{
+    let mut texts = chosen_footnotes(alloc, link_footnotes, targets)?;
+    let mut more = decorator.finalise(alloc, targets)?;
+    texts.append(&mut more)?;
+    Ok(texts)
+}
+
+/// Finishes the block of a document, and closes it under a tag: by a line for each link with `link_footnotes`, and by what
+/// the decorator answers for all of them. The lines are cut at the block's width with `wrap_links`.
+///
+/// # Errors
+///
+/// `TooNarrow`, as where a paragraph is finished, and where a character of a line that is cut is wider than the block,
+/// with overflow off. `OutOfMemory`.
+#[tactic(auto, using(html_render_dom_values::specs::laws::Outcome::refusals))]
+pub fn end<D: TextDecorator, G: Tagging<D::Annotation>>(
+    alloc: Global,
+    link_footnotes: bool,
+    wrap_links: bool,
+    tag: G::Tag,
+    state: &mut State<D, G>,
+) -> Result<(), Error>
+    ensures ok { OnOk result (ended D.decoration machine.ending link_footnotes wrap_links tag state.old ≡ Some state.new) }
+    ensures err { IfErr result (λ e. Refuses e (ended D.decoration machine.ending link_footnotes wrap_links tag state.old)) }
+{
+    state.block.finish()?;
+    let texts = closing_texts(
+        alloc,
+        link_footnotes,
+        &state.decorator,
+        state.targets.as_slice(),
+    )?;
+    state
+        .block
+        .add_closing_lines(texts.as_slice(), tag, wrap_links)
+}

@@ -1,0 +1,72 @@
+//! What stands in the place of an image.
+
+ghost use Rattle.std.specs.Prelude.{◌≡◌, Some, OnOk, IfErr, option_map};
+ghost use Rattle.html_render_dom_values.specs.Outcome.{Refuses};
+ghost use Rattle.html_render_layout_states.specs.Images.{file_name, shown_title};
+ghost use Rattle.html_render_layout_states.specs.Layout.{image, perform_all};
+ghost use Rattle.html_render_layout_states.specs.Working.{by_tags};
+
+use super::emphasis::begin;
+use html_render_dom_values::Error;
+use html_render_layout_estimates::settings::ImageRenderMode;
+use html_render_layout_states::tagging::Tagging;
+use html_render_layout_states::working::State;
+use html_render_parts_decorators::decorate::TextDecorator;
+use std::alloc::Global;
+
+/// The part of an address behind its last slash, and the whole where it has none.
+fn file_name(address: &str) -> &str
+    ensures { result.now ≡ file_name address.now }
+{
+    let bytes = address.as_bytes();
+    let mut start = bytes.len();
+    while start > 0 {
+        if bytes[start - 1] == b'/' {
+            return &address[start..];
+        }
+        start -= 1;
+    }
+    address
+}
+
+/// The title that an image is shown with; none where it isn't shown.
+fn shown_title<'a>(mode: &'a ImageRenderMode, source: &'a str, title: &'a str) -> Option<&'a str>
+    ensures { option_map (λ title. title.now) result ≡ shown_title mode.now source.now title.now }
+{
+    if !title.is_empty() {
+        return Some(title);
+    }
+    match mode {
+        ImageRenderMode::IgnoreEmpty => None,
+        ImageRenderMode::ShowAlways => Some(""),
+        ImageRenderMode::Replace(text) => Some(text.as_str()),
+        ImageRenderMode::Filename => {
+            let name = file_name(source);
+            if name.is_empty() { None } else { Some(name) }
+        }
+    }
+}
+
+/// Adds what stands in the place of an image, under the annotation that the decorator gives it.
+///
+/// # Errors
+///
+/// As where a text is added.
+#[tactic(auto, using(html_render_dom_values::specs::laws::Outcome::refusals))]
+pub fn add_image<D: TextDecorator, G: Tagging<D::Annotation>>(
+    alloc: Global,
+    source: &str,
+    title: &str,
+    state: &mut State<D, G>,
+) -> Result<(), Error>
+    ensures ok { OnOk result (perform_all (by_tags D.decoration G.annotated) state.old
+        (image D.decoration source.now (shown_title state.old.settings.empty_images source.now title.now)) state.old ≡ Some state.new) }
+    ensures err { IfErr result (λ e. Refuses e (perform_all (by_tags D.decoration G.annotated) state.old
+        (image D.decoration source.now (shown_title state.old.settings.empty_images source.now title.now)) state.old)) }
+{
+    let Some(title) = shown_title(&state.settings.empty_images, source, title) else {
+        return Ok(());
+    };
+    let start = state.decorator.decorate_image(alloc, source, title)?;
+    begin(alloc, start, state)
+}

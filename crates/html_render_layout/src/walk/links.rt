@@ -1,0 +1,92 @@
+//! Links with their numbers, and marks, which links lead to.
+
+ghost use Rattle.std.specs.Prelude.{◌≡◌, ◌∷◌, Some, OnOk, IfErr};
+ghost use Rattle.html_render_dom_values.specs.Outcome.{Refuses};
+ghost use Rattle.html_render_parts_decorators.specs.Decoration.{link};
+ghost use Rattle.html_render_layout_states.specs.Layout.{AddTarget, AddMark, start, perform, perform_all, write_number};
+ghost use Rattle.html_render_layout_states.specs.Opening.{kind_closed};
+ghost use Rattle.html_render_layout_states.specs.Working.{by_tags};
+
+use super::emphasis::begin;
+use super::texts::add_text;
+use html_render_dom_values::Error;
+use html_render_layout_states::state::{KindClosing, TextContext};
+use html_render_layout_states::tagging::Tagging;
+use html_render_layout_states::working::State;
+use html_render_parts_decorators::decorate::TextDecorator;
+use std::alloc::Global;
+
+/// Adds the mark of this name.
+///
+/// # Errors
+///
+/// `OutOfMemory`.
+pub fn add_mark<D: TextDecorator, G: Tagging<D::Annotation>>(
+    name: &str,
+    state: &mut State<D, G>,
+) -> Result<(), Error>
+    ensures ok { OnOk result (perform (by_tags D.decoration G.annotated) state.old (AddMark name.now) state.old ≡ Some state.new) }
+    ensures err { IfErr result (λ e. e ≡ Error.OutOfMemory) }
+{
+    state.block.held.add_mark(state.names.len())?;
+    state.names.push(name)
+}
+
+/// A link to this target begins: it has the next number.
+///
+/// # Errors
+///
+/// As where a text is added.
+#[tactic(auto, using(html_render_dom_values::specs::laws::Outcome::refusals))]
+pub fn begin_link<D: TextDecorator, G: Tagging<D::Annotation>>(
+    alloc: Global,
+    target: &str,
+    state: &mut State<D, G>,
+) -> Result<(), Error>
+    ensures ok { OnOk result (perform_all (by_tags D.decoration G.annotated) state.old
+        (AddTarget target.now ∷ start D.decoration (link D.decoration target.now)) state.old ≡ Some state.new) }
+    ensures err { IfErr result (λ e. Refuses e (perform_all (by_tags D.decoration G.annotated) state.old
+        (AddTarget target.now ∷ start D.decoration (link D.decoration target.now)) state.old)) }
+{
+    state.targets.push(target)?;
+    let start = state.decorator.decorate_link_start(alloc, target)?;
+    begin(alloc, start, state)
+}
+
+/// The number of a link, if there are footnotes.
+#[tactic(auto, using(html_render_dom_values::specs::laws::Outcome::refusals))]
+fn add_number<D: TextDecorator, G: Tagging<D::Annotation>>(
+    alloc: Global,
+    number: usize,
+    state: &mut State<D, G>,
+) -> Result<(), Error>
+    ensures ok { OnOk result (write_number (by_tags D.decoration G.annotated) number state.old ≡ Some state.new) }
+    ensures err { IfErr result (λ e. Refuses e (write_number (by_tags D.decoration G.annotated) number state.old)) }
+{
+    if !state.settings.link_footnotes {
+        return Ok(());
+    }
+    let number = format!(in alloc; "[{number}]")?;
+    add_text(alloc, number.as_str(), state)
+}
+
+/// The link of this number is over; texts were treated so before it.
+///
+/// # Errors
+///
+/// As where a text is added.
+#[tactic(auto, using(html_render_dom_values::specs::laws::Outcome::refusals))]
+pub fn close_link<D: TextDecorator, G: Tagging<D::Annotation>>(
+    alloc: Global,
+    text: TextContext<G::Tag>,
+    number: usize,
+    state: &mut State<D, G>,
+) -> Result<(), Error>
+    ensures ok { OnOk result (kind_closed (by_tags D.decoration G.annotated) (KindClosing.EndLink text number) state.old ≡ Some state.new) }
+    ensures err { IfErr result (λ e. Refuses e (kind_closed (by_tags D.decoration G.annotated) (KindClosing.EndLink text number) state.old)) }
+{
+    let end = state.decorator.decorate_link_end(alloc)?;
+    add_text(alloc, end.as_str(), state)?;
+    state.text = text;
+    add_number(alloc, number, state)
+}

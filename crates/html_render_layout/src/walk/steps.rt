@@ -1,0 +1,560 @@
+//! What a layout does as it opens and closes a node.
+
+ghost use Rattle.std.specs.Prelude.{◌≡◌, ◌+◌, ◌-◌, ◌++◌, ◌∷◌, [], length, Some, OnOk, IfOk, IfErr, option_copied};
+ghost use Rattle.html_render_dom_values.specs.Outcome.{Refuses};
+ghost use Rattle.html_render_layout_blocks.specs.Machine as machine;
+ghost use Rattle.html_render_layout_nodes.specs.Pass.{way};
+ghost use Rattle.html_render_layout_nodes.specs.Preorder.{flatten, forest_of};
+ghost use Rattle.html_render_parts_decorators.specs.Decoration.{link};
+ghost use Rattle.html_render_layout_estimates.specs.Estimates.{prefix_columns, number_columns};
+ghost use Rattle.html_render_layout_states.specs.Layout.{AddTarget, BeginTable, Fence, NewLine, StartBlock, Strike, block_of, perform_all};
+ghost use Rattle.html_render_layout_states.specs.Layout.{start};
+ghost use Rattle.html_render_layout_states.specs.Opening.{child_block, continued};
+ghost use Rattle.html_render_layout_states.specs.Opening.{kind_opened, kind_closed, opened_in, text_opened, cell_opened, block_opened, opened_below};
+ghost use Rattle.html_render_layout_states.specs.Opening.{opened, closed};
+ghost use Rattle.html_render_layout_states.specs.Working.{by_tags};
+
+use super::emphasis::{begin_emphasis, begin_strikeout, begin_superscript, end_of};
+use super::images::add_image;
+use super::links::{add_mark, begin_link, close_link};
+use super::superscripts::{digits_of, write_raised};
+use super::tables::{begin_cell, begin_table, end_cell, end_table};
+use super::texts::add_text;
+use html_render_dom_values::Error;
+use html_render_dom_values::text::Text;
+use html_render_layout_blocks::held::HeldBlock;
+use html_render_layout_estimates::estimate::number_columns;
+use html_render_layout_estimates::text::columns;
+use html_render_layout_nodes::tree::{
+    Emphasis, Entry, Estimate, Grid, NodeKind, NodeStyle, RenderNode,
+};
+use html_render_layout_states::items::child_block;
+use html_render_layout_states::nesting::{OwnBlock, begin_block, close_indent, close_quote};
+use html_render_layout_states::state::{Closing, Interruption, KindClosing};
+use html_render_layout_states::styles::begin_style;
+use html_render_layout_states::tagging::Tagging;
+use html_render_layout_states::working::{Kept, KindKept, State};
+use html_render_parts_decorators::decorate::TextDecorator;
+use std::alloc::Global;
+
+/// The columns that a node needs behind its prefix.
+fn inner_least(estimate: &Estimate) -> usize
+    ensures { result ≡ estimate.now.least - estimate.now.prefix }
+{
+    estimate.least.saturating_sub(estimate.prefix)
+}
+
+/// The items of an unordered list come.
+fn open_bullets<D: TextDecorator, G: Tagging<D::Annotation>>(
+    alloc: Global,
+    decorator: &D,
+    estimate: &Estimate,
+) -> Result<Option<KindKept<D, G>>, Error>
+    ensures ok { IfOk result (λ c. c ≡ Some (KindClosing.Bullets
+        (prefix_columns (D.decoration.unordered_item_prefix decorator.now)) (estimate.now.least - estimate.now.prefix))) }
+    ensures err { IfErr result (λ e. e ≡ Error.OutOfMemory) }
+{
+    let bullet = decorator.unordered_item_prefix(alloc)?;
+    Ok(Some(KindClosing::Bullets {
+        columns: columns(bullet.as_str()),
+        least: inner_least(estimate),
+    }))
+}
+
+/// The items of an ordered list come.
+fn open_numbers<D: TextDecorator, G: Tagging<D::Annotation>>(
+    alloc: Global,
+    decorator: &D,
+    first: i64,
+    estimate: &Estimate,
+) -> Result<Option<KindKept<D, G>>, Error>
+    ensures ok { IfOk result (λ c. c ≡ Some (KindClosing.Numbers first
+        (number_columns D.decoration decorator.now first estimate.now.children) (estimate.now.least - estimate.now.prefix))) }
+    ensures err { IfErr result (λ e. e ≡ Error.OutOfMemory) }
+{
+    let columns = number_columns(alloc, decorator, first, estimate.children)?;
+    Ok(Some(KindClosing::Numbers {
+        first,
+        columns,
+        least: inner_least(estimate),
+    }))
+}
+
+/// A term of a description list begins on a line of its own, stressed.
+#[tactic(auto, using(html_render_dom_values::specs::laws::Outcome::refusals))]
+fn begin_term<D: TextDecorator, G: Tagging<D::Annotation>>(
+    alloc: Global,
+    state: &mut State<D, G>,
+) -> Result<(), Error>
+    ensures ok { OnOk result (perform_all (by_tags D.decoration G.annotated) state.old (NewLine ∷ start D.decoration D.decoration.em) state.old ≡ Some state.new) }
+    ensures err { IfErr result (λ e. Refuses e (perform_all (by_tags D.decoration G.annotated) state.old (NewLine ∷ start D.decoration D.decoration.em) state.old)) }
+{
+    state.block.held.new_line()?;
+    begin_emphasis(alloc, Emphasis::Em, state)
+}
+
+/// A part that is struck out begins.
+#[tactic(auto, using(html_render_dom_values::specs::laws::Outcome::refusals))]
+fn strike<D: TextDecorator, G: Tagging<D::Annotation>>(
+    alloc: Global,
+    state: &mut State<D, G>,
+) -> Result<(), Error>
+    ensures ok { OnOk result (perform_all (by_tags D.decoration G.annotated) state.old
+        (start D.decoration D.decoration.strikeout ++ Strike ∷ []) state.old ≡ Some state.new) }
+    ensures err { IfErr result (λ e. Refuses e (perform_all (by_tags D.decoration G.annotated) state.old
+        (start D.decoration D.decoration.strikeout ++ Strike ∷ []) state.old)) }
+{
+    begin_strikeout(alloc, state)?;
+    state.text.struck_out = state.settings.unicode_strikeout;
+    Ok(())
+}
+
+/// A superscript begins; one of digits is done.
+#[tactic(auto, using(html_render_dom_values::specs::laws::Outcome::refusals))]
+fn open_superscript<D: TextDecorator, G: Tagging<D::Annotation>>(
+    alloc: Global,
+    own: Interruption<D, G::Tag, HeldBlock<G::Tag, usize>>,
+    estimate: &Estimate,
+    children: &[Entry<RenderNode>],
+    state: &mut State<D, G>,
+) -> Result<Option<KindKept<D, G>>, Error>
+    requires { flatten (forest_of children.now) ≡ children.now }
+    ensures ok { IfOk result (λ c. kind_opened (by_tags D.decoration G.annotated) own NodeKind.Superscript estimate.now (forest_of children.now) state.old
+        ≡ Some (way state.new c)) }
+    ensures err { IfErr result (λ e. Refuses e (kind_opened (by_tags D.decoration G.annotated) own NodeKind.Superscript estimate.now (forest_of children.now) state.old)) }
+{
+    match digits_of(children) {
+        Some(digits) => {
+            write_raised(alloc, digits, state)?;
+            Ok(None)
+        }
+        None => {
+            begin_superscript(alloc, state)?;
+            Ok(Some(KindClosing::EndSuperscript))
+        }
+    }
+}
+
+/// A link begins.
+#[tactic(auto, using(html_render_dom_values::specs::laws::Outcome::refusals))]
+fn open_link<D: TextDecorator, G: Tagging<D::Annotation>>(
+    alloc: Global,
+    target: &str,
+    state: &mut State<D, G>,
+) -> Result<Option<KindKept<D, G>>, Error>
+    ensures ok { OnOk result (perform_all (by_tags D.decoration G.annotated) state.old
+        (AddTarget target.now ∷ start D.decoration (link D.decoration target.now)) state.old ≡ Some state.new) }
+    ensures kept { IfOk result (λ c. c ≡ Some (KindClosing.EndLink state.old.text (length state.old.targets + 1))) }
+    ensures err { IfErr result (λ e. Refuses e (perform_all (by_tags D.decoration G.annotated) state.old
+        (AddTarget target.now ∷ start D.decoration (link D.decoration target.now)) state.old)) }
+{
+    let text = state.text;
+    begin_link(alloc, target, state)?;
+    Ok(Some(KindClosing::EndLink(text, state.targets.len())))
+}
+
+/// A table begins.
+#[inline(never)]
+#[tactic(auto, using(html_render_dom_values::specs::laws::Outcome::refusals))]
+fn open_table<D: TextDecorator, G: Tagging<D::Annotation>>(
+    own: Interruption<D, G::Tag, HeldBlock<G::Tag, usize>>,
+    grid: &Grid,
+    state: &mut State<D, G>,
+) -> Result<Option<KindKept<D, G>>, Error>
+    ensures ok { OnOk result (perform_all (by_tags D.decoration G.annotated) state.old
+        (StartBlock ∷ (Fence ∷ (BeginTable grid.now.cells grid.now.needs ∷ []))) state.old ≡ Some state.new) }
+    ensures kept { IfOk result (λ c. c ≡ Some (KindClosing.EndTable own state.old.in_table)) }
+    ensures err { IfErr result (λ e. Refuses e (perform_all (by_tags D.decoration G.annotated) state.old
+        (StartBlock ∷ (Fence ∷ (BeginTable grid.now.cells grid.now.needs ∷ []))) state.old)) }
+{
+    let in_table = state.in_table;
+    begin_table(grid, state)?;
+    Ok(Some(KindClosing::EndTable(own, in_table)))
+}
+
+/// The next row of a table begins.
+fn open_row<D: TextDecorator, G: Tagging<D::Annotation>>(
+    state: &mut State<D, G>,
+) -> Result<Option<KindKept<D, G>>, Error>
+    ensures ok { OnOk result (state.new ≡ record state.old { block = machine.operations.begin_row state.old.block }) }
+    ensures kept { IfOk result (λ c. c ≡ Some KindClosing.EndRow) }
+    ensures err { IfErr result (λ e. e ≡ Error.OutOfMemory) }
+{
+    state.block.held.begin_row()?;
+    Ok(Some(KindClosing::EndRow))
+}
+
+/// The block in which a node of a kind stands.
+#[inline(always)]
+fn block_of<D: TextDecorator, G: Tagging<D::Annotation>>(
+    alloc: Global,
+    kind: &NodeKind,
+    estimate: &Estimate,
+    state: &State<D, G>,
+) -> Result<OwnBlock, Error>
+    ensures ok { IfOk result (λ b. b ≡ block_of D.decoration state.now.settings state.now.decorator kind.now estimate.now) }
+    ensures err { IfErr result (λ e. e ≡ Error.OutOfMemory) }
+{
+    let least = inner_least(estimate);
+    match kind {
+        NodeKind::Header(level) => {
+            let prefix = Text::from(state.decorator.header_prefix(alloc, *level)?);
+            Ok(OwnBlock::Prefixed { prefix, least })
+        }
+        NodeKind::BlockQuote => {
+            let prefix = Text::from(state.decorator.quote_prefix(alloc)?);
+            Ok(OwnBlock::Prefixed { prefix, least })
+        }
+        NodeKind::Dd => Ok(OwnBlock::Indented {
+            prefix: Text::from_str(alloc, "  ")?,
+            columns: 2,
+            least,
+        }),
+        _ => Ok(OwnBlock::Shared),
+    }
+}
+
+/// Opens a node of a kind over these trees, in its block, which interrupts this if it is its own. With nothing kept the state
+/// becomes the one behind it.
+#[tactic(auto, using(html_render_dom_values::specs::laws::Outcome::refusals))]
+fn open_kind<D: TextDecorator, G: Tagging<D::Annotation>>(
+    alloc: Global,
+    own: Interruption<D, G::Tag, HeldBlock<G::Tag, usize>>,
+    kind: &NodeKind,
+    estimate: &Estimate,
+    children: &[Entry<RenderNode>],
+    state: &mut State<D, G>,
+) -> Result<Option<KindKept<D, G>>, Error>
+    requires { flatten (forest_of children.now) ≡ children.now }
+    ensures ok { IfOk result (λ c. kind_opened (by_tags D.decoration G.annotated) own kind.now estimate.now (forest_of children.now)
+        state.old ≡ Some (way state.new c)) }
+    ensures err { IfErr result (λ e. Refuses e (kind_opened (by_tags D.decoration G.annotated) own kind.now estimate.now (forest_of children.now)
+        state.old)) }
+{
+    match kind {
+        NodeKind::Text(text) => {
+            add_text(alloc, text.as_str(), state)?;
+            Ok(None)
+        }
+        NodeKind::Container
+        | NodeKind::Header(_)
+        | NodeKind::BlockQuote
+        | NodeKind::Dd
+        | NodeKind::TableCell => Ok(Some(KindClosing::Nothing(own))),
+        NodeKind::Table(grid) => open_table(own, grid, state),
+        NodeKind::TableRow => open_row(state),
+        NodeKind::Break => {
+            state.block.held.new_line_hard()?;
+            Ok(None)
+        }
+        NodeKind::Block | NodeKind::ListItem => {
+            state.block.held.start_block()?;
+            Ok(Some(KindClosing::EndBlock))
+        }
+        NodeKind::Div => {
+            state.block.held.new_line()?;
+            Ok(Some(KindClosing::NewLine))
+        }
+        NodeKind::Emphasis(emphasis) => {
+            begin_emphasis(alloc, *emphasis, state)?;
+            Ok(Some(KindClosing::EndEmphasis(*emphasis)))
+        }
+        NodeKind::Ul => open_bullets::<D, G>(alloc, &state.decorator, estimate),
+        NodeKind::Ol(first) => open_numbers::<D, G>(alloc, &state.decorator, *first, estimate),
+        NodeKind::Dl => {
+            state.block.held.start_block()?;
+            Ok(Some(KindClosing::Nothing(own)))
+        }
+        NodeKind::Dt => {
+            begin_term(alloc, state)?;
+            Ok(Some(KindClosing::EndEmphasis(Emphasis::Em)))
+        }
+        NodeKind::Strikeout => {
+            let before = state.text.struck_out;
+            strike(alloc, state)?;
+            Ok(Some(KindClosing::EndStrikeout(before)))
+        }
+        NodeKind::Superscript => open_superscript(alloc, own, estimate, children, state),
+        NodeKind::Link(target) => open_link(alloc, target.as_str(), state),
+        NodeKind::Image(image) => {
+            add_image(
+                alloc,
+                image.source().as_str(),
+                image.title().as_str(),
+                state,
+            )?;
+            Ok(None)
+        }
+        NodeKind::Svg(title) => {
+            add_image(alloc, "", title.as_str(), state)?;
+            Ok(None)
+        }
+        NodeKind::FragmentStart(name) => {
+            add_mark(name.as_str(), state)?;
+            Ok(None)
+        }
+    }
+}
+
+/// A block that a node interrupts goes on.
+#[inline(never)]
+#[tactic(auto, using(html_render_dom_values::specs::laws::Outcome::refusals))]
+fn end_block<D: TextDecorator, G: Tagging<D::Annotation>>(
+    alloc: Global,
+    interrupted: Interruption<D, G::Tag, HeldBlock<G::Tag, usize>>,
+    state: &mut State<D, G>,
+) -> Result<(), Error>
+    ensures ok { OnOk result (continued (by_tags D.decoration G.annotated) interrupted state.old ≡ Some state.new) }
+    ensures err { IfErr result (λ e. Refuses e (continued (by_tags D.decoration G.annotated) interrupted state.old)) }
+{
+    match interrupted {
+        Interruption::NoBlock => Ok(()),
+        Interruption::Quoted(outer) => close_quote(outer, state),
+        Interruption::Indented(outer) => close_indent(alloc, outer, state),
+        Interruption::Cell(outer) => end_cell(outer, state),
+    }
+}
+
+/// What a node interrupts goes on. Most nodes interrupt nothing.
+#[inline(always)]
+fn go_on<D: TextDecorator, G: Tagging<D::Annotation>>(
+    alloc: Global,
+    interrupted: Interruption<D, G::Tag, HeldBlock<G::Tag, usize>>,
+    state: &mut State<D, G>,
+) -> Result<(), Error>
+    ensures ok { OnOk result (continued (by_tags D.decoration G.annotated) interrupted state.old ≡ Some state.new) }
+    ensures err { IfErr result (λ e. Refuses e (continued (by_tags D.decoration G.annotated) interrupted state.old)) }
+{
+    if let Interruption::NoBlock = interrupted {
+        return Ok(());
+    }
+    end_block(alloc, interrupted, state)
+}
+
+/// Does what is left of a node of a kind.
+#[tactic(auto, using(html_render_dom_values::specs::laws::Outcome::refusals))]
+fn close_kind<D: TextDecorator, G: Tagging<D::Annotation>>(
+    alloc: Global,
+    closing: KindKept<D, G>,
+    state: &mut State<D, G>,
+) -> Result<(), Error>
+    ensures ok { OnOk result (kind_closed (by_tags D.decoration G.annotated) closing state.old ≡ Some state.new) }
+    ensures err { IfErr result (λ e. Refuses e (kind_closed (by_tags D.decoration G.annotated) closing state.old)) }
+{
+    match closing {
+        KindClosing::Nothing(own) => go_on(alloc, own, state),
+        KindClosing::Bullets { .. } | KindClosing::Numbers { .. } => Ok(()),
+        KindClosing::EndBlock => {
+            state.block.held.end_block();
+            Ok(())
+        }
+        KindClosing::NewLine => {
+            state.block.held.new_line()?;
+            Ok(())
+        }
+        KindClosing::EndEmphasis(emphasis) => {
+            let end = end_of(alloc, &state.decorator, emphasis)?;
+            add_text(alloc, end.as_str(), state)
+        }
+        KindClosing::EndStrikeout(struck_out) => {
+            let end = state.decorator.decorate_strikeout_end(alloc)?;
+            state.text.struck_out = struck_out;
+            add_text(alloc, end.as_str(), state)
+        }
+        KindClosing::EndSuperscript => {
+            let end = state.decorator.decorate_superscript_end(alloc)?;
+            add_text(alloc, end.as_str(), state)
+        }
+        KindClosing::EndLink(text, number) => close_link(alloc, text, number, state),
+        KindClosing::EndTable(own, in_table) => {
+            end_table(in_table, state)?;
+            go_on(alloc, own, state)
+        }
+        KindClosing::EndRow => {
+            state.block.held.end_row()?;
+            Ok(())
+        }
+    }
+}
+
+/// Opens a node in its style and in its block, which stands in the state's, and keeps what it interrupts, and how texts were
+/// treated before it.
+#[inline]
+#[tactic(auto, using(html_render_dom_values::specs::laws::Outcome::refusals))]
+fn open_in<D: TextDecorator, G: Tagging<D::Annotation>>(
+    alloc: Global,
+    item: Interruption<D, G::Tag, HeldBlock<G::Tag, usize>>,
+    node: &RenderNode,
+    children: &[Entry<RenderNode>],
+    state: &mut State<D, G>,
+) -> Result<Option<Kept<D, G>>, Error>
+    requires { flatten (forest_of children.now) ≡ children.now }
+    ensures ok { IfOk result (λ c. opened_in (by_tags D.decoration G.annotated) item node.now (forest_of children.now) state.old
+        ≡ Some (way state.new c)) }
+    ensures err { IfErr result (λ e. Refuses e (opened_in (by_tags D.decoration G.annotated) item node.now (forest_of children.now)
+        state.old)) }
+{
+    let text = begin_style(alloc, &node.style, state)?;
+    let block = block_of(alloc, &node.kind, &node.estimate, state)?;
+    let own = begin_block(alloc, block, state)?;
+    match open_kind(alloc, own, &node.kind, &node.estimate, children, state)? {
+        Some(kind) => Ok(Some(Closing { item, text, kind })),
+        None => {
+            state.text = text;
+            go_on(alloc, item, state)?;
+            Ok(None)
+        }
+    }
+}
+
+/// Opens a text, in its style. Nothing is kept of it: the state becomes the one behind it.
+#[inline(always)]
+#[tactic(auto, using(html_render_dom_values::specs::laws::Outcome::refusals))]
+fn open_text<D: TextDecorator, G: Tagging<D::Annotation>>(
+    alloc: Global,
+    text: &str,
+    style: &NodeStyle,
+    state: &mut State<D, G>,
+) -> Result<Option<Kept<D, G>>, Error>
+    ensures ok { IfOk result (λ c. text_opened (by_tags D.decoration G.annotated) text.now style.now state.old ≡ Some (way state.new c)) }
+    ensures err { IfErr result (λ e. Refuses e (text_opened (by_tags D.decoration G.annotated) text.now style.now state.old)) }
+{
+    let context = begin_style(alloc, style, state)?;
+    add_text(alloc, text, state)?;
+    state.text = context;
+    Ok(None)
+}
+
+/// Opens a node among others in the state's block. Most nodes are texts, which take a shorter way.
+#[inline(always)]
+#[tactic(auto, using(html_render_dom_values::specs::laws::Outcome::refusals))]
+fn open_shared<D: TextDecorator, G: Tagging<D::Annotation>>(
+    alloc: Global,
+    node: &RenderNode,
+    children: &[Entry<RenderNode>],
+    state: &mut State<D, G>,
+) -> Result<Option<Kept<D, G>>, Error>
+    requires { flatten (forest_of children.now) ≡ children.now }
+    ensures ok { IfOk result (λ c. opened_in (by_tags D.decoration G.annotated) Interruption.NoBlock node.now (forest_of children.now) state.old
+        ≡ Some (way state.new c)) }
+    ensures err { IfErr result (λ e. Refuses e (opened_in (by_tags D.decoration G.annotated) Interruption.NoBlock node.now (forest_of children.now)
+        state.old)) }
+{
+    if let NodeKind::Text(text) = &node.kind {
+        return open_text(alloc, text.as_str(), &node.style, state);
+    }
+    open_in(alloc, Interruption::NoBlock, node, children, state)
+}
+
+/// The block for the next cell of a row; none where that is skipped.
+#[inline(always)]
+fn next_cell<D: TextDecorator, G: Tagging<D::Annotation>>(
+    state: &mut State<D, G>,
+) -> Result<Option<HeldBlock<G::Tag, usize>>, Error>
+    ensures same { OnOk result (state.new ≡ state.old) }
+    ensures ok { IfOk result (λ cell. cell ≡ machine.operations.cell_block state.old.block) }
+    ensures err { IfErr result (λ e. e ≡ Error.OutOfMemory) }
+{
+    state.block.cell_block()
+}
+
+/// Opens a node as the next cell of a row. Where that is skipped, so is all that stands in it.
+#[inline(never)]
+#[tactic(auto, using(html_render_dom_values::specs::laws::Outcome::refusals))]
+fn open_cell<D: TextDecorator, G: Tagging<D::Annotation>>(
+    alloc: Global,
+    node: &RenderNode,
+    children: &[Entry<RenderNode>],
+    state: &mut State<D, G>,
+) -> Result<Option<Kept<D, G>>, Error>
+    requires { flatten (forest_of children.now) ≡ children.now }
+    ensures ok { IfOk result (λ c. cell_opened (by_tags D.decoration G.annotated) node.now (forest_of children.now)
+        (machine.operations.cell_block state.old.block) state.old ≡ Some (way state.new c)) }
+    ensures err { IfErr result (λ e. Refuses e (cell_opened (by_tags D.decoration G.annotated) node.now (forest_of children.now)
+        (machine.operations.cell_block state.old.block) state.old)) }
+{
+    let next = next_cell(state)?;
+    let Some(cell) = next else {
+        state.block.held.skip_cell()?;
+        return Ok(None);
+    };
+    let outer = begin_cell(alloc, cell, state)?;
+    open_in(alloc, Interruption::Cell(outer), node, children, state)
+}
+
+/// Opens a node as the child of this number of a list, whose kind keeps this.
+///
+/// Almost every node is none, so this is a function of its own, which only the nodes of a list come to.
+#[inline(never)]
+#[tactic(auto, using(html_render_dom_values::specs::laws::Outcome::refusals))]
+fn open_listed<D: TextDecorator, G: Tagging<D::Annotation>>(
+    alloc: Global,
+    node: &RenderNode,
+    children: &[Entry<RenderNode>],
+    list: &KindKept<D, G>,
+    number: usize,
+    state: &mut State<D, G>,
+) -> Result<Option<Kept<D, G>>, Error>
+    requires { flatten (forest_of children.now) ≡ children.now }
+    ensures ok { IfOk result (λ c. block_opened (by_tags D.decoration G.annotated) node.now (forest_of children.now)
+        (child_block (by_tags D.decoration G.annotated) state.old.decorator list.now number) state.old ≡ Some (way state.new c)) }
+    ensures err { IfErr result (λ e. Refuses e (block_opened (by_tags D.decoration G.annotated) node.now (forest_of children.now)
+        (child_block (by_tags D.decoration G.annotated) state.old.decorator list.now number) state.old)) }
+{
+    let block = child_block::<D, G>(alloc, &state.decorator, list, number)?;
+    let item = begin_block(alloc, block, state)?;
+    open_in(alloc, item, node, children, state)
+}
+
+/// Opens a node, as what it stands below says, and keeps how texts were treated before it: the state becomes that of its
+/// children, or, with nothing kept, the one behind it.
+///
+/// # Errors
+///
+/// `TooNarrow`, where a block is flushed for which a character is too wide, or there is no room behind a prefix.
+/// `OutOfMemory`.
+#[tactic(auto, using(html_render_dom_values::specs::laws::Outcome::refusals))]
+pub fn open<D: TextDecorator, G: Tagging<D::Annotation>>(
+    alloc: Global,
+    node: &RenderNode,
+    children: &[Entry<RenderNode>],
+    parent: Option<&Kept<D, G>>,
+    number: usize,
+    state: &mut State<D, G>,
+) -> Result<Option<Kept<D, G>>, Error>
+    requires { flatten (forest_of children.now) ≡ children.now }
+    ensures ok { IfOk result (λ c. opened (by_tags D.decoration G.annotated) (option_copied parent.entry) number node.now (forest_of children.now) state.old
+        ≡ Some (way state.new c)) }
+    ensures err { IfErr result (λ e. Refuses e (opened (by_tags D.decoration G.annotated) (option_copied parent.entry) number node.now (forest_of children.now) state.old)) }
+{
+    if let Some(parent) = parent {
+        match parent.kind {
+            KindClosing::EndRow => return open_cell(alloc, node, children, state),
+            KindClosing::Bullets { .. } | KindClosing::Numbers { .. } => {
+                return open_listed(alloc, node, children, &parent.kind, number, state);
+            }
+            _ => {}
+        }
+    }
+    open_shared(alloc, node, children, state)
+}
+
+/// Closes a node: the state becomes the one behind it.
+///
+/// # Errors
+///
+/// `TooNarrow`, where a block is flushed for which a character is too wide, or a line is too wide behind its prefix.
+/// `OutOfMemory`.
+#[tactic(auto, using(html_render_dom_values::specs::laws::Outcome::refusals))]
+pub fn close<D: TextDecorator, G: Tagging<D::Annotation>>(
+    alloc: Global,
+    closing: Kept<D, G>,
+    state: &mut State<D, G>,
+) -> Result<(), Error>
+    ensures ok { OnOk result (closed (by_tags D.decoration G.annotated) closing state.old ≡ Some state.new) }
+    ensures err { IfErr result (λ e. Refuses e (closed (by_tags D.decoration G.annotated) closing state.old)) }
+{
+    close_kind(alloc, closing.kind, state)?;
+    state.text = closing.text;
+    go_on(alloc, closing.item, state)
+}

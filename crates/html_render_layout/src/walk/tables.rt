@@ -1,0 +1,158 @@
+//! Tables: how one begins and ends, with the fences round it, and where its cells are laid out.
+
+ghost use Rattle.std.specs.Prelude.{◌≡◌, [], ◌∷◌, Some, OnOk, IfOk, IfErr, codes};
+ghost use Rattle.std.specs.Str.{chars};
+ghost use Rattle.html_render_dom_values.specs.Outcome.{Refuses};
+ghost use Rattle.html_render_layout_states.specs.Layout.{StartBlock, Fence, BeginTable, fence, perform, perform_all, within};
+ghost use Rattle.html_render_layout_states.specs.Opening.{cell_closed, table_closed};
+ghost use Rattle.html_render_layout_states.specs.Working.{by_tags};
+
+use html_render_dom_values::Error;
+use html_render_dom_values::white_space::WhiteSpace;
+use html_render_layout_blocks::held::HeldBlock;
+use html_render_layout_lines::character::TextStyle;
+use html_render_layout_nodes::tree::Grid;
+use html_render_layout_states::state::OuterTable;
+use html_render_layout_states::tagging::Tagging;
+use html_render_layout_states::working::State;
+use html_render_parts_decorators::decorate::TextDecorator;
+use std::alloc::Global;
+use std::mem;
+
+/// What stands before a table that is fenced, and behind it.
+#[tactic(auto, using(crate::proofs::Fences::chars_fence))]
+fn fence_text() -> &'static str
+    ensures { chars result.now ≡ codes "```" }
+{
+    "```"
+}
+
+/// The style of a fence.
+fn fence_style<T: Copy>(tag: T) -> TextStyle<T>
+    ensures { result ≡ record { mode = WhiteSpace.Normal; tag = tag; continuation_tag = tag } }
+{
+    TextStyle {
+        mode: WhiteSpace::Normal,
+        tag,
+        continuation_tag: tag,
+    }
+}
+
+/// Adds a fence.
+#[tactic(auto, using(html_render_dom_values::specs::laws::Outcome::refusals))]
+fn write_fence<D: TextDecorator, G: Tagging<D::Annotation>>(
+    state: &mut State<D, G>,
+) -> Result<(), Error>
+    ensures ok { OnOk result (fence (by_tags D.decoration G.annotated) state.old ≡ Some state.new) }
+    ensures err { IfErr result (λ e. Refuses e (fence (by_tags D.decoration G.annotated) state.old)) }
+{
+    let style = fence_style(state.blank);
+    state.block.held.add_inline_text(fence_text(), style)?;
+    state.block.held.new_line()?;
+    Ok(())
+}
+
+/// Adds a fence, where tables are fenced and the state stands in none.
+#[tactic(auto, using(html_render_dom_values::specs::laws::Outcome::refusals))]
+fn add_fence<D: TextDecorator, G: Tagging<D::Annotation>>(
+    state: &mut State<D, G>,
+) -> Result<(), Error>
+    ensures ok { OnOk result (perform (by_tags D.decoration G.annotated) state.old Fence state.old ≡ Some state.new) }
+    ensures err { IfErr result (λ e. Refuses e (perform (by_tags D.decoration G.annotated) state.old Fence state.old)) }
+{
+    if !state.settings.fence_tables {
+        return Ok(());
+    }
+    if state.in_table {
+        return Ok(());
+    }
+    write_fence(state)
+}
+
+/// A table begins on a grid.
+///
+/// # Errors
+///
+/// `TooNarrow`, where a block is flushed for which a character is too wide. `OutOfMemory`.
+#[tactic(auto, using(html_render_dom_values::specs::laws::Outcome::refusals))]
+pub fn begin_table<D: TextDecorator, G: Tagging<D::Annotation>>(
+    grid: &Grid,
+    state: &mut State<D, G>,
+) -> Result<(), Error>
+    ensures ok { OnOk result (perform_all (by_tags D.decoration G.annotated) state.old
+        (StartBlock ∷ (Fence ∷ (BeginTable grid.now.cells grid.now.needs ∷ []))) state.old ≡ Some state.new) }
+    ensures err { IfErr result (λ e. Refuses e (perform_all (by_tags D.decoration G.annotated) state.old
+        (StartBlock ∷ (Fence ∷ (BeginTable grid.now.cells grid.now.needs ∷ []))) state.old)) }
+{
+    state.block.held.start_block()?;
+    add_fence(state)?;
+    let blank = state.blank;
+    let borders = state.settings.table_borders;
+    let stacked = state.settings.raw_mode;
+    state
+        .block
+        .held
+        .begin_table(blank, borders, stacked, grid.cells(), grid.needs())?;
+    state.in_table = true;
+    Ok(())
+}
+
+/// A table is over, where it stood in another one or didn't.
+///
+/// # Errors
+///
+/// As where one begins.
+#[tactic(auto, using(html_render_dom_values::specs::laws::Outcome::refusals))]
+pub fn end_table<D: TextDecorator, G: Tagging<D::Annotation>>(
+    in_table: bool,
+    state: &mut State<D, G>,
+) -> Result<(), Error>
+    ensures ok { OnOk result (table_closed (by_tags D.decoration G.annotated) in_table state.old ≡ Some state.new) }
+    ensures err { IfErr result (λ e. Refuses e (table_closed (by_tags D.decoration G.annotated) in_table state.old)) }
+{
+    state.block.held.end_table()?;
+    state.in_table = in_table;
+    add_fence(state)
+}
+
+/// A cell of a row begins in this block, and what it interrupts is answered.
+///
+/// # Errors
+///
+/// `OutOfMemory`.
+#[inline(always)]
+pub fn begin_cell<D: TextDecorator, G: Tagging<D::Annotation>>(
+    alloc: Global,
+    cell: HeldBlock<G::Tag, usize>,
+    state: &mut State<D, G>,
+) -> Result<OuterTable<D, HeldBlock<G::Tag, usize>>, Error>
+    ensures ok { OnOk result (state.new ≡ within (by_tags D.decoration G.annotated) cell state.old) }
+    ensures outer { IfOk result (λ outer. outer ≡ record { decorator = state.old.decorator; block = state.old.block }) }
+    ensures err { IfErr result (λ e. e ≡ Error.OutOfMemory) }
+{
+    let decorator = state.decorator.make_subblock_decorator(alloc)?;
+    Ok(OuterTable {
+        decorator: mem::replace(&mut state.decorator, decorator),
+        block: state.block.replace(cell),
+    })
+}
+
+/// A cell is over: the block that it interrupted goes on with it.
+///
+/// # Errors
+///
+/// As where a table begins.
+#[inline(always)]
+#[tactic(auto, using(html_render_dom_values::specs::laws::Outcome::refusals))]
+pub fn end_cell<D: TextDecorator, G: Tagging<D::Annotation>>(
+    outer: OuterTable<D, HeldBlock<G::Tag, usize>>,
+    state: &mut State<D, G>,
+) -> Result<(), Error>
+    ensures ok { OnOk result (cell_closed (by_tags D.decoration G.annotated) outer state.old ≡ Some state.new) }
+    ensures err { IfErr result (λ e. Refuses e (cell_closed (by_tags D.decoration G.annotated) outer state.old)) }
+{
+    let cell = state.block.replace(outer.block);
+    state.block.add_cell(cell)?;
+    state.decorator = outer.decorator;
+    Ok(())
+}

@@ -1,0 +1,148 @@
+//! Texts, as they are written.
+
+ghost use Rattle.std.specs.Prelude.{◌≡◌, [], ◌∷◌, ◌++◌, true, Some, OnOk, IfOk, IfErr, string_bytes, if◌then◌else◌};
+ghost use Rattle.std.specs.Str.{chars, encode_utf8_all};
+ghost use Rattle.html_render_dom_values.specs.Outcome.{Refuses};
+ghost use Rattle.html_render_layout_blocks.specs.Machine as machine;
+ghost use Rattle.html_render_layout_states.specs.Layout.{struck, on_block, text_style, add_styled, write};
+ghost use Rattle.html_render_layout_states.specs.Working.{by_tags};
+
+use html_render_dom_values::Error;
+use html_render_layout_lines::character::{TextStyle, is_collapsible};
+use html_render_layout_states::tagging::Tagging;
+use html_render_layout_states::working::State;
+use html_render_parts_decorators::decorate::TextDecorator;
+use std::alloc::{AllocError, Global};
+
+/// What stands behind a character that is struck out: the combining long stroke overlay.
+const STROKE: char = '\u{336}';
+
+/// Adds a character as it is written where it is struck out.
+fn push_struck(text: &mut String, c: char) -> Result<(), AllocError>
+    ensures { OnOk result (string_bytes text.new ≡ string_bytes text.old ++ encode_utf8_all (struck (c ∷ []))) }
+{
+    text.push(c)?;
+    if !is_collapsible(c) {
+        text.push(STROKE)?;
+    }
+    Ok(())
+}
+
+/// A text with a stroke behind each character that isn't collapsible white space.
+fn struck(alloc: Global, text: &str) -> Result<String, AllocError>
+    ensures { IfOk result (λ written. chars (string_bytes written) ≡ struck (chars text.now)) }
+{
+    let mut written = String::new(alloc);
+    for c in text.chars() {
+        push_struck(&mut written, c)?;
+    }
+    Ok(written)
+}
+
+/// Adds a text that is struck out.
+///
+/// Few texts are, so this is a function of its own.
+#[inline(never)]
+#[tactic(auto, using(html_render_dom_values::specs::laws::Outcome::refusals))]
+fn add_struck<D: TextDecorator, G: Tagging<D::Annotation>>(
+    alloc: Global,
+    text: &str,
+    style: TextStyle<G::Tag>,
+    state: &mut State<D, G>,
+) -> Result<(), Error>
+    ensures ok { OnOk result (on_block (λ b. machine.operations.add_inline_text b style (struck (chars text.now))) state.old ≡ Some state.new) }
+    ensures err { IfErr result (λ e. Refuses e (on_block (λ b. machine.operations.add_inline_text b style (struck (chars text.now))) state.old)) }
+{
+    let struck = struck(alloc, text)?;
+    state.block.held.add_inline_text(struck.as_str(), style)
+}
+
+/// Adds a text in a style.
+#[inline]
+fn add_styled<D: TextDecorator, G: Tagging<D::Annotation>>(
+    alloc: Global,
+    text: &str,
+    style: TextStyle<G::Tag>,
+    state: &mut State<D, G>,
+) -> Result<(), Error>
+    ensures ok { OnOk result (on_block (λ b. machine.operations.add_inline_text b style (if state.old.text.struck_out then struck (chars text.now) else chars text.now)) state.old
+        ≡ Some state.new) }
+    ensures err { IfErr result (λ e. Refuses e
+        (on_block (λ b. machine.operations.add_inline_text b style (if state.old.text.struck_out then struck (chars text.now) else chars text.now)) state.old)) }
+{
+    if state.text.struck_out {
+        add_struck(alloc, text, style, state)
+    } else {
+        state.block.held.add_inline_text(text, style)
+    }
+}
+
+/// The style of preformatted texts: one annotation more on top, and another one on continuation lines.
+fn preformatted_style<D: TextDecorator, G: Tagging<D::Annotation>>(
+    alloc: Global,
+    state: &mut State<D, G>,
+) -> Result<TextStyle<G::Tag>, Error>
+    ensures stacks { OnOk result (state.new ≡ record state.old {
+      stacks = (text_style (by_tags D.decoration G.annotated) state.old.decorator state.old.stacks state.old.text true).0;
+    }) }
+    ensures style { IfOk result (λ style.
+        style ≡ (text_style (by_tags D.decoration G.annotated) state.old.decorator state.old.stacks state.old.text true).1) }
+    ensures err { IfErr result (λ e. e ≡ Error.OutOfMemory) }
+{
+    let first = state.decorator.decorate_preformat_first(alloc)?;
+    let first = state.stacks.annotate(state.text.tag, first)?;
+    let continuing = state.decorator.decorate_preformat_cont(alloc)?;
+    let continuing = state.stacks.annotate(state.text.tag, continuing)?;
+    Ok(TextStyle {
+        mode: state.text.mode,
+        tag: first,
+        continuation_tag: continuing,
+    })
+}
+
+/// Adds a text that is preformatted.
+///
+/// Few texts are, so this is a function of its own.
+#[inline(never)]
+#[tactic(auto, using(html_render_dom_values::specs::laws::Outcome::refusals))]
+fn add_preformatted<D: TextDecorator, G: Tagging<D::Annotation>>(
+    alloc: Global,
+    text: &str,
+    state: &mut State<D, G>,
+) -> Result<(), Error>
+    ensures ok { OnOk result (add_styled (by_tags D.decoration G.annotated)
+        (text_style (by_tags D.decoration G.annotated) state.old.decorator state.old.stacks state.old.text true)
+        (chars text.now) state.old ≡ Some state.new) }
+    ensures err { IfErr result (λ e. Refuses e (add_styled (by_tags D.decoration G.annotated)
+        (text_style (by_tags D.decoration G.annotated) state.old.decorator state.old.stacks state.old.text true)
+        (chars text.now) state.old)) }
+{
+    let style = preformatted_style(alloc, state)?;
+    add_styled(alloc, text, style, state)
+}
+
+/// Adds a text under the tag of what comes.
+///
+/// # Errors
+///
+/// `TooNarrow`, where the text starts a block, and a character before it is too wide. `OutOfMemory`.
+#[inline]
+#[tactic(auto, using(html_render_dom_values::specs::laws::Outcome::refusals))]
+pub fn add_text<D: TextDecorator, G: Tagging<D::Annotation>>(
+    alloc: Global,
+    text: &str,
+    state: &mut State<D, G>,
+) -> Result<(), Error>
+    ensures ok { OnOk result (write (by_tags D.decoration G.annotated) (chars text.now) state.old ≡ Some state.new) }
+    ensures err { IfErr result (λ e. Refuses e (write (by_tags D.decoration G.annotated) (chars text.now) state.old)) }
+{
+    if state.text.preformatted {
+        return add_preformatted(alloc, text, state);
+    }
+    let style = TextStyle {
+        mode: state.text.mode,
+        tag: state.text.tag,
+        continuation_tag: state.text.tag,
+    };
+    add_styled(alloc, text, style, state)
+}

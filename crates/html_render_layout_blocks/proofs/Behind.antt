@@ -1,0 +1,50 @@
+-- Lines that are added behind others are added behind what stands before these.
+use Rattle.std.proofs.Common.{◌≡◌, ℕ, ◌+◌, Bool, List, ◌++◌, Option, Some, None, option_map, length, ap, sym, refl, ◌∙◌, append_assoc, length-append}
+use Rattle.html_render_layout_lines.specs.Line.{Line, marks_line}
+use Rattle.html_render_layout_blocks.specs.Joined.{prefixed, fitting, moved}
+use Rattle.html_render_layout_paragraphs.specs.Paragraph.{Page, all_lines}
+use Rattle.html_render_layout_paragraphs.specs.Stream.{State, start, finished}
+use Rattle.html_render_layout_pictures.specs.Padding.{filled}
+use Rattle.html_render_layout_blocks.specs.Block.{flush}
+use Rattle.html_render_layout_blocks.specs.Machine.{machine, MachineBlock}
+
+-- the number of lines of two lists, one behind the other
+pub length_append : {X : Type 0} (xs ys : List X) → length (xs ++ ys) ≡ length xs + length ys
+length_append xs ys = length-append xs ys
+
+pub ruleset flushed = (append_assoc, length_append)
+
+all_behind : {X : Type 0} (front done : List X) (o : Option (List X)) →
+    option_map (λ all. front ++ all) (option_map (λ all. done ++ all) o) ≡ option_map (λ all. (front ++ done) ++ all) o
+all_behind front done None = refl
+all_behind front done (Some all) = ap Some (sym (append_assoc front done all))
+
+pub moved_behind : {T M : Type 0} (width : ℕ) (overflow : Bool) (waiting : List M) (first later : Line T M) (front done lines : List (Line T M)) →
+    option_map (λ all. front ++ all) (moved width overflow waiting first later done lines) ≡ moved width overflow waiting first later (front ++ done) lines
+moved_behind width overflow waiting first later front done lines =
+    all_behind front done (fitting width overflow (prefixed (marks_line waiting ++ first) later lines))
+
+-- a paragraph's lines behind others, with what stands before these
+pub padded_flush : {T M : Type 0} (b c : MachineBlock T M) (p : Option (State T M)) (q r : State T M) (front last new : List (Line T M)) →
+    record c { lines = front ++ last; paragraph = p } ≡ b → p ≡ Some q → option_map {U = List (Line T M) × State T M}
+    (λ (g : Page T M). (last ++ filled c.padding c.setting.width (all_lines g), start q.setting g.waiting)) (finished q) ≡ Some (new, r) →
+    flush machine b ≡ Some (record c { lines = front ++ new; paragraph = Some r })
+padded_flush {T} {M} b c p q r front last new same is_some h =
+    sym (ap (flush machine) same)
+    ∙ ap (λ (o : Option (State T M)). flush machine (record c { lines = front ++ last; paragraph = o })) is_some
+    ∙ by (finished q) h
+  where
+    by : (o : Option (Page T M)) → option_map {U = List (Line T M) × State T M}
+        (λ (g : Page T M). (last ++ filled c.padding c.setting.width (all_lines g), start q.setting g.waiting)) o ≡ Some (new, r) →
+        option_map (λ (g : Page T M). record c {
+          lines = (front ++ last) ++ filled c.padding c.setting.width (all_lines g);
+          paragraph = Some (start q.setting g.waiting);
+        }) o
+        ≡ Some (record c { lines = front ++ new; paragraph = Some r })
+    by None e = cc
+    by (Some g) e =
+        let both : ◌≡◌ {A = List (Line T M) × State T M}
+        (last ++ filled c.padding c.setting.width (all_lines g), start q.setting g.waiting) (new, r) = cc in
+        ap (λ x. Some (record c { lines = x; paragraph = Some (start q.setting g.waiting) }))
+        (append_assoc front last (filled c.padding c.setting.width (all_lines g)))
+        ∙ ap (λ (x : List (Line T M) × State T M). Some (record c { lines = front ++ x.0; paragraph = Some x.1 })) both

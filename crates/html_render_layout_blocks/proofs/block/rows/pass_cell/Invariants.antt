@@ -1,0 +1,15 @@
+use Rattle.std.proofs.Common.{◌≡◌, ◌++◌, suc, drop, length, reverse}
+use Rattle.html_render_layout_blocks.specs.OpenRows.{before_cell, empty_cells}
+use Rattle.html_render_layout_blocks.proofs.block.rows.pass_cell.Given as goal
+
+-- what is wanted is what the places that are left give from here
+abbrev pub invariant-loop-place : goal.invariant-loop-place
+invariant-loop-place g l = record {
+  ahead : drop (suc (length (before_cell (reverse l.initial.ahead.items)))) (reverse l.initial.ahead.items)
+      ≡ drop (suc (length (before_cell (reverse l.ahead.items)))) (reverse l.ahead.items);
+  cells : l.initial.cells.items ++ empty_cells (before_cell (reverse l.initial.ahead.items))
+      ≡ l.cells.items ++ empty_cells (before_cell (reverse l.ahead.items));
+}
+
+abbrev pub decreases-loop-place : goal.decreases-loop-place
+decreases-loop-place g l = length l.ahead.items

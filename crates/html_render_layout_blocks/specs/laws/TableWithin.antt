@@ -1,0 +1,137 @@
+-- The rows of a table whose cells stand side by side keep to its block's width.
+use Rattle.std.proofs.Common.{◌≡◌, ℕ, suc, ◌+◌, ◌-◌, ◌≤◌, ◌==◌, Bool, true, false, not, cond, List, [], ◌∷◌, ◌++◌, length, sum, take, drop, Option, Some, None}
+use Rattle.std.proofs.Common.{refl, ap, arith, All, sum_by, count_by, length-append}
+use Rattle.std.proofs.lemmas.List.{take-append-drop}
+use Rattle.std.proofs.lemmas.List.Elements.{All-nil, All-cons, All-append}
+use Rattle.std.proofs.lemmas.List.Sums.{sum_by-cons, sum_by-append, count_by-le-length}
+use Rattle.html_render_layout_lines.specs.Line.{Line, columns}
+use Rattle.html_render_parts.specs.declared.table.PlacedCell.{PlacedCell}
+use Rattle.html_render_layout_pictures.specs.Picture.{KeptCell}
+use Rattle.html_render_layout_pictures.specs.Widths.{row_width, KeepsToWidth, RowWithin}
+use Rattle.html_render_layout_blocks.specs.declared.block.rows.RowPlace.{RowPlace}
+use Rattle.html_render_layout_blocks.specs.OpenRows.{OpenRow, cell_width, places, next_width, empty_cell, empty_cells, before_cell}
+use Rattle.html_render_layout_blocks.specs.OpenRows.{open_row, past_cell, whole_row}
+
+-- the columns of cells, each with a separator
+abbrev pub cells_room : {T M : Type 0} → List (KeptCell T M) → ℕ
+cells_room {T} {M} cells = sum_by (λ (c : KeptCell T M). 1 + c.width) cells
+
+abbrev pub place_room : Option ℕ → ℕ
+place_room None = 0
+place_room (Some width) = 1 + width
+
+abbrev pub places_room : List RowPlace → ℕ
+places_room [] = 0
+places_room (p ∷ ps) = place_room p.width + places_room ps
+
+-- those of a table's columns
+abbrev pub columns_room : List ℕ → ℕ
+columns_room widths = sum widths + length widths
+
+-- what a row has, and what is ahead in it, is within the width
+abbrev pub OpenWithin : {T M : Type 0} → ℕ → OpenRow T M → Type 0
+OpenWithin w r = All KeepsToWidth r.cells × (cells_room r.cells + places_room r.ahead ≤ w + 1)
+
+-- ---- the places of a row
+
+columns-parted : (n : ℕ) (ws : List ℕ) → columns_room (take n ws) + columns_room (drop n ws) ≡ columns_room ws
+columns-parted n ws =
+    let whole = take-append-drop n ws in
+    omega (
+      arith,
+      ap sum whole,
+      sum_by-append (λ x. x) (take n ws) (drop n ws),
+      ap length whole,
+      length-append (take n ws) (drop n ws),
+    )
+
+cell-room : (ws : List ℕ) → place_room (cell_width ws) ≤ columns_room ws
+cell-room [] = omega arith
+cell-room (w ∷ ws) = by (sum (w ∷ ws) == 0)
+  where
+    by : (b : Bool) → place_room (cond b None (Some (sum (w ∷ ws) + (length (w ∷ ws) - 1)))) ≤ columns_room (w ∷ ws)
+    by true = omega arith
+    by false = omega arith
+
+places-within : (ws : List ℕ) (cells : List PlacedCell) → places_room (places ws cells) ≤ columns_room ws
+places-within ws [] = omega arith
+places-within ws (s ∷ ss) =
+    let front = cell-room (take s.columns ws) in
+    let rest = places-within (drop s.columns ws) ss in
+    let all = columns-parted s.columns ws in
+    omega (arith, front, rest, all)
+
+-- the places before the next cell, that cell's, and those behind it
+places-parted : (ps : List RowPlace) →
+    places_room ps ≡ places_room (before_cell ps) + place_room (next_width ps) + places_room (drop (suc (length (before_cell ps))) ps)
+places-parted [] = refl
+places-parted (p ∷ ps) = by p.is_cell (places-parted ps)
+  where
+    by : (b : Bool) → places_room ps ≡ places_room (before_cell ps) + place_room (next_width ps) + places_room (drop (suc (length (before_cell ps))) ps) →
+        place_room p.width + places_room ps
+        ≡ places_room (cond b [] (p ∷ before_cell ps)) + place_room (cond b p.width (next_width ps)) + places_room (drop (length (cond b [] (p ∷ before_cell ps))) ps)
+    by true h = omega arith
+    by false h = omega (arith, h)
+
+empties-room : (T M : Type 0) (ps : List RowPlace) → cells_room (empty_cells {T = T} {M = M} ps) ≡ places_room ps
+empties-room T M [] = refl
+empties-room T M (p ∷ ps) = by p.width (empties-room T M ps)
+  where
+    by : (o : Option ℕ) → cells_room (empty_cells {T = T} {M = M} ps) ≡ places_room ps →
+        cells_room (empty_cell {T = T} {M = M} o ++ empty_cells ps) ≡ place_room o + places_room ps
+    by None h = omega (arith, h)
+    by (Some width) h =
+        omega (arith, h, sum_by-cons (λ (c : KeptCell T M). 1 + c.width) (record { width = width; lines = []; marks = [] }) (empty_cells ps))
+
+module _ {T M : Type 0} where
+  empties-keep : (ps : List RowPlace) → All (KeepsToWidth {T = T} {M = M}) (empty_cells ps)
+  empties-keep [] = All-nil KeepsToWidth
+  empties-keep (p ∷ ps) = by p.width (empties-keep ps)
+    where
+      by : (o : Option ℕ) → All (KeepsToWidth {T = T} {M = M}) (empty_cells ps) → All (KeepsToWidth {T = T} {M = M}) (empty_cell o ++ empty_cells ps)
+      by None h = h
+      by (Some width) h =
+          All-cons KeepsToWidth (record { width = width; lines = []; marks = [] }) (empty_cells ps) (All-nil (λ (l : Line T M). columns l ≤ width)) h
+
+  -- ---- rows
+
+  row-within : (w : ℕ) (cells : List (KeptCell T M)) → cells_room cells ≤ w + 1 → row_width cells ≤ w
+  row-within w [] h = omega arith
+  row-within w (c ∷ cs) h = omega (arith, h, sum_by-cons (λ (c : KeptCell T M). 1 + c.width) c cs)
+
+  -- a row that begins
+  pub open-within : (w : ℕ) (ws : List ℕ) (cells : List PlacedCell) → columns_room ws ≤ w + 1 → OpenWithin w (open_row {T = T} {M = M} ws cells)
+  open-within w ws cells h = (All-nil KeepsToWidth, omega (arith, h, places-within ws cells))
+
+  -- a row with a cell that keeps to its place
+  pub cell-within : (w : ℕ) (r : OpenRow T M) (cell : List (KeptCell T M)) → OpenWithin w r → All KeepsToWidth cell →
+      cells_room cell ≤ place_room (next_width r.ahead) → OpenWithin w (past_cell r cell)
+  cell-within w r cell h keeps room =
+      let before : List (KeptCell T M) = empty_cells (before_cell r.ahead) in
+      let n = h.1 in (
+        All-append KeepsToWidth (r.cells ++ before) cell (All-append KeepsToWidth r.cells before h.0 (empties-keep (before_cell r.ahead))) keeps,
+        omega (
+          arith,
+          n,
+          room,
+          places-parted r.ahead,
+          empties-room T M (before_cell r.ahead),
+          sum_by-append (λ (c : KeptCell T M). 1 + c.width) (r.cells ++ before) cell,
+          sum_by-append (λ (c : KeptCell T M). 1 + c.width) r.cells before,
+        ),
+      )
+
+  pub whole-within : (w : ℕ) (r : OpenRow T M) → OpenWithin w r → RowWithin w (whole_row r)
+  whole-within w r h =
+      let n = h.1 in (
+        All-append KeepsToWidth r.cells (empty_cells r.ahead) h.0 (empties-keep r.ahead),
+        row-within w (r.cells ++ empty_cells r.ahead)
+            (omega (arith, n, empties-room T M r.ahead, sum_by-append (λ (c : KeptCell T M). 1 + c.width) r.cells (empty_cells r.ahead))),
+      )
+
+-- a table is no wider than its columns and the separators between them
+pub frame_width_within : (ws : List ℕ) → sum ws + (count_by (λ w. not (w == 0)) ws - 1) ≤ sum ws + (length ws - 1)
+frame_width_within ws = omega (arith, count_by-le-length (λ w. not (w == 0)) ws)
+
+pub columns_room-within : (w : ℕ) (ws : List ℕ) → sum ws + (length ws - 1) ≤ w → columns_room ws ≤ w + 1
+columns_room-within w ws h = omega (arith, h)

@@ -1,0 +1,390 @@
+//! The rows and the cells of the table that is open in a block.
+
+ghost use Rattle.std.specs.Prelude.{◌≡◌, ◌==◌, [], Some, OnOk, IfOk, IfErr, drop, not, option_map, slice_index_or};
+ghost use Rattle.html_render_dom_values.specs.Outcome.{Refuses};
+ghost use Rattle.html_render_layout_lines.specs.Line.{is_empty};
+ghost use Rattle.html_render_layout_blocks.specs.OpenRows.{open_row};
+ghost use Rattle.html_render_layout_blocks.specs.Tables.{with_row_open, next_cell_width, skipped, with_next, with_row_over, cell_place};
+ghost use Rattle.html_render_layout_blocks.specs.Block as block;
+ghost use Rattle.html_render_layout_blocks.specs.Machine as machine;
+ghost use Rattle.html_render_layout_blocks.specs.Machine.{machine};
+
+use super::Block;
+use super::rows::{OpenRow, Widths};
+use super::tables::OpenTable;
+use html_render_dom_values::Error;
+use html_render_layout_lines::tag::Tag;
+use html_render_layout_pictures::gaps::Filler;
+use html_render_layout_pictures::lines::Lines;
+use html_render_layout_pictures::picture::{Cell, Picture};
+use html_render_parts::table::cells::RowsAhead;
+use std::alloc::{AllocError, Global};
+
+/// Where the next cell goes.
+#[derive(Clone, Copy)]
+pub enum CellPlace<T> {
+    /// Into the row that is open.
+    InRow,
+    /// Below the lines of the block.
+    Below,
+    /// Below the other cells of a table whose cells stand one below another.
+    InStack {
+        /// The tag of the table's borders, if they are drawn.
+        border: Option<T>,
+        /// Whether a cell of the row has lines.
+        has_lines: bool,
+    },
+}
+
+/// Opens the next of the rows that are ahead.
+fn next_row<T: Tag, M: Copy>(
+    alloc: Global,
+    widths: &Widths,
+    ahead: &mut RowsAhead,
+) -> Result<OpenRow<T, M>, Error>
+    ensures row { IfOk result (λ row. row ≡ open_row widths.now (slice_index_or ahead.old 0 [])) }
+    ensures ahead { OnOk result (ahead.new ≡ drop 1 ahead.old) }
+    ensures err { IfErr result (λ e. e ≡ Error.OutOfMemory) }
+{
+    let row = match ahead.next(alloc)? {
+        Some(cells) => OpenRow::new(alloc, widths, cells.as_slice())?,
+        None => OpenRow::new(alloc, widths, &[])?,
+    };
+    Ok(row)
+}
+
+impl<T: Tag, M: Copy> OpenTable<Picture<T, M>, T, M> {
+    /// Begins the next row; a row that is open goes on.
+    fn begin_row(&mut self, alloc: Global) -> Result<(), Error>
+        ensures ok { OnOk result (self.new ≡ with_row_open self.old) }
+        ensures err { IfErr result (λ e. e ≡ Error.OutOfMemory) }
+    {
+        match self {
+            OpenTable::Across {
+                widths,
+                ahead,
+                row,
+                ..
+            } => {
+                if row.is_none() {
+                    *row = Some(next_row(alloc, widths, ahead)?);
+                }
+            }
+            OpenTable::Stacked { has_lines, .. } => *has_lines = false,
+        }
+        Ok(())
+    }
+
+    /// No lines, in the memory of those of a cell that is drawn, if any is left.
+    fn take_spare(&mut self) -> Option<Lines<T, M>>
+        ensures { self.new ≡ self.old }
+    {
+        match self {
+            OpenTable::Across { picture, .. } => picture.take_spare(),
+            OpenTable::Stacked { .. } => None,
+        }
+    }
+
+    /// The columns of the next cell's block, unless it is skipped; in a block of this width.
+    fn next_cell_width(&self, width: usize) -> Option<usize>
+        ensures { result ≡ next_cell_width width (Some self.now) }
+    {
+        match self {
+            OpenTable::Across { row: Some(row), .. } => row.next_width(),
+            OpenTable::Across { row: None, .. } | OpenTable::Stacked { .. } => Some(width),
+        }
+    }
+
+    /// Where the next cell goes.
+    fn cell_place(&self) -> CellPlace<T>
+        ensures { result ≡ cell_place (Some self.now) }
+    {
+        match self {
+            OpenTable::Across { row: Some(_), .. } => CellPlace::InRow,
+            OpenTable::Across { row: None, .. } => CellPlace::Below,
+            OpenTable::Stacked { border, has_lines } => CellPlace::InStack {
+                border: *border,
+                has_lines: *has_lines,
+            },
+        }
+    }
+
+    /// Skips the next cell.
+    fn skip_cell(&mut self, alloc: Global) -> Result<(), AllocError>
+        ensures { OnOk result (self.new ≡ skipped self.old) }
+    {
+        match self {
+            OpenTable::Across { row: Some(row), .. } => row.skip_cell(alloc),
+            OpenTable::Across { row: None, .. } | OpenTable::Stacked { .. } => Ok(()),
+        }
+    }
+
+    /// Puts a cell in its place in the row that is open, if one is.
+    fn add_cell(&mut self, alloc: Global, cell: Cell<T, M>) -> Result<(), AllocError>
+        ensures { OnOk result (self.new ≡ with_next cell self.old) }
+    {
+        match self {
+            OpenTable::Across { row: Some(row), .. } => row.add_cell(alloc, cell),
+            OpenTable::Across { row: None, .. } | OpenTable::Stacked { .. } => Ok(()),
+        }
+    }
+
+    /// Draws the row that is open, if one is: it is over.
+    fn end_row(&mut self, alloc: Global) -> Result<(), Error>
+        ensures ok { OnOk result (self.new ≡ with_row_over machine self.old) }
+        ensures err { IfErr result (λ e. e ≡ Error.OutOfMemory) }
+    {
+        match self {
+            OpenTable::Across { picture, row, .. } => {
+                let Some(row) = row.take() else {
+                    return Ok(());
+                };
+                let row = row.finish(alloc)?;
+                picture.add_row(row)
+            }
+            OpenTable::Stacked { .. } => Ok(()),
+        }
+    }
+}
+
+impl<T: Tag, M: Copy> Block<T, M> {
+    /// Begins the next row of the table that is open. A row that is open goes on. Without a table nothing is done.
+    ///
+    /// # Errors
+    ///
+    /// `OutOfMemory`.
+    #[tactic(auto, unfolding(crate::specs::Machine::operations))]
+    pub fn begin_row(&mut self) -> Result<(), Error>
+        ensures ok { OnOk result (self.new ≡ machine.operations.begin_row self.old) }
+        ensures err { IfErr result (λ e. e ≡ Error.OutOfMemory) }
+    {
+        let alloc = self.alloc;
+        if let Some(table) = &mut self.table {
+            table.begin_row(alloc)?;
+        }
+        Ok(())
+    }
+
+    /// The columns of the next cell's block, unless it is skipped.
+    pub(crate) fn next_cell_width(&self) -> Option<usize>
+        ensures { result ≡ next_cell_width self.now.setting.width self.now.table }
+    {
+        match &self.table {
+            Some(table) => table.next_cell_width(self.setting.width),
+            None => Some(self.setting.width),
+        }
+    }
+
+    /// Skips the next cell of the row that is open, if one is.
+    ///
+    /// # Errors
+    ///
+    /// `OutOfMemory`.
+    #[tactic(auto, unfolding(crate::specs::Machine::operations))]
+    pub fn skip_cell(&mut self) -> Result<(), Error>
+        ensures ok { OnOk result (self.new ≡ machine.operations.skip_cell self.old) }
+        ensures err { IfErr result (λ e. e ≡ Error.OutOfMemory) }
+    {
+        let alloc = self.alloc;
+        if let Some(table) = &mut self.table {
+            table.skip_cell(alloc)?;
+        }
+        Ok(())
+    }
+
+    /// Where the next cell goes.
+    fn cell_place(&self) -> CellPlace<T>
+        ensures { result ≡ cell_place self.now.table }
+    {
+        match &self.table {
+            Some(table) => table.cell_place(),
+            None => CellPlace::Below,
+        }
+    }
+
+    /// Takes out what a flushed block holds as a cell.
+    #[inline(always)]
+    fn take_cell(&mut self) -> Cell<T, M>
+        ensures { result ≡ record { width = self.old.setting.width; lines = self.old.lines; marks = machine.waiting self.old.paragraph } }
+    {
+        let marks = self.take_waiting();
+        Cell {
+            width: self.setting.width,
+            lines: self.take_lines(),
+            marks,
+        }
+    }
+
+    /// Puts a cell in its place in the row that is open, if one is.
+    fn add_to_row(&mut self, cell: Cell<T, M>) -> Result<(), AllocError>
+        ensures { OnOk result (self.new ≡ record self.old { table = option_map (with_next cell) self.old.table }) }
+    {
+        let alloc = self.alloc;
+        match &mut self.table {
+            Some(table) => table.add_cell(alloc, cell),
+            None => Ok(()),
+        }
+    }
+
+    /// Gives a block the memory of a cell's lines that are drawn, if any is left.
+    fn give_spare(&mut self, cell: &mut Block<T, M>)
+        ensures { self.new ≡ self.old }
+    {
+        if let Some(table) = &mut self.table {
+            if let Some(lines) = table.take_spare() {
+                cell.lines = lines;
+            }
+        }
+    }
+
+    /// Draws the row that is open, if one is: it is over.
+    fn draw_row(&mut self) -> Result<(), Error>
+        ensures ok { OnOk result (self.new ≡ record self.old { table = option_map (with_row_over machine) self.old.table }) }
+        ensures err { IfErr result (λ e. e ≡ Error.OutOfMemory) }
+    {
+        let alloc = self.alloc;
+        match &mut self.table {
+            Some(table) => table.end_row(alloc),
+            None => Ok(()),
+        }
+    }
+
+    /// Adds lines and the marks that wait behind them. Where there are no lines, all marks wait.
+    fn put_lines(&mut self, mut lines: Lines<T, M>, marks: &[M]) -> Result<(), Error>
+        ensures ok { OnOk result (self.new ≡ block.put_lines machine self.old lines marks.now) }
+        ensures err { IfErr result (λ e. e ≡ Error.OutOfMemory) }
+    {
+        if lines.is_empty() {
+            return self.add_marks(marks);
+        }
+        lines.mark_last(marks)?;
+        lines.compact()?;
+        self.add_lines(lines)?;
+        Ok(())
+    }
+
+    /// Adds the lines of a flushed block, as this one is.
+    fn put_below(&mut self, cell: &mut Block<T, M>) -> Result<(), Error>
+        ensures ok { OnOk result (self.new ≡ block.put_lines machine self.old cell.old.lines (machine.waiting cell.old.paragraph)) }
+        ensures err { IfErr result (λ e. e ≡ Error.OutOfMemory) }
+    {
+        let Cell { lines, marks, .. } = cell.take_cell();
+        self.put_lines(lines, marks.as_slice())
+    }
+
+    /// Adds a cell below others of its row, to a flushed block.
+    fn put_stacked(
+        &mut self,
+        border: Option<T>,
+        has_lines: bool,
+        cell: &mut Block<T, M>,
+    ) -> Result<(), Error>
+        ensures ok { OnOk result (self.new ≡ block.put_stacked machine self.old border has_lines (not (is_empty cell.old.lines)) cell.old) }
+        ensures err { IfErr result (λ e. e ≡ Error.OutOfMemory) }
+    {
+        let more = !cell.lines.is_empty();
+        if has_lines && more {
+            self.add_border(border, Filler::Slash)?;
+        }
+        self.put_below(cell)?;
+        self.set_stacked(border, has_lines || more)?;
+        Ok(())
+    }
+
+    /// Adds a cell that is flushed below the lines of this block.
+    #[tactic(auto, using(html_render_dom_values::specs::laws::Outcome::refusals))]
+    fn flush_and_put_below(&mut self, cell: &mut Block<T, M>) -> Result<(), Error>
+        ensures ok { OnOk result (option_map (λ e. block.put_lines machine e cell.old.lines (machine.waiting cell.old.paragraph)) (block.flush machine self.old) ≡ Some self.new) }
+        ensures err { IfErr result (λ e. Refuses e (option_map (λ e. block.put_lines machine e cell.old.lines (machine.waiting cell.old.paragraph)) (block.flush machine self.old))) }
+    {
+        self.flush()?;
+        self.put_below(cell)
+    }
+
+    /// Adds a cell that is flushed below others of its row.
+    #[tactic(auto, using(html_render_dom_values::specs::laws::Outcome::refusals))]
+    fn flush_and_put_stacked(
+        &mut self,
+        border: Option<T>,
+        has_lines: bool,
+        cell: &mut Block<T, M>,
+    ) -> Result<(), Error>
+        ensures ok { OnOk result (option_map (λ e. block.put_stacked machine e border has_lines (not (is_empty cell.old.lines)) cell.old) (block.flush machine self.old)
+            ≡ Some self.new) }
+        ensures err { IfErr result (λ e. Refuses e (option_map (λ e. block.put_stacked machine e border has_lines (not (is_empty cell.old.lines)) cell.old)
+            (block.flush machine self.old))) }
+    {
+        self.flush()?;
+        self.put_stacked(border, has_lines, cell)
+    }
+
+    /// Adds a cell that is flushed.
+    #[inline(always)]
+    #[tactic(auto, using(html_render_dom_values::specs::laws::Outcome::refusals, crate::proofs::Cells::cells_added))]
+    fn add_flushed(&mut self, cell: &mut Block<T, M>) -> Result<(), Error>
+        ensures ok { OnOk result (block.cell_added machine self.old self.old.table cell.old ≡ Some self.new) }
+        ensures err { IfErr result (λ e. Refuses e (block.cell_added machine self.old self.old.table cell.old)) }
+    {
+        match self.cell_place() {
+            CellPlace::InRow => {
+                self.add_to_row(cell.take_cell())?;
+                self.give_spare(cell);
+                Ok(())
+            }
+            CellPlace::Below => self.flush_and_put_below(cell),
+            CellPlace::InStack { border, has_lines } => {
+                self.flush_and_put_stacked(border, has_lines, cell)
+            }
+        }
+    }
+
+    /// Adds the next cell of the row that is open: this block, flushed, and a table that is open in it is over. In a table
+    /// whose cells stand side by side it is kept until the row is over; where cells stand one below another, and where no row is
+    /// open, its lines come below those of this block, which is flushed. Above the lines of a cell below others of its row,
+    /// there is a line of `/`, where borders are drawn.
+    ///
+    /// # Errors
+    ///
+    /// `TooNarrow`, as in [`flush`](Block::flush) of either block. `OutOfMemory`.
+    #[inline(always)]
+    #[tactic(auto, using(html_render_dom_values::specs::laws::Outcome::refusals), unfolding(crate::specs::Machine::operations))]
+    pub fn add_cell(&mut self, cell: &mut Block<T, M>) -> Result<(), Error>
+        ensures ok { OnOk result (machine.operations.add_cell self.old cell.old ≡ Some self.new) }
+        ensures err { IfErr result (λ e. Refuses e (machine.operations.add_cell self.old cell.old)) }
+    {
+        cell.flush_whole()?;
+        self.add_flushed(cell)
+    }
+
+    /// Draws a border below a row of cells one below another.
+    #[tactic(auto, using(html_render_dom_values::specs::laws::Outcome::refusals))]
+    fn end_stacked_row(&mut self, border: Option<T>) -> Result<(), Error>
+        ensures ok { OnOk result (option_map (λ e. block.stacked_begun machine e border) (block.flush machine self.old) ≡ Some self.new) }
+        ensures err { IfErr result (λ e. Refuses e (option_map (λ e. block.stacked_begun machine e border) (block.flush machine self.old))) }
+    {
+        self.flush()?;
+        self.begin_stacked(border)?;
+        Ok(())
+    }
+
+    /// Ends the row that is open. Where its cells stand side by side, it is drawn; below a row of cells one below another that
+    /// have lines there is a border, where borders are drawn, and the block is flushed.
+    ///
+    /// # Errors
+    ///
+    /// `TooNarrow`, as in [`flush`](Block::flush). `OutOfMemory`.
+    #[tactic(auto, using(html_render_dom_values::specs::laws::Outcome::refusals, crate::proofs::Cells::rows_ended), unfolding(crate::specs::Machine::operations))]
+    pub fn end_row(&mut self) -> Result<(), Error>
+        ensures ok { OnOk result (machine.operations.end_row self.old ≡ Some self.new) }
+        ensures err { IfErr result (λ e. Refuses e (machine.operations.end_row self.old)) }
+    {
+        match self.cell_place() {
+            CellPlace::InRow => self.draw_row(),
+            CellPlace::InStack {
+                border,
+                has_lines: true,
+            } => self.end_stacked_row(border),
+            CellPlace::Below | CellPlace::InStack { .. } => Ok(()),
+        }
+    }
+}

@@ -1,0 +1,205 @@
+//! The end of a document's block: the marks that wait behind its last line, and the lines that close it.
+
+ghost use Rattle.std.specs.Prelude.{◌≡◌, ◌==◌, ◌++◌, Some, cond, map, option_map, string_bytes};
+ghost use Rattle.std.specs.Prelude.{OnOk, IfOk, IfErr};
+ghost use Rattle.std.specs.Bool.{OnTrue};
+ghost use Rattle.std.specs.Str.{chars};
+ghost use Rattle.html_render_dom_values.specs.Outcome.{Refuses};
+ghost use Rattle.html_render_layout_paragraphs.specs.CutText.{text_lines};
+ghost use Rattle.html_render_layout_lines.specs.Line.{is_empty};
+ghost use Rattle.html_render_layout_lines.specs.TaggedText.{under};
+ghost use Rattle.html_render_layout_pictures.specs.Marked.{marked_behind};
+ghost use Rattle.html_render_layout_blocks.specs.Closing.{on_one_line, closing_lines};
+ghost use Rattle.html_render_layout_blocks.specs.Block as block;
+ghost use Rattle.html_render_layout_blocks.specs.Machine as machine;
+ghost use Rattle.html_render_layout_blocks.specs.Machine.{machine};
+
+use super::{Block, BlockSetting};
+use html_render_dom_values::Error;
+use html_render_layout_lines::line::{Line, text_columns};
+use html_render_layout_lines::tag::Tag;
+use html_render_layout_paragraphs::paragraph::push_cut_text;
+use html_render_layout_pictures::lines::Lines;
+use std::alloc::{AllocError, Global};
+
+impl<T: Tag, M: Copy> Block<T, M> {
+    /// Puts marks at the end of the last line.
+    fn mark_last_line(&mut self, marks: &[M]) -> Result<(), AllocError>
+        ensures { OnOk result (self.new ≡ record self.old { lines = marked_behind marks.now self.old.lines }) }
+    {
+        self.lines.mark_last(marks)
+    }
+
+    /// Puts the marks that wait at the end of the last line. Where there is no line, they wait on.
+    fn mark_end(&mut self) -> Result<(), AllocError>
+        ensures { OnOk result (self.new ≡ cond (is_empty self.old.lines) self.old (record self.old {
+          lines = marked_behind (machine.waiting self.old.paragraph) self.old.lines;
+          paragraph = machine.without_waiting self.old.paragraph;
+        })) }
+    {
+        if self.lines.is_empty() {
+            return Ok(());
+        }
+        let marks = self.take_waiting();
+        self.mark_last_line(marks.as_slice())
+    }
+
+    /// Ends the table that is open, if one is, adds the lines of the open paragraph, and puts the marks that wait then at the
+    /// end of the last line. Where the block has no line, they wait on.
+    ///
+    /// # Errors
+    ///
+    /// `TooNarrow`, as in [`flush`](Block::flush). `OutOfMemory`.
+    #[tactic(auto, using(html_render_dom_values::specs::laws::Outcome::refusals), unfolding(crate::specs::Machine::ending))]
+    pub fn finish(&mut self) -> Result<(), Error>
+        ensures ok { OnOk result (machine.ending.finish self.old ≡ Some self.new) }
+        ensures err { IfErr result (λ e. Refuses e (machine.ending.finish self.old)) }
+    {
+        self.flush_whole()?;
+        self.mark_end()?;
+        Ok(())
+    }
+
+    /// Adds finished lines.
+    pub(super) fn push_lines(&mut self, lines: Lines<T, M>) -> Result<(), AllocError>
+        ensures { OnOk result (self.new ≡ record self.old { lines = self.old.lines ++ lines }) }
+    {
+        self.lines.append(lines)?;
+        Ok(())
+    }
+
+    /// Adds lines as they are, the first one behind the marks that wait.
+    pub(super) fn add_lines(&mut self, mut lines: Lines<T, M>) -> Result<(), AllocError>
+        ensures { OnOk result (self.new ≡ block.add_lines machine self.old lines) }
+    {
+        let marks = self.take_waiting();
+        lines.mark_first(marks.as_slice())?;
+        self.push_lines(lines)
+    }
+
+    /// Closes the document with texts under a tag, if there are any. They are a block of lines: each begins a line of its
+    /// own, an empty one as an empty line. A newline becomes a space, and every other character is kept. With `cut` a text
+    /// is cut into the longest fronts that fit the block's own width, and without it is left whole. The marks that wait
+    /// stand at the front of the first line where the block has none; else on the empty line before it.
+    ///
+    /// # Errors
+    ///
+    /// `TooNarrow`, as in [`flush`](Block::flush), and where a text that is cut has a character wider than the block, with
+    /// overflow off. `OutOfMemory`.
+    #[tactic(auto, using(html_render_dom_values::specs::laws::Outcome::refusals), unfolding(crate::specs::Machine::operations, crate::specs::Machine::ending))]
+    pub fn add_closing_lines(&mut self, texts: &[String], tag: T, cut: bool) -> Result<(), Error>
+        ensures ok { OnOk result (machine.ending.add_closing_lines self.old cut tag (map (λ t. chars (string_bytes t)) texts.now) ≡ Some self.new) }
+        ensures err { IfErr result (λ e. Refuses e (machine.ending.add_closing_lines self.old cut tag (map (λ t. chars (string_bytes t)) texts.now))) }
+    {
+        if texts.is_empty() {
+            return Ok(());
+        }
+        self.start_block()?;
+        let lines = closing_lines(self.alloc, self.setting, texts, tag, cut)?;
+        self.add_lines(Lines::of(self.alloc, lines))?;
+        Ok(())
+    }
+}
+
+/// Whether a text is on one line.
+fn is_on_one_line(text: &str) -> bool
+    ensures { OnTrue result (on_one_line (chars text.now) ≡ chars text.now) }
+{
+    for c in text.chars() {
+        if c == '\n' {
+            return false;
+        }
+    }
+    true
+}
+
+/// A space for a newline.
+fn unbroken(c: char) -> char
+    ensures { result ≡ cond (c == 10) 32 c }
+{
+    if c == '\n' { ' ' } else { c }
+}
+
+/// A text with a space for each newline.
+#[tactic(auto, using(crate::proofs::Closing::unbroken_text))]
+fn on_one_line(alloc: Global, text: &str) -> Result<String, AllocError>
+    ensures { IfOk result (λ line. chars (string_bytes line) ≡ on_one_line (chars text.now)) }
+{
+    let mut line = String::with_capacity(alloc, text.len())?;
+    for c in text.chars() {
+        line.push(unbroken(c))?;
+    }
+    Ok(line)
+}
+
+/// A line of a text under a tag.
+#[tactic(auto, using(crate::proofs::Closing::ends))]
+fn whole_line<T: Tag, M: Copy>(alloc: Global, text: &str, tag: T) -> Result<Line<T, M>, AllocError>
+    ensures { IfOk result (λ line. line ≡ under tag (chars text.now)) }
+{
+    let mut line = Line::new(alloc);
+    line.put_front_str(text, text_columns(text), tag)?;
+    Ok(line)
+}
+
+/// Adds the lines of a text, cut where they are full or left whole.
+fn push_text<T: Tag, M: Copy>(
+    alloc: Global,
+    lines: &mut Vec<Line<T, M>>,
+    setting: BlockSetting,
+    text: &str,
+    tag: T,
+    cut: bool,
+) -> Result<(), Error>
+    ensures ok { OnOk result (option_map (λ more. lines.old.items ++ more)
+        (text_lines (record { width = setting.width; overflow = setting.overflow }) cut tag (chars text.now)) ≡ Some lines.new.items) }
+    ensures err { IfErr result (λ e. Refuses e
+        (text_lines {M = M} (record { width = setting.width; overflow = setting.overflow }) cut tag (chars text.now))) }
+{
+    if cut {
+        return push_cut_text(alloc, lines, text, tag, setting.width, setting.overflow);
+    }
+    let line = whole_line(alloc, text, tag)?;
+    lines.push(line)?;
+    Ok(())
+}
+
+/// Adds the lines of a text, with a space for each newline.
+fn push_closing_text<T: Tag, M: Copy>(
+    alloc: Global,
+    lines: &mut Vec<Line<T, M>>,
+    setting: BlockSetting,
+    text: &str,
+    tag: T,
+    cut: bool,
+) -> Result<(), Error>
+    ensures ok { OnOk result (option_map (λ more. lines.old.items ++ more)
+        (text_lines (record { width = setting.width; overflow = setting.overflow }) cut tag (on_one_line (chars text.now))) ≡ Some lines.new.items) }
+    ensures err { IfErr result (λ e. Refuses e
+        (text_lines {M = M} (record { width = setting.width; overflow = setting.overflow }) cut tag (on_one_line (chars text.now)))) }
+{
+    if is_on_one_line(text) {
+        return push_text(alloc, lines, setting, text, tag, cut);
+    }
+    let line = on_one_line(alloc, text)?;
+    push_text(alloc, lines, setting, line.as_str(), tag, cut)
+}
+
+/// The lines of texts, cut where they are full or left whole.
+#[tactic(auto, using(html_render_dom_values::specs::laws::Outcome::refusals))]
+fn closing_lines<T: Tag, M: Copy>(
+    alloc: Global,
+    setting: BlockSetting,
+    texts: &[String],
+    tag: T,
+    cut: bool,
+) -> Result<Vec<Line<T, M>>, Error>
+    ensures ok { IfOk result (λ lines. closing_lines setting cut tag (map (λ t. chars (string_bytes t)) texts.now) ≡ Some lines.items) }
+    ensures err { IfErr result (λ e. Refuses e (closing_lines {M = M} setting cut tag (map (λ t. chars (string_bytes t)) texts.now))) }
+{
+    let mut lines = Vec::new(alloc);
+    for text in texts {
+        push_closing_text(alloc, &mut lines, setting, text.as_str(), tag, cut)?;
+    }
+    Ok(lines)
+}

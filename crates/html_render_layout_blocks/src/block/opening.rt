@@ -1,0 +1,199 @@
+//! How a table begins in a block: whether its cells stand side by side, and the borders of one whose cells stand one below
+//! another.
+
+ghost use Rattle.std.specs.Prelude.{◌≡◌, ◌==◌, ◌&&◌, not, cond, Some, None, OnOk, IfOk, IfErr};
+ghost use Rattle.html_render_dom_values.specs.Outcome.{Refuses};
+ghost use Rattle.html_render_parts_widths.specs.Shares.{widths_across};
+ghost use Rattle.html_render_parts.specs.TableCells.{rows_on};
+ghost use Rattle.html_render_layout_blocks.specs.declared.block.tables.OpenTable.TheVariants.{Stacked};
+ghost use Rattle.html_render_layout_blocks.specs.Tables.{frame_of};
+ghost use Rattle.html_render_layout_blocks.specs.Block as block;
+ghost use Rattle.html_render_layout_blocks.specs.Machine as machine;
+ghost use Rattle.html_render_layout_blocks.specs.Machine.{machine};
+ghost use Rattle.html_render_layout_pictures.specs.Padding.{character_of, repeated};
+
+use super::Block;
+use super::rows::Widths;
+use super::tables::OpenTable;
+use html_render_dom_values::Error;
+use html_render_layout_lines::line::Line;
+use html_render_layout_lines::tag::Tag;
+use html_render_layout_pictures::gaps::{Filler, push_fillers};
+use html_render_layout_pictures::line_ends::put_marks_front;
+use html_render_layout_pictures::picture::{Frame, Picture};
+use html_render_parts::table::cells::{RowsAhead, TableCells};
+use html_render_parts_widths::{ColumnNeed, widths_across};
+use std::alloc::{AllocError, Global};
+
+/// The widths of a table's columns side by side in `width` columns; none where they can't stand so, or aren't to.
+#[tactic(auto, using(html_render_parts_widths::specs::laws::Needs::across_within))]
+fn column_widths(
+    alloc: Global,
+    width: usize,
+    stacked: bool,
+    needs: &[ColumnNeed],
+) -> Result<Option<Widths>, Error>
+    ensures ok { IfOk result (λ widths. widths ≡ cond stacked None (widths_across width needs.now)) }
+    ensures err { IfErr result (λ e. e ≡ Error.OutOfMemory) }
+{
+    if stacked {
+        return Ok(None);
+    }
+    match widths_across(alloc, needs, width)? {
+        Some(widths) => Ok(Some(Widths::new(widths))),
+        None => Ok(None),
+    }
+}
+
+/// What stands in the rows of a table, to be asked for row by row.
+fn rows_of(alloc: Global, grid: &TableCells) -> Result<RowsAhead, Error>
+    ensures ok { IfOk result (λ rows. rows ≡ rows_on grid.now) }
+    ensures err { IfErr result (λ e. e ≡ Error.OutOfMemory) }
+{
+    let cells = grid.try_clone(alloc)?;
+    cells.into_rows(alloc)
+}
+
+/// How a table is framed.
+fn frame_of<T: Tag>(tag: T, borders: bool, widths: &Widths) -> Frame<T>
+    ensures { result ≡ frame_of tag borders widths.now }
+{
+    Frame {
+        borders,
+        width: widths.frame_width(),
+        tag,
+    }
+}
+
+/// The tag of the borders of a table whose cells stand one below another, if they are drawn.
+fn stacked_border<T: Tag>(tag: T, borders: bool, width: usize) -> Option<T>
+    ensures { result ≡ cond (borders && not (width == 0)) (Some tag) None }
+{
+    if borders && width != 0 {
+        Some(tag)
+    } else {
+        None
+    }
+}
+
+/// A line of one character, under a tag.
+fn rule<T: Tag, M: Copy>(
+    alloc: Global,
+    tag: T,
+    filler: Filler,
+    width: usize,
+) -> Result<Line<T, M>, AllocError>
+    ensures { IfOk result (λ line. line ≡ repeated tag (character_of filler) width) }
+{
+    let mut line = Line::with_capacity(alloc, width)?;
+    push_fillers(&mut line, filler, width, tag)?;
+    Ok(line)
+}
+
+impl<T: Tag, M: Copy> Block<T, M> {
+    /// Draws a border, if borders are drawn, of one character. The marks that wait stand at its front.
+    pub(super) fn add_border(&mut self, border: Option<T>, filler: Filler) -> Result<(), AllocError>
+        ensures { OnOk result (self.new ≡ block.add_border machine self.old border (character_of filler)) }
+    {
+        let Some(tag) = border else {
+            return Ok(());
+        };
+        let mut line = rule(self.alloc, tag, filler, self.setting.width)?;
+        let marks = self.take_waiting();
+        put_marks_front(&mut line, marks.as_slice())?;
+        self.push_line(line)
+    }
+
+    /// Has a table whose cells stand one below another, in the place of one that was open.
+    pub(super) fn set_stacked(
+        &mut self,
+        border: Option<T>,
+        has_lines: bool,
+    ) -> Result<(), AllocError>
+        ensures { OnOk result (self.new ≡ record self.old { table = Some (Stacked border has_lines) }) }
+    {
+        let stacked = OpenTable::Stacked { border, has_lines };
+        match &mut self.table {
+            Some(table) => **table = stacked,
+            None => self.table = Some(Box::new(self.alloc, stacked)?),
+        }
+        Ok(())
+    }
+
+    /// Begins a table, or another row of one, whose cells stand one below another: below a border, if borders are drawn.
+    pub(super) fn begin_stacked(&mut self, border: Option<T>) -> Result<(), AllocError>
+        ensures { OnOk result (self.new ≡ block.stacked_begun machine self.old border) }
+    {
+        self.add_border(border, Filler::Dash)?;
+        self.set_stacked(border, false)
+    }
+
+    /// Begins a table whose cells stand side by side, in a block that is flushed.
+    fn begin_across(
+        &mut self,
+        tag: T,
+        borders: bool,
+        grid: &TableCells,
+        widths: Widths,
+    ) -> Result<(), Error>
+        ensures ok { OnOk result (self.new ≡ block.with_table_begun machine self.old tag borders (rows_on grid.now) (Some widths)) }
+        ensures err { IfErr result (λ e. e ≡ Error.OutOfMemory) }
+    {
+        let ahead = rows_of(self.alloc, grid)?;
+        let frame = frame_of(tag, borders, &widths);
+        let waiting = self.take_waiting();
+        let picture = Picture::new(self.alloc, frame, waiting)?;
+        let table = OpenTable::Across {
+            picture,
+            widths,
+            ahead,
+            row: None,
+        };
+        self.table = Some(Box::new(self.alloc, table)?);
+        Ok(())
+    }
+
+    /// Begins a table in a block that is flushed: side by side in columns of these widths, or else one below another.
+    fn open_table(
+        &mut self,
+        tag: T,
+        borders: bool,
+        grid: &TableCells,
+        widths: Option<Widths>,
+    ) -> Result<(), Error>
+        ensures ok { OnOk result (self.new ≡ block.with_table_begun machine self.old tag borders (rows_on grid.now) widths) }
+        ensures err { IfErr result (λ e. e ≡ Error.OutOfMemory) }
+    {
+        match widths {
+            Some(widths) => self.begin_across(tag, borders, grid, widths),
+            None => {
+                self.begin_stacked(stacked_border(tag, borders, self.setting.width))?;
+                Ok(())
+            }
+        }
+    }
+
+    /// Begins a table, whose borders stand under this tag, if there are any; a table that is open is over, and the block is
+    /// flushed. Its columns need so much. Its cells stand side by side where the columns have room in
+    /// this block, and one below another where they haven't, or where they are to stand so (`stacked`).
+    ///
+    /// # Errors
+    ///
+    /// `TooNarrow`, as in [`flush`](Block::flush). `OutOfMemory`.
+    #[tactic(auto, using(html_render_dom_values::specs::laws::Outcome::refusals), unfolding(crate::specs::Machine::operations))]
+    pub fn begin_table(
+        &mut self,
+        tag: T,
+        borders: bool,
+        stacked: bool,
+        grid: &TableCells,
+        needs: &[ColumnNeed],
+    ) -> Result<(), Error>
+        ensures ok { OnOk result (machine.operations.begin_table self.old tag borders stacked grid.now needs.now ≡ Some self.new) }
+        ensures err { IfErr result (λ e. Refuses e (machine.operations.begin_table self.old tag borders stacked grid.now needs.now)) }
+    {
+        self.flush_whole()?;
+        let widths = column_widths(self.alloc, self.setting.width, stacked, needs)?;
+        self.open_table(tag, borders, grid, widths)
+    }
+}

@@ -1,0 +1,62 @@
+//! Paragraphs whose lines are filled with spaces.
+
+ghost use Rattle.std.specs.Prelude.{◌≡◌, List, ◌++◌, Some, option_map, OnOk, IfErr};
+ghost use Rattle.html_render_dom_values.specs.Outcome.{Refuses};
+ghost use Rattle.html_render_layout_lines.specs.Line.{Line};
+ghost use Rattle.html_render_layout_paragraphs.specs.Paragraph.{Page, all_lines};
+ghost use Rattle.html_render_layout_paragraphs.specs.Stream.{State, start, finished};
+ghost use Rattle.html_render_layout_pictures.specs.Padding.{filled};
+
+use html_render_dom_values::Error;
+use html_render_layout_lines::line::Line;
+use html_render_layout_lines::tag::Tag;
+use html_render_layout_paragraphs::paragraph::Paragraph;
+use html_render_layout_pictures::line_ends::fill_all;
+use std::alloc::Global;
+
+/// Adds the lines of a paragraph, each filled with spaces up to `width` columns, under a tag. The paragraph begins anew with the
+/// marks that wait.
+#[inline(never)]
+#[tactic(auto, using(html_render_dom_values::specs::laws::Outcome::refusals))]
+fn flush_filled<T: Tag, M: Copy>(
+    alloc: Global,
+    paragraph: &mut Paragraph<T, M>,
+    to: &mut Vec<Line<T, M>>,
+    width: usize,
+    tag: T,
+) -> Result<(), Error>
+    ensures ok { OnOk result (option_map {U = List (Line T M) × State T M}
+        (λ (p : Page T M). (to.old.items ++ filled (Some tag) width (all_lines p), start paragraph.old.setting p.waiting)) (finished paragraph.old)
+        ≡ Some (to.new.items, paragraph.new)) }
+    ensures err { IfErr result (λ e. Refuses e (finished paragraph.old)) }
+{
+    let mut lines = Vec::new(alloc);
+    paragraph.flush(&mut lines)?;
+    fill_all(lines.as_mut_slice(), width, tag)?;
+    to.append(&mut lines)?;
+    Ok(())
+}
+
+/// Adds the lines of a paragraph, each filled with spaces up to `width` columns, if there is padding. The paragraph begins anew
+/// with the marks that wait.
+///
+/// # Errors
+///
+/// `TooNarrow`, where a character of the paragraph is wider than a line, with overflow off. `OutOfMemory`.
+pub fn flush_padded<T: Tag, M: Copy>(
+    alloc: Global,
+    paragraph: &mut Paragraph<T, M>,
+    to: &mut Vec<Line<T, M>>,
+    width: usize,
+    padding: Option<T>,
+) -> Result<(), Error>
+    ensures ok { OnOk result (option_map {U = List (Line T M) × State T M}
+        (λ (p : Page T M). (to.old.items ++ filled padding width (all_lines p), start paragraph.old.setting p.waiting)) (finished paragraph.old)
+        ≡ Some (to.new.items, paragraph.new)) }
+    ensures err { IfErr result (λ e. Refuses e (finished paragraph.old)) }
+{
+    match padding {
+        Some(tag) => flush_filled(alloc, paragraph, to, width, tag),
+        None => paragraph.flush(to),
+    }
+}

@@ -1,0 +1,274 @@
+//! A row that is open in a table whose cells stand side by side: its places, and the cells before them.
+
+ghost use Rattle.std.specs.Prelude.{◌≡◌, suc, ◌+◌, ◌-◌, ◌^◌, ◌<◌, ◌++◌, ◌∷◌, [], length, reverse, sum, take, drop, count_by, not, ◌==◌, OnOk, IfOk};
+ghost use Rattle.std.specs.List.{list_any};
+ghost use Rattle.html_render_layout_blocks.specs.OpenRows as rows;
+
+use html_render_layout_lines::tag::Tag;
+use html_render_layout_pictures::lines::Lines;
+use html_render_layout_pictures::picture::{Cell, Row};
+use html_render_parts::table::{CellKind, PlacedCell};
+use std::alloc::{AllocError, Global};
+use std::marker::Model;
+
+/// A place in a row: whether a cell of the row itself stands there, and its columns, unless it is skipped.
+#[derive(Clone, Copy)]
+struct RowPlace {
+    is_cell: bool,
+    width: Option<usize>,
+}
+
+/// A row that is open: the places ahead, in reverse, the kept cells before them, and whether a placeholder is among all of its
+/// cells.
+#[derive(Drop)]
+pub struct OpenRow<T, M> {
+    ahead: Vec<RowPlace>,
+    cells: Vec<Cell<T, M>>,
+    placeholder: bool,
+}
+
+impl<T, M> Model for OpenRow<T, M> {
+    ghost use Rattle.std.specs.Prelude.{reverse};
+    ghost use Rattle.html_render_layout_blocks.specs.OpenRows as rows;
+
+    ghost Value = { rows.OpenRow T M };
+
+    ghost view = { λ r. record { ahead = reverse r.ahead.items; cells = r.cells.items; placeholder = r.placeholder } };
+}
+
+/// The widths of a table's columns. With the separators between them a machine word holds their sum.
+#[derive(Drop)]
+pub struct Widths {
+    widths: Vec<usize>,
+    ghost fit: { sum widths.items + (length widths.items - 1) < 2 ^ 64 },
+}
+
+impl Model for Widths {
+    ghost use Rattle.std.specs.Prelude.{List, ℕ};
+
+    ghost Value = { List ℕ };
+
+    ghost view = { λ w. w.widths.items };
+}
+
+/// Whether it is a cell of the row itself that stands in a place.
+fn is_cell(kind: CellKind) -> bool
+    ensures { result ≡ rows.is_cell kind }
+{
+    matches!(kind, CellKind::Cell)
+}
+
+/// Whether it is a cell of a row above.
+fn is_placeholder(kind: CellKind) -> bool
+    ensures { result ≡ rows.is_placeholder kind }
+{
+    matches!(kind, CellKind::Placeholder)
+}
+
+/// Whether a cell of a row above is among those of a row.
+fn has_placeholder(cells: &[PlacedCell]) -> bool
+    ensures { result ≡ list_any (λ s. rows.is_placeholder s.kind) cells.now }
+{
+    cells.iter().any(|cell| is_placeholder(cell.kind))
+}
+
+/// The sum of widths.
+fn total(widths: &[usize]) -> usize
+    requires { sum widths.now < 2 ^ 64 }
+    ensures { result ≡ sum widths.now }
+{
+    let mut total = 0;
+    for width in widths {
+        total += *width;
+    }
+    total
+}
+
+/// The columns of a cell over these columns, and of the separators that it covers; none where all of its columns are empty.
+fn cell_width(columns: &[usize]) -> Option<usize>
+    requires { sum columns.now + (length columns.now - 1) < 2 ^ 64 }
+    ensures { result ≡ rows.cell_width columns.now }
+{
+    let total = total(columns);
+    if total == 0 {
+        None
+    } else {
+        Some(total + (columns.len() - 1))
+    }
+}
+
+/// The first `columns` columns, or all there are, and those behind them.
+#[tactic(auto, using(crate::proofs::Places::columns_at))]
+fn columns_at(widths: &[usize], columns: usize) -> (&[usize], &[usize])
+    ensures own { result.0.now ≡ take columns widths.now }
+    ensures behind { result.1.now ≡ drop columns widths.now }
+{
+    widths.split_at(columns.min(widths.len()))
+}
+
+/// The places of a row over columns of these widths.
+#[tactic(auto, using(crate::proofs::Places::own_fits, crate::proofs::Places::behind_fits))]
+fn places_of(
+    alloc: Global,
+    widths: &[usize],
+    cells: &[PlacedCell],
+) -> Result<Vec<RowPlace>, AllocError>
+    requires { sum widths.now + (length widths.now - 1) < 2 ^ 64 }
+    ensures { IfOk result (λ v. v.items ≡ rows.places widths.now cells.now) }
+{
+    let mut row = Vec::with_capacity(alloc, cells.len())?;
+    let mut rest = widths;
+    for cell in cells {
+        let (own, behind) = columns_at(rest, cell.columns);
+        row.push(RowPlace {
+            is_cell: is_cell(cell.kind),
+            width: cell_width(own),
+        })?;
+        rest = behind;
+    }
+    Ok(row)
+}
+
+/// The columns of the next cell, unless it is skipped; the places stand in reverse.
+fn next_width(ahead: &[RowPlace]) -> Option<usize>
+    ensures { result ≡ rows.next_width (reverse ahead.now) }
+{
+    let mut rest = ahead;
+    while let Some((place, before)) = rest.split_last() {
+        if place.is_cell {
+            return place.width;
+        }
+        rest = before;
+    }
+    None
+}
+
+/// Adds a cell in which nothing stands, unless it is skipped.
+fn push_empty<T: Tag, M: Copy>(
+    alloc: Global,
+    cells: &mut Vec<Cell<T, M>>,
+    width: Option<usize>,
+) -> Result<(), AllocError>
+    ensures { OnOk result (cells.new.items ≡ cells.old.items ++ rows.empty_cell width) }
+{
+    if let Some(width) = width {
+        cells.push(Cell {
+            width,
+            lines: Lines::new(alloc),
+            marks: Vec::new(alloc),
+        })?;
+    }
+    Ok(())
+}
+
+/// Passes the next cell, and adds the places before it; the places stand in reverse.
+fn pass_cell<T: Tag, M: Copy>(
+    alloc: Global,
+    ahead: &mut Vec<RowPlace>,
+    cells: &mut Vec<Cell<T, M>>,
+) -> Result<(), AllocError>
+    ensures ahead { OnOk result (reverse ahead.new.items
+        ≡ drop (suc (length (rows.before_cell (reverse ahead.old.items)))) (reverse ahead.old.items)) }
+    ensures cells { OnOk result (cells.new.items ≡ cells.old.items ++ rows.empty_cells (rows.before_cell (reverse ahead.old.items))) }
+{
+    while let Some(place) = ahead.pop() {
+        if place.is_cell {
+            return Ok(());
+        }
+        push_empty(alloc, cells, place.width)?;
+    }
+    Ok(())
+}
+
+/// Adds the places that are ahead; they stand in reverse.
+fn push_rest<T: Tag, M: Copy>(
+    alloc: Global,
+    ahead: &[RowPlace],
+    cells: &mut Vec<Cell<T, M>>,
+) -> Result<(), AllocError>
+    ensures { OnOk result (cells.new.items ≡ cells.old.items ++ rows.empty_cells (reverse ahead.now)) }
+{
+    for place in ahead.iter().rev() {
+        push_empty(alloc, cells, place.width)?;
+    }
+    Ok(())
+}
+
+/// How many columns aren't empty.
+fn count_filled(widths: &[usize]) -> usize
+    ensures { result ≡ count_by (λ w. not (w == 0)) widths.now }
+{
+    widths.iter().filter(|width| **width != 0).count()
+}
+
+impl Widths {
+    /// Widths that with the separators between them a machine word holds.
+    pub fn new(widths: Vec<usize>) -> Widths
+        requires { sum widths.items + (length widths.items - 1) < 2 ^ 64 }
+        ensures { result ≡ widths.items }
+    {
+        Widths { widths }
+    }
+
+    /// The columns of the table: those of its columns, and the separators between the ones that aren't empty.
+    #[tactic(auto, using(crate::specs::laws::TableWithin::frame_width_within))]
+    pub fn frame_width(&self) -> usize
+        ensures { result ≡ sum self.now + (count_by (λ w. not (w == 0)) self.now - 1) }
+    {
+        let widths = self.widths.as_slice();
+        total(widths) + count_filled(widths).saturating_sub(1)
+    }
+}
+
+impl<T: Tag, M: Copy> OpenRow<T, M> {
+    /// A row that begins, in which this stands, over columns of these widths.
+    pub fn new(
+        alloc: Global,
+        widths: &Widths,
+        cells: &[PlacedCell],
+    ) -> Result<OpenRow<T, M>, AllocError>
+        ensures { IfOk result (λ row. row ≡ rows.open_row widths.now cells.now) }
+    {
+        let mut ahead = places_of(alloc, widths.widths.as_slice(), cells)?;
+        ahead.reverse();
+        Ok(OpenRow {
+            ahead,
+            cells: Vec::new(alloc),
+            placeholder: has_placeholder(cells),
+        })
+    }
+
+    /// The columns of the next cell, unless it is skipped.
+    pub fn next_width(&self) -> Option<usize>
+        ensures { result ≡ rows.next_width self.now.ahead }
+    {
+        next_width(self.ahead.as_slice())
+    }
+
+    /// Skips the next cell.
+    pub fn skip_cell(&mut self, alloc: Global) -> Result<(), AllocError>
+        ensures { OnOk result (self.new ≡ rows.past_cell self.old []) }
+    {
+        pass_cell(alloc, &mut self.ahead, &mut self.cells)
+    }
+
+    /// Puts a cell in its place.
+    pub fn add_cell(&mut self, alloc: Global, cell: Cell<T, M>) -> Result<(), AllocError>
+        ensures { OnOk result (self.new ≡ rows.past_cell self.old (cell ∷ [])) }
+    {
+        pass_cell(alloc, &mut self.ahead, &mut self.cells)?;
+        self.cells.push(cell)?;
+        Ok(())
+    }
+
+    /// The whole row.
+    pub fn finish(mut self, alloc: Global) -> Result<Row<T, M>, AllocError>
+        ensures { IfOk result (λ row. row ≡ rows.whole_row self) }
+    {
+        push_rest(alloc, self.ahead.as_slice(), &mut self.cells)?;
+        Ok(Row {
+            cells: self.cells,
+            has_placeholder: self.placeholder,
+        })
+    }
+}

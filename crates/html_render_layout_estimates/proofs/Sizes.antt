@@ -1,0 +1,169 @@
+-- The size of a text that is read from its front on.
+use Rattle.std.proofs.Common.{◌≡◌, ℕ, ◌+◌, ◌-◌, ◌<◌, ◌≤◌, min, Bool, true, false, cond, List, [], ◌∷◌, length, drop}
+use Rattle.std.proofs.Common.{get_or, zero, suc, refl, sym, ap, subst, ◌∙◌, arith}
+use Rattle.std.specs.List.{AllWithin}
+use Rattle.std.proofs.lemmas.List.{drop_more, drop_all}
+use Rattle.std.proofs.lemmas.Str.{chars-nil}
+use Rattle.std.proofs.lemmas.Grind.{common_steps}
+use Rattle.std.specs.Str.{chars}
+use Rattle.html_render_layout_lines.specs.Character.{is_collapsible, width_of}
+use Rattle.html_render_layout_lines.specs.laws.Characters.{plain_width}
+use Rattle.html_render_layout_estimates.specs.TextSize.{columns_of, inner_columns, size_of}
+
+-- ---- characters
+
+pub letter-collapsible : (c : ℕ) → 33 ≤ c → c ≤ 126 → is_collapsible c ≡ false
+letter-collapsible c low high = grind (arith, common_steps)
+
+pub chars-ascii : (b : ℕ) (bs : List ℕ) → b < 128 → chars (b ∷ bs) ≡ b ∷ chars bs
+unfolding chars
+chars-ascii b [] h = grind (arith, common_steps)
+chars-ascii b (c ∷ bs) h = grind (arith, common_steps)
+
+-- ---- the size, where `k` columns were counted and `spaced` says that white space stands behind them
+
+abbrev pub size_on : ℕ → Bool → List ℕ → ℕ
+size_on zero false cs = size_of cs
+size_on zero true cs = inner_columns cs + min (inner_columns cs) 1
+size_on (suc k) spaced cs = suc k + columns_of spaced cs
+
+pub size_on-none : (k : ℕ) (spaced : Bool) → size_on k spaced [] ≡ k
+size_on-none zero false = refl
+size_on-none zero true = refl
+size_on-none (suc k) spaced = omega arith
+
+pub size_on-least : (k : ℕ) (spaced : Bool) (cs : List ℕ) → k ≤ size_on k spaced cs
+size_on-least zero spaced cs = omega arith
+size_on-least (suc k) spaced cs = omega arith
+
+pub size_on-some : (k : ℕ) (spaced : Bool) (cs : List ℕ) → 1 ≤ k → size_on k spaced cs ≡ k + columns_of spaced cs
+size_on-some zero spaced cs h = absurd (omega (arith, h))
+size_on-some (suc k) spaced cs h = refl
+
+columns_of-other : (c : ℕ) (cs : List ℕ) (spaced : Bool) → is_collapsible c ≡ false →
+    columns_of spaced (c ∷ cs) ≡ cond spaced 1 0 + width_of c + columns_of false cs
+columns_of-other c cs spaced e = rw e refl
+
+pub size_on-space : (k c : ℕ) (cs : List ℕ) (spaced : Bool) → is_collapsible c ≡ true → size_on k spaced (c ∷ cs) ≡ size_on k true cs
+size_on-space zero c cs false e = rw e refl
+size_on-space zero c cs true e = rw e refl
+size_on-space (suc k) c cs spaced e = rw e refl
+
+pub size_on-letter : (k c : ℕ) (cs : List ℕ) (spaced : Bool) → is_collapsible c ≡ false → width_of c ≡ 1 →
+    size_on k spaced (c ∷ cs) ≡ size_on (k + cond spaced 2 1) false cs
+size_on-letter zero c cs false e w = rw e (omega (arith, w, columns_of-other c cs false e))
+size_on-letter zero c cs true e w = rw e (omega (arith, w, columns_of-other c cs false e))
+size_on-letter (suc k) c cs false e w = omega (arith, columns_of-other c cs false e, w, size_on-some (suc k + 1) false cs (omega arith))
+size_on-letter (suc k) c cs true e w = omega (arith, columns_of-other c cs true e, w, size_on-some (suc k + 2) false cs (omega arith))
+
+-- ---- a text of ASCII characters, byte by byte
+
+-- the size of a text, where these columns were counted before a place
+pub record Sized (bs : List ℕ) (at k : ℕ) (spaced : Bool) : Type 0 where
+  pub within : at ≤ length bs
+  pub few : k + cond spaced 1 0 ≤ at
+  pub size : size_on k spaced (chars (drop at bs)) ≡ size_of (chars bs)
+
+next-chars : (bs : List ℕ) (at : ℕ) → at < length bs → get_or bs at 0 < 128 → chars (drop at bs) ≡ get_or bs at 0 ∷ chars (drop (at + 1) bs)
+next-chars bs at within small = ap chars (drop_more bs at 0 within) ∙ chars-ascii (get_or bs at 0) (drop (at + 1) bs) small
+
+pub Sized-start : (bs : List ℕ) → Sized bs 0 0 false
+Sized-start bs = record { within = omega arith; few = omega arith; size = refl }
+
+pub Sized-letter : (bs : List ℕ) (at k n : ℕ) (spaced s : Bool) → Sized bs at k spaced → at < length bs →
+    33 ≤ get_or bs at 0 → get_or bs at 0 ≤ 126 → n ≡ k + cond spaced 2 1 → s ≡ false → Sized bs (at + 1) n s
+Sized-letter bs at k n spaced s w within low high is_n is_s = rw (is_n, is_s) (record {
+  within = omega (arith, within);
+  few = few spaced w.few;
+  size = sym (size_on-letter k b (chars (drop (at + 1) bs)) spaced (letter-collapsible b low high) (plain_width b low high))
+      ∙ ap (size_on k spaced) (sym (next-chars bs at within (omega arith))) ∙ w.size;
+})
+  where
+    b : ℕ
+    b = get_or bs at 0
+
+    few : (spaced : Bool) → k + cond spaced 1 0 ≤ at → k + cond spaced 2 1 + cond false 1 0 ≤ at + 1
+    few true h = omega (arith, h)
+    few false h = omega (arith, h)
+
+-- letters behind which no white space stands
+Sized-letters : (bs : List ℕ) (at k n : ℕ) → Sized bs at k false → at + n ≤ length bs →
+    AllWithin (λ b. (33 ≤ b) × (b ≤ 126)) bs at (at + n) → Sized bs (at + n) (k + n) false
+Sized-letters bs at k zero w within letters = subst (λ m. Sized bs m (k + 0) false) (omega arith) (subst (λ m. Sized bs at m false) (omega arith) w)
+Sized-letters bs at k (suc n) w within letters =
+    let so_far = Sized-letters bs at k n w (omega (arith, within)) (λ i d low high. letters i d low (omega (arith, high))) in
+    let letter = letters (at + n) 0 (omega arith) (omega arith) in
+    let more = Sized-letter bs (at + n) (k + n) (k + suc n) false false so_far (omega (arith, within)) letter.0 letter.1 (omega arith) refl in
+    subst (λ m. Sized bs m (k + suc n) false) (omega arith) more
+
+-- a letter and those behind it
+pub Sized-run : (bs : List ℕ) (at k end n : ℕ) (spaced s : Bool) → Sized bs at k spaced → at < length bs →
+    33 ≤ get_or bs at 0 → get_or bs at 0 ≤ 126 → at + 1 ≤ end → end ≤ length bs →
+    AllWithin (λ b. (33 ≤ b) × (b ≤ 126)) bs (at + 1) end → n ≡ k + cond spaced 2 1 + (end - (at + 1)) → s ≡ false → Sized bs end n s
+Sized-run bs at k end n spaced s w within low high behind inside letters is_n is_s =
+    let first = Sized-letter bs at k (k + cond spaced 2 1) spaced false w within low high refl refl in
+    let is_end : at + 1 + (end - (at + 1)) ≡ end = omega (arith, behind) in
+    let all = Sized-letters bs (at + 1) (k + cond spaced 2 1) (end - (at + 1)) first (omega (arith, inside, is_end))
+    (subst (λ m. AllWithin (λ b. (33 ≤ b) × (b ≤ 126)) bs (at + 1) m) (sym is_end) letters) in
+    rw (is_n, is_s) (subst (λ m. Sized bs m (k + cond spaced 2 1 + (end - (at + 1))) false) is_end all)
+
+pub Sized-space : (bs : List ℕ) (at k n : ℕ) (spaced s : Bool) → Sized bs at k spaced → at < length bs →
+    is_collapsible (get_or bs at 0) ≡ true → get_or bs at 0 < 128 → n ≡ k → s ≡ true → Sized bs (at + 1) n s
+Sized-space bs at k n spaced s w within space small is_n is_s = rw (is_n, is_s) (record {
+  within = omega (arith, within);
+  few = omega (arith, w.few);
+  size = sym (size_on-space k (get_or bs at 0) (chars (drop (at + 1) bs)) spaced space)
+      ∙ ap (size_on k spaced) (sym (next-chars bs at within small)) ∙ w.size;
+})
+
+-- at the end of the text, or where the limit is reached
+pub Sized-end : (bs : List ℕ) (at k limit : ℕ) (spaced : Bool) → Sized bs at k spaced → length bs ≤ at →
+    min k limit ≡ min (size_of (chars bs)) limit
+Sized-end bs at k limit spaced w end =
+    let none : chars (drop at bs) ≡ [] = ap chars (drop_all at bs end) ∙ chars-nil in
+    ap (λ n. min n limit) (sym (size_on-none k spaced) ∙ ap (size_on k spaced) (sym none) ∙ w.size)
+
+pub Sized-reached : (bs : List ℕ) (at k limit : ℕ) (spaced : Bool) → Sized bs at k spaced → limit ≤ k →
+    min k limit ≡ min (size_of (chars bs)) limit
+Sized-reached bs at k limit spaced w reached = omega (arith, size_on-least k spaced (chars (drop at bs)), w.size, reached)
+
+-- ---- letters in front of a text
+
+-- one letter
+one-letter : (bs : List ℕ) (at : ℕ) (spaced : Bool) → at < length bs → 33 ≤ get_or bs at 0 → get_or bs at 0 ≤ 126 →
+    columns_of spaced (chars (drop at bs)) ≡ cond spaced 1 0 + 1 + columns_of false (chars (drop (at + 1) bs))
+one-letter bs at spaced within low high =
+    let b = get_or bs at 0 in
+    ap (columns_of spaced) (next-chars bs at within (omega (arith, high)))
+    ∙ columns_of-other b (chars (drop (at + 1) bs)) spaced (letter-collapsible b low high)
+    ∙ omega (arith, plain_width b low high)
+
+-- and more
+more-letters : (bs : List ℕ) (spaced : Bool) (n : ℕ) → n + 1 ≤ length bs → AllWithin (λ b. (33 ≤ b) × (b ≤ 126)) bs 0 (n + 1) →
+    columns_of spaced (chars bs) ≡ cond spaced 1 0 + (n + 1) + columns_of false (chars (drop (n + 1) bs))
+more-letters bs spaced zero within letters =
+    let letter = letters 0 0 (omega arith) (omega arith) in
+    one-letter bs 0 spaced (omega (arith, within)) letter.0 letter.1
+more-letters bs spaced (suc n) within letters =
+    let letter = letters (n + 1) 0 (omega arith) (omega arith) in
+    let before = more-letters bs spaced n (omega (arith, within)) (λ i d low high. letters i d low (omega (arith, high))) in
+    let next : columns_of false (chars (drop (n + 1) bs)) ≡ 1 + columns_of false (chars (drop (suc n + 1) bs)) =
+    one-letter bs (n + 1) false (omega (arith, within)) letter.0 letter.1
+    ∙ ap (λ k. 0 + 1 + columns_of false (chars (drop k bs))) (omega arith) in
+    omega (arith, before, next)
+
+pub letters-columns : (bs : List ℕ) (spaced : Bool) (n : ℕ) → 0 < n → n ≤ length bs → AllWithin (λ b. (33 ≤ b) × (b ≤ 126)) bs 0 n →
+    columns_of spaced (chars bs) ≡ cond spaced 1 0 + n + columns_of false (chars (drop n bs))
+letters-columns bs spaced zero some within letters = absurd (omega (arith, some))
+letters-columns bs spaced (suc n) some within letters =
+    subst (λ k. columns_of spaced (chars bs) ≡ cond spaced 1 0 + k + columns_of false (chars (drop k bs))) (omega arith)
+    (more-letters bs spaced n (omega (arith, within)) (λ i d low high. letters i d low (omega (arith, high))))
+
+-- ---- a space in front of a text
+
+pub space-columns : (bs : List ℕ) (spaced : Bool) → 0 < length bs → is_collapsible (get_or bs 0 0) ≡ true → get_or bs 0 0 < 128 →
+    columns_of spaced (chars bs) ≡ columns_of true (chars (drop 1 bs))
+space-columns bs spaced within space small = ap (columns_of spaced) (next-chars bs 0 within small) ∙ behind (get_or bs 0 0) space
+  where
+    behind : (c : ℕ) → is_collapsible c ≡ true → columns_of spaced (c ∷ chars (drop 1 bs)) ≡ columns_of true (chars (drop 1 bs))
+    behind c e = rw e refl

@@ -1,0 +1,62 @@
+use Rattle.std.proofs.Common.{sym, ap, ◌∙◌, arith}
+use Rattle.html_render_layout_nodes.specs.Preorder.{flatten, forest_of}
+use Rattle.html_render_layout_estimates.specs.Passes.{with_needs}
+use Rattle.html_render_layout_estimates.proofs.Again.{found, found_table, noted, after_all}
+use Rattle.html_render_layout_estimates.proofs.Measuring.{after, Measuring-start, Measuring-at, Measuring-done, Found-part, Found-next}
+use Rattle.html_render_layout_estimates.proofs.estimate.measure_nodes.Goals as goal
+
+pub loop-at-init : goal.loop-at-init
+loop-at-init g c =
+    Measuring-start (found g.D.TextDecorator.decoration c.args.decorator.now c.args.settings.now c.any_table-with_sizes.result) (forest_of c.args.entries.now.items)
+    c.args.entries.now.items c.len-at.result (sym c.requires) (omega (arith, c.len-at.ensures, c.args.entries.now.ok.0))
+
+pub overflow_add-below-in-loop-at : goal.overflow_add-below-in-loop-at
+overflow_add-below-in-loop-at g c =
+    let f = Measuring-at _ _ _ _ _ _ c.loop-at.invariant c.loop-at-test.true c.as_slice-all.ensures.value c.index-all-at.is in
+    omega (arith, f.end, c.loop-at.entries.ok.0)
+
+pub slice_bounds-below-count : goal.slice_bounds-below-count
+slice_bounds-below-count g c =
+    let f = Measuring-at _ _ _ _ _ _ c.loop-at.invariant c.loop-at-test.true c.as_slice-all.ensures.value c.index-all-at.is in
+    omega (arith, f.size)
+
+pub slice_bounds-below-start : goal.slice_bounds-below-start
+slice_bounds-below-start g c =
+    let f = Measuring-at _ _ _ _ _ _ c.loop-at.invariant c.loop-at-test.true c.as_slice-all.ensures.value c.index-all-at.is in
+    omega (arith, f.size)
+
+pub slice_bounds-below-end : goal.slice_bounds-below-end
+slice_bounds-below-end g c =
+    let f = Measuring-at _ _ _ _ _ _ c.loop-at.invariant c.loop-at-test.true c.as_slice-all.ensures.value c.index-all-at.is in
+    omega (arith, f.end, c.as_slice-all.ensures.len, c.loop-at.entries.ok.0)
+
+pub measure_of-requires-clause-kept : goal.measure_of-requires-clause-kept
+measure_of-requires-clause-kept g c =
+    let f = Measuring-at _ _ _ _ _ _ c.loop-at.invariant c.loop-at-test.true c.as_slice-all.ensures.value c.index-all-at.is in
+    (Found-part _ _ _ _ _ _ _ f c.as_slice-all.ensures.value (omega arith)).kept
+
+pub measure_of-requires-clause-sized : goal.measure_of-requires-clause-sized
+measure_of-requires-clause-sized g c table =
+    let f = Measuring-at _ _ _ _ _ _ c.loop-at.invariant c.loop-at-test.true c.as_slice-all.ensures.value c.index-all-at.is in
+    found_table g.D.TextDecorator.decoration c.args.decorator.now c.args.settings.now c.any_table-with_sizes.result _ _ _ _ f
+    (rw c.deref.ensures.value at c.any_table-with_sizes.ensures) table
+
+pub loop-at-preserved : goal.loop-at-preserved
+loop-at-preserved g c =
+    let e = c.index-all-at.result in
+    let f = Measuring-at _ _ _ _ _ _ c.loop-at.invariant c.loop-at-test.true c.as_slice-all.ensures.value c.index-all-at.is in
+    let m = c.in_ok-measure.measure in
+    rw c.note.ensures
+    (Found-next _ _ _ _ _ _ e c.index_mut.result.now (λ n. record n { kind = with_needs m.needs.items n.kind; estimate = m.estimate }) f
+    c.as_slice-all.ensures.value (omega arith)
+    (noted g.D.TextDecorator.decoration c.args.decorator.now c.args.settings.now c.any_table-with_sizes.result e.node m.needs.items m.estimate _
+    c.in_ok-measure.ensures.needs c.in_ok-measure.ensures.estimate)
+    c.index-all-at.is c.index_mut.ensures.value)
+
+pub returns-clause-ok : goal.returns-clause-ok
+returns-clause-ok g c =
+    let t = forest_of c.args.entries.now.items in
+    Measuring-done _ _ _ _ c.loop-at.invariant (omega arith)
+    ∙ ap (λ b. flatten (after (found g.D.TextDecorator.decoration c.args.decorator.now c.args.settings.now b) t))
+    (rw c.deref.ensures.value at c.any_table-with_sizes.ensures)
+    ∙ ap flatten (after_all g.D.TextDecorator.decoration c.args.decorator.now c.args.settings.now t)

@@ -1,0 +1,13 @@
+use Rattle.std.proofs.Common.{◌+◌, cond, false, sym, ap, ◌∙◌, arith}
+use Rattle.std.specs.Str.{chars}
+use Rattle.html_render_layout_estimates.specs.TextSize.{columns_of}
+use Rattle.html_render_layout_estimates.proofs.Sizes.{letters-columns}
+use Rattle.html_render_layout_estimates.proofs.text.split_letters.Goals as goal
+
+pub returns-clause-columns : goal.returns-clause-columns
+returns-clause-columns c = λ spaced.
+    let text = c.args.text.now in
+    let n = c.letters_end-letters.result in
+    letters-columns text spaced n (omega (arith, c.if-letters-eq0.false)) (omega (arith, c.letters_end-letters.ensures.within.1, c.as_bytes.ensures.len))
+    (rw c.as_bytes.ensures.value at c.letters_end-letters.ensures.letters)
+    ∙ ap (λ rest. cond spaced 1 0 + n + columns_of false (chars rest)) (sym c.in_ok-behind.ensures.back)

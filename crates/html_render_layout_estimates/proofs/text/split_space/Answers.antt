@@ -1,0 +1,18 @@
+use Rattle.std.proofs.Common.{◌≡◌, ◌==◌, ◌<◌, ℕ, zero, suc, true, false, length, sym, ap, ◌∙◌, arith}
+use Rattle.std.proofs.lemmas.Bool.{true≢false}
+use Rattle.std.specs.Str.{chars}
+use Rattle.html_render_layout_estimates.specs.TextSize.{columns_of}
+use Rattle.html_render_layout_estimates.proofs.Sizes.{space-columns}
+use Rattle.html_render_layout_estimates.proofs.text.split_space.Goals as goal
+
+some : (n : ℕ) → (n == 0) ≡ false → 0 < n
+some zero e = absurd (true≢false e)
+some (suc n) e = omega arith
+
+pub returns-clause-columns : goal.returns-clause-columns
+returns-clause-columns c = λ spaced.
+    space-columns c.args.text.now spaced
+    (some (length c.args.text.now) (ap (λ bs. length bs == 0) (sym c.as_bytes-bytes.ensures.value) ∙ sym c.is_empty.ensures ∙ c.if-is_empty.false))
+    (rw c.as_bytes-bytes.ensures.value at c.if-not-is_space.ensures.collapsible)
+    (rw c.as_bytes-bytes.ensures.value at c.if-not-is_space.ensures.ascii)
+    ∙ ap (λ rest. columns_of true (chars rest)) (sym c.in_ok-behind.ensures.back)

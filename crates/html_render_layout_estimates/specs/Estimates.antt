@@ -1,0 +1,99 @@
+-- What each node of a forest measures, from its kind and what its children measure.
+use Rattle.std.specs.Prelude.{ℕ, ℤ, pos, ◌+◌, ◌-◌, ◌*◌, ◌/◌, ◌+ℤ◌, ◌-ℤ◌, max, min, List, sum_by}
+use Rattle.std.specs.Int.{saturate_signed, w64}
+use Rattle.std.specs.Str.{chars}
+use Rattle.html_render_dom_values.specs.Forest.{Forest, none, node}
+use Rattle.html_render_parts_decorators.specs.Decoration.{Decoration}
+use Rattle.html_render_parts_widths.specs.declared.needs.CellNeed.{CellNeed}
+use Rattle.html_render_parts_widths.specs.Needs.{column_needs}
+use Rattle.html_render_parts.specs.TableCells.{columns_of}
+use Rattle.html_render_layout_lines.specs.TaggedText.{text_columns}
+use Rattle.html_render_layout_nodes.specs.declared.tree.Estimate.{Estimate}
+use Rattle.html_render_layout_nodes.specs.declared.tree.NodeKind.{NodeKind}
+use Rattle.html_render_layout_nodes.specs.declared.tree.NodeKind.TheVariants.{Text, Break, Header, BlockQuote, Ul, Ol, Dd}
+use Rattle.html_render_layout_nodes.specs.declared.tree.NodeKind.TheVariants.{Link, Image, Svg, FragmentStart, Table}
+use Rattle.html_render_layout_nodes.specs.declared.tree.RenderNode.{RenderNode}
+use Rattle.html_render_layout_estimates.specs.declared.settings.LayoutSettings.{LayoutSettings}
+use Rattle.html_render_layout_estimates.specs.TextSize.{size_of, saturated}
+use Rattle.html_render_layout_estimates.specs.Cells.{cell_needs}
+
+-- how many trees stand beside each other
+abbrev pub trees : {K : Type 0} → Forest K → ℕ
+trees none = 0
+trees (node k children beside) = trees beside + 1
+
+-- the greatest of their least widths, 0 without any
+abbrev pub greatest_least : Forest RenderNode → ℕ
+greatest_least none = 0
+greatest_least (node n children beside) = max n.estimate.least (greatest_least beside)
+
+-- their sizes together
+abbrev pub total_size : Forest RenderNode → ℕ
+total_size none = 0
+total_size (node n children beside) = saturated (n.estimate.size + total_size beside)
+
+-- the estimate of what has this least width and this size behind a prefix
+abbrev pub behind : (prefix least size children : ℕ) → Estimate
+behind prefix least size children =
+    record { least = saturated (least + prefix); size = saturated (size + prefix); prefix = prefix; children = children }
+
+-- THE ESTIMATE OF A TABLE: at least each column has what it needs; of the size of a cell each of its columns has an equal part, rounded
+-- down, and a column's size is that of all its parts; one column of text stands between any two columns, and a prefix before all
+abbrev pub table_estimate : (columns : ℕ) → List CellNeed → (prefix children : ℕ) → Estimate
+table_estimate columns cells prefix children =
+    let least = sum_by (λ n. n.least) (column_needs columns cells) + (columns - 1) in
+    behind prefix least (sum_by (λ c. c.size / c.count * c.count) cells + (columns - 1)) children
+
+-- WHAT THE COLUMNS of a table NEED for its measured cells is kept in its node, for the layout
+abbrev pub measured_kind : NodeKind → (children : Forest RenderNode) → NodeKind
+measured_kind (Table grid) children = Table (record grid { needs = column_needs (columns_of grid.cells) (cell_needs grid.cells.rows children) })
+measured_kind kind children = kind
+
+-- the size of a text, and the columns of a prefix, in UTF-8
+abbrev pub text_size : List ℕ → ℕ
+text_size text = saturated (size_of (chars text))
+
+abbrev pub prefix_columns : List ℕ → ℕ
+prefix_columns text = saturated (text_columns (chars text))
+
+module _ {D A : Type 0} (decoration : Decoration D A) (decorator : D) where
+  -- the columns of the prefixes of items, numbered from the first on: those of the first one's or of the last one's, if these are more;
+  -- numbers stop at the ends of their type
+  abbrev pub number_columns : (first : ℤ) → (items : ℕ) → ℕ
+  number_columns first items =
+      let last = saturate_signed w64 (first +ℤ pos items -ℤ pos 1) in
+      max (prefix_columns (decoration.ordered_item_prefix decorator first)) (prefix_columns (decoration.ordered_item_prefix decorator last))
+
+  module _ (settings : LayoutSettings) where
+    -- the columns of what stands before the lines of a node with this number of children
+    abbrev pub prefix_of : NodeKind → (children : ℕ) → ℕ
+    prefix_of (Header level) children = prefix_columns (decoration.header_prefix decorator level)
+    prefix_of BlockQuote children = prefix_columns (decoration.quote_prefix decorator)
+    prefix_of Ul children = prefix_columns (decoration.unordered_item_prefix decorator)
+    prefix_of (Ol first) children = number_columns first children
+    prefix_of Dd children = 2
+    prefix_of kind children = 0
+
+    -- the estimate of what is written in one piece, of this size
+    abbrev pub piece : (size : ℕ) → Estimate
+    piece size = record { least = min size settings.min_wrap_width; size = size; prefix = 0; children = 0 }
+
+    -- THE ESTIMATE of a node over its measured children: for what stands round it an image has two columns, and a link five
+    abbrev pub estimate_of : NodeKind → (children : Forest RenderNode) → Estimate
+    estimate_of (Text text) children = piece (text_size text)
+    estimate_of Break children = record { least = 1; size = 1; prefix = 0; children = 0 }
+    estimate_of (Image image) children = piece (saturated (text_size image.title + 2))
+    estimate_of (Svg title) children = piece (text_size title)
+    estimate_of (FragmentStart name) children = record { least = 0; size = 0; prefix = 0; children = 0 }
+    estimate_of (Link target) children =
+        record { least = max (greatest_least children) 5; size = saturated (total_size children + 5); prefix = 0; children = trees children }
+    estimate_of (Table grid) children =
+        table_estimate (columns_of grid.cells) (cell_needs grid.cells.rows children) (prefix_of (Table grid) (trees children)) (trees children)
+    estimate_of kind children = behind (prefix_of kind (trees children)) (greatest_least children) (total_size children) (trees children)
+
+    -- THE MEASURED TREES: each node with its estimate
+    abbrev pub measured : Forest RenderNode → Forest RenderNode
+    measured none = none
+    measured (node n children beside) =
+        let below = measured children in
+        node (record n { kind = measured_kind n.kind below; estimate = estimate_of n.kind below }) below (measured beside)

@@ -1,0 +1,122 @@
+-- No node's least width passes its size, and what the code answers of sizes where no node is a table.
+use Rattle.std.proofs.Common.{◌≡◌, false, ◌||◌, ◌-◌, ◌^◌, ◌≤◌, List, [], ◌∷◌, ◌++◌, refl, sym, ap, ◌∙◌, subst, arith}
+use Rattle.std.specs.Prelude.{All, if◌then◌else◌}
+use Rattle.std.proofs.lemmas.List.Elements.{All-nil, All-cons, All-append}
+use Rattle.html_render_dom_values.specs.Forest.{Forest, none, node}
+use Rattle.html_render_parts_decorators.specs.Decoration.{Decoration}
+use Rattle.html_render_layout_nodes.specs.declared.tree.Entry.{Entry}
+use Rattle.html_render_layout_nodes.specs.declared.tree.Estimate.{Estimate}
+use Rattle.html_render_layout_nodes.specs.declared.tree.NodeKind.{NodeKind}
+use Rattle.html_render_layout_nodes.specs.declared.tree.NodeKind.TheVariants.{Text, Break, Link, Image, Svg, FragmentStart, Table}
+use Rattle.html_render_layout_nodes.specs.declared.tree.RenderNode.{RenderNode}
+use Rattle.html_render_layout_nodes.specs.Preorder.{flatten}
+use Rattle.html_render_parts.specs.TableCells.{columns_of}
+use Rattle.html_render_parts.specs.declared.table.cells.GridCell.{GridCell}
+use Rattle.html_render_parts_widths.specs.declared.needs.CellNeed.{CellNeed}
+use Rattle.html_render_layout_estimates.specs.declared.settings.LayoutSettings.{LayoutSettings}
+use Rattle.html_render_layout_estimates.specs.Cells.{row_needs, cell_needs}
+use Rattle.html_render_layout_estimates.specs.Estimates.{trees, greatest_least, total_size, prefix_of, measured_kind, estimate_of, measured}
+use Rattle.html_render_layout_estimates.specs.Passes.{is_table, has_table, without_sizes, with_needed_sizes}
+use Rattle.html_render_layout_estimates.specs.laws.Tables.{AreWithin, table_within}
+
+-- the entry's least width doesn't pass its size
+abbrev pub IsWithin : Entry RenderNode → Type 0
+IsWithin e = e.node.estimate.least ≤ e.node.estimate.size
+
+-- the entry's size is 0
+abbrev pub IsUnsized : Entry RenderNode → Type 0
+IsUnsized e = e.node.estimate.size ≡ 0
+
+-- the same of all nodes of trees
+abbrev pub AllWithin : Forest RenderNode → Type 0
+AllWithin none = Unit {0}
+AllWithin (node n children beside) = (n.estimate.least ≤ n.estimate.size) × AllWithin children × AllWithin beside
+
+all_within : (t : Forest RenderNode) → AllWithin t → All IsWithin (flatten t)
+all_within none h = All-nil IsWithin
+all_within (node n children beside) h =
+    All-cons IsWithin _ _ h.0
+    (All-append IsWithin (flatten children) (flatten beside) (all_within children h.1) (all_within beside h.2))
+
+-- and of what cells need
+AreWithin-append : (xs ys : List CellNeed) → AreWithin xs → AreWithin ys → AreWithin (xs ++ ys)
+AreWithin-append [] ys h k = k
+AreWithin-append (x ∷ xs) ys h k = (h.0, AreWithin-append xs ys h.1 k)
+
+row_within : (cells : List GridCell) (t : Forest RenderNode) → AllWithin t → AreWithin (row_needs cells t)
+row_within (c ∷ cs) (node n children beside) h = (h.0, row_within cs beside h.2)
+row_within cells t h = tt
+
+cells_within : (rows : List (List GridCell)) (t : Forest RenderNode) → AllWithin t → AreWithin (cell_needs rows t)
+cells_within (cells ∷ more) (node n children beside) h =
+    AreWithin-append (row_needs cells children) (cell_needs more beside) (row_within cells children h.1) (cells_within more beside h.2)
+cells_within rows t h = tt
+
+total_bounded : (t : Forest RenderNode) → total_size t ≤ 2 ^ 64 - 1
+total_bounded none = omega arith
+total_bounded (node n children beside) = omega arith
+
+all_unsized : (t : Forest RenderNode) → All IsUnsized (flatten (without_sizes t))
+all_unsized none = All-nil IsUnsized
+all_unsized (node n children beside) =
+    All-cons IsUnsized _ _ refl
+    (All-append IsUnsized (flatten (without_sizes children)) (flatten (without_sizes beside)) (all_unsized children) (all_unsized beside))
+
+module _ {D A : Type 0} (decoration : Decoration D A) (decorator : D) (settings : LayoutSettings) where
+  abbrev estimate : NodeKind → (children : Forest RenderNode) → Estimate
+  estimate kind children = estimate_of decoration decorator settings kind children
+
+  abbrev all_measured : Forest RenderNode → Forest RenderNode
+  all_measured t = measured decoration decorator settings t
+
+  -- ---- a node
+
+  node_within : (kind : NodeKind) (below : Forest RenderNode) → greatest_least below ≤ total_size below → AllWithin below →
+      (estimate kind below).least ≤ (estimate kind below).size
+  node_within (Text text) below h w = omega arith
+  node_within Break below h w = omega arith
+  node_within (Link target) below h w = omega (arith, h, total_bounded below)
+  node_within (Image image) below h w = omega arith
+  node_within (Svg title) below h w = omega arith
+  node_within (FragmentStart name) below h w = omega arith
+  node_within (Table grid) below h w =
+      let prefix = prefix_of decoration decorator settings (Table grid) (trees below) in
+      table_within (columns_of grid.cells) (cell_needs grid.cells.rows below) prefix (trees below) (cells_within grid.cells.rows below w)
+  node_within kind below h w = omega (arith, h)
+
+  node_bounded : (kind : NodeKind) (below : Forest RenderNode) → (estimate kind below).size ≤ 2 ^ 64 - 1
+  node_bounded (Table grid) below = omega arith
+  node_bounded kind below = omega arith
+
+  -- ---- trees
+
+  trees_within : (t : Forest RenderNode) → (greatest_least (all_measured t) ≤ total_size (all_measured t)) × AllWithin (all_measured t)
+  trees_within none = (omega arith, tt)
+  trees_within (node n children beside) =
+      let below = trees_within children in
+      let others = trees_within beside in
+      let own = node_within n.kind (all_measured children) below.0 below.1 in (
+        omega (arith, own, node_bounded n.kind (all_measured children), others.0, total_bounded (all_measured beside)),
+        (own, below.1, others.1),
+      )
+
+  pub each_within : (t : Forest RenderNode) → All IsWithin (flatten (all_measured t))
+  each_within t = all_within (all_measured t) (trees_within t).1
+
+  -- ---- trees without a table
+
+  table-kept : (kind : NodeKind) (below : Forest RenderNode) → is_table (measured_kind kind below) ≡ is_table kind
+  table-kept (Table grid) below = refl
+  table-kept kind below = refl
+
+  pub tables-measured : (t : Forest RenderNode) → has_table (all_measured t) ≡ has_table t
+  tables-measured none = refl
+  tables-measured (node n children beside) =
+      ap (λ b. b || (has_table (all_measured children) || has_table (all_measured beside))) (table-kept n.kind (all_measured children))
+      ∙ ap (λ b. is_table n.kind || (b || has_table (all_measured beside))) (tables-measured children)
+      ∙ ap (λ b. is_table n.kind || (has_table children || b)) (tables-measured beside)
+
+  pub each_unsized : (t : Forest RenderNode) → has_table t ≡ false → All IsUnsized (flatten (with_needed_sizes (all_measured t)))
+  each_unsized t plain =
+      subst (λ b. All IsUnsized (flatten (if b then all_measured t else without_sizes (all_measured t))))
+      (sym (tables-measured t ∙ plain)) (all_unsized (all_measured t))

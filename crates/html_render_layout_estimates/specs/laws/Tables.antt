@@ -1,0 +1,106 @@
+-- A table's least width doesn't pass its size.
+use Rattle.std.proofs.Common.{◌≡◌, Bool, true, false, ltb, leb, cond, ℕ, ◌+◌, ◌-◌, ◌*◌, ◌/◌, ◌≤◌, max, List, [], ◌∷◌, map, zero, suc}
+use Rattle.std.proofs.Common.{◌&&◌, refl, sym, ap, ◌∙◌, subst, arith}
+use Rattle.std.specs.List.{range_with_len}
+use Rattle.std.specs.Prelude.{sum_by}
+use Rattle.std.proofs.Math.Nat.{div-mul-le_self, le-div_iff_mul-le, mul-le-mul_left}
+use Rattle.std.proofs.lemmas.Bool.{and_parts, leb-true, ltb-true}
+use Rattle.std.proofs.lemmas.List.Sums.{sum_by-cons}
+use Rattle.html_render_parts_widths.specs.declared.needs.CellNeed.{CellNeed}
+use Rattle.html_render_parts_widths.specs.declared.shares.ColumnNeed.{ColumnNeed}
+use Rattle.html_render_parts_widths.specs.declared.spans.Span.{Span}
+use Rattle.html_render_parts_widths.specs.Spans.{given, greatest_at}
+use Rattle.html_render_parts_widths.specs.Needs.{part, need_at, column_needs}
+use Rattle.html_render_layout_estimates.specs.Estimates.{table_estimate}
+
+-- ---- sums
+
+sum_by-map : {X Y : Type 0} (f : Y → ℕ) (g : X → Y) (xs : List X) → sum_by f (map g xs) ≡ sum_by (λ x. f (g x)) xs
+sum_by-map f g [] = refl
+sum_by-map f g (x ∷ xs) = sum_by-cons f (g x) (map g xs) ∙ ap (λ n. f (g x) + n) (sum_by-map f g xs) ∙ sym (sum_by-cons (λ y. f (g y)) x xs)
+
+-- where each value is at most those of two others together, so is the sum
+sum_by-parts : (f g h : ℕ → ℕ) (ks : List ℕ) → ((k : ℕ) → f k ≤ g k + h k) → sum_by f ks ≤ sum_by g ks + sum_by h ks
+sum_by-parts f g h [] each = omega arith
+sum_by-parts f g h (k ∷ ks) each =
+    omega (arith, sum_by-cons f k ks, sum_by-cons g k ks, sum_by-cons h k ks, each k, sum_by-parts f g h ks each)
+
+sum_by-zero : (ks : List ℕ) → sum_by (λ k. 0) ks ≡ 0
+sum_by-zero [] = refl
+sum_by-zero (k ∷ ks) = omega (arith, sum_by-cons (λ x. 0) k ks, sum_by-zero ks)
+
+-- ---- a value over columns beside each other
+
+-- how many columns of a span stand at a column or behind it
+abbrev columns_from : Span → (at : ℕ) → ℕ
+columns_from s at = s.start + s.count - max at s.start
+
+given-next : (s : Span) (at rest : ℕ) → rest ≤ columns_from s (at + 1) * s.value → given s at + rest ≤ columns_from s at * s.value
+given-next s at rest h = by (leb s.start at && ltb at (s.start + s.count)) refl
+  where
+    by : (b : Bool) → (leb s.start at && ltb at (s.start + s.count)) ≡ b → cond b s.value 0 + rest ≤ columns_from s at * s.value
+    by true e =
+        let parts = and_parts (leb s.start at) (ltb at (s.start + s.count)) e in
+        let low = leb-true s.start at parts.0 in
+        let high = ltb-true at (s.start + s.count) parts.1 in
+        let n : columns_from s at ≡ columns_from s (at + 1) + 1 = omega (arith, low, high) in
+        subst (λ m. s.value + rest ≤ m * s.value) (sym n) (omega (arith, h))
+    by false e = let fewer : columns_from s (at + 1) ≤ columns_from s at = omega arith in omega (arith, h, mul-le-mul_left s.value fewer)
+
+sum-given : (s : Span) (at count : ℕ) → sum_by (given s) (range_with_len at count) ≤ columns_from s at * s.value
+sum-given s at zero = omega arith
+sum-given s at (suc n) =
+    let rest = given-next s at (sum_by (given s) (range_with_len (at + 1) n)) (sum-given s (at + 1) n) in
+    omega (arith, sum_by-cons (given s) at (range_with_len (at + 1) n), rest)
+
+-- ---- a cell
+
+abbrev part_of : CellNeed → ℕ
+part_of c = c.size / c.count * c.count
+
+-- its columns' parts of its least width are at most those of its size, where it needs no more at least than that
+parts-le : (n least size : ℕ) → least ≤ size → n * (least / n) ≤ size / n * n
+parts-le zero least size h = omega arith
+parts-le (suc n) least size h =
+    let part = div-mul-le_self least (suc n) in
+    let less : least / suc n ≤ size / suc n =
+    (le-div_iff_mul-le {k = suc n} {x = least / suc n} {y = size} (omega arith)).1 (omega (arith, part, h)) in
+    omega (arith, mul-le-mul_left (suc n) less)
+
+cell-le : (columns : ℕ) (c : CellNeed) → c.least ≤ c.size → sum_by (given (part c c.least)) (range_with_len 0 columns) ≤ part_of c
+cell-le columns c h =
+    let all : columns_from (part c c.least) 0 ≡ c.count = omega arith in
+    let sum : sum_by (given (part c c.least)) (range_with_len 0 columns) ≤ c.count * (c.least / c.count) =
+    subst (λ n. sum_by (given (part c c.least)) (range_with_len 0 columns) ≤ n * (c.least / c.count)) all (sum-given (part c c.least) 0 columns) in
+    omega (arith, sum, parts-le c.count c.least c.size h)
+
+-- ---- all cells
+
+abbrev needed_by : List CellNeed → (column : ℕ) → ℕ
+needed_by cells k = greatest_at (map (λ c. part c c.least) cells) k
+
+-- cells that need no more at least than their sizes
+abbrev pub AreWithin : List CellNeed → Type 0
+AreWithin [] = Unit {0}
+AreWithin (c ∷ cs) = (c.least ≤ c.size) × AreWithin cs
+
+sum-le : (columns : ℕ) (cells : List CellNeed) → AreWithin cells →
+    sum_by (needed_by cells) (range_with_len 0 columns) ≤ sum_by part_of cells
+sum-le columns [] h = omega (arith, sum_by-zero (range_with_len 0 columns))
+sum-le columns (c ∷ cs) h =
+    omega (
+      arith,
+      sum_by-parts (needed_by (c ∷ cs)) (given (part c c.least)) (needed_by cs) (range_with_len 0 columns) (λ k. omega arith),
+      cell-le columns c h.0,
+      sum-le columns cs h.1,
+      sum_by-cons part_of c cs,
+    )
+
+-- ---- a table
+
+pub table_within : (columns : ℕ) (cells : List CellNeed) (prefix children : ℕ) → AreWithin cells →
+    (table_estimate columns cells prefix children).least ≤ (table_estimate columns cells prefix children).size
+table_within columns cells prefix children h =
+    let needs : sum_by (λ (n : ColumnNeed). n.least) (column_needs columns cells) ≡ sum_by (needed_by cells) (range_with_len 0 columns) =
+    sum_by-map (λ (n : ColumnNeed). n.least) (need_at cells) (range_with_len 0 columns) in
+    omega (arith, needs, sum-le columns cells h)

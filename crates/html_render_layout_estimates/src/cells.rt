@@ -1,0 +1,81 @@
+//! The cells of a table: over which of its columns each stands, and what it needs there.
+
+ghost use Rattle.std.specs.Prelude.{◌≡◌, ◌++◌, IfOk, IfErr, OnOk};
+ghost use Rattle.html_render_layout_nodes.specs.Preorder.{flatten, forest_of};
+ghost use Rattle.html_render_parts_widths.specs.Needs.{AreCells};
+ghost use Rattle.html_render_parts.specs.Placement.{lists};
+ghost use Rattle.html_render_parts.specs.TableCells.{columns_of};
+ghost use Rattle.html_render_layout_estimates.specs.Cells.{row_needs, cell_needs};
+
+use crate::trees::first_tree;
+use html_render_dom_values::Error;
+use html_render_layout_nodes::tree::{Entry, RenderNode};
+use html_render_parts::table::cells::{GridCell, TableCells};
+use html_render_parts_widths::CellNeed;
+use std::alloc::{AllocError, Global};
+
+/// Adds what the cells of a row need over their columns.
+fn add_row(
+    needs: &mut Vec<CellNeed>,
+    cells: &[GridCell],
+    trees: &[Entry<RenderNode>],
+) -> Result<(), AllocError>
+    requires { flatten (forest_of trees.now) ≡ trees.now }
+    ensures { OnOk result (needs.new.items ≡ needs.old.items ++ row_needs cells.now (forest_of trees.now)) }
+{
+    let mut rest = trees;
+    for cell in cells {
+        let Some(tree) = first_tree(rest) else {
+            return Ok(());
+        };
+        needs.push(CellNeed {
+            start: cell.first,
+            count: cell.columns,
+            size: tree.node.estimate.size,
+            least: tree.node.estimate.least,
+        })?;
+        rest = tree.beside;
+    }
+    Ok(())
+}
+
+/// Adds what the cells of these rows need.
+fn add_rows(
+    needs: &mut Vec<CellNeed>,
+    rows: &[Vec<GridCell>],
+    trees: &[Entry<RenderNode>],
+) -> Result<(), AllocError>
+    requires { flatten (forest_of trees.now) ≡ trees.now }
+    ensures { OnOk result (needs.new.items ≡ needs.old.items ++ cell_needs (lists rows.now) (forest_of trees.now)) }
+{
+    let mut rest = trees;
+    for cells in rows {
+        let Some(row) = first_tree(rest) else {
+            return Ok(());
+        };
+        add_row(needs, cells.as_slice(), row.below)?;
+        rest = row.beside;
+    }
+    Ok(())
+}
+
+/// What the cells of a table need over its columns, from its rows with their estimates, row by row. What stands in the cells
+/// isn't read.
+///
+/// # Errors
+///
+/// `OutOfMemory`.
+pub fn cell_needs(
+    alloc: Global,
+    grid: &TableCells,
+    rows: &[Entry<RenderNode>],
+) -> Result<Vec<CellNeed>, Error>
+    requires { flatten (forest_of rows.now) ≡ rows.now }
+    ensures ok { IfOk result (λ needs. needs.items ≡ cell_needs grid.now.rows (forest_of rows.now)) }
+    ensures cells { IfOk result (λ needs. AreCells (columns_of grid.now) needs.items) }
+    ensures err { IfErr result (λ e. e ≡ Error.OutOfMemory) }
+{
+    let mut needs = Vec::new(alloc);
+    add_rows(&mut needs, grid.rows(), rows)?;
+    Ok(needs)
+}

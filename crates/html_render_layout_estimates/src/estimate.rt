@@ -1,0 +1,326 @@
+//! Estimates of the nodes of a render tree.
+//!
+//! `measure(alloc, &decorator, &settings, tree)?` is the tree with each node's estimate: the least width in which the node
+//! can be laid out well, the columns of the decorator's prefix and the number of children; and in a tree with a table its size.
+
+ghost use Rattle.std.specs.Prelude.{◌≡◌, ◌+◌, ◌+ℤ◌, ◌-ℤ◌, pos, max, min, true, false, IfOk, IfErr, OnOk, MatchBool};
+ghost use Rattle.std.specs.Int.{saturate_signed, w64};
+ghost use Rattle.html_render_layout_nodes.specs.Preorder.{flatten, forest_of};
+ghost use Rattle.html_render_layout_estimates.specs.Estimates.{trees, greatest_least, text_size, number_columns, prefix_of};
+ghost use Rattle.html_render_layout_estimates.specs.TextSize.{saturated};
+ghost use Rattle.html_render_layout_estimates.specs.Estimates.{measured_kind, estimate_of, measured};
+ghost use Rattle.html_render_layout_estimates.specs.Passes.{is_table, has_table, with_needs, without_size, sized_if, with_needed_sizes};
+
+use crate::settings::LayoutSettings;
+use crate::sized::{Measure, measure_table, total_size};
+use crate::text::{columns, size_within};
+use crate::trees::first_tree;
+use html_render_dom_values::Error;
+use html_render_layout_nodes::tree::{Entry, Estimate, Flat, NodeKind, RenderNode};
+use html_render_parts_decorators::decorate::TextDecorator;
+use std::alloc::Global;
+
+/// Trees beside each other: how many there are, and the greatest of their least widths.
+#[derive(Clone, Copy)]
+struct Children {
+    /// How many trees there are.
+    count: usize,
+    /// The greatest of their least widths.
+    least: usize,
+}
+
+/// The trees of measured nodes.
+#[inline]
+fn children_of(nodes: &[Entry<RenderNode>]) -> Children
+    requires { flatten (forest_of nodes.now) ≡ nodes.now }
+    ensures count { result.count ≡ trees (forest_of nodes.now) }
+    ensures least { result.least ≡ greatest_least (forest_of nodes.now) }
+{
+    let mut count = 0;
+    let mut least: usize = 0;
+    let mut rest = nodes;
+    while let Some(first) = first_tree(rest) {
+        count += 1;
+        least = least.max(first.node.estimate.least);
+        rest = first.beside;
+    }
+    Children { count, least }
+}
+
+/// The number of the last of `items` items.
+fn last_number(first: i64, items: usize) -> i64
+    ensures { result ≡ saturate_signed w64 (first +ℤ pos items -ℤ pos 1) }
+{
+    if items == 0 {
+        first.saturating_sub(1)
+    } else {
+        first.saturating_add_unsigned((items - 1) as u64)
+    }
+}
+
+/// The columns of the prefixes of a list's items, which are numbered from `first` on: those of the longer one of the
+/// first and the last.
+///
+/// # Errors
+///
+/// `OutOfMemory`.
+pub fn number_columns<D: TextDecorator>(
+    alloc: Global,
+    decorator: &D,
+    first: i64,
+    items: usize,
+) -> Result<usize, Error>
+    ensures ok { IfOk result (λ columns. columns ≡ number_columns D.decoration decorator.now first items) }
+    ensures err { IfErr result (λ e. e ≡ Error.OutOfMemory) }
+{
+    let first_prefix = decorator.ordered_item_prefix(alloc, first)?;
+    let last_prefix = decorator.ordered_item_prefix(alloc, last_number(first, items))?;
+    Ok(columns(first_prefix.as_str()).max(columns(last_prefix.as_str())))
+}
+
+/// The columns of the prefix of a node with `children` children.
+#[inline(always)]
+fn prefix_of<D: TextDecorator>(
+    alloc: Global,
+    decorator: &D,
+    settings: &LayoutSettings,
+    kind: &NodeKind,
+    children: usize,
+) -> Result<usize, Error>
+    ensures ok { IfOk result (λ columns. columns ≡ prefix_of D.decoration decorator.now settings.now kind.now children) }
+    ensures err { IfErr result (λ e. e ≡ Error.OutOfMemory) }
+{
+    match kind {
+        NodeKind::Header(level) => Ok(columns(decorator.header_prefix(alloc, *level)?.as_str())),
+        NodeKind::BlockQuote => Ok(columns(decorator.quote_prefix(alloc)?.as_str())),
+        NodeKind::Ul => Ok(columns(decorator.unordered_item_prefix(alloc)?.as_str())),
+        NodeKind::Ol(first) => number_columns(alloc, decorator, *first, children),
+        NodeKind::Dd => Ok(2),
+        NodeKind::Text(_)
+        | NodeKind::Container
+        | NodeKind::Break
+        | NodeKind::Block
+        | NodeKind::Div
+        | NodeKind::Emphasis(_)
+        | NodeKind::ListItem
+        | NodeKind::Dl
+        | NodeKind::Dt
+        | NodeKind::Strikeout
+        | NodeKind::Superscript
+        | NodeKind::Link(_)
+        | NodeKind::Image(_)
+        | NodeKind::Svg(_)
+        | NodeKind::FragmentStart(_)
+        | NodeKind::Table(_)
+        | NodeKind::TableRow
+        | NodeKind::TableCell => Ok(0),
+    }
+}
+
+/// The estimate of what stands in a line, with no children.
+#[inline]
+fn piece(least: usize) -> Estimate
+    ensures { result ≡ record { least = least; size = 0; prefix = 0; children = 0 } }
+{
+    Estimate {
+        least,
+        size: 0,
+        prefix: 0,
+        children: 0,
+    }
+}
+
+/// The lesser of an image's size and `limit`.
+pub(crate) fn image_size_within(title: &str, limit: usize) -> usize
+    ensures { result ≡ min (saturated (text_size title.now + 2)) limit }
+{
+    size_within(title, limit).saturating_add(2).min(limit)
+}
+
+/// The estimate of a link over measured nodes.
+fn link_estimate(below: &[Entry<RenderNode>]) -> Estimate
+    requires { flatten (forest_of below.now) ≡ below.now }
+    ensures { result ≡ record { least = max (greatest_least (forest_of below.now)) 5; size = 0; prefix = 0; children = trees (forest_of below.now) } }
+{
+    let children = children_of(below);
+    Estimate {
+        least: children.least.max(5),
+        size: 0,
+        prefix: 0,
+        children: children.count,
+    }
+}
+
+/// The estimate of a node that isn't a table over measured ones, without its size.
+#[inline]
+fn estimate_of<D: TextDecorator>(
+    alloc: Global,
+    decorator: &D,
+    settings: &LayoutSettings,
+    kind: &NodeKind,
+    below: &[Entry<RenderNode>],
+) -> Result<Estimate, Error>
+    requires { flatten (forest_of below.now) ≡ below.now }
+    ensures ok { IfOk result (λ e. is_table kind.now ≡ false →
+        e ≡ without_size (estimate_of D.decoration decorator.now settings.now kind.now (forest_of below.now))) }
+    ensures err { IfErr result (λ e. e ≡ Error.OutOfMemory) }
+{
+    match kind {
+        NodeKind::Text(text) | NodeKind::Svg(text) => Ok(piece(size_within(
+            text.as_str(),
+            settings.min_wrap_width,
+        ))),
+        NodeKind::Break => Ok(piece(1)),
+        NodeKind::Image(image) => Ok(piece(image_size_within(
+            image.title().as_str(),
+            settings.min_wrap_width,
+        ))),
+        NodeKind::FragmentStart(_) => Ok(piece(0)),
+        NodeKind::Link(_) => Ok(link_estimate(below)),
+        _ => {
+            let children = children_of(below);
+            let prefix = prefix_of(alloc, decorator, settings, kind, children.count)?;
+            Ok(Estimate {
+                least: children.least.saturating_add(prefix),
+                size: 0,
+                prefix,
+                children: children.count,
+            })
+        }
+    }
+}
+
+/// The estimate of a node that isn't a table over measured ones, with its size if these have theirs.
+fn sized_estimate_of<D: TextDecorator>(
+    alloc: Global,
+    decorator: &D,
+    settings: &LayoutSettings,
+    with_sizes: bool,
+    kind: &NodeKind,
+    below: &[Entry<RenderNode>],
+) -> Result<Estimate, Error>
+    requires { flatten (forest_of below.now) ≡ below.now }
+    ensures ok { IfOk result (λ e. is_table kind.now ≡ false →
+        e ≡ sized_if with_sizes (estimate_of D.decoration decorator.now settings.now kind.now (forest_of below.now))) }
+    ensures err { IfErr result (λ e. e ≡ Error.OutOfMemory) }
+{
+    let estimate = estimate_of(alloc, decorator, settings, kind, below)?;
+    if !with_sizes {
+        return Ok(estimate);
+    }
+    let size = match kind {
+        NodeKind::Text(text) | NodeKind::Svg(text) => size_within(text.as_str(), usize::MAX),
+        NodeKind::Break => 1,
+        NodeKind::Image(image) => image_size_within(image.title().as_str(), usize::MAX),
+        NodeKind::FragmentStart(_) => 0,
+        NodeKind::Link(_) => total_size(below).saturating_add(5),
+        _ => total_size(below).saturating_add(estimate.prefix),
+    };
+    Ok(Estimate { size, ..estimate })
+}
+
+/// What is found out of a node over measured ones, with its size if these have theirs, as they do below a table.
+#[inline]
+fn measure_of<D: TextDecorator>(
+    alloc: Global,
+    decorator: &D,
+    settings: &LayoutSettings,
+    with_sizes: bool,
+    kind: &NodeKind,
+    below: &[Entry<RenderNode>],
+) -> Result<Measure, Error>
+    requires kept { flatten (forest_of below.now) ≡ below.now }
+    requires sized { is_table kind.now ≡ true → with_sizes ≡ true }
+    ensures estimate { IfOk result (λ m. m.estimate
+        ≡ sized_if with_sizes (estimate_of D.decoration decorator.now settings.now kind.now (forest_of below.now))) }
+    ensures needs { IfOk result (λ m. with_needs m.needs.items kind.now ≡ measured_kind kind.now (forest_of below.now)) }
+    ensures err { IfErr result (λ e. e ≡ Error.OutOfMemory) }
+{
+    if let NodeKind::Table(grid) = kind {
+        let children = children_of(below).count;
+        let prefix = prefix_of(alloc, decorator, settings, kind, children)?;
+        return measure_table(alloc, grid.cells(), prefix, children, below);
+    }
+    let estimate = sized_estimate_of(alloc, decorator, settings, with_sizes, kind, below)?;
+    Ok(Measure {
+        estimate,
+        needs: Vec::new(alloc),
+    })
+}
+
+/// Keeps what was found out of a node.
+#[inline]
+fn note(node: &mut RenderNode, measure: Measure)
+    ensures { node.new ≡ record node.old { kind = with_needs measure.needs.items node.old.kind; estimate = measure.estimate } }
+{
+    node.estimate = measure.estimate;
+    if let NodeKind::Table(grid) = &mut node.kind {
+        grid.set_needs(measure.needs);
+    }
+}
+
+/// Whether a node is a table.
+#[inline]
+fn is_table(kind: &NodeKind) -> bool
+    ensures { result ≡ is_table kind.now }
+{
+    matches!(kind, NodeKind::Table(_))
+}
+
+/// Whether one of the nodes is a table.
+fn any_table(entries: &[Entry<RenderNode>]) -> bool
+    requires { flatten (forest_of entries.now) ≡ entries.now }
+    ensures { result ≡ has_table (forest_of entries.now) }
+{
+    for entry in entries {
+        if is_table(&entry.node.kind) {
+            return true;
+        }
+    }
+    false
+}
+
+/// Gives nodes their estimates, from the last node to the first: with sizes if one of them is a table.
+fn measure_nodes<D: TextDecorator>(
+    alloc: Global,
+    decorator: &D,
+    settings: &LayoutSettings,
+    entries: &mut Vec<Entry<RenderNode>>,
+) -> Result<(), Error>
+    requires { flatten (forest_of entries.old.items) ≡ entries.old.items }
+    ensures ok { OnOk result (entries.new.items
+        ≡ flatten (with_needed_sizes (measured D.decoration decorator.now settings.now (forest_of entries.old.items)))) }
+    ensures err { IfErr result (λ e. e ≡ Error.OutOfMemory) }
+{
+    let with_sizes = any_table(entries);
+    let mut at = entries.len();
+    while at > 0 {
+        at -= 1;
+        let all = entries.as_slice();
+        let entry = &all[at];
+        let below = &all[at + 1..at + entry.size];
+        let kind = &entry.node.kind;
+        let measure = measure_of(alloc, decorator, settings, with_sizes, kind, below)?;
+        note(&mut entries[at].node, measure);
+    }
+    Ok(())
+}
+
+/// The tree with each node's estimate. Without a table in the tree its size is left out, as 0.
+///
+/// # Errors
+///
+/// `OutOfMemory`.
+pub fn measure<D: TextDecorator>(
+    alloc: Global,
+    decorator: &D,
+    settings: &LayoutSettings,
+    tree: Flat<RenderNode>,
+) -> Result<Flat<RenderNode>, Error>
+    ensures ok { IfOk result (λ t. t ≡ with_needed_sizes (measured D.decoration decorator.now settings.now tree)) }
+    ensures err { IfErr result (λ e. e ≡ Error.OutOfMemory) }
+{
+    let mut entries = tree.into_entries();
+    measure_nodes(alloc, decorator, settings, &mut entries)?;
+    Ok(Flat::from_entries(entries))
+}

@@ -1,0 +1,91 @@
+//! The sizes of trees, and the estimates of tables, which stand on them.
+
+ghost use Rattle.std.specs.Prelude.{◌≡◌, ◌*◌, ◌/◌, sum_by, IfOk, IfErr};
+ghost use Rattle.html_render_parts_widths.specs.Needs.{AreSome, column_needs};
+ghost use Rattle.html_render_parts.specs.TableCells.{columns_of};
+ghost use Rattle.html_render_layout_nodes.specs.Preorder.{flatten, forest_of};
+ghost use Rattle.html_render_layout_estimates.specs.TextSize.{saturated};
+ghost use Rattle.html_render_layout_estimates.specs.Cells.{cell_needs};
+ghost use Rattle.html_render_layout_estimates.specs.Estimates.{total_size, table_estimate};
+
+use crate::cells::cell_needs;
+use crate::trees::first_tree;
+use html_render_dom_values::Error;
+use html_render_layout_nodes::tree::{Entry, Estimate, RenderNode};
+use html_render_parts::table::cells::TableCells;
+use html_render_parts_widths::{CellNeed, ColumnNeed, column_needs};
+use std::alloc::Global;
+
+/// The sizes of trees together.
+pub(crate) fn total_size(trees: &[Entry<RenderNode>]) -> usize
+    requires { flatten (forest_of trees.now) ≡ trees.now }
+    ensures { result ≡ total_size (forest_of trees.now) }
+{
+    let mut size: usize = 0;
+    let mut rest = trees;
+    while let Some(first) = first_tree(rest) {
+        size = size.saturating_add(first.node.estimate.size);
+        rest = first.beside;
+    }
+    size
+}
+
+/// The sizes of cells together, each as many columns as its columns have of it, in equal parts that are rounded down.
+fn size_of_cells(cells: &[CellNeed]) -> usize
+    requires { AreSome cells.now }
+    ensures { result ≡ saturated (sum_by (λ c. c.size / c.count * c.count) cells.now) }
+{
+    let mut size: usize = 0;
+    for cell in cells {
+        size = size.saturating_add(cell.size / cell.count * cell.count);
+    }
+    size
+}
+
+/// What columns need at least, together.
+fn least_of_columns(needs: &[ColumnNeed]) -> usize
+    ensures { result ≡ saturated (sum_by (λ n. n.least) needs.now) }
+{
+    let mut least: usize = 0;
+    for need in needs {
+        least = least.saturating_add(need.least);
+    }
+    least
+}
+
+/// What is found out of a node as it is measured.
+#[derive(Drop)]
+pub struct Measure {
+    /// Its estimate.
+    pub estimate: Estimate,
+    /// What its columns need, if it is a table.
+    pub needs: Vec<ColumnNeed>,
+}
+
+/// What is found out of a table on this grid, with `children` children behind a prefix of `prefix` columns, over its measured
+/// rows.
+pub fn measure_table(
+    alloc: Global,
+    grid: &TableCells,
+    prefix: usize,
+    children: usize,
+    rows: &[Entry<RenderNode>],
+) -> Result<Measure, Error>
+    requires { flatten (forest_of rows.now) ≡ rows.now }
+    ensures estimate { IfOk result (λ m. m.estimate
+        ≡ table_estimate (columns_of grid.now) (cell_needs grid.now.rows (forest_of rows.now)) prefix children) }
+    ensures needs { IfOk result (λ m. m.needs.items ≡ column_needs (columns_of grid.now) (cell_needs grid.now.rows (forest_of rows.now))) }
+    ensures err { IfErr result (λ e. e ≡ Error.OutOfMemory) }
+{
+    let columns = grid.columns();
+    let cells = cell_needs(alloc, grid, rows)?;
+    let needs = column_needs(alloc, columns, cells.as_slice())?;
+    let beside = columns.saturating_sub(1).saturating_add(prefix);
+    let estimate = Estimate {
+        least: least_of_columns(needs.as_slice()).saturating_add(beside),
+        size: size_of_cells(cells.as_slice()).saturating_add(beside),
+        prefix,
+        children,
+    };
+    Ok(Measure { estimate, needs })
+}

@@ -1,0 +1,258 @@
+//! The columns of texts, counted no further than is asked.
+//!
+//! `size_within(" Hello  wide\n", 80)` is 11: the white space in front is one column, and so is that between the words.
+
+ghost use Rattle.std.specs.Prelude.{◌≡◌, ◌+◌, Bool, if◌then◌else◌, [], ◌∷◌, ◌<◌, ◌≤◌, drop, length, min, true, false, IfOk, IfErr, IfNone, IfSome, MatchOption};
+ghost use Rattle.std.specs.Bool.{OnTrue};
+ghost use Rattle.std.specs.List.{AllWithin};
+ghost use Rattle.std.specs.Str.{chars, IsUtf8};
+ghost use Rattle.html_render_layout_lines.specs.Character.{is_collapsible, width_of};
+ghost use Rattle.html_render_layout_lines.specs.TaggedText.{text_columns};
+ghost use Rattle.html_render_layout_estimates.specs.TextSize.{size_of, inner_columns, columns_of, saturated};
+
+use html_render_layout_lines::character::{is_collapsible, width_of};
+
+/// The columns of a text whose white space stays as it is.
+pub fn columns(text: &str) -> usize
+    ensures { result ≡ saturated (text_columns (chars text.now)) }
+{
+    let mut columns: usize = 0;
+    for c in text.chars() {
+        columns = columns.saturating_add(width_of(c));
+    }
+    columns
+}
+
+/// The lesser of a text's size and `limit`. Nothing is read behind the word that reaches the limit.
+pub fn size_within(text: &str, limit: usize) -> usize
+    ensures { result ≡ min (size_of (chars text.now)) limit }
+{
+    match ascii_size_within(text.as_bytes(), limit) {
+        Ok(size) => size,
+        Err(counted) => match counted.rest_of(text) {
+            Some(rest) => columns_within(rest, counted.columns, counted.spaced, limit),
+            None => any_size_within(text, limit),
+        },
+    }
+}
+
+/// What was counted of a text before its first byte that isn't printable ASCII, a space or a newline.
+#[derive(Clone, Copy)]
+struct Counted {
+    /// Where that byte stands.
+    at: usize,
+    /// The columns before it.
+    columns: usize,
+    /// Whether white space stands behind these.
+    spaced: bool,
+}
+
+impl Counted {
+    /// The rest of the text, if a column was counted before it.
+    #[inline]
+    fn rest_of<'a>(&self, text: &'a str) -> Option<&'a str>
+        ensures some { IfSome result (λ rest. 1 ≤ self.now.columns) }
+        ensures rest { IfSome result (λ rest. rest.now ≡ drop self.now.at text.now) }
+        ensures text { IfSome result (λ rest. IsUtf8 rest.now) }
+    {
+        if self.columns == 0 {
+            return None;
+        }
+        let (_, rest) = text.split_at_checked(self.at)?;
+        Some(rest)
+    }
+}
+
+/// The lesser of a text's size and `limit`, where the bytes that are read are printable ASCII, spaces and newlines; what was
+/// counted before another byte.
+#[inline]
+fn ascii_size_within(text: &[u8], limit: usize) -> Result<usize, Counted>
+    ensures ok { IfOk result (λ size. size ≡ min (size_of (chars text.now)) limit) }
+    ensures counted { IfErr result (λ c. 1 ≤ c.columns →
+        c.columns + columns_of c.spaced (chars (drop c.at text.now)) ≡ size_of (chars text.now)) }
+{
+    let mut at = 0;
+    let mut columns = 0;
+    let mut spaced = false;
+    while columns < limit && at < text.len() {
+        let byte = text[at];
+        if is_letter(byte) {
+            let end = letters_end(text, at + 1);
+            columns += if spaced { 2 } else { 1 };
+            columns += end - (at + 1);
+            spaced = false;
+            at = end;
+        } else if is_space(byte) {
+            spaced = true;
+            at += 1;
+        } else {
+            return Err(Counted {
+                at,
+                columns,
+                spaced,
+            });
+        }
+    }
+    Ok(columns.min(limit))
+}
+
+/// Where the letters end that stand in a text from a place on: printable ASCII characters other than the space.
+#[inline]
+fn letters_end(text: &[u8], start: usize) -> usize
+    requires { start ≤ length text.now }
+    ensures within { (start ≤ result) × (result ≤ length text.now) }
+    ensures letters { AllWithin (λ b. (33 ≤ b) × (b ≤ 126)) text.now start result }
+{
+    let mut end = start;
+    while end < text.len() && is_letter(text[end]) {
+        end += 1;
+    }
+    end
+}
+
+/// Whether a byte is a printable ASCII character other than the space.
+#[inline]
+fn is_letter(byte: u8) -> bool
+    ensures low { OnTrue result (33 ≤ byte) }
+    ensures high { OnTrue result (byte ≤ 126) }
+{
+    matches!(byte, b'!'..=b'~')
+}
+
+/// Whether a byte is a space or a newline.
+#[inline]
+fn is_space(byte: u8) -> bool
+    ensures collapsible { OnTrue result (is_collapsible byte ≡ true) }
+    ensures ascii { OnTrue result (byte < 128) }
+{
+    matches!(byte, b' ' | b'\n')
+}
+
+/// The lesser of any text's size and `limit`.
+fn any_size_within(text: &str, limit: usize) -> usize
+    ensures { result ≡ min (size_of (chars text.now)) limit }
+{
+    match first_character(text) {
+        Some((c, behind)) if is_collapsible(c) => {
+            let columns = columns_within(without_leading_space(behind), 0, false, limit);
+            columns.saturating_add(columns.min(1)).min(limit)
+        }
+        _ => columns_within(text, 0, false, limit),
+    }
+}
+
+/// A text from its first character on that isn't collapsible white space.
+fn without_leading_space(text: &str) -> &str
+    ensures columns { columns_of false (chars result.now) ≡ inner_columns (chars text.now) }
+    ensures text { IsUtf8 result.now }
+{
+    let mut rest = text;
+    while let Some((c, behind)) = first_character(rest) {
+        if !is_collapsible(c) {
+            break;
+        }
+        rest = behind;
+    }
+    rest
+}
+
+/// The lesser of the columns of a text, behind others, and `limit`, where white space behind others is one column if others
+/// follow it.
+fn columns_within(text: &str, before: usize, space_before: bool, limit: usize) -> usize
+    ensures { result ≡ min (before + columns_of space_before (chars text.now)) limit }
+{
+    let mut rest = text;
+    let mut columns = before;
+    let mut spaced = space_before;
+    while columns < limit {
+        if let Some((letters, behind)) = split_letters(rest) {
+            columns = columns.saturating_add(spaced_width(spaced, letters));
+            spaced = false;
+            rest = behind;
+            continue;
+        }
+        if let Some(behind) = split_space(rest) {
+            spaced = true;
+            rest = behind;
+            continue;
+        }
+        let Some((c, behind)) = first_character(rest) else {
+            break;
+        };
+        match shown_width(c) {
+            Some(width) => {
+                columns = columns.saturating_add(spaced_width(spaced, width));
+                spaced = false;
+            }
+            None => spaced = true,
+        }
+        rest = behind;
+    }
+    columns.min(limit)
+}
+
+/// How many letters a text begins with, and what stands behind them; none where it begins with another character.
+#[inline]
+fn split_letters(text: &str) -> Option<(usize, &str)>
+    ensures columns { IfSome result (λ r. (spaced : Bool) →
+        columns_of spaced (chars text.now) ≡ (if spaced then 1 else 0) + r.0 + columns_of false (chars r.1.now)) }
+    ensures shorter { IfSome result (λ r. length r.1.now < length text.now) }
+    ensures text { IfSome result (λ r. IsUtf8 r.1.now) }
+{
+    let letters = letters_end(text.as_bytes(), 0);
+    if letters == 0 {
+        return None;
+    }
+    let (_, behind) = text.split_at_checked(letters)?;
+    Some((letters, behind))
+}
+
+/// What stands behind the space or newline that a text begins with, if it begins with one.
+#[inline]
+fn split_space(text: &str) -> Option<&str>
+    ensures columns { IfSome result (λ rest. (spaced : Bool) → columns_of spaced (chars text.now) ≡ columns_of true (chars rest.now)) }
+    ensures shorter { IfSome result (λ rest. length rest.now < length text.now) }
+    ensures text { IfSome result (λ rest. IsUtf8 rest.now) }
+{
+    let bytes = text.as_bytes();
+    if bytes.is_empty() || !is_space(bytes[0]) {
+        return None;
+    }
+    let (_, behind) = text.split_at_checked(1)?;
+    Some(behind)
+}
+
+/// The columns of a character that isn't collapsible white space.
+#[inline]
+fn shown_width(c: char) -> Option<usize>
+    ensures shown { IfSome result (λ width. (is_collapsible c ≡ false) × (width ≡ width_of c)) }
+    ensures space { IfNone result (is_collapsible c ≡ true) }
+{
+    match c {
+        '!'..='~' => Some(1),
+        _ if is_collapsible(c) => None,
+        _ => Some(width_of(c)),
+    }
+}
+
+/// The columns of a character that has `width`, and of white space if it stands in front.
+fn spaced_width(spaced: bool, width: usize) -> usize
+    ensures { result ≡ saturated ((if spaced then 1 else 0) + width) }
+{
+    if spaced {
+        width.saturating_add(1)
+    } else {
+        width
+    }
+}
+
+/// A text's first character, and the rest.
+fn first_character(text: &str) -> Option<(char, &str)>
+    ensures characters { MatchOption result (chars text.now ≡ []) (λ first. chars text.now ≡ first.0 ∷ chars first.1.now) }
+    ensures shorter { IfSome result (λ first. length first.1.now < length text.now) }
+    ensures text { IfSome result (λ first. IsUtf8 first.1.now) }
+{
+    let mut chars = text.chars();
+    let c = chars.next()?;
+    Some((c, chars.as_str()))
+}

@@ -1,0 +1,22 @@
+-- Where a forest can be parted, and forests that follow each other.
+use Rattle.std.specs.Prelude.{◌+◌, ◌≡◌, refl}
+use Rattle.std.proofs.Common.{arith, ap, sym}
+use Rattle.html_render_dom_values.specs.Forest.{Forest, none, node, count, followed_by}
+use Rattle.html_render_layout_nodes.specs.Splits.{SplitAt}
+
+module _ {K : Type 0} where
+  pub followed_by-none : (t : Forest K) → followed_by t none ≡ t
+  followed_by-none none = refl
+  followed_by-none (node k children beside) = ap (λ u. node k children u) (followed_by-none beside)
+
+  pub followed_by-followed_by : (t u v : Forest K) → followed_by (followed_by t u) v ≡ followed_by t (followed_by u v)
+  followed_by-followed_by none u v = refl
+  followed_by-followed_by (node k children beside) u v = ap (λ w. node k children w) (followed_by-followed_by beside u v)
+
+  pub count-followed_by : (t u : Forest K) → count (followed_by t u) ≡ count t + count u
+  count-followed_by none u = omega arith
+  count-followed_by (node k children beside) u = omega (arith, count-followed_by beside u)
+
+  -- everything came since there was none
+  pub SplitAt-none : (t : Forest K) → SplitAt t 0
+  SplitAt-none t = record { children = t; beside = none; is = sym (followed_by-none t); mark_is = refl }

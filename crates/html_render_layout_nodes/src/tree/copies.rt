@@ -1,0 +1,71 @@
+//! Copies of a render tree.
+
+ghost use Rattle.std.specs.Prelude.{◌≡◌, IfOk, IfErr};
+
+use super::{Entry, Flat, RenderNode, RenderTree};
+use html_render_dom_values::Error;
+use std::alloc::Global;
+
+impl RenderNode {
+    /// An equal node.
+    ///
+    /// # Errors
+    ///
+    /// `OutOfMemory`.
+    pub fn try_clone(&self, alloc: Global) -> Result<RenderNode, Error>
+        ensures ok { IfOk result (λ node. node ≡ self.now) }
+        ensures err { IfErr result (λ e. e ≡ Error.OutOfMemory) }
+    {
+        Ok(RenderNode {
+            kind: self.kind.try_clone(alloc)?,
+            style: self.style,
+            estimate: self.estimate,
+        })
+    }
+}
+
+/// An equal entry.
+fn copy_of(alloc: Global, entry: &Entry<RenderNode>) -> Result<Entry<RenderNode>, Error>
+    ensures ok { IfOk result (λ copy. copy ≡ entry.now) }
+    ensures err { IfErr result (λ e. e ≡ Error.OutOfMemory) }
+{
+    let node = entry.node.try_clone(alloc)?;
+    Ok(Entry {
+        node,
+        size: entry.size,
+    })
+}
+
+/// Equal nodes, in the same order.
+fn copies_of(alloc: Global, entries: &[Entry<RenderNode>]) -> Result<Vec<Entry<RenderNode>>, Error>
+    ensures ok { IfOk result (λ copies. copies.items ≡ entries.now) }
+    ensures err { IfErr result (λ e. e ≡ Error.OutOfMemory) }
+{
+    let mut copies = Vec::with_capacity(alloc, entries.len())?;
+    for entry in entries {
+        let copy = copy_of(alloc, entry)?;
+        copies.push(copy)?;
+    }
+    Ok(copies)
+}
+
+impl RenderTree {
+    /// An equal tree. It goes along the nodes, however deep they are.
+    ///
+    /// # Errors
+    ///
+    /// `OutOfMemory`.
+    #[tactic(auto, using(crate::proofs::Copies::copied))]
+    pub fn try_clone(&self, alloc: Global) -> Result<RenderTree, Error>
+        ensures ok { IfOk result (λ tree. tree ≡ self.now) }
+        ensures err { IfErr result (λ e. e ≡ Error.OutOfMemory) }
+    {
+        let entries = copies_of(alloc, self.nodes.entries())?;
+        let mut depths = Vec::new(alloc);
+        depths.extend_from_slice(&self.depths)?;
+        Ok(RenderTree {
+            nodes: Flat::from_entries(entries),
+            depths,
+        })
+    }
+}

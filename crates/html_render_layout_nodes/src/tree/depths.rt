@@ -1,0 +1,66 @@
+//! The depths of the nodes of a render tree, noted in one pass over them.
+
+ghost use Rattle.std.specs.Prelude.{◌≡◌, ◌↔◌, [], reverse, OnOk, IfOk, IfErr, IsTrue};
+ghost use Rattle.html_render_layout_nodes.specs.Depths.{open_at, with_part, depths_from, EndsAt};
+
+use super::{Entry, Flat, RenderNode, RenderTree};
+use html_render_dom_values::Error;
+use std::alloc::{AllocError, Global};
+
+/// Whether the innermost of the parts that are open, the last one, ends at a place.
+fn ends_at(ends: &[usize], place: usize) -> bool
+    ensures { IsTrue result ↔ EndsAt place (reverse ends.now) }
+{
+    match ends.last() {
+        Some(end) => *end == place,
+        None => false,
+    }
+}
+
+/// Leaves the parts that end at a place.
+fn leave(ends: &mut Vec<usize>, place: usize)
+    ensures { reverse ends.new.items ≡ open_at place (reverse ends.old.items) }
+{
+    'leaving: while ends_at(ends.as_slice(), place) {
+        ends.pop();
+    }
+}
+
+/// Begins the part of `size` nodes at a place, if it has more than one.
+fn begin(ends: &mut Vec<usize>, place: usize, size: usize) -> Result<(), AllocError>
+    ensures { OnOk result (reverse ends.new.items ≡ with_part place size (reverse ends.old.items)) }
+{
+    if size > 1 {
+        ends.push(place.saturating_add(size))?;
+    }
+    Ok(())
+}
+
+/// How deep each of some nodes stands, in pre-order: in as many parts as are open where it comes.
+fn depths_of(alloc: Global, entries: &[Entry<RenderNode>]) -> Result<Vec<usize>, AllocError>
+    ensures { IfOk result (λ depths. depths.items ≡ depths_from 0 [] entries.now) }
+{
+    let mut depths = Vec::with_capacity(alloc, entries.len())?;
+    let mut ends = Vec::new(alloc);
+    for (place, entry) in entries.iter().enumerate() {
+        leave(&mut ends, place);
+        depths.push(ends.len())?;
+        begin(&mut ends, place, entry.size)?;
+    }
+    Ok(depths)
+}
+
+impl RenderTree {
+    /// The document of trees.
+    ///
+    /// # Errors
+    ///
+    /// `OutOfMemory`.
+    pub fn new(alloc: Global, nodes: Flat<RenderNode>) -> Result<RenderTree, Error>
+        ensures ok { IfOk result (λ tree. tree ≡ nodes) }
+        ensures err { IfErr result (λ e. e ≡ Error.OutOfMemory) }
+    {
+        let depths = depths_of(alloc, nodes.entries())?;
+        Ok(RenderTree { nodes, depths })
+    }
+}

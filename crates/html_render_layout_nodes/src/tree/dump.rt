@@ -1,0 +1,40 @@
+//! The dump of a render tree, to look at: `Container`, ` Block` and `  Text` for a paragraph with a text.
+
+ghost use Rattle.std.specs.Prelude.{◌≡◌, Some, replicate};
+ghost use Rattle.std.specs.Fmt.{WritesOnOk};
+ghost use Rattle.html_render_layout_nodes.specs.Dump.{dump, line};
+
+use super::RenderTree;
+use std::fmt;
+
+/// Writes a name behind `depth` spaces, and a line feed.
+fn write_line<W: fmt::Write>(f: &mut fmt::Formatter<W>, depth: usize, name: &str) -> fmt::Result
+    ensures { WritesOnOk W.write_str_gives f.old result (line depth name.now) f.new }
+{
+    write_indent(f, depth)?;
+    f.write_str(name)?;
+    f.write_str("\n")
+}
+
+/// Writes `depth` spaces.
+fn write_indent<W: fmt::Write>(f: &mut fmt::Formatter<W>, depth: usize) -> fmt::Result
+    ensures { WritesOnOk W.write_str_gives f.old result (replicate depth 32) f.new }
+{
+    for _ in 0..depth {
+        f.write_str(" ")?;
+    }
+    Ok(())
+}
+
+/// A render tree is displayed as a line for each node in pre-order: its depth in spaces, the name of its kind, and a line
+/// feed. It takes no memory.
+impl fmt::Display for RenderTree {
+    ghost output = { λ tree. Some (dump 0 tree) };
+
+    fn fmt<W: fmt::Write>(&self, f: &mut fmt::Formatter<W>) -> fmt::Result {
+        for (at, entry) in self.nodes.entries().iter().enumerate() {
+            write_line(f, self.depths[at], entry.node.kind.name())?;
+        }
+        Ok(())
+    }
+}

@@ -1,0 +1,240 @@
+-- Words that follow each other on a line, each behind one space.
+use Rattle.std.proofs.Common.{◌≡◌, ℕ, ◌+◌, ◌<◌, ◌≤◌, Bool, true, List, [], ◌∷◌, ◌++◌, take, drop, length, Option, None, Some, refl}
+use Rattle.std.proofs.Common.{sym, ap, ◌∙◌, arith, length-append, option_map, option_and_then, append_assoc, append-nil, if◌then◌else◌, map, get_or, suc, drop-cons}
+use Rattle.std.proofs.lemmas.List.Sums.{sum_by-append}
+use Rattle.std.proofs.lemmas.List.{map-append, length-drop, length-take, drop-drop, get_or-drop}
+use Rattle.std.proofs.lemmas.Bool.{le-leb, ne_eqb}
+use Rattle.std.proofs.lemmas.Str.{chars-append, chars-nil, IsUtf8-take, IsUtf8-drop, IsCharBoundary-after_ascii, IsCharBoundary-from_rest}
+use Rattle.std.proofs.Math.Seq.{take-add}
+use Rattle.std.specs.Str.{chars, IsUtf8}
+use Rattle.html_render_dom_values.specs.declared.white_space.WhiteSpace.{WhiteSpace}
+use Rattle.html_render_dom_values.specs.declared.white_space.WhiteSpace.TheVariants.{Normal}
+use Rattle.html_render_layout_lines.specs.declared.character.Character.{Character}
+use Rattle.html_render_layout_lines.specs.declared.character.Kind.TheVariants.{Space}
+use Rattle.html_render_layout_lines.specs.declared.character.TextStyle.{TextStyle}
+use Rattle.html_render_layout_lines.specs.declared.line.Element.TheVariants as element
+use Rattle.html_render_layout_lines.specs.Character.{kind, width_of, tag_on, character_of}
+use Rattle.html_render_layout_paragraphs.specs.Feeding.{AreLetters, IsFront, placed_text_and_space, with_words}
+use Rattle.html_render_layout_lines.specs.Line.{Line, columns, word_columns, is_empty}
+use Rattle.html_render_layout_paragraphs.specs.Paragraph.{Page, Setting, fits, put_word, put_items, continued}
+use Rattle.html_render_layout_paragraphs.specs.Stream.{State, after, styled, with_pending}
+use Rattle.html_render_layout_lines.specs.TaggedText.{text_columns, under, style_tag}
+use Rattle.html_render_layout_lines.specs.laws.Cases.{if_true, if_false}
+use Rattle.html_render_layout_lines.specs.laws.Columns.{width-space, columns-append, columns-under}
+use Rattle.html_render_layout_paragraphs.proofs.Letters.{after-word, some-chars, chars-ascii}
+use Rattle.html_render_layout_paragraphs.proofs.PageColumns.{columns-push_space}
+use Rattle.html_render_layout_paragraphs.proofs.WordColumns.{word_columns-styled}
+use Rattle.html_render_layout_paragraphs.proofs.Words.{put_items-text}
+
+-- ---- one word behind a space
+
+-- a word behind a space, where both fit on a line that isn't empty
+put_word-here : {T M : Type 0} (s : Setting) (lines : List (Line T M)) (line : Line T M) (k : Bool) (style : TextStyle T)
+    (a : ℕ) (cs : List ℕ) → 0 < length line → columns line + (1 + text_columns cs) ≤ s.width → 0 < length cs →
+    put_word s (record { lines = lines; line = line; continues = k; waiting = [] }) (Some (character_of style a)) (styled style cs)
+    ≡ Some (record {
+      lines = lines;
+      line = line ++ element.Character 32 (style_tag k style) ∷ under (style_tag k style) cs;
+      continues = k;
+      waiting = [];
+    })
+put_word-here {T} {M} s lines line k style a cs long room some =
+    let page : Page T M = record { lines = lines; line = line; continues = k; waiting = [] } in
+    let space : Line T M = element.Character 32 (tag_on k (character_of style a)) ∷ [] in
+    let next : Page T M = record page { line = line ++ space } in
+    let text : Line T M = under (style_tag k style) cs in
+    let width : word_columns {M = M} (styled style cs) ≡ text_columns cs = word_columns-styled M style cs in
+    let grown : columns next.line ≡ columns line + 1 = columns-push_space line (tag_on k (character_of style a)) in
+    let here : fits s next (word_columns {M = M} (styled style cs)) ≡ true = le-leb _ _ (omega (arith, room, width, grown)) in
+    let there : fits s next (text_columns cs) ≡ true = le-leb _ _ (omega (arith, room, grown)) in
+    ap (λ (p : Page T M). put_items s (if fits s p (word_columns {M = M} (styled style cs)) then p else continued page) (styled style cs))
+    (if_false (is_empty line) page next (ne_eqb (length line) 0 (λ e. omega (arith, e))))
+    ∙ ap (λ (p : Page T M). put_items s p (styled style cs)) (if_true _ next (continued page) here)
+    ∙ put_items-text s next style cs there some
+    ∙ ap (λ (l : Line T M). Some (record page { line = l })) (append_assoc next.line [] text ∙ append_assoc line space text)
+
+-- such a word and the space behind it
+fitting_word : {T M : Type 0} (st : State T M) (style : TextStyle T) (a b : ℕ) (cs : List ℕ) → 0 < length st.page.line →
+    st.page.waiting ≡ [] →
+    st.pending ≡ Some (character_of style a) → columns st.page.line + (1 + text_columns cs) ≤ st.setting.width → 0 < length cs →
+    placed_text_and_space st style cs b
+    ≡ Some (record st {
+      page = record st.page {
+        line = st.page.line ++ element.Character 32 (style_tag st.page.continues style) ∷ under (style_tag st.page.continues style) cs;
+      };
+      pending = Some (character_of style b);
+    })
+fitting_word {T} {M} st style a b cs some none due room low = by st.page.line st.page.waiting st.pending some none due room
+  where
+    by : (line : Line T M) (ms : List M) (pending : Option (Character T)) → 0 < length line → ms ≡ [] →
+        pending ≡ Some (character_of style a) → columns line + (1 + text_columns cs) ≤ st.setting.width →
+        option_map (λ (t : State T M). with_pending t (character_of style b))
+        (option_map (λ (p : Page T M). record st { page = p; pending = None })
+        (put_word st.setting (record { lines = st.page.lines; line = line; continues = st.page.continues; waiting = ms }) pending
+        (styled style cs)))
+        ≡ Some (record st {
+          page = record {
+            lines = st.page.lines;
+            line = line ++ element.Character 32 (style_tag st.page.continues style) ∷ under (style_tag st.page.continues style) cs;
+            continues = st.page.continues;
+            waiting = ms;
+          };
+          pending = Some (character_of style b);
+        })
+    by line ms pending some none due room =
+        rw (none, due) (ap (λ (o : Option (Page T M)). option_map (λ (t : State T M). with_pending t (character_of style b))
+        (option_map (λ (p : Page T M). record st { page = p; pending = None }) o))
+        (put_word-here st.setting st.page.lines line st.page.continues style a cs some room low))
+
+-- ---- words of a text
+
+split : (bs : List ℕ) (n k : ℕ) → IsUtf8 (take n bs) → n < length bs → get_or bs n 0 ≡ 32 →
+    chars (take (n + 1 + k) bs) ≡ chars (take n bs) ++ 32 ∷ chars (take k (drop (n + 1) bs))
+split bs n k u high space =
+    let next : n + 1 ≡ suc n = omega arith in
+    let sum : n + 1 + k ≡ n + suc k = omega arith in
+    let whole : drop n bs ≡ 32 ∷ drop (n + 1) bs = drop-cons bs n 0 high ∙ rw (next, space) refl in
+    ap (λ m. chars (take m bs)) sum
+    ∙ ap chars (take-add n (suc k) bs ∙ ap (λ r. take n bs ++ take (suc k) r) whole)
+    ∙ chars-append (take n bs) (32 ∷ take k (drop (n + 1) bs)) u
+    ∙ ap (λ cs. chars (take n bs) ++ cs) (chars-ascii 32 (take k (drop (n + 1) bs)) (omega arith))
+
+-- a front with a space and the letters behind it
+pub next-words : (mode : WhiteSpace) (bs : List ℕ) (n w k v : ℕ) → IsUtf8 bs → IsFront bs n w → n < length bs → get_or bs n 0 ≡ 32 →
+    AreLetters mode (drop (n + 1) bs) k v → IsFront bs (n + 1 + k) (w + 1 + v)
+next-words mode bs n w k v u front high space are =
+    let whole = split bs n k (IsUtf8-take bs n u front.boundary) high space in
+    let longer : n + 1 ≤ length bs = omega arith in
+    record {
+      within = omega (arith, are.within, length-drop (n + 1) bs);
+      boundary = IsCharBoundary-from_rest bs (n + 1) k longer are.boundary;
+      columns = omega (
+        arith,
+        front.columns,
+        are.columns,
+        ap text_columns whole,
+        sum_by-append width_of (chars (take n bs)) (32 ∷ chars (take k (drop (n + 1) bs))),
+        sum_by-append width_of (32 ∷ []) (chars (take k (drop (n + 1) bs))),
+        width-space,
+      );
+    }
+
+-- the state with one word more on the line
+one_more : {T M : Type 0} (st : State T M) (style : TextStyle T) (bs : List ℕ) (n k : ℕ) → IsUtf8 (take n bs) → n < length bs →
+    get_or bs n 0 ≡ 32 → record (with_words st style bs n) {
+      page = record (with_words st style bs n).page {
+        line =
+            (with_words st style bs n).page.line
+            ++ element.Character 32 (style_tag st.page.continues style)
+            ∷ under (style_tag st.page.continues style) (chars (take k (drop (n + 1) bs)));
+      };
+      pending = Some (character_of style (get_or (drop (n + 1) bs) k 0));
+    }
+    ≡ with_words st style bs (n + 1 + k)
+one_more {T} {M} st style bs n k u high space =
+    let tag : T = style_tag st.page.continues style in
+    let front : List ℕ = chars (take n bs) in
+    let word : List ℕ = chars (take k (drop (n + 1) bs)) in
+    let line : (st.page.line ++ under tag front) ++ element.Character 32 tag ∷ under tag word
+    ≡ st.page.line ++ under {M = M} tag (chars (take (n + 1 + k) bs)) =
+    append_assoc st.page.line (under tag front) (element.Character 32 tag ∷ under tag word)
+    ∙ ap (λ (l : Line T M). st.page.line ++ l) (sym (map-append (λ c. element.Character c tag) front (32 ∷ word)))
+    ∙ ap (λ cs. st.page.line ++ under {M = M} tag cs) (sym (split bs n k u high space)) in
+    ap (λ (l : Line T M). record (with_words st style bs n) {
+      page = record (with_words st style bs n).page { line = l };
+      pending = Some (character_of style (get_or (drop (n + 1) bs) k 0));
+    }) line
+    ∙ ap (λ b. record (with_words st style bs (n + 1 + k)) { pending = Some (character_of style b) }) (get_or-drop (n + 1) bs k 0)
+
+pub next-fed : {T M : Type 0} (st : State T M) (style : TextStyle T) (bs : List ℕ) (n w k v : ℕ) → IsUtf8 bs → style.mode ≡ Normal →
+    IsFront bs n w → n < length bs → get_or bs n 0 ≡ 32 →
+    AreLetters style.mode (drop (n + 1) bs) k v → 0 < k → n + 1 + k < length bs → get_or bs (n + 1 + k) 0 < 128 →
+    kind Normal (get_or bs (n + 1 + k) 0) ≡ Space → st.open_word ≡ None → st.word ≡ [] → 0 < length st.page.line → st.page.waiting ≡ [] →
+    columns st.page.line + (w + (1 + v)) ≤ st.setting.width → after (with_words st style bs n) (styled style (chars (drop (n + 1) bs)))
+    ≡ after (with_words st style bs (n + 1 + k)) (styled style (chars (drop (n + 1 + k + 1) bs)))
+next-fed {T} {M} st style bs n w k v u mode front high space are low more byte behind closed empty some none room =
+    let rest : List ℕ = drop (n + 1) bs in
+    let now : State T M = with_words st style bs n in
+    let small : get_or bs n 0 < 128 = omega (arith, space) in
+    let text : IsUtf8 rest = IsUtf8-drop bs (n + 1) u (IsCharBoundary-after_ascii bs n u high small) in
+    let before : IsUtf8 (take n bs) = IsUtf8-take bs n u front.boundary in
+    let there : get_or rest k 0 ≡ get_or bs (n + 1 + k) 0 = get_or-drop (n + 1) bs k 0 in
+    let within : k < length rest = omega (arith, length-drop (n + 1) bs) in
+    let word : List ℕ = chars (take k rest) in
+    let letters : 0 < length word =
+    some-chars (take k rest) (IsUtf8-take rest k text are.boundary) (simp length-take (omega (arith, within))) in
+    let tag : T = style_tag st.page.continues style in
+    let line : Line T M = under tag (chars (take n bs)) in
+    let grown : columns now.page.line ≡ columns st.page.line + w =
+    omega (arith, columns-append st.page.line line, columns-under M tag (chars (take n bs)), front.columns) in
+    let longer : 0 < length now.page.line = omega (arith, length-append st.page.line line) in
+    let fit : columns now.page.line + (1 + text_columns word) ≤ now.setting.width = omega (arith, grown, are.columns) in
+    let end : n + 1 + (k + 1) ≡ n + 1 + k + 1 = omega arith in
+    after-word now style rest k v text mode are low within (rw there byte) (rw there behind) closed empty
+    ∙ ap (option_and_then (λ (t : State T M). after t (styled style (chars (drop (k + 1) rest)))))
+    (fitting_word now style (get_or bs n 0) (get_or rest k 0) word longer none refl fit letters)
+    ∙ ap (λ (t : State T M). after t (styled style (chars (drop (k + 1) rest)))) (one_more st style bs n k before high space)
+    ∙ ap (λ r. after (with_words st style bs (n + 1 + k)) (styled style (chars r)))
+    (drop-drop (k + 1) (n + 1) bs ∙ ap (λ m. drop m bs) end)
+
+-- ---- no word, and words that were put
+
+pub no-words : {T M : Type 0} (st : State T M) (style : TextStyle T) (bs : List ℕ) → st.pending ≡ Some (character_of style (get_or bs 0 0)) →
+    with_words st style bs 0 ≡ st
+no-words {T} {M} st style bs due =
+    let tag : T = style_tag st.page.continues style in
+    let line : st.page.line ++ under {M = M} tag (chars []) ≡ st.page.line =
+    ap (λ cs. st.page.line ++ under {M = M} tag cs) chars-nil ∙ append-nil st.page.line in
+    ap (λ (l : Line T M). record st { page = record st.page { line = l }; pending = Some (character_of style (get_or bs 0 0)) }) line
+    ∙ ap (λ (p : Option (Character T)). record st { pending = p }) (sym due)
+
+pub put-words : {T M : Type 0} (st : State T M) (style : TextStyle T) (bs : List ℕ) (n : ℕ) → st.page.waiting ≡ [] → record st {
+  page = record st.page {
+    line =
+        (st.page.line ++ map (λ (m : M). element.Mark m) st.page.waiting)
+        ++ under (style_tag st.page.continues style) (chars (take n bs));
+    waiting = [];
+  };
+  pending = Some (character_of style (get_or bs n 0));
+}
+    ≡ with_words st style bs n
+put-words {T} {M} st style bs n none = by st.page.waiting none
+  where
+    by : (ms : List M) → ms ≡ [] → record st {
+      page = record st.page {
+        line =
+            (st.page.line ++ map (λ (m : M). element.Mark m) ms)
+            ++ under (style_tag st.page.continues style) (chars (take n bs));
+        waiting = [];
+      };
+      pending = Some (character_of style (get_or bs n 0));
+    }
+        ≡ record st {
+          page = record st.page {
+            line = st.page.line ++ under (style_tag st.page.continues style) (chars (take n bs));
+            waiting = ms;
+          };
+          pending = Some (character_of style (get_or bs n 0));
+        }
+    by ms e =
+        rw e (ap (λ (l : Line T M). record st {
+          page = record st.page {
+            line = l ++ under (style_tag st.page.continues style) (chars (take n bs));
+            waiting = [];
+          };
+          pending = Some (character_of style (get_or bs n 0));
+        }) (append-nil st.page.line))
+
+-- what a word and the space behind it leave
+pub after-placed : {T M : Type 0} (st t : State T M) (style : TextStyle T) (cs : List ℕ) (b : ℕ) →
+    placed_text_and_space st style cs b ≡ Some t →
+    (t.open_word ≡ st.open_word) × (t.word ≡ st.word) × (t.pending ≡ Some (character_of style b))
+after-placed {T} {M} st t style cs b e = by (put_word st.setting st.page st.pending (styled style cs)) e
+  where
+    by : (o : Option (Page T M)) → option_map (λ (t : State T M). with_pending t (character_of style b))
+        (option_map (λ (p : Page T M). record st { page = p; pending = None }) o)
+        ≡ Some t → (t.open_word ≡ st.open_word) × (t.word ≡ st.word) × (t.pending ≡ Some (character_of style b))
+    by None e = cc
+    by (Some p) e =
+        let same : record st { page = p; pending = Some (character_of style b) } ≡ t = cc in
+        (ap (λ (x : State T M). x.open_word) (sym same), ap (λ (x : State T M). x.word) (sym same), ap (λ (x : State T M). x.pending) (sym same))

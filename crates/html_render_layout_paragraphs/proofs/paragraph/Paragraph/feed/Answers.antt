@@ -1,0 +1,12 @@
+use Rattle.std.proofs.Common.{◌≡◌, length, sym, ap, ◌∙◌}
+use Rattle.std.proofs.lemmas.List.{nil_from_length}
+use Rattle.std.proofs.lemmas.Bool.{eqb-true}
+use Rattle.std.proofs.lemmas.Str.{chars-nil}
+use Rattle.std.specs.Str.{chars}
+use Rattle.html_render_layout_paragraphs.specs.Stream.{after, styled}
+use Rattle.html_render_layout_paragraphs.proofs.paragraph.Paragraph.feed.Goals as goal
+
+pub returns-clause-ok : goal.returns-clause-ok
+returns-clause-ok g c =
+    let none : length c.loop-rest.rest.now ≡ 0 = eqb-true _ 0 (sym c.is_empty.ensures ∙ c.loop-rest-test.false) in
+    c.loop-rest.invariant.0 ∙ ap (λ cs. after c.loop-rest.self (styled c.args.style cs)) (ap chars (nil_from_length _ none) ∙ chars-nil)

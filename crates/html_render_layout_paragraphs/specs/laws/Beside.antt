@@ -1,0 +1,94 @@
+-- A PARAGRAPH BESIDE ANOTHER that was fed the same, where overflow may be on: what is said of its page is said as each piece is placed.
+use Rattle.std.proofs.Common.{◌≡◌, ℕ, Bool, true, List, [], ◌∷◌, ◌++◌, map, fold, Option, Some, None, refl, sym, ap, subst, option_and_then}
+use Rattle.std.specs.Option.{option_or}
+use Rattle.html_render_layout_lines.specs.declared.character.Kind.{Kind}
+use Rattle.html_render_layout_lines.specs.declared.character.Kind.TheVariants.{Preserved, Newline, Tab, SoftSpace, SoftTab}
+use Rattle.html_render_layout_lines.specs.declared.character.Character.{Character}
+use Rattle.html_render_layout_lines.specs.declared.character.Item.{Item}
+use Rattle.html_render_layout_lines.specs.declared.character.Item.TheVariants as item
+use Rattle.html_render_layout_lines.specs.Line.{Line, word_columns}
+use Rattle.html_render_layout_paragraphs.specs.CutText.{kept_style, text_lines}
+use Rattle.html_render_layout_paragraphs.specs.Paragraph.{Piece, Word, Gap, Cut, Single, Loose, pieces, Page, Setting, with_waiting_mark, with_line_break}
+use Rattle.html_render_layout_paragraphs.specs.Paragraph.{put_character, put_items, put_word, put_single, page_for_word, page_for_single, put_fitting}
+use Rattle.html_render_layout_paragraphs.specs.Paragraph.{tab_spaces, place, paragraph, blank_page, continued, with_due_space, fits}
+use Rattle.html_render_layout_paragraphs.specs.Stream.{styled}
+use Rattle.html_render_layout_paragraphs.specs.laws.Answers.{Both, Both-then, Both-map}
+use Rattle.html_render_layout_lines.specs.laws.Cases.{if_cases}
+use Rattle.html_render_layout_paragraphs.specs.laws.Cases.{page_for_single_cases}
+
+module _ {T M : Type 0} (g : Bool → Bool) (N L : Type 0) (weak : L → N) (s : Setting) (OnPage : Page T M → Type 0) where
+  -- the other setting: with g overflow is on in it
+  abbrev other : Setting
+  other = record s { overflow = g s.overflow }
+
+  -- the same page, of which this holds
+  abbrev Beside : Page T M → Page T M → Type 0
+  Beside p q = (q ≡ p) × OnPage p
+
+  -- what is said of a page, as something is placed
+  pub record Holds : Type 0 where
+    pub blank : (marks : List M) → OnPage (blank_page marks)
+    pub mark : (p : Page T M) (m : M) → OnPage p → OnPage (with_waiting_mark p m)
+    pub line_break : (p : Page T M) → OnPage p → OnPage (with_line_break p)
+    pub character : (p : Page T M) (c : Character T) → OnPage p → Both N L Beside (put_character s p c) (put_character other p c)
+    pub fitting : (p : Page T M) (c : Character T) → OnPage p → OnPage (put_fitting s p c)
+    pub due : (p : Page T M) (pending : Option (Character T)) (n : ℕ) → OnPage p → fits s (with_due_space p pending) n ≡ true →
+        OnPage (with_due_space p pending)
+    pub next : (p : Page T M) → OnPage p → OnPage (continued p)
+
+  module _ (h : Holds) where
+    -- one step after another
+    then_beside : (f k : Page T M → Option (Page T M)) (a b : Option (Page T M)) → Both N L Beside a b →
+        ((p : Page T M) → OnPage p → Both N L Beside (f p) (k p)) → Both N L Beside (option_and_then f a) (option_and_then k b)
+    then_beside f k a b e next =
+        Both-then N L weak Beside Beside f k a b e (λ p q r. subst (λ z. Both N L Beside (f p) (k z)) (sym r.0) (next p r.1))
+
+    items-beside : (p : Page T M) (xs : List (Item T M)) → OnPage p → Both N L Beside (put_items s p xs) (put_items other p xs)
+    items-beside p [] k = (refl, k)
+    items-beside p (item.Character c ∷ xs) k =
+        then_beside (λ p. put_items s p xs) (λ p. put_items other p xs) (put_character s p c) (put_character other p c)
+        (h.character p c k) (λ q l. items-beside q xs l)
+    items-beside p (item.Mark m ∷ xs) k = items-beside (with_waiting_mark p m) xs (h.mark p m k)
+
+    all_fitting-beside : (p : Page T M) (cs : List (Character T)) → OnPage p → OnPage (fold (put_fitting s) p cs)
+    all_fitting-beside p [] k = k
+    all_fitting-beside p (c ∷ cs) k = all_fitting-beside (put_fitting s p c) cs (h.fitting p c k)
+
+    single-beside : (p : Page T M) (k : Kind) (c : Character T) → OnPage p → Both N L Beside (put_single s p k c) (put_single other p k c)
+    single-beside p Preserved c k = h.character p c k
+    single-beside p SoftSpace c k = (refl, h.fitting p c k)
+    single-beside p Newline c k = (refl, h.line_break p k)
+    single-beside p Tab c k = items-beside p (map (λ d. item.Character d) (tab_spaces p c)) k
+    single-beside p SoftTab c k = (refl, all_fitting-beside p (tab_spaces p c) k)
+    single-beside p x c k = (refl, k)
+
+    word-beside : (p : Page T M) (pending : Option (Character T)) (w : List (Item T M)) → OnPage p → OnPage (page_for_word s p pending w)
+    word-beside p pending w k = if_cases OnPage (fits s (with_due_space p pending) (word_columns w)) _ _
+        (h.due p pending (word_columns w) k) (λ _. h.next p k)
+
+    place-beside : (p : Page T M) (pending : Option (Character T)) (ps : List (Piece T M)) → OnPage p →
+        Both N L Beside (place s p pending ps) (place other p pending ps)
+    place-beside p pending [] k = (refl, k)
+    place-beside p pending (Word x w ∷ ps) k =
+        then_beside (λ p. place s p None ps) (λ p. place other p None ps) (put_word s p pending w) (put_word other p pending w)
+        (items-beside (page_for_word s p pending w) w (word-beside p pending w k)) (λ q l. place-beside q None ps l)
+    place-beside p pending (Gap c ∷ ps) k = place-beside p (option_or pending (Some c)) ps k
+    place-beside p pending (Cut ∷ ps) k = place-beside p pending ps k
+    place-beside p pending (Single x c ∷ ps) k =
+        then_beside (λ p. place s p None ps) (λ p. place other p None ps) (put_single s (page_for_single s p pending x) x c)
+        (put_single other (page_for_single other p pending x) x c)
+        (single-beside (page_for_single s p pending x) x c (page_for_single_cases OnPage s p pending x k (h.due p pending 0 k)))
+        (λ q l. place-beside q None ps l)
+    place-beside p pending (Loose m ∷ ps) k = place-beside (with_waiting_mark p m) pending ps (h.mark p m k)
+
+    -- THE THEOREM, of a paragraph, and of a text that is cut
+    pub paragraph-beside : (marks : List M) (xs : List (Item T M)) → Both N L Beside (paragraph s marks xs) (paragraph other marks xs)
+    paragraph-beside marks xs = place-beside (blank_page marks) None (pieces xs) (h.blank marks)
+
+    pub cut-beside : (P : List (Line T M) → Type 0) → ((p : Page T M) → OnPage p → P (p.lines ++ p.line ∷ [])) → (tag : T) (cs : List ℕ) →
+        Both N L (λ a b. (b ≡ a) × P a) (text_lines s true tag cs) (text_lines other true tag cs)
+    cut-beside P so tag cs =
+        Both-map N L Beside (λ a b. (b ≡ a) × P a) (λ (p : Page T M). p.lines ++ p.line ∷ []) (λ (p : Page T M). p.lines ++ p.line ∷ [])
+        (put_items s (blank_page []) (styled (kept_style tag) cs)) (put_items other (blank_page []) (styled (kept_style tag) cs))
+        (items-beside (blank_page []) (styled (kept_style tag) cs) (h.blank []))
+        (λ p q k. (ap (λ (z : Page T M). z.lines ++ z.line ∷ []) k.0, so p k.1))

@@ -1,0 +1,60 @@
+//! Laws of the definition of a paragraph, each the contract of a function that does nothing.
+
+ghost use Rattle.std.specs.Prelude.{◌≡◌, ℕ, List, true, Some, IfSome, IsSome, option_and_then};
+ghost use Rattle.html_render_layout_paragraphs.specs.CutText.{text_lines, together, AreLongest};
+ghost use Rattle.html_render_layout_lines.specs.Line.{AllWithinWidth};
+ghost use Rattle.html_render_layout_paragraphs.specs.Paragraph.{Page, Setting, without_overflow, with_overflow, paragraph, all_lines};
+ghost use Rattle.html_render_layout_paragraphs.specs.Stream.{start, after, finished};
+ghost use Rattle.html_render_layout_lines.specs.TaggedText.{under};
+ghost use Rattle.html_render_layout_lines.specs.Visible.{visible_in_items, visible_in_lines};
+ghost use Rattle.html_render_layout_lines.specs.declared.character.Item.{Item};
+
+/// The lines have the visible characters that were fed, in their order: none is lost, and none is added. This holds
+/// for each width, with overflow and without, wherever the paragraph isn't too narrow.
+#[tactic(auto, using(crate::specs::laws::Visible::paragraph_keeps))]
+fn no_visible_character_is_lost<T, M>()
+    ensures { (setting : Setting) (marks : List M) (items : List (Item T M)) →
+        IfSome (paragraph setting marks items) (λ page. visible_in_lines (all_lines page) ≡ visible_in_items items) }
+{}
+
+/// With overflow off no line passes the width.
+#[tactic(auto, using(crate::specs::laws::Within::paragraph_within))]
+fn no_line_passes_the_width<T, M>()
+    ensures { (width : ℕ) (marks : List M) (items : List (Item T M)) →
+        IfSome (paragraph (without_overflow width) marks items) (λ page. AllWithinWidth width (all_lines page)) }
+{}
+
+/// With overflow on a paragraph is never too narrow.
+#[tactic(auto, using(crate::specs::laws::Overflow::paragraph_some))]
+fn overflow_is_never_too_narrow<T, M>()
+    ensures { (width : ℕ) (marks : List M) (items : List (Item T M)) →
+        IsSome (paragraph (with_overflow width) marks items) }
+{}
+
+/// Where a paragraph isn't too narrow with overflow off, it is the same with overflow on.
+#[tactic(auto, using(crate::specs::laws::Overflow::paragraph_same))]
+fn overflow_gives_the_same_lines<T, M>()
+    ensures { (width : ℕ) (marks : List M) (items : List (Item T M)) (page : Page T M) →
+        paragraph (without_overflow width) marks items ≡ Some page → paragraph (with_overflow width) marks items ≡ Some page }
+{}
+
+/// What is fed piece by piece and then finished is the paragraph of all that was fed.
+#[tactic(auto, using(crate::specs::laws::Whole::fed))]
+fn feeding_gives_the_whole_paragraph<T, M>()
+    ensures { (setting : Setting) (marks : List M) (items : List (Item T M)) →
+        option_and_then finished (after (start setting marks) items) ≡ paragraph setting marks items }
+{}
+
+/// A text that is cut into lines stands on them whole: each of its characters, in order, and nothing else.
+#[tactic(auto, using(crate::specs::laws::CutText::cuts))]
+fn a_cut_text_is_whole<T, M>()
+    ensures { (setting : Setting) (tag : T) (text : List ℕ) →
+        IfSome (text_lines {M = M} setting true tag text) (λ lines. together lines ≡ under tag text) }
+{}
+
+/// It is cut where a line is full, and nowhere else.
+#[tactic(auto, using(crate::specs::laws::CutText::cuts))]
+fn a_text_is_cut_where_lines_are_full<T, M>()
+    ensures { (setting : Setting) (tag : T) (text : List ℕ) →
+        IfSome (text_lines {M = M} setting true tag text) (AreLongest setting.width) }
+{}

@@ -1,0 +1,76 @@
+//! Texts that are cut into lines where a line is full, and nowhere else.
+
+ghost use Rattle.std.specs.Prelude.{◌≡◌, [], ◌∷◌, ◌++◌, Some, true, OnOk, IfErr, option_map};
+ghost use Rattle.std.specs.Str.{chars};
+ghost use Rattle.html_render_dom_values.specs.Outcome.{Refuses};
+ghost use Rattle.html_render_layout_paragraphs.specs.CutText.{kept_style, text_lines};
+ghost use Rattle.html_render_layout_paragraphs.specs.Paragraph.{put_items};
+ghost use Rattle.html_render_layout_paragraphs.specs.Stream.{styled};
+
+use crate::paragraph::Paragraph;
+use html_render_dom_values::Error;
+use html_render_dom_values::white_space::WhiteSpace;
+use html_render_layout_lines::character::TextStyle;
+use html_render_layout_lines::line::Line;
+use html_render_layout_lines::tag::Tag;
+use std::alloc::{AllocError, Global};
+
+/// The style of a text whose white space is kept, with one tag on all lines.
+fn kept_style<T: Copy>(tag: T) -> TextStyle<T>
+    ensures { result ≡ kept_style tag }
+{
+    TextStyle {
+        mode: WhiteSpace::Pre,
+        tag,
+        continuation_tag: tag,
+    }
+}
+
+impl<T: Tag, M: Copy> Paragraph<T, M> {
+    /// Moves all lines of the page behind the given ones, the open one too.
+    fn move_ended_lines(&mut self, lines: &mut Vec<Line<T, M>>) -> Result<(), AllocError>
+        ensures { OnOk result (lines.new.items ≡ lines.old.items ++ (self.old.page.lines ++ self.old.page.line ∷ [])) }
+    {
+        self.break_line()?;
+        self.move_lines(lines)
+    }
+
+    /// Puts a text's characters one after the other, and moves all lines of the page behind the given ones.
+    #[tactic(auto, using(html_render_dom_values::specs::laws::Outcome::refusals))]
+    fn cut_text(&mut self, lines: &mut Vec<Line<T, M>>, text: &str, tag: T) -> Result<(), Error>
+        ensures ok { OnOk result (option_map (λ cut. lines.old.items ++ cut) (option_map (λ p. p.lines ++ p.line ∷ [])
+            (put_items self.old.setting self.old.page (styled (kept_style tag) (chars text.now)))) ≡ Some lines.new.items) }
+        ensures err { IfErr result (λ e. Refuses e (option_map (λ p. p.lines ++ p.line ∷ [])
+            (put_items self.old.setting self.old.page (styled (kept_style tag) (chars text.now))))) }
+    {
+        self.make_room(text.len())?;
+        self.put_characters(text, kept_style(tag))?;
+        self.move_ended_lines(lines)?;
+        Ok(())
+    }
+}
+
+/// Adds a text behind lines, as lines of `width` columns. It is cut where a line is full, and nowhere else: each of its
+/// characters is kept, white space and control characters too. An empty text is an empty line. A character that is wider
+/// than a line stands on one of its own with `overflow`.
+///
+/// # Errors
+///
+/// `OutOfMemory`, and with overflow off `TooNarrow` where a character is wider than a line. What the lines then hold isn't
+/// told.
+#[tactic(auto, using(html_render_dom_values::specs::laws::Outcome::refusals))]
+pub fn push_cut_text<T: Tag, M: Copy>(
+    alloc: Global,
+    lines: &mut Vec<Line<T, M>>,
+    text: &str,
+    tag: T,
+    width: usize,
+    overflow: bool,
+) -> Result<(), Error>
+    ensures ok { OnOk result (option_map (λ cut. lines.old.items ++ cut)
+        (text_lines (record { width = width; overflow = overflow }) true tag (chars text.now)) ≡ Some lines.new.items) }
+    ensures err { IfErr result (λ e. Refuses e (text_lines {M = M} (record { width = width; overflow = overflow }) true tag (chars text.now))) }
+{
+    let mut paragraph: Paragraph<T, M> = Paragraph::new(alloc, width, overflow);
+    paragraph.cut_text(lines, text, tag)
+}

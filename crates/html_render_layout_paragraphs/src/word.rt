@@ -1,0 +1,164 @@
+//! A word, which a paragraph takes letter by letter or text by text, and its columns.
+
+ghost use Rattle.std.specs.Prelude.{◌≡◌, [], ◌∷◌, ◌++◌, map, OnOk, OnErr};
+ghost use Rattle.std.specs.Bool.{OnTrue};
+ghost use Rattle.std.specs.Str.{chars};
+ghost use Rattle.html_render_layout_lines.specs.Character.{width_of, character_of, tag_on};
+ghost use Rattle.html_render_layout_lines.specs.Line.{word_columns, element_of};
+ghost use Rattle.html_render_layout_paragraphs.specs.Stream.{styled};
+ghost use Rattle.html_render_layout_lines.specs.TaggedText.{counted, text_columns, items_of, Cuts, HasTag, elements_of, open_elements};
+ghost use Rattle.html_render_layout_paragraphs.specs.Word.{EndsInCharacter};
+
+use html_render_layout_lines::character::{Character, Item, TextStyle};
+use html_render_layout_lines::line::{Line, TaggedText, TextParts, counted_on};
+use html_render_layout_lines::tag::Tag;
+use std::alloc::{AllocError, Global};
+use std::marker::Model;
+
+/// A word of characters with their styles, and marks between them.
+#[derive(Drop)]
+pub struct Word<T, M> {
+    text: TaggedText<TextStyle<T>, M>,
+    // its columns, where a machine word holds them
+    count: Option<usize>,
+}
+
+impl<T, M> Model for Word<T, M> {
+    ghost use Rattle.std.specs.Prelude.{◌≡◌, List};
+    ghost use Rattle.html_render_layout_lines.specs.Line.{word_columns};
+    ghost use Rattle.html_render_layout_lines.specs.TaggedText.{counted, items_of};
+    ghost use Rattle.html_render_layout_lines.specs.declared.character.Item.{Item};
+
+    ghost Value = { List (Item T M) };
+
+    ghost view = { λ w. items_of w.text.elements };
+
+    ghost invariant = { λ w. w.count ≡ counted (word_columns (items_of w.text.elements)) };
+}
+
+impl<T: Tag, M: Copy> Word<T, M> {
+    /// An empty word.
+    #[inline]
+    pub(crate) fn new(alloc: Global) -> Word<T, M>
+        ensures { result ≡ [] }
+    {
+        Word {
+            text: TaggedText::new(alloc),
+            count: Some(0),
+        }
+    }
+
+    /// Its columns, where a machine word holds them. They are not counted again.
+    #[inline]
+    pub(crate) fn columns(&self) -> Option<usize>
+        ensures { result ≡ counted (word_columns self.now) }
+    {
+        self.count
+    }
+
+    /// Whether it holds neither a character nor a mark.
+    #[inline]
+    pub(crate) fn is_empty(&self) -> bool
+        ensures { OnTrue result (self.now ≡ []) }
+    {
+        self.text.is_empty()
+    }
+
+    /// Leaves it empty, and keeps its memory.
+    #[inline]
+    pub(crate) fn clear(&mut self)
+        ensures { self.new ≡ [] }
+    {
+        self.text.clear();
+        self.count = Some(0);
+    }
+
+    /// Puts a text of `width` columns at the end.
+    #[inline]
+    #[tactic(auto, using(crate::proofs::WordColumns::word_pushes))]
+    pub(crate) fn push_str(
+        &mut self,
+        text: &str,
+        width: usize,
+        style: TextStyle<T>,
+    ) -> Result<(), AllocError>
+        requires { width ≡ text_columns (chars text.now) }
+        ensures { OnOk result (self.new ≡ self.old ++ styled style (chars text.now)) }
+    {
+        self.text.push_str(text, style)?;
+        self.count = counted_on(self.count, width);
+        Ok(())
+    }
+
+    /// Puts a character of `width` columns at the end.
+    #[inline]
+    #[tactic(auto, using(crate::proofs::WordColumns::word_pushes))]
+    pub(crate) fn push_char(
+        &mut self,
+        c: char,
+        width: usize,
+        style: TextStyle<T>,
+    ) -> Result<(), AllocError>
+        requires { width ≡ width_of c }
+        ensures { OnOk result (self.new ≡ self.old ++ Item.Character (character_of style c) ∷ []) }
+    {
+        self.text.push_char(c, style)?;
+        self.count = counted_on(self.count, width);
+        Ok(())
+    }
+
+    /// Puts a mark at the end.
+    #[tactic(auto, using(crate::proofs::WordColumns::word_pushes))]
+    pub(crate) fn push_mark(&mut self, mark: M) -> Result<(), AllocError>
+        ensures { OnOk result (self.new ≡ self.old ++ Item.Mark mark ∷ []) }
+    {
+        self.text.push_mark(mark)?;
+        Ok(())
+    }
+
+    /// Its items in order, as parts that need not be copied.
+    pub(crate) fn parts(&self) -> TextParts<'_, TextStyle<T>, M>
+        ensures items { items_of (elements_of result.closed.now result.closed_text.now ++ open_elements result.tag result.open_text.now) ≡ self.now }
+        ensures cuts { Cuts result.closed.now result.closed_text.now }
+        ensures has_tag { HasTag result.tag result.open_text.now }
+    {
+        self.text.parts()
+    }
+
+    /// Whether the last part of the word is a character.
+    #[inline]
+    pub(crate) fn ends_in_character(&self) -> bool
+        ensures { OnTrue result (EndsInCharacter self.now) }
+    {
+        let parts = self.text.parts();
+        !parts.open_text.is_empty()
+    }
+}
+
+/// Puts a word of `width` columns at the end of a line.
+#[inline]
+#[tactic(auto, using(crate::proofs::WordColumns::word_pushes))]
+pub(crate) fn push_word<T: Tag, M: Copy>(
+    line: &mut Line<T, M>,
+    word: &Word<T, M>,
+    width: usize,
+    continues: bool,
+) -> Result<(), AllocError>
+    requires { width ≡ word_columns word.now }
+    ensures ok { OnOk result (line.new ≡ line.old ++ map (element_of continues) word.now) }
+    ensures err { OnErr result (line.new ≡ []) }
+{
+    line.append_as(&word.text, width, continues)
+}
+
+/// A character's tag on a line that continues another, or on an ordinary line.
+#[inline]
+pub(crate) fn tag_on<T: Copy>(continues: bool, character: &Character<T>) -> T
+    ensures { result ≡ tag_on continues character.now }
+{
+    if continues {
+        character.continuation_tag
+    } else {
+        character.tag
+    }
+}

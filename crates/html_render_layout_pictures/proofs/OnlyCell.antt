@@ -1,0 +1,31 @@
+-- A row of one cell.
+use Rattle.std.proofs.Common.{◌≡◌, ℕ, ◌-◌, ◌<◌, max, List, [], ◌∷◌, ◌++◌, Some, length, replicate, ap, ◌∙◌, arith, append-nil, length-append}
+use Rattle.std.proofs.lemmas.List.{nil_from_length}
+use Rattle.html_render_layout_lines.specs.Line.{Line}
+use Rattle.html_render_layout_pictures.specs.Marked.{marked_behind}
+use Rattle.html_render_layout_pictures.specs.Padding.{filled}
+use Rattle.html_render_layout_pictures.specs.declared.picture.Frame.{Frame}
+use Rattle.html_render_layout_pictures.specs.Picture.{KeptCell, row_lines}
+
+module _ {T M : Type 0} (frame : Frame T) where
+  by_lines : (w : ℕ) (ms : List M) (ls : List (Line T M)) → 0 < length ls →
+      row_lines frame (record { width = w; lines = ls; marks = ms } ∷ []) ≡ filled (Some frame.tag) w (marked_behind ms ls)
+  by_lines w ms ls h =
+      let none : max 1 (length ls) - length ls ≡ 0 = omega (arith, h) in
+      ap (λ n. filled (Some frame.tag) w (marked_behind ms ls ++ replicate n [])) none
+      ∙ ap (λ l. filled (Some frame.tag) w l) (append-nil (marked_behind ms ls))
+
+  -- an only cell's lines, filled
+  pub only_cell : (c : KeptCell T M) → 0 < length c.lines → row_lines frame (c ∷ []) ≡ filled (Some frame.tag) c.width (marked_behind c.marks c.lines)
+  only_cell c h = by_lines c.width c.marks c.lines h
+
+  -- an only cell without lines has an empty one
+  pub only_blank_cell : (c : KeptCell T M) → length c.lines ≡ 0 → row_lines frame (c ∷ []) ≡ filled (Some frame.tag) c.width ([] ∷ [])
+  only_blank_cell c none =
+      ap (λ ls. row_lines frame (record { width = c.width; lines = ls; marks = c.marks } ∷ [])) (nil_from_length c.lines none)
+
+-- the last of one is the only one
+pub one_cell : {X : Type 0} (xs ys : List X) (x : X) → xs ≡ ys ++ x ∷ [] → length xs ≡ 1 → xs ≡ x ∷ []
+one_cell xs ys x e h = e ∙ ap (λ l. l ++ x ∷ []) (nil_from_length ys (omega (arith, h, ap length e, length-append ys (x ∷ []))))
+
+pub ruleset only_cells = (only_cell, only_blank_cell, nil_from_length)

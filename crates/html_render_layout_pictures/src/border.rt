@@ -1,0 +1,177 @@
+//! Borders between rows, drawn from one separator to the next.
+
+ghost use Rattle.std.specs.Prelude.{◌≡◌, ℕ, ◌+◌, ◌<◌, ◌≤◌, ◌++◌, ◌∷◌, [], false, get_or, length, map, OnOk, IfOk, IfSome};
+ghost use Rattle.std.specs.List.{range_with_len};
+ghost use Rattle.html_render_layout_lines.specs.declared.line.Element.TheVariants.{Character};
+ghost use Rattle.html_render_layout_pictures.specs.Picture as definition;
+ghost use Rattle.html_render_layout_pictures.specs.Separators.{separators_from, separators_between, blank_before, joint_at};
+
+use crate::gaps::{Filler, push_fillers};
+use crate::picture::Frame;
+use html_render_layout_glyphs::borders::BORDERS;
+use html_render_layout_lines::line::Line;
+use html_render_layout_lines::tag::Tag;
+use std::alloc::{AllocError, Global};
+
+/// How many columns a row has whose cells have these columns, where a machine word holds that.
+fn column_count(widths: &[usize]) -> Option<usize>
+    ensures { IfSome result (λ n. n ≡ length (separators_between widths.now)) }
+{
+    let [first, others @ ..] = widths else {
+        return Some(0);
+    };
+    let mut count = *first;
+    for width in others {
+        count = count.checked_add(1)?.checked_add(*width)?;
+    }
+    Some(count)
+}
+
+/// The columns of a row from a place on: how many stand before the next separator, and how many behind each.
+#[derive(Drop)]
+struct Columns<'a> {
+    blank: usize,
+    others: &'a [usize],
+}
+
+impl<'a> Columns<'a> {
+    /// The columns of a row whose cells have these.
+    fn new(widths: &'a [usize]) -> Columns<'a>
+        ensures { separators_from result.blank result.others.now ≡ separators_between widths.now }
+    {
+        match widths {
+            [] => Columns {
+                blank: 0,
+                others: widths,
+            },
+            [first, others @ ..] => Columns {
+                blank: *first,
+                others,
+            },
+        }
+    }
+
+    /// How many columns stand before the next separator; as many as can be where none follows.
+    fn blank(&self) -> usize
+        ensures { result ≡ blank_before self.now.blank self.now.others.now }
+    {
+        if self.others.is_empty() {
+            usize::MAX
+        } else {
+            self.blank
+        }
+    }
+
+    /// Passes so many columns without a separator and one more, and says whether a separator stands at that.
+    fn pass(&mut self, count: usize) -> bool
+        requires { count ≤ blank_before self.old.blank self.old.others.now }
+        ensures here { result ≡ get_or (separators_from self.old.blank self.old.others.now) count false }
+        ensures left { (j : ℕ) → get_or (separators_from self.new.blank self.new.others.now) j false
+            ≡ get_or (separators_from self.old.blank self.old.others.now) (count + 1 + j) false }
+    {
+        let [next, others @ ..] = self.others else {
+            return false;
+        };
+        if count < self.blank {
+            self.blank -= count + 1;
+            return false;
+        }
+        self.blank = *next;
+        self.others = others;
+        true
+    }
+}
+
+/// What a border has at a column, by whether the row above and the row below have a separator there.
+fn joint(above: bool, below: bool) -> char
+    ensures { result ≡ definition.joint above below }
+{
+    match (above, below) {
+        (true, true) => BORDERS.cross,
+        (true, false) => BORDERS.above,
+        (false, true) => BORDERS.below,
+        (false, false) => BORDERS.line,
+    }
+}
+
+impl<T: Tag> Frame<T> {
+    /// Draws what a border has where a separator stands above or below.
+    #[tactic(auto, using(crate::specs::laws::Glyphs::joint_width))]
+    fn draw_joint<M: Copy>(
+        &self,
+        line: &mut Line<T, M>,
+        above: bool,
+        below: bool,
+    ) -> Result<(), AllocError>
+        ensures { OnOk result (line.new ≡ line.old ++ Character (definition.joint above below) self.now.tag ∷ []) }
+    {
+        line.push_char(joint(above, below), 1, self.tag)
+    }
+
+    /// Draws a border up to the next separator above or below and past it, but no more than so many columns, and answers how
+    /// many.
+    fn draw_piece<M: Copy>(
+        &self,
+        line: &mut Line<T, M>,
+        above: &mut Columns<'_>,
+        below: &mut Columns<'_>,
+        most: usize,
+    ) -> Result<usize, AllocError>
+        requires { 0 < most }
+        ensures drawn { IfOk result (λ n. line.new ≡ line.old ++ map (joint_at M self.now (separators_from above.old.blank above.old.others.now)
+            (separators_from below.old.blank below.old.others.now)) (range_with_len 0 n)) }
+        ensures some { IfOk result (λ n. 0 < n) }
+        ensures within { IfOk result (λ n. n ≤ most) }
+        ensures above { IfOk result (λ n. n < most → (j : ℕ) → get_or (separators_from above.new.blank above.new.others.now) j false
+            ≡ get_or (separators_from above.old.blank above.old.others.now) (n + j) false) }
+        ensures below { IfOk result (λ n. n < most → (j : ℕ) → get_or (separators_from below.new.blank below.new.others.now) j false
+            ≡ get_or (separators_from below.old.blank below.old.others.now) (n + j) false) }
+    {
+        let dashes = above.blank().min(below.blank()).min(most);
+        push_fillers(line, Filler::Dash, dashes, self.tag)?;
+        if dashes == most {
+            return Ok(most);
+        }
+        let (up, down) = (above.pass(dashes), below.pass(dashes));
+        self.draw_joint(line, up, down)?;
+        Ok(dashes + 1)
+    }
+
+    /// Draws a border of so many columns.
+    fn draw_border<M: Copy>(
+        &self,
+        line: &mut Line<T, M>,
+        above: &mut Columns<'_>,
+        below: &mut Columns<'_>,
+        width: usize,
+    ) -> Result<(), AllocError>
+        ensures { OnOk result (line.new ≡ line.old ++ map (joint_at M self.now (separators_from above.old.blank above.old.others.now)
+            (separators_from below.old.blank below.old.others.now)) (range_with_len 0 width)) }
+    {
+        let mut drawn = 0;
+        while drawn < width {
+            let piece = self.draw_piece(line, above, below, width - drawn)?;
+            drawn += piece;
+        }
+        Ok(())
+    }
+
+    /// A border between rows whose cells have these columns.
+    pub(crate) fn border<M: Copy>(
+        &self,
+        alloc: Global,
+        above: &[usize],
+        below: &[usize],
+    ) -> Result<Line<T, M>, AllocError>
+        ensures { IfOk result (λ l. l ≡ definition.border self.now (separators_between above.now) (separators_between below.now)) }
+    {
+        let (Some(up), Some(down)) = (column_count(above), column_count(below)) else {
+            return Err(AllocError);
+        };
+        let width = up.max(down);
+        let mut line = Line::with_capacity(alloc, width.saturating_mul(BORDERS.line.len_utf8()))?;
+        let (mut above, mut below) = (Columns::new(above), Columns::new(below));
+        self.draw_border(&mut line, &mut above, &mut below, width)?;
+        Ok(line)
+    }
+}

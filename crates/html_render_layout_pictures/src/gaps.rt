@@ -1,0 +1,103 @@
+//! Characters that stand many times in a row: the spaces that fill lines, and the borders of tables. They are written many at
+//! once.
+
+ghost use Rattle.std.specs.Prelude.{◌≡◌, ◌≤◌, ◌<◌, ◌++◌, ◌∷◌, [], cond, OnOk, replicate};
+ghost use Rattle.std.specs.Str.{chars, encode_utf8_all};
+ghost use Rattle.html_render_layout_pictures.specs.Padding.{character_of, repeated};
+
+pub use html_render_layout_glyphs::borders::FEW;
+use html_render_layout_glyphs::borders::{BORDERS, LINES, SLASHES};
+use html_render_layout_lines::line::Line;
+use html_render_layout_lines::tag::Tag;
+use std::alloc::AllocError;
+
+/// A character that stands many times in a row. It takes one column.
+#[derive(Clone, Copy)]
+pub enum Filler {
+    /// A space.
+    Space,
+    /// A slash, between the cells of a row that stand one below another.
+    Slash,
+    /// The dash of borders.
+    Dash,
+}
+
+/// As many spaces as are written at once.
+const SPACES: &str = "                                                                ";
+
+/// A character `count` times, of a text that has it as often as it is written at once.
+fn first_of(text: &'static str, character: char, count: usize) -> &'static str
+    requires text { text.now ≡ encode_utf8_all (replicate FEW character) }
+    requires few { count ≤ FEW }
+    ensures { chars result.now ≡ replicate count character }
+{
+    &text[..count * character.len_utf8()]
+}
+
+/// `count` spaces, without an allocation.
+pub fn few_spaces(count: usize) -> &'static str
+    requires { count ≤ FEW }
+    ensures { chars result.now ≡ replicate count 0x20 }
+{
+    first_of(SPACES, ' ', count)
+}
+
+/// One space fewer than are written at once, and a separator.
+const GAP: &str = "                                                               │";
+
+/// The last `few` spaces of such a text, and the separator behind them.
+fn last_of_gap(text: &'static str, few: usize) -> &'static str
+    requires text { text.now ≡ encode_utf8_all (replicate 63 0x20 ++ BORDERS.separator ∷ []) }
+    requires few { few < FEW }
+    ensures { chars result.now ≡ replicate few 0x20 ++ BORDERS.separator ∷ [] }
+{
+    &text[FEW - 1 - few..]
+}
+
+/// `few` spaces, and what stands between cells, without an allocation.
+#[tactic(auto, using(crate::proofs::LawSets::gaps))]
+pub(crate) fn gap(borders: bool, few: usize) -> &'static str
+    requires { few < FEW }
+    ensures { chars result.now ≡ replicate few 0x20 ++ cond borders BORDERS.separator 0x20 ∷ [] }
+{
+    if borders {
+        last_of_gap(GAP, few)
+    } else {
+        few_spaces(few + 1)
+    }
+}
+
+/// A character `count` times, without an allocation.
+fn few(filler: Filler, count: usize) -> &'static str
+    requires { count ≤ FEW }
+    ensures { chars result.now ≡ replicate count (character_of filler) }
+{
+    match filler {
+        Filler::Space => few_spaces(count),
+        Filler::Slash => first_of(SLASHES, BORDERS.slash, count),
+        Filler::Dash => first_of(LINES, BORDERS.line, count),
+    }
+}
+
+/// Puts a character `count` times at the end of a line, under a tag.
+///
+/// # Errors
+///
+/// Memory ran out. Some of them then stand on the line.
+#[tactic(auto, using(crate::specs::laws::Fillers::fillers_width, crate::specs::laws::Fillers::fillers_parted))]
+pub fn push_fillers<T: Tag, M: Copy>(
+    line: &mut Line<T, M>,
+    filler: Filler,
+    count: usize,
+    tag: T,
+) -> Result<(), AllocError>
+    ensures { OnOk result (line.new ≡ line.old ++ repeated tag (character_of filler) count) }
+{
+    let mut left = count;
+    while left > 0 {
+        let next = left.min(FEW);
+        line.push_str(few(filler, next), next, tag)?;
+        left -= next;
+    }
+    Ok(())
+}

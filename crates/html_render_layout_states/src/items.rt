@@ -1,0 +1,67 @@
+//! The items of a list: the block of each.
+
+ghost use Rattle.std.specs.Prelude.{◌≡◌, IfOk, IfErr, string_bytes};
+ghost use Rattle.html_render_layout_states.specs.Layout.{padded};
+ghost use Rattle.html_render_layout_states.specs.Opening.{number_from, child_block};
+ghost use Rattle.html_render_layout_states.specs.Working.{by_tags};
+
+use crate::nesting::OwnBlock;
+use crate::spaces::padded;
+use crate::state::KindClosing;
+use crate::tagging::Tagging;
+use crate::working::KindKept;
+use html_render_dom_values::Error;
+use html_render_dom_values::text::Text;
+use html_render_parts_decorators::decorate::TextDecorator;
+use std::alloc::Global;
+
+/// The block of an item behind a prefix, which is padded to `columns` columns.
+fn item_block(prefix: String, columns: usize, least: usize) -> Result<OwnBlock, Error>
+    ensures ok { IfOk result (λ b. b ≡ OwnBlock.Indented (padded columns (string_bytes prefix)) columns least) }
+    ensures err { IfErr result (λ e. e ≡ Error.OutOfMemory) }
+{
+    let prefix = padded(prefix, columns)?;
+    Ok(OwnBlock::Indented {
+        prefix: Text::from(prefix),
+        columns,
+        least,
+    })
+}
+
+/// The number of the item behind `number` others; numbers stop at the ends of their type.
+fn number_from(first: i64, number: usize) -> i64
+    ensures { result ≡ number_from first number }
+{
+    first.saturating_add_unsigned(number as u64)
+}
+
+/// The block of the child of this number, below a node that keeps this: one of its own, if it is an item of a list.
+///
+/// # Errors
+///
+/// `OutOfMemory`.
+pub fn child_block<D: TextDecorator, G: Tagging<D::Annotation>>(
+    alloc: Global,
+    decorator: &D,
+    parent: &KindKept<D, G>,
+    number: usize,
+) -> Result<OwnBlock, Error>
+    ensures ok { IfOk result (λ b. b ≡ child_block (by_tags D.decoration G.annotated) decorator.now parent.now number) }
+    ensures err { IfErr result (λ e. e ≡ Error.OutOfMemory) }
+{
+    match parent {
+        KindClosing::Bullets { columns, least } => {
+            let bullet = decorator.unordered_item_prefix(alloc)?;
+            item_block(bullet, *columns, *least)
+        }
+        KindClosing::Numbers {
+            first,
+            columns,
+            least,
+        } => {
+            let prefix = decorator.ordered_item_prefix(alloc, number_from(*first, number))?;
+            item_block(prefix, *columns, *least)
+        }
+        _ => Ok(OwnBlock::Shared),
+    }
+}

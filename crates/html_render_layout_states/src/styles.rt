@@ -1,0 +1,64 @@
+//! What a node's style gives its texts: colours, which characters are annotated with, how white space is treated, and
+//! whether they are preformatted.
+
+ghost use Rattle.std.specs.Prelude.{◌≡◌, Some, OnOk, IfOk, IfErr};
+ghost use Rattle.html_render_layout_states.specs.Layout.{annotated, style_steps, perform_all};
+ghost use Rattle.html_render_layout_states.specs.Working.{by_tags};
+
+use crate::state::TextContext;
+use crate::tagging::Tagging;
+use crate::working::State;
+use html_render_dom_values::Error;
+use html_render_dom_values::white_space::WhiteSpace;
+use html_render_layout_nodes::tree::NodeStyle;
+use html_render_parts_decorators::decorate::TextDecorator;
+use std::alloc::Global;
+
+/// The texts that come have one annotation more, if there is one.
+fn annotate<D: TextDecorator, G: Tagging<D::Annotation>>(
+    annotation: Option<D::Annotation>,
+    state: &mut State<D, G>,
+) -> Result<(), Error>
+    ensures ok { OnOk result (state.new ≡ annotated (by_tags D.decoration G.annotated) annotation state.old) }
+    ensures err { IfErr result (λ e. e ≡ Error.OutOfMemory) }
+{
+    if let Some(annotation) = annotation {
+        state.text.tag = state.stacks.annotate(state.text.tag, annotation)?;
+    }
+    Ok(())
+}
+
+/// The texts that come have what a node's style gives them: first its colour, then that of its background, its white space,
+/// where that isn't Normal, and whether they are preformatted. How they were treated before is answered, so that what stands
+/// behind the node is treated so again.
+///
+/// # Errors
+///
+/// `OutOfMemory`.
+pub fn begin_style<D: TextDecorator, G: Tagging<D::Annotation>>(
+    alloc: Global,
+    style: &NodeStyle,
+    state: &mut State<D, G>,
+) -> Result<TextContext<G::Tag>, Error>
+    ensures before { IfOk result (λ text. text ≡ state.old.text) }
+    ensures ok { OnOk result (perform_all (by_tags D.decoration G.annotated) state.old (style_steps D.decoration style.now) state.old ≡ Some state.new) }
+    ensures err { IfErr result (λ e. e ≡ Error.OutOfMemory) }
+{
+    let text = state.text;
+    if let Some(colour) = style.colour {
+        let annotation = state.decorator.push_colour(alloc, colour)?;
+        annotate(annotation, state)?;
+    }
+    if let Some(colour) = style.background {
+        let annotation = state.decorator.push_bgcolour(alloc, colour)?;
+        annotate(annotation, state)?;
+    }
+    match style.white_space {
+        WhiteSpace::Normal => {}
+        mode => state.text.mode = mode,
+    }
+    if style.preformatted {
+        state.text.preformatted = true;
+    }
+    Ok(text)
+}

@@ -1,0 +1,63 @@
+//! Lines as text under a colour map.
+//!
+//! Where the map answers `<` and `>` round each text, the text of a line of the strings `a` and `b` is `<a><b>` and a
+//! newline.
+
+ghost use Rattle.std.specs.Prelude.{◌≡◌, ◌++◌, List, Err, OnOk, IfOk, IfErr, string_bytes};
+ghost use Rattle.html_render_layout_tagged.specs.Grouping.{pieces_of, lines_of};
+ghost use Rattle.html_render_layout_tagged.specs.Colouring.{IsColouredLine, IsColoured};
+
+use crate::line::{TaggedLine, TaggedLineElement};
+use html_render_dom_values::Error;
+use std::alloc::Global;
+
+/// Adds a line's text: the map's answers and a newline.
+fn push_line<A: Drop, F: Fn(&[A], &str) -> Result<String, Error>>(
+    text: &mut String,
+    line: &TaggedLine<Vec<A>>,
+    colour_map: &F,
+) -> Result<(), Error>
+    requires callable { F.IsAlwaysCallable colour_map.now }
+    requires memory { (tag : _) (string : _) (e : Error) → F.post colour_map.now tag string (Err e) → e ≡ Error.OutOfMemory }
+    ensures ok { OnOk result ((written : List _) × IsColouredLine (F.post colour_map.now) (pieces_of line.now) written
+        × (string_bytes text.new ≡ string_bytes text.old ++ written)) }
+    ensures err { IfErr result (λ e. e ≡ Error.OutOfMemory) }
+{
+    let mut left = line.elements();
+    while let Some((element, others)) = left.split_first() {
+        if let TaggedLineElement::Str(string) = element {
+            let answer = colour_map(string.tag.as_slice(), string.s.as_str())?;
+            text.push_str(answer.as_str())?;
+        }
+        left = others;
+    }
+    text.push('\n')?;
+    Ok(())
+}
+
+/// The text of lines: for each line what `colour_map` answers for each of its strings, in order, then a newline. The map
+/// is given the annotations of a string, the outermost one first, and its text; it is called once for each string.
+///
+/// The map may be called on all annotations and all texts, and its only error is `OutOfMemory`.
+///
+/// # Errors
+///
+/// `OutOfMemory`, also the map's.
+pub fn coloured<A: Drop, F: Fn(&[A], &str) -> Result<String, Error>>(
+    alloc: Global,
+    lines: &[TaggedLine<Vec<A>>],
+    colour_map: &F,
+) -> Result<String, Error>
+    requires callable { F.IsAlwaysCallable colour_map.now }
+    requires memory { (tag : _) (string : _) (e : Error) → F.post colour_map.now tag string (Err e) → e ≡ Error.OutOfMemory }
+    ensures ok { IfOk result (λ text. IsColoured (F.post colour_map.now) (lines_of lines.now) (string_bytes text)) }
+    ensures err { IfErr result (λ e. e ≡ Error.OutOfMemory) }
+{
+    let mut text = String::new(alloc);
+    let mut left = lines;
+    while let Some((line, others)) = left.split_first() {
+        push_line(&mut text, line, colour_map)?;
+        left = others;
+    }
+    Ok(text)
+}

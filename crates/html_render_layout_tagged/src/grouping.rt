@@ -1,0 +1,350 @@
+//! How the characters of a line become tagged strings.
+//!
+//! Where `a` and `b` follow each other under equal annotations, and a mark or other annotations come next, they are one
+//! string `ab`, and its tag is that of `a`.
+
+ghost use Rattle.std.specs.Prelude.{◌≡◌, List, [], ◌∷◌, ◌++◌, None, Some, OnOk, IfOk, IfErr, map, reverse, string_bytes};
+ghost use Rattle.std.proofs.Common.{get_or};
+ghost use Rattle.std.specs.Cmp.Lexicographic.{pointwise};
+ghost use Rattle.std.specs.Str.{chars};
+ghost use Rattle.html_render_layout_lines.specs.Line.{columns};
+ghost use Rattle.html_render_layout_lines.specs.Tags.{line_with, lines_with};
+ghost use Rattle.html_render_layout_lines.specs.TaggedText.{under, Cuts, elements_of, open_elements};
+ghost use Rattle.html_render_layout_tagged.specs.Stacks.{stack_at};
+ghost use Rattle.html_render_layout_tagged.specs.LaidOut.{laid_out};
+ghost use Rattle.html_render_layout_tagged.specs.Grouping.{in_front, grouped, pieces_of, lines_of, ClonesAreSame};
+ghost use Rattle.html_render_layout_tagged.specs.TaggedLine.{line_columns};
+ghost use Rattle.html_render_layout_tagged.specs.Progress.{closed, last_in_front, pieces_with, Takes};
+
+use crate::laid_out::LaidOut;
+use crate::line::{TaggedLine, TaggedLineElement, TaggedString};
+use crate::stacks::Stacks;
+use html_render_dom_values::Error;
+use html_render_dom_values::text::Text;
+use html_render_layout_lines::line::{Element, Line, Run};
+use std::alloc::{AllocError, Global};
+
+/// A string that more text may join.
+#[derive(Drop)]
+struct OpenString {
+    text: String,
+    tag: usize,
+}
+
+/// A line that is made from its front on.
+#[derive(Drop)]
+struct Progress<A> {
+    /// The elements that nothing joins any more.
+    done: Vec<TaggedLineElement<Vec<A>>>,
+    /// The string behind them, if there is one: more text may join it.
+    last: Option<OpenString>,
+}
+
+/// Puts a text behind another.
+fn append(text: &mut String, more: &str) -> Result<(), AllocError>
+    ensures { OnOk result (chars (string_bytes text.new) ≡ chars (string_bytes text.old) ++ chars more.now) }
+{
+    // What is there is whole characters.
+    let _text = text.as_str();
+    text.push_str(more)?;
+    Ok(())
+}
+
+/// The annotations of a tag, the outermost one first.
+fn annotations<A: Clone + Drop>(
+    alloc: Global,
+    stacks: &Stacks<A>,
+    tag: usize,
+) -> Result<Vec<A>, Error>
+    requires { ClonesAreSame A.is_clone }
+    ensures ok { IfOk result (λ annotations. annotations.items ≡ stack_at stacks.now tag) }
+    ensures err { IfErr result (λ e. e ≡ Error.OutOfMemory) }
+{
+    let mut annotations = Vec::with_capacity(alloc, stacks.depth(tag))?;
+    let mut tag = tag;
+    while let Some(top) = stacks.top(tag) {
+        annotations.push(top.annotation.clone()?)?;
+        tag = top.below;
+    }
+    annotations.reverse();
+    Ok(annotations)
+}
+
+impl<A: Eq + Clone + Drop> Progress<A> {
+    /// Nothing so far.
+    fn new(alloc: Global) -> Progress<A>
+        ensures done { result.done.items ≡ [] }
+        ensures last { result.last ≡ None }
+    {
+        Progress {
+            done: Vec::new(alloc),
+            last: None,
+        }
+    }
+
+    /// No text joins the last string any more.
+    fn close(&mut self, alloc: Global, stacks: &Stacks<A>) -> Result<(), Error>
+        requires { ClonesAreSame A.is_clone }
+        ensures done { OnOk result (pieces_of self.new.done.items ≡ pieces_of self.old.done.items ++ closed stacks.now self.old.last) }
+        ensures last { OnOk result (self.new.last ≡ None) }
+        ensures err { IfErr result (λ e. e ≡ Error.OutOfMemory) }
+    {
+        if let Some(last) = self.last.take() {
+            let tag = annotations(alloc, stacks, last.tag)?;
+            self.done
+                .push(TaggedLineElement::Str(TaggedString { s: last.text, tag }))?;
+        }
+        Ok(())
+    }
+
+    /// Puts a text at the end: into the last string where its annotations are equal.
+    fn push_str(
+        &mut self,
+        alloc: Global,
+        stacks: &Stacks<A>,
+        text: &str,
+        tag: usize,
+    ) -> Result<(), Error>
+        requires { ClonesAreSame A.is_clone }
+        ensures ok { OnOk result ((ps : List _) → pieces_with A.eq stacks.now self.new ps
+            ≡ pieces_with A.eq stacks.now self.old (in_front (pointwise A.eq) (chars text.now) (stack_at stacks.now tag) ps)) }
+        ensures err { IfErr result (λ e. e ≡ Error.OutOfMemory) }
+    {
+        if let Some(last) = &mut self.last {
+            if stacks.are_equal(last.tag, tag) {
+                append(&mut last.text, text)?;
+                return Ok(());
+            }
+        }
+        self.close(alloc, stacks)?;
+        let text = String::from_str(alloc, text)?;
+        self.last = Some(OpenString { text, tag });
+        Ok(())
+    }
+
+    /// Puts a character at the end.
+    fn push_char(
+        &mut self,
+        alloc: Global,
+        stacks: &Stacks<A>,
+        c: char,
+        tag: usize,
+    ) -> Result<(), Error>
+        requires { ClonesAreSame A.is_clone }
+        ensures ok { OnOk result ((names : List _) → Takes A.eq stacks.now names self.old (Element.Character c tag ∷ []) self.new) }
+        ensures err { IfErr result (λ e. e ≡ Error.OutOfMemory) }
+    {
+        let mut bytes = [0; 4];
+        self.push_str(alloc, stacks, c.encode_utf8(&mut bytes), tag)
+    }
+
+    /// Puts the characters of a text at the end.
+    fn push_text(
+        &mut self,
+        alloc: Global,
+        stacks: &Stacks<A>,
+        text: &str,
+        tag: usize,
+    ) -> Result<(), Error>
+        requires { ClonesAreSame A.is_clone }
+        ensures ok { OnOk result ((names : List _) → Takes A.eq stacks.now names self.old (under tag (chars text.now)) self.new) }
+        ensures err { IfErr result (λ e. e ≡ Error.OutOfMemory) }
+    {
+        if text.is_empty() {
+            return Ok(());
+        }
+        self.push_str(alloc, stacks, text, tag)
+    }
+
+    /// Puts a mark at the end: its name begins there, or an empty one where it has none.
+    fn push_mark(
+        &mut self,
+        alloc: Global,
+        stacks: &Stacks<A>,
+        names: &[Text],
+        mark: usize,
+    ) -> Result<(), Error>
+        requires { ClonesAreSame A.is_clone }
+        ensures ok { OnOk result (Takes A.eq stacks.now names.now self.old (Element.Mark mark ∷ []) self.new) }
+        ensures err { IfErr result (λ e. e ≡ Error.OutOfMemory) }
+    {
+        self.close(alloc, stacks)?;
+        let name = name_of(alloc, names, mark)?;
+        self.done.push(TaggedLineElement::FragmentStart(name))?;
+        Ok(())
+    }
+
+    /// Puts an element at the end.
+    fn push_element(
+        &mut self,
+        alloc: Global,
+        stacks: &Stacks<A>,
+        names: &[Text],
+        element: &Element<usize, usize>,
+    ) -> Result<(), Error>
+        requires { ClonesAreSame A.is_clone }
+        ensures ok { OnOk result (Takes A.eq stacks.now names.now self.old (element.now ∷ []) self.new) }
+        ensures err { IfErr result (λ e. e ≡ Error.OutOfMemory) }
+    {
+        match element {
+            Element::Character(c, tag) => self.push_char(alloc, stacks, *c, *tag),
+            Element::Mark(mark) => self.push_mark(alloc, stacks, names, *mark),
+        }
+    }
+
+    /// Puts elements at the end, of which the first one comes last.
+    fn push_reversed(
+        &mut self,
+        alloc: Global,
+        stacks: &Stacks<A>,
+        names: &[Text],
+        elements: &[Element<usize, usize>],
+    ) -> Result<(), Error>
+        requires { ClonesAreSame A.is_clone }
+        ensures ok { OnOk result (Takes A.eq stacks.now names.now self.old (reverse elements.now) self.new) }
+        ensures err { IfErr result (λ e. e ≡ Error.OutOfMemory) }
+    {
+        let mut left = elements;
+        while let Some((element, others)) = left.split_last() {
+            self.push_element(alloc, stacks, names, element)?;
+            left = others;
+        }
+        Ok(())
+    }
+
+    /// Puts runs at the end, with the text that they take.
+    fn push_runs(
+        &mut self,
+        alloc: Global,
+        stacks: &Stacks<A>,
+        names: &[Text],
+        runs: &[Run<usize, usize>],
+        text: &str,
+    ) -> Result<(), Error>
+        requires clones { ClonesAreSame A.is_clone }
+        requires cuts { Cuts runs.now text.now }
+        ensures ok { OnOk result (Takes A.eq stacks.now names.now self.old (elements_of runs.now text.now) self.new) }
+        ensures err { IfErr result (λ e. e ≡ Error.OutOfMemory) }
+    {
+        let (mut left, mut text) = (runs, text);
+        while let Some((run, others)) = left.split_first() {
+            match run {
+                Run::Text(len, tag) => {
+                    self.push_text(alloc, stacks, &text[..*len], *tag)?;
+                    text = &text[*len..];
+                }
+                Run::Mark(mark) => self.push_mark(alloc, stacks, names, *mark)?,
+            }
+            left = others;
+        }
+        Ok(())
+    }
+
+    /// Puts a text at the end, where it has a tag.
+    fn push_open(
+        &mut self,
+        alloc: Global,
+        stacks: &Stacks<A>,
+        tag: Option<usize>,
+        text: &str,
+    ) -> Result<(), Error>
+        requires { ClonesAreSame A.is_clone }
+        ensures ok { OnOk result ((names : List _) → Takes A.eq stacks.now names self.old (open_elements tag text.now) self.new) }
+        ensures err { IfErr result (λ e. e ≡ Error.OutOfMemory) }
+    {
+        match tag {
+            Some(tag) => self.push_text(alloc, stacks, text, tag),
+            None => Ok(()),
+        }
+    }
+
+    /// The line, where nothing more follows.
+    fn finish(mut self, alloc: Global, stacks: &Stacks<A>) -> Result<TaggedLine<Vec<A>>, Error>
+        requires { ClonesAreSame A.is_clone }
+        ensures ok { IfOk result (λ line. pieces_of line ≡ pieces_with A.eq stacks.now self []) }
+        ensures err { IfErr result (λ e. e ≡ Error.OutOfMemory) }
+    {
+        self.close(alloc, stacks)?;
+        Ok(TaggedLine::new(self.done))
+    }
+}
+
+/// The name of a mark, by its number; an empty one where it has none.
+fn name_of(alloc: Global, names: &[Text], mark: usize) -> Result<String, Error>
+    ensures ok { IfOk result (λ name. string_bytes name ≡ get_or names.now mark []) }
+    ensures err { IfErr result (λ e. e ≡ Error.OutOfMemory) }
+{
+    match names.get(mark) {
+        Some(name) => Ok(String::from_str(alloc, name.as_str())?),
+        None => Ok(String::new(alloc)),
+    }
+}
+
+/// A line's characters as tagged strings.
+fn tagged_line<A: Eq + Clone + Drop>(
+    alloc: Global,
+    stacks: &Stacks<A>,
+    names: &[Text],
+    line: &Line<usize, usize>,
+) -> Result<TaggedLine<Vec<A>>, Error>
+    requires { ClonesAreSame A.is_clone }
+    ensures ok { IfOk result (λ l. pieces_of l ≡ grouped (pointwise A.eq) names.now (line_with (stack_at stacks.now) line.now)) }
+    ensures err { IfErr result (λ e. e ≡ Error.OutOfMemory) }
+{
+    let parts = line.parts();
+    let mut progress = Progress::new(alloc);
+    progress.push_reversed(alloc, stacks, names, parts.front)?;
+    progress.push_runs(
+        alloc,
+        stacks,
+        names,
+        parts.text.closed,
+        parts.text.closed_text,
+    )?;
+    progress.push_open(alloc, stacks, parts.text.tag, parts.text.open_text)?;
+    progress.finish(alloc, stacks)
+}
+
+/// The lines of a layout as tagged strings. The strings of a line are the longest runs of characters with equal
+/// annotations, one by one by `Eq`, and no mark between; a string's tag is the annotations of its first character, the
+/// outermost one first. A mark stands as the beginning of a fragment of its name. Annotations are cloned once for a string.
+///
+/// # Errors
+///
+/// `OutOfMemory`, also where an annotation can't be cloned.
+pub fn tagged_lines<A: Eq + Clone + Drop>(
+    alloc: Global,
+    layout: LaidOut<A>,
+) -> Result<Vec<TaggedLine<Vec<A>>>, Error>
+    requires { ClonesAreSame A.is_clone }
+    ensures ok { IfOk result (λ lines. lines_of lines.items ≡ map (grouped (pointwise A.eq) layout.names) (laid_out layout)) }
+    // each line has the columns that it was laid out in
+    ensures columns { IfOk result (λ lines. map line_columns lines.items ≡ map columns (laid_out layout)) }
+    ensures err { IfErr result (λ e. e ≡ Error.OutOfMemory) }
+{
+    all_tagged(
+        alloc,
+        &layout.stacks,
+        layout.names.as_slice(),
+        &layout.lines,
+    )
+}
+
+/// All lines as tagged strings.
+fn all_tagged<A: Eq + Clone + Drop>(
+    alloc: Global,
+    stacks: &Stacks<A>,
+    names: &[Text],
+    lines: &[Line<usize, usize>],
+) -> Result<Vec<TaggedLine<Vec<A>>>, Error>
+    requires { ClonesAreSame A.is_clone }
+    ensures ok { IfOk result (λ made. lines_of made.items
+        ≡ map (grouped (pointwise A.eq) names.now) (lines_with (stack_at stacks.now) lines.now)) }
+    ensures err { IfErr result (λ e. e ≡ Error.OutOfMemory) }
+{
+    let mut made = Vec::with_capacity(alloc, lines.len())?;
+    for line in lines {
+        made.push(tagged_line(alloc, stacks, names, line)?)?;
+    }
+    Ok(made)
+}

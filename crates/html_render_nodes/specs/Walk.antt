@@ -1,7 +1,0 @@
--- The open nodes of a walk.
-use Rattle.std.specs.Prelude.{◌-◌, List, length, Option, option_map, slice_get}
-use Rattle.html_render_nodes.specs.declared.walk.Frame.{Frame}
-
--- what is kept of the innermost one, the last
-abbrev pub innermost : {T : Type 0} → List (Frame T) → Option T
-innermost {T} frames = option_map (λ (f : Frame T). f.kept) (slice_get frames (length frames - 1))

@@ -1,6 +1,0 @@
-//! Render trees: their nodes in one vector in pre-order, the texts of nodes, and a walk over trees.
-#![tactic(auto)]
-
-pub mod text;
-pub mod tree;
-pub mod walk;

@@ -1,9 +1,0 @@
--- Whether a word is open, and whether white space is preserved in it.
-use Rattle.std.specs.Prelude.{Bool, true, false, Option, Some, None}
-use Rattle.html_render_paragraphs.specs.declared.paragraph.OpenWord.{OpenWord}
-use Rattle.html_render_paragraphs.specs.declared.paragraph.OpenWord.TheVariants.{Closed, Collapsed, Preserved}
-
-abbrev pub open_word_of : OpenWord → Option Bool
-open_word_of Closed = None
-open_word_of Collapsed = Some false
-open_word_of Preserved = Some true

@@ -1,7 +1,0 @@
-use Rattle.std.proofs.Common.{refl}
-use Rattle.std.proofs.Math.Utf8.{encode}
-use Rattle.html_render_pictures.proofs.fillers.gap.Goals as goal
-
-pub last_of_gap-requires-clause-text : goal.last_of_gap-requires-clause-text
-unfolding encode
-last_of_gap-requires-clause-text c = refl

@@ -1,5 +1,0 @@
-use Rattle.html_render_tagged.specs.laws.Grouping.{characters-grouped}
-use Rattle.html_render_tagged.proofs.laws.strings_hold_all_characters.Goals as goal
-
-pub returns : goal.returns
-returns g c = characters-grouped g.T.PartialEq.eq

@@ -1,0 +1,36 @@
+-- What the cells of a table span are columns and rows, at least one of each.
+use Rattle.std.proofs.Common.{◌≢◌, ℕ, ◌+◌, ◌-◌, ◌==◌, ◌≤◌, inl, inr, if◌then◌else◌, get_or, map, List, [], ◌∷◌, arith}
+use Rattle.std.proofs.lemmas.Bool.{cases_Bool, eqb-false}
+use Rattle.std.proofs.lemmas.List.Elements.{All-append, All-map}
+use Rattle.std.specs.List.{All}
+use Rattle.html_render_tree_mapping.specs.declared.tables.CellSpan.{CellSpan}
+use Rattle.html_render_parts.specs.Grid.{AreValid}
+use Rattle.html_render_parts.specs.declared.table.Span.{Span}
+use Rattle.html_render_tree_mapping.specs.Tables.{width_of, greatest_width, spanned, spanned_in}
+use Rattle.html_render_tree_convert.specs.Spans.{spans_of_parts}
+
+some_columns : (missing columns : ℕ) → 1 ≤ (if columns == 0 then missing + 1 else columns)
+some_columns missing columns =
+    elim (cases_Bool (columns == 0)) [
+      | inl e ↦ rw e (omega arith)
+      | inr e ↦ rw e (let some : columns ≢ 0 = eqb-false columns 0 e in omega arith)
+    ]
+
+abbrev IsValid : List Span → Type 0
+IsValid cells = All (λ s. (1 ≤ s.colspan) × (1 ≤ s.rowspan)) cells
+
+valid_row : (missing : ℕ) (cells : List CellSpan) → IsValid (map (spanned missing) cells)
+valid_row missing cells =
+    All-map (λ s. (1 ≤ s.colspan) × (1 ≤ s.rowspan)) (spanned missing) cells
+    (λ k d _. (some_columns missing (get_or cells k d).colspan, omega arith))
+
+valid_part : (widest : ℕ) (rows : List (List CellSpan)) → AreValid (spanned_in widest rows)
+valid_part widest rows =
+    All-map IsValid (λ cells. map (spanned (widest - width_of cells)) cells) rows
+    (λ k d _. valid_row (widest - width_of (get_or rows k d)) (get_or rows k d))
+
+pub parts-valid : (parts : List (List (List CellSpan))) → AreValid (spans_of_parts parts)
+parts-valid [] = λ k d h. absurd (omega (arith, h))
+parts-valid (rows ∷ parts) =
+    All-append IsValid (spanned_in (greatest_width rows) rows) (spans_of_parts parts) (valid_part (greatest_width rows) rows)
+    (parts-valid parts)

@@ -1,0 +1,59 @@
+-- What an image and a drawing are called, and where an image lies.
+use Rattle.std.specs.Prelude.{ℕ, not, ◌&&◌, Bool, true, false, List, [], ◌∷◌, ◌++◌, codes, if◌then◌else◌}
+use Rattle.std.specs.Str.{bytes_eq}
+use Rattle.html_render_dom_nodes.specs.Content.{Property, Space, svg, Content, text, element}
+use Rattle.html_render_dom.specs.Dom.{is_element}
+use Rattle.html_render_dom_values.specs.Forest.{Forest, none, node}
+use Rattle.html_render_dom_rules.specs.Selectors.{is_filled}
+use Rattle.html_render_layout_nodes.specs.declared.tree.ImageParts.{ImageParts}
+
+-- ---- images
+
+-- an attribute is read: `alt` is the title and `src` the source, if its value isn't empty, in the place of one read before
+abbrev pub read : Property → ImageParts → ImageParts
+read p image =
+    if not (is_filled p.value) then image
+    else if bytes_eq p.name.local (codes "alt") then record image { title = p.value }
+    else if bytes_eq p.name.local (codes "src") then record image { source = p.value }
+    else image
+
+-- attributes are read in their order until there are a title and a source
+abbrev pub read_all : List Property → ImageParts → ImageParts
+read_all [] image = image
+read_all (p ∷ ps) image = if is_filled image.source && is_filled image.title then image else read_all ps (read p image)
+
+-- THE PARTS of an image
+abbrev pub image_parts : List Property → ImageParts
+image_parts properties = read_all properties (record { source = []; title = [] })
+
+-- ---- drawings
+
+-- the contents of a text; those of any other node are empty here
+abbrev pub text_in : Content → List ℕ
+text_in (text contents) = contents
+text_in _ = []
+
+-- the texts that stand directly among these trees, joined
+abbrev pub direct_texts : Forest Content → List ℕ
+direct_texts none = []
+direct_texts (node content below beside) = text_in content ++ direct_texts beside
+
+abbrev pub is_svg : Space → Bool
+is_svg svg = true
+is_svg _ = false
+
+-- whether a node is a `title` of SVG
+abbrev pub is_title : Content → Bool
+is_title (element name properties template_contents integration_point) = is_svg name.space && bytes_eq name.local (codes "title")
+is_title _ = false
+
+-- what stands in the last of the titles in front of any other element, and in the title found before where there is none
+abbrev pub in_last_title : (found : Forest Content) → Forest Content → Forest Content
+in_last_title found none = found
+in_last_title found (node content below beside) =
+    if is_title content then in_last_title below beside
+    else if is_element content then found else in_last_title found beside
+
+-- THE TITLE of a drawing over these trees
+abbrev pub drawing_title : Forest Content → List ℕ
+drawing_title below = direct_texts (in_last_title none below)

@@ -1,0 +1,19 @@
+-- What the decorators of samples answer otherwise than plain text does.
+use Rattle.std.specs.Prelude.{ℕ, ◌+◌, ◌-◌, ◌^◌, List, codes, if◌then◌else◌, min, pos}
+use Rattle.std.specs.List.{repeat}
+use Rattle.std.specs.Ordering.{int_eq}
+use Rattle.html_render_tree.specs.Place.{Place}
+use Rattle.html_render_tree.specs.Place.TheVariants.{QuotePrefix, OrderedItemPrefix}
+use Rattle.htree_configs.specs.declared.decorators.Own.{Own}
+use Rattle.htree_configs.specs.declared.decorators.Own.TheVariants.{Grow, Odd}
+
+-- the text at a place
+abbrev pub text : Own → Place → (below : List ℕ) → List ℕ
+text (Grow level) QuotePrefix below = repeat level (codes ">")
+text Odd (OrderedItemPrefix number) below = if int_eq number (pos 2) then codes "(two) " else below
+text own place below = below
+
+-- what changes the answers in a block inside
+abbrev pub subblock : Own → Own
+subblock (Grow level) = Grow (min (level + 1) (2 ^ 64 - 1))
+subblock Odd = Odd
