@@ -8,6 +8,8 @@ pub mod Program
 pub mod GoodTrees
 -- laws of the definitions
 pub mod laws
+-- what a document is, for callers that keep handles
+pub use Rattle.html_render_dom.specs.Dom
 -- what the calls of the program's scripts make of a document
 pub use Rattle.html_render_tree_scripts.specs.Scripts
 -- which render tree a document becomes

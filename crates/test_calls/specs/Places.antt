@@ -1,13 +1,7 @@
 -- What decorators of one's own write and annotate at places.
 use Rattle.std.specs.Prelude.{ℕ, List}
 use Rattle.html_render_tree.specs.Place.{Place}
-use Rattle.html_render_tree.specs.Place.TheVariants.{LinkStart, EmStart, EmEnd, StrongStart, QuotePrefix}
-
--- a text round emphasis
-abbrev pub round_emphasis : (signs : List ℕ) → Place → (below : List ℕ) → List ℕ
-round_emphasis signs EmStart below = signs
-round_emphasis signs EmEnd below = signs
-round_emphasis signs place below = below
+use Rattle.html_render_tree.specs.Place.TheVariants.{LinkStart, EmStart, StrongStart, QuotePrefix}
 
 -- a text before the lines of quotes
 abbrev pub before_quotes : (prefix : List ℕ) → Place → (below : List ℕ) → List ℕ

@@ -1,4 +1,4 @@
-//! Decorators of one's own with annotations that may be equal though not the same, and with sub-blocks that answer
+//! A decorator of one's own with annotations that may be equal though not the same, and with sub-blocks that answer
 //! otherwise.
 
 ghost use Rattle.std.specs.Prelude.{None, ◌+◌, ◌-◌, ◌^◌, codes, length, min};

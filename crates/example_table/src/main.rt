@@ -1,11 +1,11 @@
-//! A table printer, which a table's grid and the widths of columns are for: each row is a line, and each text is cut where its
-//! cell ends.
+//! Prints a timetable in 40, 20 and 5 columns: a table printer, which a table's grid and the widths of columns are for. Each row
+//! is a line, and each text is cut where its cell ends.
+#![tactic(auto)]
 
 use html_render_tree::Error;
 use html_render_tree::table::{CellKind, PlacedCell, Span, spans_are_valid, table_grid};
 use html_render_tree::widths::{column_widths, cut_fits};
 use std::alloc::{AllocError, Global};
-use std::test::Fail;
 
 /// A cell: its text, and how many columns and rows it spans.
 #[derive(Clone, Copy)]
@@ -93,7 +93,7 @@ fn line_of(
 }
 
 /// The lines of a table in `width` columns of text; none where there are fewer than two for a column.
-fn print(
+fn table_text(
     alloc: Global,
     rows: &[Vec<PrintedCell<'_>>],
     width: usize,
@@ -162,24 +162,23 @@ fn timetable(alloc: Global) -> Result<Vec<Vec<PrintedCell<'static>>>, AllocError
     Ok(rows)
 }
 
-/// The lines of that table, none where there is no room.
-fn printed(alloc: Global, width: usize) -> Result<Option<String>, Error> {
+/// The timetable in each of some widths, and where one is too narrow, that it is.
+fn timetables(alloc: Global, widths: &[usize]) -> Result<String, Error> {
     let rows = timetable(alloc)?;
-    print(alloc, rows.as_slice(), width)
+    let mut text = String::new(alloc);
+    for width in widths {
+        match table_text(alloc, rows.as_slice(), *width)? {
+            Some(table) => text.push_str(table.as_str())?,
+            None => text.push_str("too narrow\n")?,
+        }
+        text.push('\n')?;
+    }
+    Ok(text)
 }
 
-#[test]
-fn a_table_is_printed_as_wide_as_asked_for(rt: HostRuntime) -> Result<(), Fail> {
-    let alloc = rt.alloc();
-    assert_eq!(rt;
-        printed(alloc, 40)?.as_deref(),
-        Some("Line 7|Harbour      |8:05         \n      |Market Square, by request  \n")
-    );
-    assert_eq!(rt;
-        printed(alloc, 20)?.as_deref(),
-        Some("Line 7|Harbou|8:05  \n      |Market Square\n")
-    );
-    assert_eq!(rt; printed(alloc, 5)?.as_deref(), Some("L|H|8\n |Mar\n"));
-    assert_eq!(rt; printed(alloc, 4)?.as_deref(), None);
-    Ok(())
+fn main(rt: HostRuntime) -> std::io::Result<()> {
+    match timetables(rt.alloc(), &[40, 20, 5, 4]) {
+        Ok(text) => print!(rt; "{text}"),
+        Err(error) => print!(rt; "{error}"),
+    }
 }
