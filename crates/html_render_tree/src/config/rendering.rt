@@ -105,8 +105,8 @@ impl<D: TextDecorator> Config<D> {
         self.render_to_lines_metered(alloc, tree, width, &mut meter)
     }
 
-    /// The same, and what the layout visits: `entered` and `left` count the nodes but those below a cell that is skipped or
-    /// below a superscript that is written in digits, and `frames` is the most nodes that were open at once. They count from 0,
+    /// The same, and what the layout visits: `entered` and `left` count all nodes but those below a skipped cell or below a
+    /// superscript written in digits, and `frames` is the most nodes that were open at once. They count from 0,
     /// also where the call refuses; `probes` stays.
     ///
     /// # Errors
