@@ -1,10 +1,11 @@
 -- A write to one node of the vector, as an edit of the nodes that it stands for.
 use Rattle.std.proofs.Common.{◌≡◌, ℕ, ◌<◌, List, [], ◌∷◌, ◌++◌, length, map, slice_set, slice_index_or, Some, sym, ap, ◌∙◌}
-use Rattle.std.proofs.lemmas.List.{map-set, set-get_or, get_or_append_left, set-append_left}
+use Rattle.std.proofs.lemmas.List.{map-set, set-get_or, get_or_append_left, set-append_left, length-set}
+use Rattle.std.proofs.Math.Seq.{get_or-append_seam, set-append_seam}
 use Rattle.html_render_dom_nodes.specs.declared.nodes.Node.{Node as TheNode}
 use Rattle.html_render_dom_nodes.specs.Content.{Content, document}
 use Rattle.html_render_dom_nodes.specs.Nodes.{Node, node_in, lone, node_of}
-use Rattle.html_render_dom_nodes.specs.Edits.{attached, created, with_children, with_parent}
+use Rattle.html_render_dom_nodes.specs.Edits.{attached, attached_new, created, with_children, with_parent}
 use Rattle.html_render_dom_nodes.specs.laws.Nodes.{node_in-map}
 
 -- the node m in the place of n
@@ -31,3 +32,17 @@ attached-created nodes c p at =
     ap (λ m. slice_set (created nodes c) p (record m { children = m.children ++ n ∷ [] })) read
     ∙ set-append_left nodes (lone c ∷ []) p (record (node_in nodes p) { children = cs }) at in
     ap (λ ns. with_parent ns n (Some p)) first
+
+-- the same, where the new node names its parent as it is written
+pub attached_new-named : (nodes : List Node) (c : Content) (p : ℕ) → p < length nodes →
+    with_children nodes p ((node_in nodes p).children ++ length nodes ∷ []) ++ record { content = c; children = []; parent = Some p } ∷ []
+    ≡ attached_new nodes c p
+attached_new-named nodes c p at =
+    let n = length nodes in
+    let others = with_children nodes p ((node_in nodes p).children ++ n ∷ []) in
+    let len : length others ≡ n = length-set nodes p (record (node_in nodes p) { children = (node_in nodes p).children ++ n ∷ [] }) in
+    let named : Node = record { content = c; children = []; parent = Some p } in
+    let read : node_in (created others c) (length others) ≡ lone c = get_or-append_seam others (lone c) [] (lone document) in
+    let put : with_parent (created others c) (length others) (Some p) ≡ others ++ named ∷ [] =
+    ap (λ m. slice_set (created others c) (length others) (record m { parent = Some p })) read ∙ set-append_seam others (lone c) [] named in
+    sym put ∙ ap (λ k. with_parent (created others c) k (Some p)) len ∙ sym (attached-created nodes c p at)

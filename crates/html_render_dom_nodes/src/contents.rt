@@ -55,8 +55,8 @@ pub enum NodeData {
 }
 
 impl NodeData {
-    ghost use Rattle.std.specs.Prelude.{◌≡◌, IfOk, None, [], false, string_bytes};
-    ghost use Rattle.html_render_dom_nodes.specs.Content.{content_of, name_of, element, text};
+    ghost use Rattle.std.specs.Prelude.{◌≡◌, IfOk, string_bytes};
+    ghost use Rattle.html_render_dom_nodes.specs.Content.{content_of, text};
 
     /// A text.
     #[inline]
@@ -79,19 +79,6 @@ impl NodeData {
     {
         let contents = TextContents::from_str(alloc, contents)?;
         Ok(NodeData::Text { contents })
-    }
-
-    /// An element without attributes.
-    #[inline]
-    pub fn element(alloc: Global, name: QualName) -> NodeData
-        ensures { content_of result ≡ element (name_of name) [] None false }
-    {
-        NodeData::Element {
-            mathml_annotation_xml_integration_point: false,
-            name,
-            attrs: Attributes::of(Vec::new(alloc)),
-            template_contents: None,
-        }
     }
 }
 

@@ -1,8 +1,8 @@
 //! The vector of nodes, and what one edit does to it.
 
-ghost use Rattle.std.specs.Prelude.{◌≡◌, ◌+◌, ◌<◌, ◌≤◌, ◌++◌, ◌∷◌, [], OnOk, OnErr, vec_len, vec_capacity, map, string_bytes};
+ghost use Rattle.std.specs.Prelude.{◌≡◌, ◌+◌, ◌<◌, ◌≤◌, ◌++◌, ◌∷◌, [], None, Some, false, OnOk, OnErr, vec_len, vec_capacity, map, string_bytes};
 ghost use Rattle.std.specs.Option.{ForSome};
-ghost use Rattle.html_render_dom_nodes.specs.Content.{content_of, name_of, property_of};
+ghost use Rattle.html_render_dom_nodes.specs.Content.{content_of, element, name_of, property_of};
 ghost use Rattle.html_render_dom_nodes.specs.Elements.{completed};
 ghost use Rattle.html_render_dom_nodes.specs.Nodes.{lone, node_in, node_of, nodes_of};
 ghost use Rattle.html_render_dom_nodes.specs.Room.{KeepsRoom};
@@ -36,6 +36,35 @@ impl Node {
             data: contents,
             children: SmallVec::new(alloc),
             parent: None,
+        }
+    }
+
+    /// A node without children below another.
+    #[inline(always)]
+    fn below(alloc: Global, parent: Handle, contents: NodeData) -> Node
+        ensures { node_of result ≡ record { content = content_of contents; children = []; parent = Some parent } }
+    {
+        Node {
+            data: contents,
+            children: SmallVec::new(alloc),
+            parent: Some(parent),
+        }
+    }
+
+    /// An element without attributes and without children below a node.
+    #[inline(always)]
+    fn element_below(alloc: Global, parent: Handle, name: QualName) -> Node
+        ensures { node_of result ≡ record { content = element (name_of name) [] None false; children = []; parent = Some parent } }
+    {
+        Node {
+            data: NodeData::Element {
+                name,
+                attrs: Attributes::of(Vec::new(alloc)),
+                template_contents: None,
+                mathml_annotation_xml_integration_point: false,
+            },
+            children: SmallVec::new(alloc),
+            parent: Some(parent),
         }
     }
 }
@@ -81,12 +110,36 @@ pub fn attach_new(
         ≡ attached_new (nodes_of nodes.old.items) (content_of contents) parent) }
     ensures err { OnErr result (nodes_of nodes.new.items ≡ nodes_of nodes.old.items) }
 {
-    let made = Node::lone(alloc, contents);
     let node = Handle::new(nodes.len());
     nodes.reserve(1)?;
     push_child(nodes, parent, node)?;
+    let made = Node::below(alloc, parent, contents);
     nodes.push(made)?;
-    set_parent(nodes, node, Some(parent));
+    Ok(())
+}
+
+/// Makes an element without attributes of the next number, the parent's last child.
+///
+/// # Errors
+///
+/// Memory ran out. The nodes are then as they were.
+pub fn attach_element(
+    alloc: Global,
+    nodes: &mut Vec<Node>,
+    parent: Handle,
+    name: QualName,
+) -> Result<(), AllocError>
+    requires { parent < vec_len nodes.old }
+    ensures len { OnOk result (vec_len nodes.new ≡ vec_len nodes.old + 1) }
+    ensures ok { OnOk result (nodes_of nodes.new.items
+        ≡ attached_new (nodes_of nodes.old.items) (element (name_of name) [] None false) parent) }
+    ensures err { OnErr result (nodes_of nodes.new.items ≡ nodes_of nodes.old.items) }
+{
+    let element = Handle::new(nodes.len());
+    nodes.reserve(1)?;
+    push_child(nodes, parent, element)?;
+    let below = Node::element_below(alloc, parent, name);
+    nodes.push(below)?;
     Ok(())
 }
 

@@ -114,8 +114,7 @@ impl RcDom {
     {
         let name = QualName::html(LocalName::from_str(alloc, name)?);
         let appended = Handle::new(self.nodes.len());
-        let contents = NodeData::element(alloc, name);
-        nodes::attach_new(alloc, &mut self.nodes, parent, contents)?;
+        nodes::attach_element(alloc, &mut self.nodes, parent, name)?;
         Ok(appended)
     }
 

@@ -1,9 +1,9 @@
-use Rattle.std.proofs.Common.{rules, arith, ◌≡◌, ◌<◌, ◌++◌, ◌∷◌, [], length, map, sym, vec_len}
+use Rattle.std.proofs.Common.{rules, arith, ◌≡◌, ◌<◌, ◌++◌, ◌∷◌, [], length, map, vec_len}
 use Rattle.std.proofs.lemmas.List.{length-map, map-append}
 use Rattle.html_render_dom_nodes.specs.Content.{content_of}
 use Rattle.html_render_dom_nodes.specs.Nodes.{node_in, node_of}
 use Rattle.html_render_dom_nodes.specs.Edits.{with_children}
-use Rattle.html_render_dom_nodes.proofs.Writes.{attached-created}
+use Rattle.html_render_dom_nodes.proofs.Writes.{attached_new-named}
 use Rattle.html_render_dom_nodes.proofs.nodes.attach_new.Goals as goal
 
 pub returns-clause-ok : goal.returns-clause-ok
@@ -15,5 +15,4 @@ returns-clause-ok c =
     let at : parent < length old = omega (arith, len, c.requires) in
     let pushed : map node_of c.push_child.new.nodes.items ≡ with_children old parent ((node_in old parent).children ++ length old ∷ []) =
     rw (c.reserve.ensures.items, node) at c.in_ok-push_child.ensures.ok in
-    rw (c.set_parent.ensures.parent, c.in_ok-push.ensures.items, map-append, pushed, node, c.lone-made.ensures)
-    (sym (attached-created old (content_of c.args.contents) parent at))
+    rw (c.in_ok-push.ensures.items, map-append, pushed, c.below-made.ensures) (attached_new-named old (content_of c.args.contents) parent at)

@@ -7,4 +7,4 @@ use Rattle.html_render_dom.proofs.dom.documents.RcDom.append_element.Goals as go
 pub invariant_of-self-2 : goal.invariant_of-self-2
 invariant_of-self-2 c =
     IsForest-attach_new (dom_of c.self.inside) _ c.self.view_is c.self.invariant c.args.parent
-    (element _ [] None false) refl c.requires _ (rw c.element-contents.ensures at c.in_ok-attach_new.ensures.ok)
+    (element _ [] None false) refl c.requires _ c.in_ok-attach_element.ensures.ok
