@@ -1,5 +1,5 @@
-//! Tests of what no text shows: a decorator of a caller's own, deep documents and a cut of many columns. What a text shows is a
-//! case of `test_cases`.
+//! Tests of what neither a text nor a clause shows: that deep documents and cuts of many columns take no deep stack and little work.
+//! What a text shows is a case of `test_cases`.
 //!
 //! There is nothing to call here.
 #![tactic(auto)]
@@ -8,7 +8,3 @@
 mod cuts;
 #[cfg(test)]
 mod deep;
-#[cfg(test)]
-mod letters;
-#[cfg(test)]
-mod rendering;
