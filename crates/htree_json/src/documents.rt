@@ -9,7 +9,7 @@ ghost use Rattle.htree_json.specs.Built.{HasOwn, HasSaid};
 ghost use Rattle.htree_json.specs.Said.{document_tree, said};
 
 use crate::answers::{Refusal, answered};
-use crate::reading::{Members, Readable, list, once, read_members, tag};
+use crate::reading::{Members, Readable, choice, list, once, read_members};
 use html_render_tree::dom::{
     Attribute, ElementFlags, Handle, LocalName, Namespace, NodeData, NodeOrText, QualName, RcDom,
 };
@@ -75,7 +75,28 @@ pub struct Document {
     children: Option<Vec<Node>>,
 }
 
-impl Members for Document {
+/// What tells an object that it is a document: `doc`.
+#[derive(Clone, Copy)]
+struct DocumentTag;
+
+impl Readable for DocumentTag {
+    /// The tag's name.
+    fn read<F: Format>(
+        alloc: Global,
+        from: &mut Deserializer<'_, '_, F>,
+    ) -> Result<DocumentTag, F::Error> {
+        choice(alloc, from, &["doc"], &[DocumentTag])
+    }
+}
+
+/// The members of a document's object.
+#[derive(Default, Drop)]
+struct DocumentMembers {
+    tag: Option<DocumentTag>,
+    children: Option<Vec<Node>>,
+}
+
+impl Members for DocumentMembers {
     fn read_member<F: Format>(
         &mut self,
         alloc: Global,
@@ -83,7 +104,7 @@ impl Members for Document {
         member: usize,
     ) -> Result<(), F::Error> {
         match member {
-            0 => from.skip(),
+            0 => once(alloc, from, "t", &mut self.tag),
             1 => once(alloc, from, "c", &mut self.children),
             _ => Err(from.unknown_key()),
         }
@@ -96,12 +117,14 @@ impl Readable for Document {
         alloc: Global,
         from: &mut Deserializer<'_, '_, F>,
     ) -> Result<Document, F::Error> {
-        if tag(alloc, from, "t", &["doc"])? != 0 {
-            return Err(from.unknown_variant());
+        let mut members = DocumentMembers::default();
+        read_members(alloc, from, &["t", "c"], &mut members)?;
+        match members.tag {
+            Some(DocumentTag) => Ok(Document {
+                children: members.children,
+            }),
+            None => Err(from.missing("t")),
         }
-        let mut document = Document::default();
-        read_members(alloc, from, &["t", "c"], &mut document)?;
-        Ok(document)
     }
 }
 

@@ -124,17 +124,6 @@ fn variant<F: Format>(
     from.variant(&names)
 }
 
-/// The place of a member's value among names, which is not read by this. Another name has a place behind them.
-pub fn tag<F: Format>(
-    alloc: Global,
-    from: &mut Deserializer<'_, '_, F>,
-    key: &str,
-    words: &[&str],
-) -> Result<usize, F::Error> {
-    let names = exact_names(alloc, from, words)?;
-    from.tag(key, &names)
-}
-
 /// The next item of an array.
 pub fn next<T: Readable, F: Format>(
     alloc: Global,

@@ -4,7 +4,7 @@ use crate::answers::{Refusal, refused};
 use crate::configs::Calls;
 use crate::cuts::{self, Columns, CutForm};
 use crate::documents::{self, Document};
-use crate::reading::{Members, Readable, once, read_members, tag};
+use crate::reading::{Members, Readable, choice, once, read_members};
 use crate::rendering::{self, Want};
 use crate::{grids, styles};
 use html_render_tree::dom::Attribute;
@@ -32,10 +32,13 @@ enum Op {
     Dump,
 }
 
+/// The number of the last member of a request; `op` has 0.
+const LAST: usize = 11;
+
 /// A request: what is asked for, and the members that say of what. Each `op` has some of them.
-#[derive(Drop)]
+#[derive(Default, Drop)]
 struct Request {
-    op: Op,
+    op: Option<Op>,
     config: Option<Calls>,
     want: Option<Want>,
     dom: Option<Document>,
@@ -64,7 +67,7 @@ impl Op {
 }
 
 impl Readable for Op {
-    /// The `op` of the object that comes, which is not read by this.
+    /// The name of what is asked for.
     fn read<F: Format>(alloc: Global, from: &mut Deserializer<'_, '_, F>) -> Result<Op, F::Error> {
         let names = [
             "render",
@@ -84,10 +87,7 @@ impl Readable for Op {
             Op::ComputedStyle,
             Op::Dump,
         ];
-        match ops.get(tag(alloc, from, "op", &names)?) {
-            Some(op) => Ok(*op),
-            None => Err(from.unknown_variant()),
-        }
+        choice(alloc, from, &names, &ops)
     }
 }
 
@@ -98,13 +98,11 @@ impl Members for Request {
         from: &mut Deserializer<'_, '_, F>,
         member: usize,
     ) -> Result<(), F::Error> {
-        if member == 0 {
-            return from.skip();
-        }
-        if !self.op.has(member) {
+        if !self.may_have(member) {
             return Err(from.unknown_key());
         }
         match member {
+            0 => once(alloc, from, "op", &mut self.op),
             1 => once(alloc, from, "config", &mut self.config),
             2 => once(alloc, from, "want", &mut self.want),
             3 => once(alloc, from, "dom", &mut self.dom),
@@ -129,41 +127,58 @@ impl<'de> Deserialize<'de> for Request {
             "op", "config", "want", "dom", "width", "minimums", "shares", "cut", "rows", "rules",
             "element", "attrs",
         ];
-        let mut request = Request::new(Op::read(alloc, from)?);
+        let mut request = Request::default();
         read_members(alloc, from, &names, &mut request)?;
-        Ok(request)
+        match request.op {
+            Some(op) if request.has_another(op) => Err(from.unknown_key()),
+            Some(_) => Ok(request),
+            None => Err(from.missing("op")),
+        }
     }
 }
 
 impl Request {
-    /// A request of which no member is read.
-    fn new(op: Op) -> Request {
-        Request {
-            op,
-            config: None,
-            want: None,
-            dom: None,
-            width: None,
-            minimums: None,
-            shares: None,
-            cut: None,
-            rows: None,
-            rules: None,
-            element: None,
-            attrs: None,
+    /// Whether the member of a number may stand in it, as far as is known.
+    fn may_have(&self, member: usize) -> bool {
+        match self.op {
+            Some(op) => member == 0 || op.has(member),
+            None => member <= LAST,
         }
+    }
+
+    /// Whether it has the member of a number, from 1.
+    fn has(&self, member: usize) -> bool {
+        match member {
+            1 => self.config.is_some(),
+            2 => self.want.is_some(),
+            3 => self.dom.is_some(),
+            4 => self.width.is_some(),
+            5 => self.minimums.is_some(),
+            6 => self.shares.is_some(),
+            7 => self.cut.is_some(),
+            8 => self.rows.is_some(),
+            9 => self.rules.is_some(),
+            10 => self.element.is_some(),
+            _ => self.attrs.is_some(),
+        }
+    }
+
+    /// Whether it has a member that a request for this hasn't.
+    fn has_another(&self, op: Op) -> bool {
+        (1..=LAST).any(|member| self.has(member) && !op.has(member))
     }
 
     /// The answer to it.
     fn answer(&mut self, alloc: Global) -> Result<Vec<u8>, Refusal> {
         match self.op {
-            Op::Render => self.answer_render(alloc),
-            Op::TableGrid => self.answer_grid(alloc),
-            Op::CutFits => self.answer_fits(alloc),
-            Op::ColumnWidths => self.answer_widths(alloc),
-            Op::CheckCut => self.answer_check(alloc),
-            Op::ComputedStyle => self.answer_style(alloc),
-            Op::Dump => self.answer_dump(alloc),
+            Some(Op::Render) => self.answer_render(alloc),
+            Some(Op::TableGrid) => self.answer_grid(alloc),
+            Some(Op::CutFits) => self.answer_fits(alloc),
+            Some(Op::ColumnWidths) => self.answer_widths(alloc),
+            Some(Op::CheckCut) => self.answer_check(alloc),
+            Some(Op::ComputedStyle) => self.answer_style(alloc),
+            Some(Op::Dump) => self.answer_dump(alloc),
+            None => Err(Refusal::Request("a request has op")),
         }
     }
 
