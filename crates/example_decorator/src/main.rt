@@ -2,7 +2,7 @@
 //! references to the lines at the end.
 #![tactic(auto)]
 
-ghost use Rattle.std.specs.Prelude.{◌≡◌, ◌≤◌, ◌++◌, IfOk, OnOk, codes, refl, string_bytes};
+ghost use Rattle.std.specs.Prelude.{◌≡◌, ◌≤◌, ◌++◌, IfErr, IfOk, OnOk, codes, refl, string_bytes};
 ghost use Rattle.html_render_tree.specs.Dom.{IsNode, node_count};
 ghost use Rattle.html_render_tree.specs.Alteration.{unchanged};
 ghost use Rattle.example_decorator.specs.Markdown.{image, markdown};
@@ -22,7 +22,8 @@ struct Markdown;
 
 /// An image of Markdown.
 fn image(alloc: Global, source: &str, title: &str) -> Result<String, Error>
-    ensures { IfOk result (λ r. string_bytes r ≡ image source.now title.now) }
+    ensures ok { IfOk result (λ r. string_bytes r ≡ image source.now title.now) }
+    ensures err { IfErr result (λ e. e ≡ Error.OutOfMemory) }
 {
     Ok(format!(in alloc; "![{title}]({source})")?)
 }
