@@ -1,0 +1,79 @@
+-- WHAT RECORDS OF SETTINGS MAKE of the options of a configuration, over the text of which their texts are pieces.
+use Rattle.std.specs.Prelude.{ℕ, ◌==◌, ◌++◌, ◌/◌, ◌%◌, if◌then◌else◌, true, false, not, List, [], ◌∷◌, Option, Some, None, option_map, option_and_then}
+use Rattle.html_render_dom_cascade.specs.declared.origins.StyleOrigin.{StyleOrigin}
+use Rattle.html_render_dom_cascade.specs.declared.origins.StyleOrigin.TheVariants as origin
+use Rattle.html_render_dom_rules.specs.Rules.{Rule, StyleValue, colour, bg_colour, display, white_space, content}
+use Rattle.html_render_dom_rules.specs.Selectors.{words}
+use Rattle.html_render_dom_rules.specs.declared.rules.Display.TheVariants as shown
+use Rattle.html_render_dom_rules.specs.declared.rules.PseudoElement.{PseudoElement}
+use Rattle.html_render_dom_rules.specs.declared.rules.PseudoElement.TheVariants.{Before, After}
+use Rattle.html_render_dom_values.specs.declared.colours.Colour.{Colour}
+use Rattle.html_render_dom_values.specs.declared.white_space.WhiteSpace.{WhiteSpace}
+use Rattle.html_render_dom_values.specs.declared.white_space.WhiteSpace.TheVariants.{Normal, Pre, PreWrap}
+use Rattle.html_render_layout_estimates.specs.declared.settings.ImageRenderMode.{ImageRenderMode}
+use Rattle.html_render_layout_estimates.specs.declared.settings.ImageRenderMode.TheVariants.{IgnoreEmpty, ShowAlways, Replace, Filename}
+use Rattle.html_render_tree.specs.Decorations.{decorations}
+use Rattle.html_render_tree.specs.Rendering.{Options}
+use Rattle.html_render_tree_steps.specs.Steps.{piece}
+use Rattle.html_render_c.specs.declared.settings.Setting.{Setting}
+
+-- 0xRRGGBB
+abbrev pub rgb : ℕ → Colour
+rgb n = record { r = n / 65536 % 256; g = n / 256 % 256; b = n % 256 }
+
+abbrev pub treatment : ℕ → Option WhiteSpace
+treatment n = if n == 0 then Some Normal else if n == 1 then Some Pre else if n == 2 then Some PreWrap else None
+
+-- what a rule declares
+abbrev pub declared_in : (text : List ℕ) → Setting → Option StyleValue
+declared_in text s =
+    if s.number == 0 then Some (colour (rgb s.value)) else if s.number == 1 then Some (bg_colour (rgb s.value))
+    else if s.number == 2 then Some (display shown.None) else if s.number == 3 then option_map white_space (treatment s.value)
+    else if s.number == 4 then Some (content (piece text s.text s.text_length)) else None
+
+abbrev pub origin_in : (flags : ℕ) → StyleOrigin
+origin_in flags =
+    if flags % 4 == 0 then origin.None else if flags % 4 == 1 then origin.Agent else if flags % 4 == 2 then origin.User else origin.Author
+
+abbrev pub place_in : (flags : ℕ) → Option PseudoElement
+place_in flags = if flags / 8 % 2 == 1 then Some Before else if flags / 16 % 2 == 1 then Some After else None
+
+-- the rule of a record that declares this
+abbrev pub rule_in : (text : List ℕ) → Setting → StyleValue → Rule
+rule_in text s value = record {
+  origin = origin_in s.flags;
+  element = if s.flags / 32 % 2 == 1 then Some (piece text s.element s.element_length) else None;
+  id = if s.flags / 64 % 2 == 1 then Some (piece text s.id s.id_length) else None;
+  classes = words (piece text s.classes s.classes_length);
+  pseudo = place_in s.flags;
+  declarations = record { important = s.flags / 4 % 2 == 1; style = value } ∷ [];
+}
+
+-- what stands in the place of an image whose title is empty
+abbrev pub image_mode_in : (text : List ℕ) → Setting → Option ImageRenderMode
+image_mode_in text s =
+    if s.number == 0 then Some IgnoreEmpty else if s.number == 1 then Some ShowAlways
+    else if s.number == 2 then Some (Replace (piece text s.text s.text_length)) else if s.number == 3 then Some Filename else None
+
+-- the options after a record; none where it is no setting
+abbrev pub with_setting : {S : Type 0} → (text : List ℕ) → Options S → Setting → Option (Options S)
+with_setting text options s =
+    if s.kind == 1 then Some (record options { overflow = true })
+    else if s.kind == 2 then Some (record options { rules = options.rules ++ decorations })
+    else if s.kind == 3 then Some (record options { settings = record options.settings { link_footnotes = not (s.number == 0) } })
+    else if s.kind == 4 then Some (record options { settings = record options.settings { wrap_links = false } })
+    else if s.kind == 5 then Some (record options { settings = record options.settings { unicode_strikeout = not (s.number == 0) } })
+    else if s.kind == 6 then option_map (λ mode. record options { settings = record options.settings { empty_images = mode } }) (image_mode_in text s)
+    else if s.kind == 7 then Some (record options { settings = record options.settings { pad_block_width = true } })
+    else if s.kind == 8 then Some (record options { max_wrap_width = Some s.number })
+    else if s.kind == 9 then Some (record options { settings = record options.settings { min_wrap_width = s.number } })
+    else if s.kind == 10 then Some (record options { settings = record options.settings { raw_mode = not (s.number == 0); table_borders = false } })
+    else if s.kind == 11 then Some (record options { settings = record options.settings { table_borders = false } })
+    else if s.kind == 12 then Some (record options { settings = record options.settings { fence_tables = true } })
+    else if s.kind == 13 then option_map (λ value. record options { rules = options.rules ++ rule_in text s value ∷ [] }) (declared_in text s)
+    else None
+
+-- the options after records, one after another
+abbrev pub configured : {S : Type 0} → (text : List ℕ) → List Setting → Options S → Option (Options S)
+configured text [] options = Some options
+configured text (s ∷ settings) options = option_and_then (configured text settings) (with_setting text options s)

@@ -1,0 +1,6 @@
+//! Documents from steps: calls on a document as records of numbers over one buffer of text, as they come from other languages.
+#![tactic(auto)]
+
+pub mod building;
+pub mod pieces;
+pub mod step;
