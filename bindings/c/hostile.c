@@ -1,0 +1,160 @@
+/* Gives the library what a hostile page could: a document 100,000 deep, a text of a billion bytes that isn't there; and refuses each
+ * growth of memory in turn to a document that is recorded and rendered, and looks that no block is lost.
+ *
+ * It is linked with --wrap for malloc, calloc, realloc, aligned_alloc, posix_memalign and free. */
+#include "html_render.h"
+#include "steps.h"
+
+#include <stdio.h>
+#include <stdlib.h>
+#include <string.h>
+
+void *__real_malloc(size_t size);
+void *__real_calloc(size_t items, size_t size);
+void *__real_realloc(void *block, size_t size);
+void *__real_aligned_alloc(size_t to, size_t size);
+int __real_posix_memalign(void **block, size_t to, size_t size);
+void __real_free(void *block);
+
+/* the growth that is refused, from 1; none at 0 */
+static long refused_from;
+/* how many are refused: a list asks again at once for as much as it needs, so two or all */
+static long refused_many;
+static long growths, blocks;
+
+static int is_refused(void) {
+    growths++;
+    return refused_from && growths >= refused_from && growths - refused_from < refused_many;
+}
+
+static void *counted(void *block) {
+    blocks += block != NULL;
+    return block;
+}
+
+void *__wrap_malloc(size_t size) {
+    return is_refused() ? NULL : counted(__real_malloc(size));
+}
+
+void *__wrap_calloc(size_t items, size_t size) {
+    return is_refused() ? NULL : counted(__real_calloc(items, size));
+}
+
+void *__wrap_realloc(void *block, size_t size) {
+    if (is_refused())
+        return NULL;
+    return block ? __real_realloc(block, size) : counted(__real_realloc(block, size));
+}
+
+void *__wrap_aligned_alloc(size_t to, size_t size) {
+    return is_refused() ? NULL : counted(__real_aligned_alloc(to, size));
+}
+
+int __wrap_posix_memalign(void **block, size_t to, size_t size) {
+    int status = is_refused() ? 12 : __real_posix_memalign(block, to, size);
+    blocks += status == 0;
+    return status;
+}
+
+void __wrap_free(void *block) {
+    blocks -= block != NULL;
+    __real_free(block);
+}
+
+static int failed;
+
+static void expect(int is_so, const char *what) {
+    if (!is_so) {
+        printf("hostile: %s\n", what);
+        failed = 1;
+    }
+}
+
+static html_render_node element(html_render_recording *page, html_render_node parent, const char *name) {
+    html_render_node made = html_render_element(page, HTML_RENDER_HTML, name, strlen(name));
+    html_render_append(page, parent, made);
+    return made;
+}
+
+static void deep(void) {
+    html_render_recording *page = html_render_new();
+    html_render_node node = 0;
+    char *text = NULL;
+    size_t length;
+    int i;
+    for (i = 0; i < 100000; i++)
+        node = element(page, node, "div");
+    html_render_append_text(page, node, "x", 1);
+    expect(html_render_text_of(page, HTML_RENDER_PLAIN, 80, &text, &length) == HTML_RENDER_OK && !strcmp(text, "x\n"), "a deep document isn't rendered");
+    html_render_free(text);
+    html_render_drop(page);
+}
+
+static void billion(void) {
+    const struct html_render_setting none = {0};
+    struct html_render_step step = {0};
+    const uint8_t text[1] = {0};
+    uint8_t *out = NULL;
+    size_t length = 0;
+    step.kind = 6;
+    step.value_length = 1000000000;
+    expect(html_render_text(&step, 1, text, 1, &none, 0, 0, 80, &out, &length) == HTML_RENDER_BAD_STEP && !out && length == 0, "a text that isn't there is taken");
+}
+
+/* Records and renders a page, and answers the status; 3 too where nothing can be recorded. */
+static int page_of(char **text, size_t *length) {
+    static const char *const CELLS[] = {"To", "Minutes", "Lighthouse Point", "20"};
+    html_render_recording *page = html_render_new();
+    html_render_node table, row = 0, cell;
+    int i, status;
+    *text = NULL;
+    if (!page)
+        return HTML_RENDER_OUT_OF_MEMORY;
+    html_render_append_text(page, element(page, 0, "h1"), "Harbour ferries, which is long", 30);
+    html_render_append_text(page, element(page, element(page, 0, "ul"), "li"), "an item", 7);
+    table = element(page, element(page, 0, "table"), "tbody");
+    for (i = 0; i < 4; i++) {
+        if (i % 2 == 0)
+            row = element(page, table, "tr");
+        cell = element(page, row, "td");
+        html_render_attribute(page, cell, HTML_RENDER_NO_NAMESPACE, "class", 5, "one two", 7);
+        html_render_append_text(page, cell, CELLS[i], strlen(CELLS[i]));
+    }
+    html_render_set(page, HTML_RENDER_LINK_FOOTNOTES, 1, NULL);
+    status = html_render_text_of(page, HTML_RENDER_PLAIN, 20, text, length);
+    html_render_drop(page);
+    return status;
+}
+
+/* Refuses each growth in turn, until a run meets no refusal. */
+static long refusals(long many) {
+    char *whole, *text;
+    size_t whole_length, length;
+    int status;
+    expect(page_of(&whole, &whole_length) == HTML_RENDER_OK, "a page isn't rendered");
+    refused_many = many;
+    do {
+        long before = blocks;
+        growths = 0;
+        refused_from++;
+        status = page_of(&text, &length);
+        expect(status == HTML_RENDER_OUT_OF_MEMORY || (status == HTML_RENDER_OK && length == whole_length && !memcmp(text, whole, length)), "a refusal isn't told");
+        html_render_free(text);
+        expect(blocks == before, "a block is lost");
+    } while (growths >= refused_from && !failed);
+    html_render_free(whole);
+    status = (int)refused_from - 1;
+    refused_from = 0;
+    return status;
+}
+
+int main(void) {
+    long two, all;
+    deep();
+    billion();
+    two = refusals(2);
+    all = refusals(1000000000);
+    if (!failed)
+        printf("%ld growths refused\n", two + all);
+    return failed;
+}

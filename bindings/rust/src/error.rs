@@ -1,0 +1,46 @@
+//! Why nothing is rendered.
+
+use std::{fmt, io};
+
+/// Why nothing is rendered.
+#[derive(Debug)]
+#[non_exhaustive]
+pub enum Error {
+    /// The width is too narrow for the document.
+    TooNarrow,
+    /// The document can't be rendered: a part of a table stands in no table, or its spans pass all bounds.
+    Fail,
+    /// Memory is out, or the document has more than 2^32 - 1 bytes of text, nodes or calls.
+    OutOfMemory,
+    /// A rule of a style sheet has no block.
+    CssParseError,
+    /// The input can't be read.
+    IoError(io::Error),
+}
+
+impl fmt::Display for Error {
+    fn fmt(&self, f: &mut fmt::Formatter<'_>) -> fmt::Result {
+        match self {
+            Error::TooNarrow => f.write_str("Output width not wide enough."),
+            Error::Fail => f.write_str("The document can't be rendered."),
+            Error::OutOfMemory => f.write_str("Out of memory"),
+            Error::CssParseError => f.write_str("A rule of the style sheet has no block."),
+            Error::IoError(error) => error.fmt(f),
+        }
+    }
+}
+
+impl std::error::Error for Error {
+    fn source(&self) -> Option<&(dyn std::error::Error + 'static)> {
+        match self {
+            Error::IoError(error) => Some(error),
+            _ => None,
+        }
+    }
+}
+
+impl From<io::Error> for Error {
+    fn from(error: io::Error) -> Error {
+        Error::IoError(error)
+    }
+}

@@ -1,0 +1,160 @@
+//! Lines of tagged strings, under html2text's names.
+
+/// A colour of red, green and blue parts.
+#[derive(Clone, Copy, Debug, PartialEq, Eq)]
+pub struct Colour {
+    /// The red part.
+    pub r: u8,
+    /// The green part.
+    pub g: u8,
+    /// The blue part.
+    pub b: u8,
+}
+
+/// What a character of rich text is.
+#[derive(Clone, Debug, Default, PartialEq, Eq)]
+#[non_exhaustive]
+pub enum RichAnnotation {
+    /// Nothing that has an annotation of its own.
+    #[default]
+    Default,
+    /// A link to this target.
+    Link(String),
+    /// The title of an image of this source.
+    Image(String),
+    /// Emphasised text.
+    Emphasis,
+    /// Strong text.
+    Strong,
+    /// Text that is struck out.
+    Strikeout,
+    /// Code.
+    Code,
+    /// Text that keeps its white space; `true` on a continuation line.
+    Preformat(bool),
+    /// Text of this colour.
+    Colour(Colour),
+    /// Text on this background.
+    BgColour(Colour),
+}
+
+/// A text under one tag.
+#[derive(Clone, Debug, Default, PartialEq, Eq)]
+pub struct TaggedString<T> {
+    /// The text.
+    pub s: String,
+    /// The tag of each of its characters: its annotations, the outermost one first.
+    pub tag: T,
+}
+
+/// A part of a line.
+#[derive(Clone, Debug, PartialEq, Eq)]
+pub enum TaggedLineElement<T> {
+    /// A text under one tag.
+    Str(TaggedString<T>),
+    /// The place where a part of the document with this name begins. It takes no column.
+    FragmentStart(String),
+}
+
+/// A line: texts under tags, and the names of what begins between them.
+#[derive(Clone, Debug, Default, PartialEq, Eq)]
+pub struct TaggedLine<T> {
+    elements: Vec<TaggedLineElement<T>>,
+}
+
+impl<T> TaggedLine<T> {
+    /// The line of what a function makes of its elements.
+    pub(crate) fn map<U>(self, made: impl FnMut(TaggedLineElement<T>) -> TaggedLineElement<U>) -> TaggedLine<U> {
+        TaggedLine { elements: self.elements.into_iter().map(made).collect() }
+    }
+
+    /// Its elements, in order.
+    pub fn iter(&self) -> impl Iterator<Item = &TaggedLineElement<T>> + '_ {
+        self.elements.iter()
+    }
+
+    /// Its strings, in order.
+    pub fn tagged_strings(&self) -> impl Iterator<Item = &TaggedString<T>> + '_ {
+        self.elements.iter().filter_map(|element| match element {
+            TaggedLineElement::Str(string) => Some(string),
+            TaggedLineElement::FragmentStart(_) => None,
+        })
+    }
+}
+
+/// What is left of the records that the library gave.
+struct Records<'a> {
+    rest: &'a [u8],
+}
+
+impl<'a> Records<'a> {
+    fn take(&mut self, length: usize) -> Option<&'a [u8]> {
+        if self.rest.len() < length {
+            return None;
+        }
+        let (taken, rest) = self.rest.split_at(length);
+        self.rest = rest;
+        Some(taken)
+    }
+
+    fn letter(&mut self) -> Option<u8> {
+        self.take(1).map(|taken| taken[0])
+    }
+
+    fn number(&mut self) -> Option<usize> {
+        let taken = self.take(4)?;
+        Some(u32::from_le_bytes([taken[0], taken[1], taken[2], taken[3]]) as usize)
+    }
+
+    fn text(&mut self) -> Option<String> {
+        let length = self.number()?;
+        let taken = self.take(length)?;
+        Some(std::str::from_utf8(taken).ok()?.to_owned())
+    }
+
+    fn colour(&mut self) -> Option<Colour> {
+        let taken = self.take(3)?;
+        Some(Colour { r: taken[0], g: taken[1], b: taken[2] })
+    }
+
+    fn annotation(&mut self) -> Option<RichAnnotation> {
+        Some(match self.letter()? {
+            b'l' => RichAnnotation::Link(self.text()?),
+            b'i' => RichAnnotation::Image(self.text()?),
+            b'e' => RichAnnotation::Emphasis,
+            b'b' => RichAnnotation::Strong,
+            b's' => RichAnnotation::Strikeout,
+            b'c' => RichAnnotation::Code,
+            b'p' => RichAnnotation::Preformat(false),
+            b'q' => RichAnnotation::Preformat(true),
+            b'f' => RichAnnotation::Colour(self.colour()?),
+            b'g' => RichAnnotation::BgColour(self.colour()?),
+            _ => RichAnnotation::Default,
+        })
+    }
+
+    fn string(&mut self) -> Option<TaggedString<Vec<RichAnnotation>>> {
+        let count = self.number()?;
+        let tag = (0..count).map(|_| self.annotation()).collect::<Option<Vec<_>>>()?;
+        Some(TaggedString { s: self.text()?, tag })
+    }
+}
+
+/// The lines that records are, or none where they are no such records.
+pub(crate) fn read(records: &[u8]) -> Option<Vec<TaggedLine<Vec<RichAnnotation>>>> {
+    let mut records = Records { rest: records };
+    let mut lines: Vec<TaggedLine<Vec<RichAnnotation>>> = Vec::new();
+    while !records.rest.is_empty() {
+        let element = match records.letter()? {
+            b'L' => {
+                lines.push(TaggedLine { elements: Vec::new() });
+                continue;
+            }
+            b'S' => TaggedLineElement::Str(records.string()?),
+            b'F' => TaggedLineElement::FragmentStart(records.text()?),
+            _ => return None,
+        };
+        lines.last_mut()?.elements.push(element);
+    }
+    Some(lines)
+}
