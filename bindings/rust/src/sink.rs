@@ -27,8 +27,21 @@ mod kind {
 const TEMPLATE: u32 = 4;
 const INTEGRATION_POINT: u32 = 8;
 
-/// The attributes that rendering asks for. Others aren't recorded.
-const ASKED: [&str; 9] = ["alt", "class", "colspan", "href", "id", "name", "rowspan", "src", "start"];
+/// Whether rendering asks for attributes of a name. Others aren't recorded.
+fn is_asked(name: &LocalName) -> bool {
+    matches!(
+        *name,
+        local_name!("alt")
+            | local_name!("class")
+            | local_name!("colspan")
+            | local_name!("href")
+            | local_name!("id")
+            | local_name!("name")
+            | local_name!("rowspan")
+            | local_name!("src")
+            | local_name!("start")
+    )
+}
 
 /// What the tree builder asks of a node that it made.
 struct Made {
@@ -124,7 +137,7 @@ impl Steps {
     }
 
     fn add_attribute(&mut self, node: u32, attribute: &Attribute) {
-        if !ASKED.contains(&&*attribute.name.local) {
+        if !is_asked(&attribute.name.local) {
             return;
         }
         let (name, name_length) = self.keep(&attribute.name.local);

@@ -165,6 +165,24 @@ fn make_element(
     Ok(())
 }
 
+/// Makes an element of HTML that is no template, and puts it last among the children of a node.
+#[inline]
+fn append_html(
+    alloc: Global,
+    dom: &mut RcDom,
+    made: &mut Vec<Handle>,
+    given: StepOver<'_>,
+) -> Result<(), Fault>
+    requires { given.step.now.flags ≡ 1 }
+    ensures { OnOk result (Does given.entry.text.now given.entry.step.now kind.AppendElement (record { dom = dom.old; made = made.old.items }) (record { dom = dom.new; made = made.new.items })) }
+{
+    let parent = node_of(dom, made.as_slice(), given.step.node)?;
+    let name = given.local_name()?;
+    let element = dom.append_element(alloc, parent, name)?;
+    made.push(element)?;
+    Ok(())
+}
+
 /// Makes an element, and puts it last among the children of a node.
 fn append_element(
     alloc: Global,
@@ -174,6 +192,9 @@ fn append_element(
 ) -> Result<(), Fault>
     ensures { OnOk result (Does given.entry.text.now given.entry.step.now kind.AppendElement (record { dom = dom.old; made = made.old.items }) (record { dom = dom.new; made = made.new.items })) }
 {
+    if given.step.flags == 1 {
+        return append_html(alloc, dom, made, given);
+    }
     let parent = node_of(dom, made.as_slice(), given.step.node)?;
     let name = given.name(alloc)?;
     let flags = given.step.element_flags();
