@@ -111,7 +111,7 @@ html_render_node html_render_instruction(html_render_recording *recording, const
 /* The contents of a template. */
 html_render_node html_render_template_contents(html_render_recording *recording, html_render_node element);
 
-/* Gives an element an attribute, unless it has one of that name and namespace. */
+/* Gives an element an attribute, unless it has one of that name and namespace: it is looked up among all that the element has. */
 void html_render_attribute(html_render_recording *recording, html_render_node element, uint32_t name_space, const char *name, size_t name_length, const char *value, size_t length);
 
 /* Puts a node that hangs nowhere, or a text, last among the children of a node. */
