@@ -19,6 +19,7 @@ mod sink;
 
 pub use error::Error;
 pub use lines::{Colour, RichAnnotation, TaggedLine, TaggedLineElement, TaggedString};
+pub use records::give_back_large_blocks;
 
 use std::io::Read;
 

@@ -2,6 +2,7 @@
 
 use crate::error::Error;
 use std::ffi::c_void;
+use std::os::raw::c_int;
 use std::ptr;
 
 /// A call on a document: `Step` of the library.
@@ -143,6 +144,21 @@ fn rendered(by: Render, page: Page<'_>) -> Result<Given, Error> {
         1 => Err(Error::TooNarrow),
         3 => Err(Error::OutOfMemory),
         _ => Err(Error::Fail),
+    }
+}
+
+/// Has glibc's allocator give each block of 128 KiB and more back to the system when it is freed, as it begins to, for the whole
+/// process; without this the first such block that is freed makes it keep those that follow. It can save a program that renders and
+/// ends a seventh of its memory. Under another C library it does nothing.
+pub fn give_back_large_blocks() {
+    #[cfg(target_env = "gnu")]
+    {
+        extern "C" {
+            fn mallopt(parameter: c_int, value: c_int) -> c_int;
+        }
+        const M_MMAP_THRESHOLD: c_int = -3;
+        // SAFETY: mallopt takes two numbers, and refuses those that it doesn't know
+        unsafe { mallopt(M_MMAP_THRESHOLD, 128 * 1024) };
     }
 }
 

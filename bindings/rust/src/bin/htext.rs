@@ -244,6 +244,7 @@ fn run() -> Result<(), Fault> {
 }
 
 fn main() -> ExitCode {
+    html_render::give_back_large_blocks();
     let fault = match run() {
         Ok(()) => return ExitCode::SUCCESS,
         // who reads the output has enough of it
