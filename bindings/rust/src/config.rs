@@ -3,13 +3,14 @@
 use crate::css::{self, Origin};
 use crate::error::Error;
 use crate::lines::{self, RichAnnotation, TaggedLine, TaggedLineElement, TaggedString};
+use crate::reader::Reader;
 use crate::records::{self, Page, Setting};
 use crate::sink::Steps;
-use html5ever::driver::ParseOpts;
 use html5ever::tree_builder::TreeBuilderOpts;
 use std::io::Read;
 use std::marker::PhantomData;
 use std::mem;
+use tendril::stream::Utf8LossyDecoder;
 use tendril::TendrilSink;
 
 /// What stands in the place of an image whose title is empty.
@@ -218,12 +219,10 @@ impl<D: Decorator> Config<D> {
 
     /// The steps of the document that HTML in UTF-8 is; bytes that are no UTF-8 become U+FFFD. The input streams into the parser.
     fn parse(&self, input: impl Read) -> Result<Steps, Error> {
-        let options = ParseOpts {
-            tree_builder: TreeBuilderOpts { drop_doctype: true, ..TreeBuilderOpts::default() },
-            ..ParseOpts::default()
-        };
+        let options = TreeBuilderOpts { drop_doctype: true, ..TreeBuilderOpts::default() };
+        let reader = Reader::new(Steps::new(self.uses_doc_css), options);
         let mut input = input;
-        let steps = html5ever::parse_document(Steps::new(self.uses_doc_css), options).from_utf8().read_from(&mut input)?;
+        let steps = Utf8LossyDecoder::new(reader).read_from(&mut input)?;
         if steps.is_too_large {
             return Err(Error::OutOfMemory);
         }

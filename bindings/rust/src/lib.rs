@@ -14,6 +14,7 @@ pub mod config;
 mod css;
 mod error;
 mod lines;
+mod reader;
 mod records;
 mod sink;
 

@@ -7,7 +7,7 @@ use std::ptr;
 
 /// A call on a document: `Step` of the library.
 #[repr(C)]
-#[derive(Clone, Copy, Debug, Default)]
+#[derive(Clone, Copy, Debug, Default, PartialEq, Eq)]
 pub(crate) struct Step {
     pub kind: u32,
     pub flags: u32,

@@ -111,17 +111,12 @@ impl Steps {
         self.steps.push(step);
     }
 
-    fn push_with_text(&mut self, step: Step, text: &str) {
-        let (value, value_length) = self.keep(text);
-        self.push(Step { value, value_length, ..step });
-    }
-
-    /// Adds a text behind the children of a node: to that of the last step, where that does the same.
-    fn append_text(&mut self, node: u32, text: &str) {
+    /// Adds a step that puts a text somewhere: to that of the last step, where that puts one there.
+    fn put_text(&mut self, step: Step, text: &str) {
         let (value, value_length) = self.keep(text);
         match self.steps.last_mut() {
-            Some(last) if last.kind == kind::PUT_TEXT && last.node == node => last.value_length += value_length,
-            _ => self.push(Step { kind: kind::PUT_TEXT, node, value, value_length, ..Step::default() }),
+            Some(last) if (last.kind, last.node, last.other) == (step.kind, step.node, step.other) => last.value_length += value_length,
+            _ => self.push(Step { value, value_length, ..step }),
         }
     }
 
@@ -156,7 +151,7 @@ impl Steps {
     fn put(&mut self, step: Step, by_node: u32, by_text: u32, child: NodeOrText<u32>) {
         match child {
             NodeOrText::AppendNode(child) => self.push(Step { kind: by_node, child, ..step }),
-            NodeOrText::AppendText(text) => self.push_with_text(Step { kind: by_text, ..step }, &text),
+            NodeOrText::AppendText(text) => self.put_text(Step { kind: by_text, ..step }, &text),
         }
     }
 }
@@ -240,7 +235,7 @@ impl TreeSink for Steps {
                 }
             }
             NodeOrText::AppendText(_) if self.is_html(*parent, &local_name!("script")) => {}
-            NodeOrText::AppendText(text) => self.append_text(*parent, &text),
+            NodeOrText::AppendText(text) => self.put_text(Step { kind: kind::PUT_TEXT, node: *parent, ..Step::default() }, &text),
         }
     }
 
