@@ -4,6 +4,8 @@ pub mod Settings
 pub mod TextSize
 -- the cells of a table
 pub mod Cells
+-- what the columns of a table need
+pub mod Columns
 -- THE DEFINITION of estimates
 pub mod Estimates
 -- what the passes of the code compute

@@ -44,7 +44,7 @@ all-ends_in I (r ∷ rows) f =
     (all-ends_in I rows (λ n h. f n (Contains-append_right (map (λ p. p.end) r) (ends rows) n h)))
 
 -- each stands between edges
-own-in_edges : (rows : List (List Span)) → All (All (Between (Contains (edges_of (placed_rows rows))))) (own_rows_from 0 [] rows)
+pub own-in_edges : (rows : List (List Span)) → All (All (Between (Contains (edges_of (placed_rows rows))))) (own_rows_from 0 [] rows)
 own-in_edges rows =
     let placed = placed_rows rows in
     let I = Contains (edges_of placed) in
@@ -112,7 +112,7 @@ rows-back es rising row hung (cells ∷ more) b =
 -- ---- the cells of a table
 
 -- the cells of these rows, where they fit
-abbrev cells_of : List (List Span) → CellGrid
+abbrev pub cells_of : List (List Span) → CellGrid
 cells_of rows =
     let edges = edges_of (placed_rows rows) in
     record { edges = edges; rows = map (map (on_columns edges)) (own_rows_from 0 [] rows) }
@@ -125,7 +125,7 @@ cells-are rows g e = elim (cases_Bool (positions_fit (placed_rows rows))) [
 ]
 
 -- they span what the rows ask for
-spans-back : (rows : List (List Span)) → spans_on (cells_of rows) ≡ rows
+pub spans-back : (rows : List (List Span)) → spans_on (cells_of rows) ≡ rows
 spans-back rows =
     let placed = placed_rows rows in
     rows-back (edges_of placed) (IsStrictlyIncreasing-rising (0 ∷ ends placed)) 0 [] rows (own-in_edges rows)

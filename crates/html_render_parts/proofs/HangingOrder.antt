@@ -10,11 +10,11 @@ use Rattle.html_render_parts.specs.PlacementSteps.{AllFrom, IsByColumn}
 
 -- ---- two lists in one, by own column: of equal ones the first list's comes first
 
-abbrev merged_with : Standing → (List Standing → List Standing) → List Standing → List Standing
+abbrev pub merged_with : Standing → (List Standing → List Standing) → List Standing → List Standing
 merged_with s rest [] = s ∷ rest []
 merged_with s rest (o ∷ os) = cond (nat_le s.column o.column) (s ∷ rest (o ∷ os)) (o ∷ merged_with s rest os)
 
-abbrev merged : List Standing → List Standing → List Standing
+abbrev pub merged : List Standing → List Standing → List Standing
 merged [] os = os
 merged (s ∷ ss) os = merged_with s (merged ss) os
 
@@ -47,13 +47,13 @@ with-merged a (s ∷ ss) os = elim (leb_tells a.column s.column) [
   | inr t ↦ with-behind a s ss t.0 t.1 (with-merged a ss) os ∙ sym (rw t.0 refl)
 ]
 
-by_column-append : (xs os : List Standing) → by_column os ≡ os → by_column (xs ++ os) ≡ merged (by_column xs) os
+pub by_column-append : (xs os : List Standing) → by_column os ≡ os → by_column (xs ++ os) ≡ merged (by_column xs) os
 by_column-append [] os e = e
 by_column-append (x ∷ xs) os e = ap (by_column_with x) (by_column-append xs os e) ∙ with-merged x (by_column xs) os
 
 -- ---- order
 
-AllFrom-less : (m n : ℕ) (cs : List Standing) → m ≤ n → AllFrom n cs → AllFrom m cs
+pub AllFrom-less : (m n : ℕ) (cs : List Standing) → m ≤ n → AllFrom n cs → AllFrom m cs
 AllFrom-less m n [] le h = tt
 AllFrom-less m n (c ∷ cs) le h = (let k = h.0 in omega arith, AllFrom-less m n cs le h.1)
 
@@ -69,20 +69,20 @@ IsByColumn-with a (c ∷ cs) h =
     let less = AllFrom-less a.column c.column cs in
     grind (arith, nat_tests)
 
-IsByColumn-by_column : (xs : List Standing) → IsByColumn (by_column xs)
+pub IsByColumn-by_column : (xs : List Standing) → IsByColumn (by_column xs)
 IsByColumn-by_column [] = tt
 IsByColumn-by_column (x ∷ xs) = IsByColumn-with x (by_column xs) (IsByColumn-by_column xs)
 
-by_column_with-front : (a : Standing) (cs : List Standing) → AllFrom a.column cs → by_column_with a cs ≡ a ∷ cs
+pub by_column_with-front : (a : Standing) (cs : List Standing) → AllFrom a.column cs → by_column_with a cs ≡ a ∷ cs
 by_column_with-front a [] h = refl
 by_column_with-front a (c ∷ cs) h = let k = h.0 in grind (arith, nat_tests)
 
 -- cells in order stay as they are
-by_column-same : (cs : List Standing) → IsByColumn cs → by_column cs ≡ cs
+pub by_column-same : (cs : List Standing) → IsByColumn cs → by_column cs ≡ cs
 by_column-same [] h = refl
 by_column-same (c ∷ cs) h = ap (by_column_with c) (by_column-same cs h.1) ∙ by_column_with-front c cs h.0
 
-AllFrom-filter : (p : Standing → Bool) (n : ℕ) (cs : List Standing) → AllFrom n cs → AllFrom n (filter p cs)
+pub AllFrom-filter : (p : Standing → Bool) (n : ℕ) (cs : List Standing) → AllFrom n cs → AllFrom n (filter p cs)
 AllFrom-filter p n [] h = tt
 AllFrom-filter p n (c ∷ cs) h = elim (cases_Bool (p c)) [
   | inl e ↦ rw e (h.0, AllFrom-filter p n cs h.1)
@@ -169,7 +169,7 @@ own-from row cursor hs (s ∷ ss) =
           (own-from row (due_end cursor hs + s.colspan) (not_due cursor hs) ss),
     )
 
-by_column-own : (row cursor : ℕ) (hs : List Standing) (ss : List Span) → by_column (own_from row cursor hs ss) ≡ own_from row cursor hs ss
+pub by_column-own : (row cursor : ℕ) (hs : List Standing) (ss : List Span) → by_column (own_from row cursor hs ss) ≡ own_from row cursor hs ss
 by_column-own row cursor hs [] = refl
 by_column-own row cursor hs (s ∷ ss) =
     let column = due_end cursor hs in

@@ -3,6 +3,8 @@ pub mod EdgeRanks
 pub mod EdgesOfCells
 pub mod GatheringEnds
 pub mod GridMade
+pub mod GridOfCells
+pub mod HangingFromAbove
 pub mod HangingOrder
 pub mod NumberTests
 pub mod PlacingRows

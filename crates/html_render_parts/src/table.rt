@@ -12,6 +12,7 @@ ghost use Rattle.html_render_parts.specs.Refusal.{Fails};
 
 pub mod cells;
 mod gathering;
+mod laws;
 mod numbering;
 mod placement;
 

@@ -1,10 +1,9 @@
 -- What the columns of a table need for its cells.
-use Rattle.std.specs.Prelude.{ℕ, ◌+◌, ◌-◌, ◌/◌, ◌≤◌, ◌<◌, List, All, map, sum, slice_range, Option}
+use Rattle.std.specs.Prelude.{ℕ, ◌+◌, ◌-◌, ◌/◌, ◌≤◌, ◌<◌, List, All, map, sum, slice_range}
 use Rattle.std.specs.List.{range_with_len}
 use Rattle.html_render_parts_widths.specs.declared.needs.CellNeed.{CellNeed}
 use Rattle.html_render_parts_widths.specs.declared.shares.ColumnNeed.{ColumnNeed}
 use Rattle.html_render_parts_widths.specs.declared.spans.Span.{Span}
-use Rattle.html_render_parts_widths.specs.Shares.{widths_across}
 use Rattle.html_render_parts_widths.specs.Spans.{greatest_at}
 
 -- the part that each column of a cell has of a value, rounded down
@@ -22,10 +21,6 @@ need_at cells column = record {
 abbrev pub column_needs : (columns : ℕ) → List CellNeed → List ColumnNeed
 column_needs columns cells = map (need_at cells) (range_with_len 0 columns)
 
--- THE WIDTHS of a table's columns side by side; none where they can't stand so
-abbrev pub table_widths : (columns : ℕ) → List CellNeed → (width : ℕ) → Option (List ℕ)
-table_widths columns cells width = widths_across width (column_needs columns cells)
-
 -- a column without cells
 abbrev pub no_need : ColumnNeed
 no_need = record { size = 0; least = 0 }
@@ -34,13 +29,17 @@ no_need = record { size = 0; least = 0 }
 abbrev pub AreSome : List CellNeed → Type 0
 AreSome cells = All (λ c. 0 < c.count) cells
 
--- cells of these columns, each over one or more
+-- a cell over one or more of these columns
 pub record IsCell (columns : ℕ) (c : CellNeed) : Type 0 where
   pub over : c.start + c.count ≤ columns
   pub some : 0 < c.count
 
 abbrev pub AreCells : (columns : ℕ) → List CellNeed → Type 0
 AreCells columns cells = All (IsCell columns) cells
+
+-- columns that need no more at least than their sizes
+abbrev pub AreWithinSizes : List ColumnNeed → Type 0
+AreWithinSizes needs = All (λ n. n.least ≤ n.size) needs
 
 -- a cell has its least width over its columns, with the separators between them
 abbrev pub HasRoom : (widths : List ℕ) → CellNeed → Type 0

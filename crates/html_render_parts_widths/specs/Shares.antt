@@ -13,6 +13,11 @@ least_widths needs = map (λ n. n.least) needs
 abbrev pub share : (width total : ℕ) → ColumnNeed → ℕ
 share width total need = max need.least (min need.size (need.size * width / total))
 
+-- the share of a column that needs no more at least than its size: as much of the width as its size is of the total of all sizes, at least
+-- its least width and at most its size; 0 for size 0
+abbrev pub share_by_size : (width total : ℕ) → ColumnNeed → ℕ
+share_by_size width total need = if need.size == 0 then 0 else min need.size (max (need.size * width / total) need.least)
+
 abbrev pub shares : (width : ℕ) → List ColumnNeed → List ℕ
 shares width needs = map (share width (sum_by (λ n. n.size) needs)) needs
 

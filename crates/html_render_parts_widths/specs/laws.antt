@@ -3,3 +3,4 @@ pub mod GivingOrder
 pub mod UnitCut
 pub mod SharesFit
 pub mod Needs
+pub mod FairestAcross

@@ -19,7 +19,7 @@ mod spans;
 pub use check::check_cut;
 pub use cut::{ColumnCut, column_widths, column_widths_metered};
 pub use fit::cut_fits;
-pub use needs::{CellNeed, column_needs, table_widths};
+pub use needs::{CellNeed, column_needs};
 pub use shares::{ColumnNeed, stand_side_by_side, widths_across};
 pub use spans::{Span, greatest_values};
 

@@ -1,9 +1,9 @@
-//! What the columns of a table need for its cells, and how wide they are then side by side.
+//! What the columns of a table need for its cells.
 
-ghost use Rattle.std.specs.Prelude.{◌≡◌, ◌<◌, ◌↔◌, ℕ, length, map, option_map, slice_index, slice_index_or, IfOk, IfErr, IsTrue};
-ghost use Rattle.html_render_parts_widths.specs.Needs.{no_need, part, column_needs, table_widths, AreSome, AreCells};
+ghost use Rattle.std.specs.Prelude.{◌≡◌, ◌<◌, ◌↔◌, ℕ, length, map, slice_index, slice_index_or, IfOk, IfErr, IsTrue};
+ghost use Rattle.html_render_parts_widths.specs.Needs.{no_need, part, column_needs, AreSome, AreCells};
 
-use super::shares::{ColumnNeed, widths_across};
+use super::shares::ColumnNeed;
 use super::spans::{Span, greatest_values};
 use html_render_dom_values::Error;
 use std::alloc::{AllocError, Global};
@@ -91,24 +91,4 @@ pub fn column_needs(
     let least = least_parts(alloc, cells)?;
     let least = greatest_values(alloc, columns, least.as_slice())?;
     Ok(together(alloc, sizes.as_slice(), least.as_slice())?)
-}
-
-/// The widths of a table's columns where they stand side by side in `width`; none where they can't: [`widths_across`] of what
-/// the columns need for their cells.
-///
-/// # Errors
-///
-/// `OutOfMemory`.
-pub fn table_widths(
-    alloc: Global,
-    columns: usize,
-    cells: &[CellNeed],
-    width: usize,
-) -> Result<Option<Vec<usize>>, Error>
-    requires { AreCells columns cells.now }
-    ensures ok { IfOk result (λ widths. option_map (λ all. all.items) widths ≡ table_widths columns cells.now width) }
-    ensures err { IfErr result (λ e. e ≡ Error.OutOfMemory) }
-{
-    let needs = column_needs(alloc, columns, cells)?;
-    widths_across(alloc, needs.as_slice(), width)
 }

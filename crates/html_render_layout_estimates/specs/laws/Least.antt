@@ -47,7 +47,7 @@ row_within : (cells : List GridCell) (t : Forest RenderNode) → AllWithin t →
 row_within (c ∷ cs) (node n children beside) h = (h.0, row_within cs beside h.2)
 row_within cells t h = tt
 
-cells_within : (rows : List (List GridCell)) (t : Forest RenderNode) → AllWithin t → AreWithin (cell_needs rows t)
+pub cells_within : (rows : List (List GridCell)) (t : Forest RenderNode) → AllWithin t → AreWithin (cell_needs rows t)
 cells_within (cells ∷ more) (node n children beside) h =
     AreWithin-append (row_needs cells children) (cell_needs more beside) (row_within cells children h.1) (cells_within more beside h.2)
 cells_within rows t h = tt
@@ -90,7 +90,7 @@ module _ {D A : Type 0} (decoration : Decoration D A) (decorator : D) (settings 
 
   -- ---- trees
 
-  trees_within : (t : Forest RenderNode) → (greatest_least (all_measured t) ≤ total_size (all_measured t)) × AllWithin (all_measured t)
+  pub trees_within : (t : Forest RenderNode) → (greatest_least (all_measured t) ≤ total_size (all_measured t)) × AllWithin (all_measured t)
   trees_within none = (omega arith, tt)
   trees_within (node n children beside) =
       let below = trees_within children in

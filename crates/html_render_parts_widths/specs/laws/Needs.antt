@@ -10,9 +10,9 @@ use Rattle.html_render_parts_widths.specs.declared.needs.CellNeed.{CellNeed}
 use Rattle.html_render_parts_widths.specs.declared.shares.ColumnNeed.{ColumnNeed}
 use Rattle.html_render_parts_widths.specs.Shares.{least_widths, shares, widths_across}
 use Rattle.html_render_parts_widths.specs.Spans.{given, greatest_at}
-use Rattle.html_render_parts_widths.specs.Needs.{no_need, part, need_at, column_needs, HasRoom, IsCell, AreCells, table_widths}
+use Rattle.html_render_parts_widths.specs.Needs.{no_need, part, need_at, column_needs, HasRoom, IsCell, AreCells}
 use Rattle.html_render_parts_widths.specs.laws.Cuts.{cut-within, neighbours-cut, HoldTogether}
-use Rattle.html_render_parts_widths.specs.laws.SharesFit.{few_units_across, of_widths}
+use Rattle.html_render_parts_widths.specs.laws.SharesFit.{of_widths}
 
 -- ---- columns side by side are within the width
 
@@ -63,13 +63,8 @@ has_room columns cells ws h hold = All-weaker (Contains cells) (HasRoom ws) room
 
 -- where the columns stand side by side, each cell has room for its least width
 pub cells_have_room : (columns : ℕ) (cells : List CellNeed) (w : ℕ) → AreCells columns cells →
-    IfSome (table_widths columns cells w) (λ ws. All (HasRoom ws) cells)
+    IfSome (widths_across w (column_needs columns cells)) (λ ws. All (HasRoom ws) cells)
 cells_have_room columns cells w h =
     let needs = column_needs columns cells in
     of_widths w needs (λ ws. All (HasRoom ws) cells)
     (λ ws fits cut. has_room columns cells ws h (neighbours-cut (least_widths needs) (shares w needs) w ws cut))
-
--- and no column takes more units from its share than the width has
-pub few_units_of_cells : (columns : ℕ) (cells : List CellNeed) (w : ℕ) →
-    IfSome (table_widths columns cells w) (λ ws. sum (shares w (column_needs columns cells)) - sum ws ≤ w)
-few_units_of_cells columns cells w = few_units_across w (column_needs columns cells)

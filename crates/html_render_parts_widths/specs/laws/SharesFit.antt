@@ -4,10 +4,12 @@ use Rattle.std.proofs.Common.{zero, suc, cond, ◌&&◌, leb, List, [], ◌∷�
 use Rattle.std.proofs.Math.Nat.{add-mul, div-zero, div-mul-le_self, div-le_of_le-mul, le-div_iff_mul-le}
 use Rattle.std.proofs.lemmas.Bool.{leb-true, eqb-true}
 use Rattle.std.proofs.lemmas.List.{get_or-map, length-map}
+use Rattle.std.proofs.lemmas.List.Elements.{All-head, All-tail}
 use Rattle.std.proofs.lemmas.List.Sums.{sum_by-cons}
 use Rattle.html_render_parts_widths.specs.declared.shares.ColumnNeed.{ColumnNeed}
 use Rattle.html_render_parts_widths.specs.Cuts.{cut_by_units, CutFits, IsCut}
-use Rattle.html_render_parts_widths.specs.Shares.{least_widths, share, shares, stand_side_by_side, widths_across}
+use Rattle.html_render_parts_widths.specs.Shares.{least_widths, share, share_by_size, shares, stand_side_by_side, widths_across}
+use Rattle.html_render_parts_widths.specs.Needs.{AreWithinSizes}
 use Rattle.html_render_parts_widths.specs.laws.Cuts.{few-units}
 use Rattle.html_render_parts_widths.specs.laws.UnitCut.{cut_by_units-fairest}
 
@@ -85,10 +87,21 @@ pub few_units_across : (w : ℕ) (needs : List ColumnNeed) → IfSome (widths_ac
 few_units_across w needs = of_widths w needs (λ ws. sum (shares w needs) - sum ws ≤ w)
     (λ ws fits cut. few-units (least_widths needs) (shares w needs) w ws fits cut (shares_keep w needs))
 
--- where no column needs more at least than its size, a share is no more than the size: it is nothing where that is
-pub share_is : (w t : ℕ) (n : ColumnNeed) → n.least ≤ n.size → share w t n ≡ cond (n.size == 0) 0 (min n.size (max (n.size * w / t) n.least))
+-- where a column needs no more at least than its size, its share is the one by its size
+pub share_is : (w t : ℕ) (n : ColumnNeed) → n.least ≤ n.size → share w t n ≡ share_by_size w t n
 share_is w t n h = by (n.size == 0) refl
   where
     by : (b : Bool) → (n.size == 0) ≡ b → share w t n ≡ cond b 0 (min n.size (max (n.size * w / t) n.least))
     by true e = let zero = eqb-true n.size 0 e in omega arith
     by false e = omega arith
+
+all_shares_are : (w t : ℕ) (needs : List ColumnNeed) → AreWithinSizes needs → map (share w t) needs ≡ map (share_by_size w t) needs
+all_shares_are w t [] h = refl
+all_shares_are w t (n ∷ ns) h =
+    let P : ColumnNeed → Type 0 = λ m. m.least ≤ m.size in
+    ap (λ x. x ∷ map (share w t) ns) (share_is w t n (All-head P n ns h))
+    ∙ ap (λ xs. share_by_size w t n ∷ xs) (all_shares_are w t ns (All-tail P n ns h))
+
+pub shares_are : (w : ℕ) (needs : List ColumnNeed) → AreWithinSizes needs →
+    shares w needs ≡ map (share_by_size w (sum_by (λ (m : ColumnNeed). m.size) needs)) needs
+shares_are w needs h = all_shares_are w (sum_by (λ (m : ColumnNeed). m.size) needs) needs h

@@ -1,0 +1,115 @@
+-- No column of a measured table needs more at least than its size.
+use Rattle.std.proofs.Common.{◌≡◌, ℕ, ◌+◌, ◌*◌, ◌/◌, ◌≤◌, Bool, true, false, cond, ltb, leb, ◌&&◌, List, [], ◌∷◌, ◌++◌, get_or, length, map, max, zero, suc}
+use Rattle.std.proofs.Common.{All, arith, refl}
+use Rattle.std.specs.Prelude.{if◌then◌else◌, sum_by}
+use Rattle.std.specs.List.{range_with_len}
+use Rattle.std.proofs.Math.Nat.{div-mul-le_self, div-zero, le-div_iff_mul-le}
+use Rattle.std.proofs.lemmas.List.Elements.{All-nil, All-cons, All-append, All-map, All-weaker}
+use Rattle.html_render_dom_values.specs.Forest.{Forest, none, node}
+use Rattle.html_render_parts_decorators.specs.Decoration.{Decoration}
+use Rattle.html_render_parts.specs.TableCells.{columns_of}
+use Rattle.html_render_parts_widths.specs.declared.needs.CellNeed.{CellNeed}
+use Rattle.html_render_parts_widths.specs.declared.shares.ColumnNeed.{ColumnNeed}
+use Rattle.html_render_parts_widths.specs.Shares.{share_by_size, shares}
+use Rattle.html_render_parts_widths.specs.Spans.{given, greatest_at}
+use Rattle.html_render_parts_widths.specs.Needs.{AreWithinSizes, column_needs, need_at, part}
+use Rattle.html_render_parts_widths.specs.laws.SharesFit.{shares_are}
+use Rattle.html_render_layout_nodes.specs.declared.tree.Entry.{Entry}
+use Rattle.html_render_layout_nodes.specs.declared.tree.NodeKind.{NodeKind}
+use Rattle.html_render_layout_nodes.specs.declared.tree.NodeKind.TheVariants.{Table}
+use Rattle.html_render_layout_nodes.specs.declared.tree.RenderNode.{RenderNode}
+use Rattle.html_render_layout_nodes.specs.Preorder.{flatten}
+use Rattle.html_render_layout_estimates.specs.declared.settings.LayoutSettings.{LayoutSettings}
+use Rattle.html_render_layout_estimates.specs.Cells.{cell_needs}
+use Rattle.html_render_layout_estimates.specs.Columns.{needs_of_kind}
+use Rattle.html_render_layout_estimates.specs.Estimates.{measured, measured_kind}
+use Rattle.html_render_layout_estimates.specs.Passes.{has_table, with_needed_sizes, without_sizes}
+use Rattle.html_render_layout_estimates.specs.laws.Least.{AllWithin, cells_within, trees_within}
+use Rattle.html_render_layout_estimates.specs.laws.Tables.{AreWithin}
+
+-- ---- a column
+
+part-le : (count least size : ℕ) → least ≤ size → least / count ≤ size / count
+part-le zero least size h = omega (arith, div-zero least, div-zero size)
+part-le (suc n) least size h =
+    (le-div_iff_mul-le {k = suc n} {x = least / suc n} {y = size} (omega arith)).1 (omega (arith, div-mul-le_self least (suc n), h))
+
+given-le : (c : CellNeed) (k : ℕ) → c.least ≤ c.size → given (part c c.least) k ≤ given (part c c.size) k
+given-le c k h = by (leb c.start k && ltb k (c.start + c.count))
+  where
+    by : (b : Bool) → cond b (c.least / c.count) 0 ≤ cond b (c.size / c.count) 0
+    by true = part-le c.count c.least c.size h
+    by false = omega arith
+
+column-le : (cells : List CellNeed) (k : ℕ) → AreWithin cells →
+    greatest_at (map (λ c. part c c.least) cells) k ≤ greatest_at (map (λ c. part c c.size) cells) k
+column-le [] k h = omega arith
+column-le (c ∷ cs) k h = omega (arith, given-le c k h.0, column-le cs k h.1)
+
+pub columns-within : (columns : ℕ) (cells : List CellNeed) → AreWithin cells → AreWithinSizes (column_needs columns cells)
+columns-within columns cells h =
+    All-map (λ (n : ColumnNeed). n.least ≤ n.size) (need_at cells) (range_with_len 0 columns)
+    (λ k d inside. column-le cells (get_or (range_with_len 0 columns) k d) h)
+
+-- ---- the columns of all nodes
+
+abbrev HasColumnsWithin : Entry RenderNode → Type 0
+HasColumnsWithin e = AreWithinSizes (needs_of_kind e.node.kind)
+
+-- the same of all nodes of trees
+abbrev AllColumns : Forest RenderNode → Type 0
+AllColumns none = Unit {0}
+AllColumns (node n children beside) = AreWithinSizes (needs_of_kind n.kind) × AllColumns children × AllColumns beside
+
+all-columns : (t : Forest RenderNode) → AllColumns t → All HasColumnsWithin (flatten t)
+all-columns none h = All-nil HasColumnsWithin
+all-columns (node n children beside) h =
+    All-cons HasColumnsWithin _ _ h.0
+    (All-append HasColumnsWithin (flatten children) (flatten beside) (all-columns children h.1) (all-columns beside h.2))
+
+columns-unsized : (t : Forest RenderNode) → AllColumns t → AllColumns (without_sizes t)
+columns-unsized none h = h
+columns-unsized (node n children beside) h = (h.0, columns-unsized children h.1, columns-unsized beside h.2)
+
+columns-needed : (t : Forest RenderNode) → AllColumns t → AllColumns (with_needed_sizes t)
+columns-needed t h = by (has_table t)
+  where
+    by : (b : Bool) → AllColumns (if b then t else without_sizes t)
+    by true = h
+    by false = columns-unsized t h
+
+kind-columns : (kind : NodeKind) (below : Forest RenderNode) → AllWithin below → AreWithinSizes (needs_of_kind (measured_kind kind below))
+kind-columns (Table grid) below h =
+    columns-within (columns_of grid.cells) (cell_needs grid.cells.rows below) (cells_within grid.cells.rows below h)
+kind-columns kind below h = All-nil (λ (n : ColumnNeed). n.least ≤ n.size)
+
+abbrev HasSharesBySize : ℕ → Entry RenderNode → Type 0
+HasSharesBySize width e =
+    let needs = needs_of_kind e.node.kind in
+    shares width needs ≡ map (share_by_size width (sum_by (λ (n : ColumnNeed). n.size) needs)) needs
+
+module _ {D A : Type 0} (decoration : Decoration D A) (decorator : D) (settings : LayoutSettings) where
+  measured-columns : (t : Forest RenderNode) → AllColumns (measured decoration decorator settings t)
+  measured-columns none = tt
+  measured-columns (node n children beside) = (
+    kind-columns n.kind (measured decoration decorator settings children) (trees_within decoration decorator settings children).1,
+    measured-columns children,
+    measured-columns beside,
+  )
+
+  pub each_column_within : (t : Forest RenderNode) → All HasColumnsWithin (flatten (measured decoration decorator settings t))
+  each_column_within t = all-columns (measured decoration decorator settings t) (measured-columns t)
+
+  pub each_needed_column_within : (t : Forest RenderNode) →
+      All HasColumnsWithin (flatten (with_needed_sizes (measured decoration decorator settings t)))
+  each_needed_column_within t =
+      all-columns (with_needed_sizes (measured decoration decorator settings t))
+      (columns-needed (measured decoration decorator settings t) (measured-columns t))
+
+  pub each_share_by_size : (t : Forest RenderNode) (width : ℕ) →
+      All (HasSharesBySize width) (flatten (with_needed_sizes (measured decoration decorator settings t)))
+  each_share_by_size t width =
+      All-weaker HasColumnsWithin (HasSharesBySize width) (λ e h. shares_are width (needs_of_kind e.node.kind) h)
+      (flatten (with_needed_sizes (measured decoration decorator settings t))) (each_needed_column_within t)
+
+pub ruleset of_columns = (each_column_within, each_needed_column_within)
