@@ -9,6 +9,8 @@ pub mod Block
 -- its definition on whole lists, and the machine that is fed character by character
 pub mod Definition
 pub mod Machine
+-- what is done to a block, one operation after another
+pub mod Edits
 -- its visible characters
 pub mod Visible
 -- laws of the definitions

@@ -7,6 +7,8 @@ pub mod BlockSeen
 pub mod Beside
 pub mod TableWithin
 pub mod BlockHolds
+-- whatever is done to a block
+pub mod EditsWithin
 -- no visible character is lost
 pub mod Operations
 pub mod BlockVisible

@@ -244,13 +244,6 @@ impl<T: Tag, M: Copy> Block<T, M> {
         inner_width(self.setting, prefix, inner)
     }
 
-    /// The columns of a line.
-    pub fn width(&self) -> usize
-        ensures { result ≡ self.now.setting.width }
-    {
-        self.setting.width
-    }
-
     /// Leaves no paragraph open.
     #[inline(never)]
     fn close_paragraph(&mut self)

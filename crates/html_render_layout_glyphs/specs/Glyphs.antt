@@ -1,6 +1,12 @@
 -- The characters that tables are drawn with.
 use Rattle.std.specs.Prelude.{ℕ, List, [], ◌∷◌}
 use Rattle.html_render_layout_glyphs.specs.declared.borders.TheConstants.{BORDERS}
+use Rattle.html_render_layout_glyphs.specs.declared.borders.Borders.{Borders}
+
+-- Code points of the border characters: ┼ has separators above and below, ┴ above alone, ┬ below alone, and ─ has none.
+-- │ separates cells side by side; a line of / separates stacked cells.
+abbrev pub border_characters : Borders
+border_characters = record { cross = 0x253C; above = 0x2534; below = 0x252C; line = 0x2500; separator = 0x2502; slash = 0x2F }
 
 -- a space, and those of borders
 abbrev pub glyphs : List ℕ

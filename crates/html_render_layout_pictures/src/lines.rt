@@ -359,25 +359,6 @@ impl<T: Tag, M: Copy> Lines<T, M> {
         Ok(())
     }
 
-    /// Puts all lines into one vector, and says how many they are.
-    ///
-    /// # Errors
-    ///
-    /// Memory ran out. The lines are then gone.
-    pub fn len(&mut self) -> Result<usize, AllocError>
-        ensures same { OnOk result (self.new ≡ self.old) }
-        ensures length { IfOk result (λ n. n ≡ length self.old) }
-    {
-        if self.pieces.is_empty() {
-            return Ok(self.last.len());
-        }
-        let none = Vec::new(*self.last.allocator());
-        let pieces = mem::replace(&mut self.pieces, Vec::new(*self.last.allocator()));
-        let last = mem::replace(&mut self.last, none);
-        self.last = whole(pieces, last)?;
-        Ok(self.last.len())
-    }
-
     /// The lines in one vector: the last ones, where there are no others.
     ///
     /// # Errors
