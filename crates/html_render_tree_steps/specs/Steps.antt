@@ -1,8 +1,9 @@
 -- WHAT STEPS MAKE OF A DOCUMENT. A step is a call as numbers, over one text: nodes have the numbers in which steps made them, the
 -- document 0, and names and texts are pieces of that text.
-use Rattle.std.specs.Prelude.{◌≡◌, ℕ, ◌+◌, ◌%◌, ◌/◌, ◌≤◌, ◌<◌, ◌==◌, if◌then◌else◌, List, [], ◌∷◌, ◌++◌, length, take, drop, get_or}
+use Rattle.std.specs.Prelude.{◌≡◌, ℕ, ◌+◌, ◌%◌, ◌/◌, ◌≤◌, ◌<◌, ◌==◌, if◌then◌else◌, List, [], ◌∷◌, ◌++◌, length, take, drop, get_or, slice_get}
 use Rattle.std.specs.Prelude.{Option, Some, None, IsSome, unwrap_or}
 use Rattle.std.specs.Str.{IsUtf8}
+use Rattle.html_render_dom_values.specs.declared.errors.Error.TheVariants.{OutOfMemory}
 use Rattle.html_render_dom_nodes.specs.declared.flags.ElementFlags.{ElementFlags}
 use Rattle.html_render_dom_nodes.specs.declared.contents.NodeOrText.TheVariants.{AppendNode}
 use Rattle.html_render_dom_nodes.specs.Content.{Space, no_space, html, svg, mathml, Name, comment, instruction, doctype}
@@ -14,6 +15,8 @@ use Rattle.html_render_dom.specs.Edits.{CanAppend, appended}
 use Rattle.html_render_dom.specs.Moves.{CanAppendBefore, CanPutByParent, appended_before, put_by_parent}
 use Rattle.html_render_dom.specs.declared.dom.settings.QuirksMode.{QuirksMode}
 use Rattle.html_render_dom.specs.declared.dom.settings.QuirksMode.TheVariants.{Quirks, LimitedQuirks, NoQuirks}
+use Rattle.html_render_tree_steps.specs.declared.building.StepError.{StepError}
+use Rattle.html_render_tree_steps.specs.declared.building.StepError.TheVariants.{Refused, Faulty}
 use Rattle.html_render_tree_steps.specs.declared.step.Step.{Step}
 use Rattle.html_render_tree_steps.specs.declared.step.StepKind.{StepKind}
 use Rattle.html_render_tree_steps.specs.declared.step.StepKind.TheVariants.{MakeElement, AppendElement, MakeComment, MakeInstruction, AddAttribute}
@@ -163,3 +166,21 @@ Build text (step ∷ steps) old new = (next : Built) × DoesKind text step (kind
 -- the document that steps build
 abbrev pub AreStepsOf : (text : List ℕ) → List Step → Dom → Type 0
 AreStepsOf text steps dom = (made : List ℕ) × Build text steps begun (record { dom = dom; made = made })
+
+-- there is something that a step makes of what was built before
+abbrev pub CanTake : (text : List ℕ) → Step → Built → Type 0
+CanTake text step old = (new : Built) × DoesKind text step (kind_of step.kind) old new
+
+-- the step of this number, from 0, can't be taken after all steps before it
+pub record IsFaultyStep (text : List ℕ) (steps : List Step) (number : ℕ) : Type 0 where
+  pub within : number < length steps
+  pub built : Built
+  pub built_before : Build text (take number steps) begun built
+  pub step : Step
+  pub is_step : slice_get steps number ≡ Some step
+  pub not_taken : ¬ CanTake text step built
+
+-- why steps build no document: memory is out, or a step is faulty
+abbrev pub IsStepFault : (text : List ℕ) → List Step → StepError → Type 0
+IsStepFault text steps (Refused e) = e ≡ OutOfMemory
+IsStepFault text steps (Faulty number) = IsFaultyStep text steps number

@@ -1,1 +1,3 @@
 pub mod Childless
+pub mod Determined
+pub mod Progress

@@ -1,10 +1,11 @@
 //! The document that steps build.
 
-ghost use Rattle.std.specs.Prelude.{◌≡◌, ◌↔◌, IsTrue, ◌<◌, ◌≤◌, ◌++◌, ◌∷◌, [], length, string_bytes, IfOk, IfErr, IfSome, OnOk};
+ghost use Rattle.std.specs.Prelude.{◌≡◌, ◌↔◌, IsTrue, ◌<◌, ◌≤◌, ◌++◌, ◌∷◌, [], All, length, string_bytes, IfOk, IfErr, IfSome, OnOk};
 ghost use Rattle.html_render_dom.specs.Dom.{Dom, IsInclusiveAncestor, IsNode, node_count};
 ghost use Rattle.html_render_dom_nodes.specs.Content.{name_of};
 ghost use Rattle.html_render_tree_steps.specs.Steps as steps;
-ghost use Rattle.html_render_tree_steps.specs.Steps.{AreStepsOf, Does, DoesKind, HasName, HasNode, HasValue};
+ghost use Rattle.html_render_tree_steps.specs.Faults.{CanDo, Denies};
+ghost use Rattle.html_render_tree_steps.specs.Steps.{AreStepsOf, Built, Does, DoesKind, HasName, HasNode, HasValue, IsStepFault};
 ghost use Rattle.html_render_tree_steps.specs.declared.step.StepKind.TheVariants as kind;
 
 use crate::pieces::piece_of;
@@ -18,8 +19,8 @@ use std::alloc::{AllocError, AllocFailed, Global};
 pub enum StepError {
     /// A call on the document is refused: memory is out.
     Refused(Error),
-    /// The step of this number, from 0, does nothing that there is: its kind is unknown, it names a node or a piece of the text
-    /// that isn't there, or the document can't take it.
+    /// The step of this number, from 0, is the first that can't be taken: its kind is unknown, it names a node or a piece of the
+    /// text that isn't there, or the document doesn't allow it.
     Faulty(usize),
 }
 
@@ -33,6 +34,10 @@ enum Fault {
 }
 
 impl From<Error> for Fault {
+    ghost use Rattle.html_render_tree_steps.specs.declared.building.Fault.TheVariants.{Refused};
+
+    ghost from_gives = { λ error fault. fault ≡ Refused error };
+
     /// A call on the document is refused.
     fn from(error: Error) -> Fault {
         Fault::Refused(error)
@@ -40,6 +45,11 @@ impl From<Error> for Fault {
 }
 
 impl From<AllocError> for Fault {
+    ghost use Rattle.html_render_tree_steps.specs.declared.building.Fault.TheVariants.{Refused};
+    ghost use Rattle.html_render_dom_values.specs.declared.errors.Error.TheVariants.{OutOfMemory};
+
+    ghost from_gives = { λ _ fault. fault ≡ Refused OutOfMemory };
+
     /// Memory is out.
     fn from(refusal: AllocError) -> Fault {
         Fault::Refused(Error::from(refusal))
@@ -47,6 +57,11 @@ impl From<AllocError> for Fault {
 }
 
 impl<T: Drop> From<AllocFailed<T>> for Fault {
+    ghost use Rattle.html_render_tree_steps.specs.declared.building.Fault.TheVariants.{Refused};
+    ghost use Rattle.html_render_dom_values.specs.declared.errors.Error.TheVariants.{OutOfMemory};
+
+    ghost from_gives = { λ _ fault. fault ≡ Refused OutOfMemory };
+
     /// Memory is out; what could not be kept is dropped.
     fn from(refusal: AllocFailed<T>) -> Fault {
         Fault::Refused(Error::from(refusal))
@@ -54,6 +69,10 @@ impl<T: Drop> From<AllocFailed<T>> for Fault {
 }
 
 impl From<Error> for StepError {
+    ghost use Rattle.html_render_tree_steps.specs.declared.building.StepError.TheVariants.{Refused};
+
+    ghost from_gives = { λ error fault. fault ≡ Refused error };
+
     /// A call on the document is refused.
     fn from(error: Error) -> StepError {
         StepError::Refused(error)
@@ -61,6 +80,11 @@ impl From<Error> for StepError {
 }
 
 impl<T: Drop> From<AllocFailed<T>> for StepError {
+    ghost use Rattle.html_render_tree_steps.specs.declared.building.StepError.TheVariants.{Refused};
+    ghost use Rattle.html_render_dom_values.specs.declared.errors.Error.TheVariants.{OutOfMemory};
+
+    ghost from_gives = { λ _ fault. fault ≡ Refused OutOfMemory };
+
     /// Memory is out; what could not be kept is dropped.
     fn from(refusal: AllocFailed<T>) -> StepError {
         StepError::Refused(Error::from(refusal))
@@ -77,7 +101,8 @@ struct StepOver<'a> {
 impl<'a> StepOver<'a> {
     /// The step's text.
     fn value(&self) -> Result<&'a str, Fault>
-        ensures { IfOk result (λ s. (s.now ≡ steps.value_in self.now.text.now self.now.step.now) × HasValue self.now.text.now self.now.step.now) }
+        ensures ok { IfOk result (λ s. (s.now ≡ steps.value_in self.now.text.now self.now.step.now) × HasValue self.now.text.now self.now.step.now) }
+        ensures err { IfErr result (λ fault. Denies fault (HasValue self.now.text.now self.now.step.now)) }
     {
         piece_of(
             self.text,
@@ -89,7 +114,8 @@ impl<'a> StepOver<'a> {
 
     /// A copy of it.
     fn value_copied(&self, alloc: Global) -> Result<String, Fault>
-        ensures { IfOk result (λ s. (string_bytes s ≡ steps.value_in self.now.text.now self.now.step.now) × HasValue self.now.text.now self.now.step.now) }
+        ensures ok { IfOk result (λ s. (string_bytes s ≡ steps.value_in self.now.text.now self.now.step.now) × HasValue self.now.text.now self.now.step.now) }
+        ensures err { IfErr result (λ fault. Denies fault (HasValue self.now.text.now self.now.step.now)) }
     {
         let value = self.value()?;
         Ok(String::from_str(alloc, value)?)
@@ -97,7 +123,8 @@ impl<'a> StepOver<'a> {
 
     /// The step's name within its namespace.
     fn local_name(&self) -> Result<&'a str, Fault>
-        ensures { IfOk result (λ s. (s.now ≡ (steps.name_in self.now.text.now self.now.step.now).local) × HasName self.now.text.now self.now.step.now) }
+        ensures ok { IfOk result (λ s. (s.now ≡ (steps.name_in self.now.text.now self.now.step.now).local) × HasName self.now.text.now self.now.step.now) }
+        ensures err { IfErr result (λ fault. Denies fault (HasName self.now.text.now self.now.step.now)) }
     {
         let (name, length) = (self.step.name as usize, self.step.name_length as usize);
         piece_of(self.text, name, length).ok_or(Fault::Faulty)
@@ -105,7 +132,8 @@ impl<'a> StepOver<'a> {
 
     /// A copy of it.
     fn local_name_copied(&self, alloc: Global) -> Result<String, Fault>
-        ensures { IfOk result (λ s. (string_bytes s ≡ (steps.name_in self.now.text.now self.now.step.now).local) × HasName self.now.text.now self.now.step.now) }
+        ensures ok { IfOk result (λ s. (string_bytes s ≡ (steps.name_in self.now.text.now self.now.step.now).local) × HasName self.now.text.now self.now.step.now) }
+        ensures err { IfErr result (λ fault. Denies fault (HasName self.now.text.now self.now.step.now)) }
     {
         let name = self.local_name()?;
         Ok(String::from_str(alloc, name)?)
@@ -113,7 +141,8 @@ impl<'a> StepOver<'a> {
 
     /// The step's name.
     fn name(&self, alloc: Global) -> Result<QualName, Fault>
-        ensures { IfOk result (λ n. (name_of n ≡ steps.name_in self.now.text.now self.now.step.now) × HasName self.now.text.now self.now.step.now) }
+        ensures ok { IfOk result (λ n. (name_of n ≡ steps.name_in self.now.text.now self.now.step.now) × HasName self.now.text.now self.now.step.now) }
+        ensures err { IfErr result (λ fault. Denies fault (HasName self.now.text.now self.now.step.now)) }
     {
         let local = self.local_name()?;
         Ok(QualName {
@@ -123,15 +152,14 @@ impl<'a> StepOver<'a> {
     }
 }
 
-/// The node of a number.
-fn node_of(dom: &RcDom, made: &[Handle], number: u32) -> Result<Handle, Fault>
-    ensures number { IfOk result (λ h. (h ≡ steps.node_of (record { dom = dom.now; made = made.now }) number) × (number < length made.now)) }
-    ensures is_node { IfOk result (λ h. IsNode dom.now h) }
+/// Returns the node of this number. Only the contract reads `_dom`, the document that has all nodes of `made`.
+fn node_of(_dom: &RcDom, made: &[Handle], number: u32) -> Result<Handle, Fault>
+    requires { All (IsNode _dom.now) made.now }
+    ensures ok { IfOk result (λ h. (h ≡ steps.node_of (record { dom = _dom.now; made = made.now }) number) × (number < length made.now)) }
+    ensures is_node { IfOk result (λ h. IsNode _dom.now h) }
+    ensures err { IfErr result (λ fault. Denies fault (number < length made.now)) }
 {
-    match made.get(number as usize) {
-        Some(node) if dom.is_node(*node) => Ok(*node),
-        _ => Err(Fault::Faulty),
-    }
+    made.get(number as usize).copied().ok_or(Fault::Faulty)
 }
 
 /// Whether a node is another, or stands above it. Most nodes that are put somewhere have no children yet: no way up is gone then.
@@ -156,7 +184,10 @@ fn make_element(
     made: &mut Vec<Handle>,
     given: StepOver<'_>,
 ) -> Result<(), Fault>
-    ensures { OnOk result (Does given.entry.text.now given.entry.step.now kind.MakeElement (record { dom = dom.old; made = made.old.items }) (record { dom = dom.new; made = made.new.items })) }
+    requires made { All (IsNode dom.old) made.old.items }
+    ensures ok { OnOk result (Does given.entry.text.now given.entry.step.now kind.MakeElement (record { dom = dom.old; made = made.old.items }) (record { dom = dom.new; made = made.new.items })) }
+    ensures made { OnOk result (All (IsNode dom.new) made.new.items) }
+    ensures err { IfErr result (λ fault. Denies fault (CanDo given.entry.text.now given.entry.step.now kind.MakeElement (record { dom = dom.old; made = made.old.items }))) }
 {
     let name = given.name(alloc)?;
     let flags = given.step.element_flags();
@@ -173,8 +204,11 @@ fn append_html(
     made: &mut Vec<Handle>,
     given: StepOver<'_>,
 ) -> Result<(), Fault>
-    requires { given.step.now.flags ≡ 1 }
-    ensures { OnOk result (Does given.entry.text.now given.entry.step.now kind.AppendElement (record { dom = dom.old; made = made.old.items }) (record { dom = dom.new; made = made.new.items })) }
+    requires flags { given.step.now.flags ≡ 1 }
+    requires made { All (IsNode dom.old) made.old.items }
+    ensures ok { OnOk result (Does given.entry.text.now given.entry.step.now kind.AppendElement (record { dom = dom.old; made = made.old.items }) (record { dom = dom.new; made = made.new.items })) }
+    ensures made { OnOk result (All (IsNode dom.new) made.new.items) }
+    ensures err { IfErr result (λ fault. Denies fault (CanDo given.entry.text.now given.entry.step.now kind.AppendElement (record { dom = dom.old; made = made.old.items }))) }
 {
     let parent = node_of(dom, made.as_slice(), given.step.node)?;
     let name = given.local_name()?;
@@ -190,7 +224,10 @@ fn append_element(
     made: &mut Vec<Handle>,
     given: StepOver<'_>,
 ) -> Result<(), Fault>
-    ensures { OnOk result (Does given.entry.text.now given.entry.step.now kind.AppendElement (record { dom = dom.old; made = made.old.items }) (record { dom = dom.new; made = made.new.items })) }
+    requires made { All (IsNode dom.old) made.old.items }
+    ensures ok { OnOk result (Does given.entry.text.now given.entry.step.now kind.AppendElement (record { dom = dom.old; made = made.old.items }) (record { dom = dom.new; made = made.new.items })) }
+    ensures made { OnOk result (All (IsNode dom.new) made.new.items) }
+    ensures err { IfErr result (λ fault. Denies fault (CanDo given.entry.text.now given.entry.step.now kind.AppendElement (record { dom = dom.old; made = made.old.items }))) }
 {
     if given.step.flags == 1 {
         return append_html(alloc, dom, made, given);
@@ -211,7 +248,10 @@ fn make_comment(
     made: &mut Vec<Handle>,
     given: StepOver<'_>,
 ) -> Result<(), Fault>
-    ensures { OnOk result (Does given.entry.text.now given.entry.step.now kind.MakeComment (record { dom = dom.old; made = made.old.items }) (record { dom = dom.new; made = made.new.items })) }
+    requires made { All (IsNode dom.old) made.old.items }
+    ensures ok { OnOk result (Does given.entry.text.now given.entry.step.now kind.MakeComment (record { dom = dom.old; made = made.old.items }) (record { dom = dom.new; made = made.new.items })) }
+    ensures made { OnOk result (All (IsNode dom.new) made.new.items) }
+    ensures err { IfErr result (λ fault. Denies fault (CanDo given.entry.text.now given.entry.step.now kind.MakeComment (record { dom = dom.old; made = made.old.items }))) }
 {
     let contents = given.value_copied(alloc)?;
     let comment = dom.create_comment(alloc, contents)?;
@@ -226,7 +266,10 @@ fn add_attribute(
     made: &[Handle],
     given: StepOver<'_>,
 ) -> Result<(), Fault>
-    ensures { OnOk result (Does given.entry.text.now given.entry.step.now kind.AddAttribute (record { dom = dom.old; made = made.now }) (record { dom = dom.new; made = made.now })) }
+    requires made { All (IsNode dom.old) made.now }
+    ensures ok { OnOk result (Does given.entry.text.now given.entry.step.now kind.AddAttribute (record { dom = dom.old; made = made.now }) (record { dom = dom.new; made = made.now })) }
+    ensures made { OnOk result (All (IsNode dom.new) made.now) }
+    ensures err { IfErr result (λ fault. Denies fault (CanDo given.entry.text.now given.entry.step.now kind.AddAttribute (record { dom = dom.old; made = made.now }))) }
 {
     let element = node_of(dom, made, given.step.node)?;
     if !dom.is_element(element) {
@@ -247,7 +290,10 @@ fn put_node(
     made: &[Handle],
     given: StepOver<'_>,
 ) -> Result<(), Fault>
-    ensures { OnOk result (Does given.entry.text.now given.entry.step.now kind.PutNode (record { dom = dom.old; made = made.now }) (record { dom = dom.new; made = made.now })) }
+    requires made { All (IsNode dom.old) made.now }
+    ensures ok { OnOk result (Does given.entry.text.now given.entry.step.now kind.PutNode (record { dom = dom.old; made = made.now }) (record { dom = dom.new; made = made.now })) }
+    ensures made { OnOk result (All (IsNode dom.new) made.now) }
+    ensures err { IfErr result (λ fault. Denies fault (CanDo given.entry.text.now given.entry.step.now kind.PutNode (record { dom = dom.old; made = made.now }))) }
 {
     let parent = node_of(dom, made, given.step.node)?;
     let child = node_of(dom, made, given.step.child)?;
@@ -265,7 +311,10 @@ fn put_text(
     made: &[Handle],
     given: StepOver<'_>,
 ) -> Result<(), Fault>
-    ensures { OnOk result (Does given.entry.text.now given.entry.step.now kind.PutText (record { dom = dom.old; made = made.now }) (record { dom = dom.new; made = made.now })) }
+    requires made { All (IsNode dom.old) made.now }
+    ensures ok { OnOk result (Does given.entry.text.now given.entry.step.now kind.PutText (record { dom = dom.old; made = made.now }) (record { dom = dom.new; made = made.now })) }
+    ensures made { OnOk result (All (IsNode dom.new) made.now) }
+    ensures err { IfErr result (λ fault. Denies fault (CanDo given.entry.text.now given.entry.step.now kind.PutText (record { dom = dom.old; made = made.now }))) }
 {
     let parent = node_of(dom, made, given.step.node)?;
     let value = given.value()?;
@@ -280,7 +329,10 @@ fn put_node_before(
     made: &[Handle],
     given: StepOver<'_>,
 ) -> Result<(), Fault>
-    ensures { OnOk result (Does given.entry.text.now given.entry.step.now kind.PutNodeBefore (record { dom = dom.old; made = made.now }) (record { dom = dom.new; made = made.now })) }
+    requires made { All (IsNode dom.old) made.now }
+    ensures ok { OnOk result (Does given.entry.text.now given.entry.step.now kind.PutNodeBefore (record { dom = dom.old; made = made.now }) (record { dom = dom.new; made = made.now })) }
+    ensures made { OnOk result (All (IsNode dom.new) made.now) }
+    ensures err { IfErr result (λ fault. Denies fault (CanDo given.entry.text.now given.entry.step.now kind.PutNodeBefore (record { dom = dom.old; made = made.now }))) }
 {
     let sibling = node_of(dom, made, given.step.node)?;
     let child = node_of(dom, made, given.step.child)?;
@@ -298,7 +350,10 @@ fn put_text_before(
     made: &[Handle],
     given: StepOver<'_>,
 ) -> Result<(), Fault>
-    ensures { OnOk result (Does given.entry.text.now given.entry.step.now kind.PutTextBefore (record { dom = dom.old; made = made.now }) (record { dom = dom.new; made = made.now })) }
+    requires made { All (IsNode dom.old) made.now }
+    ensures ok { OnOk result (Does given.entry.text.now given.entry.step.now kind.PutTextBefore (record { dom = dom.old; made = made.now }) (record { dom = dom.new; made = made.now })) }
+    ensures made { OnOk result (All (IsNode dom.new) made.now) }
+    ensures err { IfErr result (λ fault. Denies fault (CanDo given.entry.text.now given.entry.step.now kind.PutTextBefore (record { dom = dom.old; made = made.now }))) }
 {
     let sibling = node_of(dom, made, given.step.node)?;
     if !dom.has_parent(sibling) {
@@ -311,7 +366,10 @@ fn put_text_before(
 
 /// Takes a node out of its list.
 fn remove(dom: &mut RcDom, made: &[Handle], given: StepOver<'_>) -> Result<(), Fault>
-    ensures { OnOk result (Does given.entry.text.now given.entry.step.now kind.Remove (record { dom = dom.old; made = made.now }) (record { dom = dom.new; made = made.now })) }
+    requires made { All (IsNode dom.old) made.now }
+    ensures ok { OnOk result (Does given.entry.text.now given.entry.step.now kind.Remove (record { dom = dom.old; made = made.now }) (record { dom = dom.new; made = made.now })) }
+    ensures made { OnOk result (All (IsNode dom.new) made.now) }
+    ensures err { IfErr result (λ fault. Denies fault (CanDo given.entry.text.now given.entry.step.now kind.Remove (record { dom = dom.old; made = made.now }))) }
 {
     let node = node_of(dom, made, given.step.node)?;
     dom.remove_from_parent(node);
@@ -325,7 +383,10 @@ fn reparent(
     made: &[Handle],
     given: StepOver<'_>,
 ) -> Result<(), Fault>
-    ensures { OnOk result (Does given.entry.text.now given.entry.step.now kind.Reparent (record { dom = dom.old; made = made.now }) (record { dom = dom.new; made = made.now })) }
+    requires made { All (IsNode dom.old) made.now }
+    ensures ok { OnOk result (Does given.entry.text.now given.entry.step.now kind.Reparent (record { dom = dom.old; made = made.now }) (record { dom = dom.new; made = made.now })) }
+    ensures made { OnOk result (All (IsNode dom.new) made.now) }
+    ensures err { IfErr result (λ fault. Denies fault (CanDo given.entry.text.now given.entry.step.now kind.Reparent (record { dom = dom.old; made = made.now }))) }
 {
     let node = node_of(dom, made, given.step.node)?;
     let parent = node_of(dom, made, given.step.other)?;
@@ -338,7 +399,10 @@ fn reparent(
 
 /// Gives a template's contents a number.
 fn name_contents(dom: &mut RcDom, made: &mut Vec<Handle>, given: StepOver<'_>) -> Result<(), Fault>
-    ensures { OnOk result (Does given.entry.text.now given.entry.step.now kind.TemplateContents (record { dom = dom.old; made = made.old.items }) (record { dom = dom.new; made = made.new.items })) }
+    requires made { All (IsNode dom.old) made.old.items }
+    ensures ok { OnOk result (Does given.entry.text.now given.entry.step.now kind.TemplateContents (record { dom = dom.old; made = made.old.items }) (record { dom = dom.new; made = made.new.items })) }
+    ensures made { OnOk result (All (IsNode dom.new) made.new.items) }
+    ensures err { IfErr result (λ fault. Denies fault (CanDo given.entry.text.now given.entry.step.now kind.TemplateContents (record { dom = dom.old; made = made.old.items }))) }
 {
     let node = node_of(dom, made.as_slice(), given.step.node)?;
     if !dom.is_template(node) {
@@ -356,7 +420,10 @@ fn make_instruction(
     made: &mut Vec<Handle>,
     given: StepOver<'_>,
 ) -> Result<(), Fault>
-    ensures { OnOk result (Does given.entry.text.now given.entry.step.now kind.MakeInstruction (record { dom = dom.old; made = made.old.items }) (record { dom = dom.new; made = made.new.items })) }
+    requires made { All (IsNode dom.old) made.old.items }
+    ensures ok { OnOk result (Does given.entry.text.now given.entry.step.now kind.MakeInstruction (record { dom = dom.old; made = made.old.items }) (record { dom = dom.new; made = made.new.items })) }
+    ensures made { OnOk result (All (IsNode dom.new) made.new.items) }
+    ensures err { IfErr result (λ fault. Denies fault (CanDo given.entry.text.now given.entry.step.now kind.MakeInstruction (record { dom = dom.old; made = made.old.items }))) }
 {
     let target = given.local_name_copied(alloc)?;
     let contents = given.value_copied(alloc)?;
@@ -372,7 +439,10 @@ fn put_node_by_parent(
     made: &[Handle],
     given: StepOver<'_>,
 ) -> Result<(), Fault>
-    ensures { OnOk result (Does given.entry.text.now given.entry.step.now kind.PutNodeByParent (record { dom = dom.old; made = made.now }) (record { dom = dom.new; made = made.now })) }
+    requires made { All (IsNode dom.old) made.now }
+    ensures ok { OnOk result (Does given.entry.text.now given.entry.step.now kind.PutNodeByParent (record { dom = dom.old; made = made.now }) (record { dom = dom.new; made = made.now })) }
+    ensures made { OnOk result (All (IsNode dom.new) made.now) }
+    ensures err { IfErr result (λ fault. Denies fault (CanDo given.entry.text.now given.entry.step.now kind.PutNodeByParent (record { dom = dom.old; made = made.now }))) }
 {
     let element = node_of(dom, made, given.step.node)?;
     let other = node_of(dom, made, given.step.other)?;
@@ -395,7 +465,10 @@ fn put_text_by_parent(
     made: &[Handle],
     given: StepOver<'_>,
 ) -> Result<(), Fault>
-    ensures { OnOk result (Does given.entry.text.now given.entry.step.now kind.PutTextByParent (record { dom = dom.old; made = made.now }) (record { dom = dom.new; made = made.now })) }
+    requires made { All (IsNode dom.old) made.now }
+    ensures ok { OnOk result (Does given.entry.text.now given.entry.step.now kind.PutTextByParent (record { dom = dom.old; made = made.now }) (record { dom = dom.new; made = made.now })) }
+    ensures made { OnOk result (All (IsNode dom.new) made.now) }
+    ensures err { IfErr result (λ fault. Denies fault (CanDo given.entry.text.now given.entry.step.now kind.PutTextByParent (record { dom = dom.old; made = made.now }))) }
 {
     let element = node_of(dom, made, given.step.node)?;
     let other = node_of(dom, made, given.step.other)?;
@@ -411,7 +484,10 @@ fn put_doctype(
     made: &[Handle],
     given: StepOver<'_>,
 ) -> Result<(), Fault>
-    ensures { OnOk result (Does given.entry.text.now given.entry.step.now kind.PutDoctype (record { dom = dom.old; made = made.now }) (record { dom = dom.new; made = made.now })) }
+    requires made { All (IsNode dom.old) made.now }
+    ensures ok { OnOk result (Does given.entry.text.now given.entry.step.now kind.PutDoctype (record { dom = dom.old; made = made.now }) (record { dom = dom.new; made = made.now })) }
+    ensures made { OnOk result (All (IsNode dom.new) made.now) }
+    ensures err { IfErr result (λ fault. Denies fault (CanDo given.entry.text.now given.entry.step.now kind.PutDoctype (record { dom = dom.old; made = made.now }))) }
 {
     let name = given.local_name_copied(alloc)?;
     let public_id = given.value_copied(alloc)?;
@@ -421,7 +497,10 @@ fn put_doctype(
 
 /// Sets the quirks mode.
 fn set_quirks(dom: &mut RcDom, made: &[Handle], given: StepOver<'_>) -> Result<(), Fault>
-    ensures { OnOk result (Does given.entry.text.now given.entry.step.now kind.SetQuirks (record { dom = dom.old; made = made.now }) (record { dom = dom.new; made = made.now })) }
+    requires made { All (IsNode dom.old) made.now }
+    ensures ok { OnOk result (Does given.entry.text.now given.entry.step.now kind.SetQuirks (record { dom = dom.old; made = made.now }) (record { dom = dom.new; made = made.now })) }
+    ensures made { OnOk result (All (IsNode dom.new) made.now) }
+    ensures err { IfErr result (λ fault. Denies fault (CanDo given.entry.text.now given.entry.step.now kind.SetQuirks (record { dom = dom.old; made = made.now }))) }
 {
     dom.set_quirks_mode(given.step.quirks_mode());
     Ok(())
@@ -435,7 +514,10 @@ fn take_kind(
     given: StepOver<'_>,
     kind: Option<StepKind>,
 ) -> Result<(), Fault>
-    ensures { OnOk result (DoesKind given.entry.text.now given.entry.step.now kind (record { dom = dom.old; made = made.old.items }) (record { dom = dom.new; made = made.new.items })) }
+    requires made { All (IsNode dom.old) made.old.items }
+    ensures ok { OnOk result (DoesKind given.entry.text.now given.entry.step.now kind (record { dom = dom.old; made = made.old.items }) (record { dom = dom.new; made = made.new.items })) }
+    ensures made { OnOk result (All (IsNode dom.new) made.new.items) }
+    ensures err { IfErr result (λ fault. Denies fault ((new : Built) × DoesKind given.entry.text.now given.entry.step.now kind (record { dom = dom.old; made = made.old.items }) new)) }
 {
     match kind {
         None => Err(Fault::Faulty),
@@ -466,18 +548,22 @@ fn take(
     text: &[u8],
     step: &Step,
 ) -> Result<(), Fault>
-    ensures { OnOk result (DoesKind text.now step.now (steps.kind_of step.now.kind) (record { dom = dom.old; made = made.old.items }) (record { dom = dom.new; made = made.new.items })) }
+    requires made { All (IsNode dom.old) made.old.items }
+    ensures ok { OnOk result (DoesKind text.now step.now (steps.kind_of step.now.kind) (record { dom = dom.old; made = made.old.items }) (record { dom = dom.new; made = made.new.items })) }
+    ensures made { OnOk result (All (IsNode dom.new) made.new.items) }
+    ensures err { IfErr result (λ fault. Denies fault ((new : Built) × DoesKind text.now step.now (steps.kind_of step.now.kind) (record { dom = dom.old; made = made.old.items }) new)) }
 {
     take_kind(alloc, dom, made, StepOver { step, text }, step.step_kind())
 }
 
-/// The document that steps build over a text: they are taken in order.
+/// Takes steps over a text, in order, and returns the document that they build.
 ///
 /// # Errors
 ///
-/// `Faulty` at the first step that does nothing that there is. `Refused` where memory is out.
+/// `Faulty` with the number of the first step that can't be taken. `Refused` with `OutOfMemory`.
 pub fn built(alloc: Global, text: &[u8], steps: &[Step]) -> Result<RcDom, StepError>
     ensures ok { IfOk result (λ dom. AreStepsOf text.now steps.now dom) }
+    ensures err { IfErr result (λ e. IsStepFault text.now steps.now e) }
 {
     let mut dom = RcDom::new(alloc)?;
     let mut made = Vec::new(alloc);

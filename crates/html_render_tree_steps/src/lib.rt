@@ -2,5 +2,6 @@
 #![tactic(auto)]
 
 pub mod building;
+mod laws;
 pub mod pieces;
 pub mod step;
