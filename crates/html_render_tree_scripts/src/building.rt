@@ -2,12 +2,17 @@
 //!
 //! `built(alloc, "<p\n\"text")?` is the DOM of a paragraph that holds `text`.
 
-ghost use Rattle.std.specs.Prelude.{◌≡◌, ◌≤◌, IfOk, IfSome, OnOk, string_bytes};
+ghost use Rattle.std.specs.Prelude.{◌≡◌, ◌≤◌, Ok, None, IfErr, IfOk, IfSome, OnOk, option_and_then, option_map, string_bytes, true};
 ghost use Rattle.html_render_dom.specs.Dom.{IsNode, IsElement, content_at, node_count};
 ghost use Rattle.html_render_dom.specs.Edits.{element_appended};
-ghost use Rattle.html_render_tree_scripts.specs.Scripts.{svg_name, with_comment, with_attribute, called, next_of};
+ghost use Rattle.html_render_tree_scripts.specs.Calls.{command};
+ghost use Rattle.html_render_tree_scripts.specs.Commands.{call_of, svg_name};
+ghost use Rattle.html_render_tree_scripts.specs.Plain.{Lacks};
+ghost use Rattle.html_render_tree_scripts.specs.Scripts.{IsScriptFault, document_of, line_taken, taken, texts_put, with_attribute, with_comment, with_text};
 
-use crate::script::{Call, Texts, plain_len, split_line};
+use crate::script::Call;
+use crate::splits::Lines;
+use crate::texts::Texts;
 use html_render_dom::Error;
 use html_render_dom::dom::{
     Attribute, ElementFlags, Handle, LocalName, Namespace, NodeOrText, QualName, RcDom,
@@ -24,6 +29,10 @@ pub enum ScriptError {
 }
 
 impl From<Error> for ScriptError {
+    ghost use Rattle.html_render_tree_scripts.specs.declared.building.ScriptError.TheVariants.{Refused};
+
+    ghost from_gives = { λ error fault. fault ≡ Refused error };
+
     /// A call on the DOM is refused.
     fn from(error: Error) -> ScriptError {
         ScriptError::Refused(error)
@@ -31,6 +40,11 @@ impl From<Error> for ScriptError {
 }
 
 impl From<AllocError> for ScriptError {
+    ghost use Rattle.html_render_tree_scripts.specs.declared.building.ScriptError.TheVariants.{Refused};
+    ghost use Rattle.html_render_dom_values.specs.declared.errors.Error.TheVariants.{OutOfMemory};
+
+    ghost from_gives = { λ _ fault. fault ≡ Refused OutOfMemory };
+
     /// Memory is out.
     fn from(refusal: AllocError) -> ScriptError {
         ScriptError::Refused(Error::from(refusal))
@@ -38,13 +52,18 @@ impl From<AllocError> for ScriptError {
 }
 
 impl<T: Drop> From<AllocFailed<T>> for ScriptError {
+    ghost use Rattle.html_render_tree_scripts.specs.declared.building.ScriptError.TheVariants.{Refused};
+    ghost use Rattle.html_render_dom_values.specs.declared.errors.Error.TheVariants.{OutOfMemory};
+
+    ghost from_gives = { λ _ fault. fault ≡ Refused OutOfMemory };
+
     /// Memory is out; what could not be kept is dropped.
     fn from(refusal: AllocFailed<T>) -> ScriptError {
         ScriptError::Refused(Error::from(refusal))
     }
 }
 
-/// Appends an element of SVG to the current node, and answers it.
+/// Appends an element of SVG to the current node, and returns it.
 #[inline(never)]
 fn open_svg(
     alloc: Global,
@@ -56,6 +75,7 @@ fn open_svg(
     ensures ok { OnOk result (dom.new ≡ element_appended dom.old current (svg_name name.now)) }
     ensures number { IfOk result (λ element. element ≡ node_count dom.old) }
     ensures is_node { IfOk result (λ element. IsNode dom.new element) }
+    ensures err { IfErr result (λ e. e ≡ ScriptError.Refused Error.OutOfMemory) }
 {
     let name = QualName {
         ns: Namespace::Svg,
@@ -77,6 +97,7 @@ fn set_attribute(
     requires { IsElement (content_at dom.old element) }
     ensures ok { OnOk result (dom.new ≡ with_attribute dom.old element name.now (string_bytes value)) }
     ensures grows { node_count dom.old ≤ node_count dom.new }
+    ensures err { IfErr result (λ e. e ≡ ScriptError.Refused Error.OutOfMemory) }
 {
     let name = QualName {
         ns: Namespace::None,
@@ -97,12 +118,14 @@ fn append_comment(
     requires { IsNode dom.old current }
     ensures ok { OnOk result (dom.new ≡ with_comment dom.old current (string_bytes contents)) }
     ensures grows { node_count dom.old ≤ node_count dom.new }
+    ensures err { IfErr result (λ e. e ≡ ScriptError.Refused Error.OutOfMemory) }
 {
     let comment = dom.create_comment(alloc, contents)?;
     Ok(dom.append(alloc, current, NodeOrText::AppendNode(comment))?)
 }
 
-/// Makes a call, and answers the node that is current behind it, or `None` where an attribute is given to the document.
+/// Makes a call, and returns the node that is then current, or `None` for an attribute of the document and for the document's
+/// end.
 #[inline(always)]
 fn take_call(
     alloc: Global,
@@ -111,9 +134,10 @@ fn take_call(
     call: Call<'_>,
 ) -> Result<Option<Handle>, ScriptError>
     requires { IsNode dom.old current }
-    ensures ok { OnOk result (dom.new ≡ called dom.old current call.entry) }
-    ensures next { IfOk result (λ next. next ≡ next_of dom.old current call.entry) }
+    ensures ok { IfOk result (λ next. option_map (λ node. record { dom = dom.new; current = node }) next
+        ≡ taken (record { dom = dom.old; current = current }) (command call.entry)) }
     ensures is_node { IfOk result (λ next. IfSome next (λ node. IsNode dom.new node)) }
+    ensures err { IfErr result (λ e. e ≡ ScriptError.Refused Error.OutOfMemory) }
 {
     match call {
         Call::Open(name) => Ok(Some(dom.append_element(alloc, current, name)?)),
@@ -142,7 +166,9 @@ fn append_text(
     text: &str,
 ) -> Result<(), ScriptError>
     requires { IsNode dom.old current }
-    ensures { OnOk result (IsNode dom.new current) }
+    ensures ok { OnOk result (dom.new ≡ with_text dom.old current text.now) }
+    ensures grows { node_count dom.old ≤ node_count dom.new }
+    ensures err { IfErr result (λ e. e ≡ ScriptError.Refused Error.OutOfMemory) }
 {
     Ok(dom.append_str(alloc, current, text)?)
 }
@@ -156,7 +182,10 @@ fn append_texts(
     texts: &mut Texts,
 ) -> Result<(), ScriptError>
     requires { IsNode dom.old current }
-    ensures { OnOk result (IsNode dom.new current) }
+    ensures ok { OnOk result (record { dom = dom.new; current = current } ≡ texts_put texts.old (record { dom = dom.old; current = current })) }
+    ensures none { OnOk result (texts.new ≡ None) }
+    ensures grows { node_count dom.old ≤ node_count dom.new }
+    ensures err { IfErr result (λ e. e ≡ ScriptError.Refused Error.OutOfMemory) }
 {
     if let Some(text) = texts.as_one() {
         append_text(alloc, dom, current, text)?;
@@ -165,27 +194,20 @@ fn append_texts(
     Ok(())
 }
 
-/// Takes one line of a script, and answers the node that is current behind it, or `None` where the line is faulty. Its
-/// text waits for those of the lines behind it, so that all are appended at once.
+/// Takes a line that is neither empty nor a text, and returns the node that is then current, or `None` where the line is faulty.
 #[inline(always)]
-fn take_line(
+fn take_call_line(
     alloc: Global,
     dom: &mut RcDom,
     current: Handle,
-    texts: &mut Texts,
     line: &str,
-    is_plain: bool,
 ) -> Result<Option<Handle>, ScriptError>
     requires { IsNode dom.old current }
-    ensures { IfOk result (λ next. IfSome next (λ node. IsNode dom.new node)) }
+    ensures ok { IfOk result (λ next. option_map (λ node. record { dom = dom.new; current = node }) next
+        ≡ option_and_then (taken (record { dom = dom.old; current = current })) (call_of line.now)) }
+    ensures is_node { IfOk result (λ next. IfSome next (λ node. IsNode dom.new node)) }
+    ensures err { IfErr result (λ e. e ≡ ScriptError.Refused Error.OutOfMemory) }
 {
-    if let Some(text) = line.strip_prefix('"') {
-        return Ok(texts.add(text, is_plain)?.then_some(current));
-    }
-    if line.is_empty() {
-        return Ok(Some(current));
-    }
-    append_texts(alloc, dom, current, texts)?;
     // most lines that are no text open an element or close one
     if let [b'>'] = line.as_bytes() {
         return take_call(alloc, dom, current, Call::Close);
@@ -196,6 +218,36 @@ fn take_line(
     }
 }
 
+/// Takes one line of a script, and returns the node that is then current, or `None` where the line is faulty. Its text waits for
+/// those of the next lines, so that all are appended at once.
+#[inline(always)]
+fn take_line(
+    alloc: Global,
+    dom: &mut RcDom,
+    current: Handle,
+    texts: &mut Texts,
+    line: &str,
+    is_plain: bool,
+) -> Result<Option<Handle>, ScriptError>
+    requires node { IsNode dom.old current }
+    requires plain { is_plain ≡ true → Lacks 92 line.now }
+    ensures ok { IfOk result (λ next. option_map (λ node. texts_put texts.new (record { dom = dom.new; current = node })) next
+        ≡ line_taken (texts_put texts.old (record { dom = dom.old; current = current })) line.now) }
+    ensures is_node { IfOk result (λ next. IfSome next (λ node. IsNode dom.new node)) }
+    ensures err { IfErr result (λ e. e ≡ ScriptError.Refused Error.OutOfMemory) }
+{
+    if let Some(text) = line.strip_prefix('"') {
+        let is_known = texts.add(text, is_plain)?;
+        return Ok(is_known.then_some(current));
+    }
+    if line.is_empty() {
+        return Ok(Some(current));
+    }
+    append_texts(alloc, dom, current, texts)?;
+    let next = take_call_line(alloc, dom, current, line)?;
+    Ok(next)
+}
+
 /// The DOM that the lines of a script build. The script starts at the document. Empty lines do nothing, and a carriage
 /// return before a line feed is dropped.
 ///
@@ -203,22 +255,16 @@ fn take_line(
 ///
 /// `FaultyLine` where a line is no call, or its call can't be made: an attribute for the document, or a document that
 /// is closed. Lines are taken in order, so it is the first such line. `Refused` where memory is out.
-pub fn built(alloc: Global, script: &str) -> Result<RcDom, ScriptError> {
+pub fn built(alloc: Global, script: &str) -> Result<RcDom, ScriptError>
+    ensures ok { IfOk result (λ dom. document_of script.now ≡ Ok dom) }
+    ensures err { IfErr result (λ e. IsScriptFault script.now e) }
+{
     let mut dom = RcDom::new(alloc)?;
     let mut current = dom.get_document();
     let mut texts = Texts::new(alloc);
     let mut number = 0usize;
-    let mut rest = script;
-    let mut plain = 0;
-    while !rest.is_empty() {
-        let (line, behind) = split_line(rest);
-        // so that the search for a backslash goes over no line twice
-        if plain < line.len() {
-            plain = plain_len(rest);
-        }
-        let is_plain = line.len() <= plain;
-        plain = plain.saturating_sub(rest.len() - behind.len());
-        rest = behind;
+    let mut lines = Lines::new(script);
+    while let Some((line, is_plain)) = lines.next_line() {
         number = number.saturating_add(1);
         match take_line(alloc, &mut dom, current, &mut texts, line, is_plain)? {
             Some(next) => current = next,

@@ -5,3 +5,5 @@
 
 pub mod building;
 mod script;
+mod splits;
+mod texts;

@@ -1,10 +1,16 @@
-use Rattle.std.proofs.Common.{length}
-use Rattle.std.specs.Str.{IsUtf8}
+use Rattle.std.proofs.Common.{◌≡◌, ◌+◌, ◌≤◌, length}
+use Rattle.std.specs.Str.Lines.{lines}
 use Rattle.html_render_dom.specs.Dom.{IsNode}
+use Rattle.html_render_tree_scripts.specs.Scripts.{document_of, outcome_of, texts_put}
 use Rattle.html_render_tree_scripts.proofs.building.built.Given as goal
 
-abbrev pub invariant-loop-rest : goal.invariant-loop-rest
-invariant-loop-rest l = IsNode l.dom l.current × IsUtf8 l.rest
+-- what the lines ahead make of what is built, with the texts that wait, is what the script builds
+abbrev pub invariant-loop-line : goal.invariant-loop-line
+invariant-loop-line l = record {
+  is_node : IsNode l.dom l.current;
+  counted : l.number + length l.lines ≤ length l.script;
+  wanted : outcome_of (lines l.lines) (l.number + 1) (texts_put l.texts (record { dom = l.dom; current = l.current })) ≡ document_of l.script;
+}
 
-abbrev pub decreases-loop-rest : goal.decreases-loop-rest
-decreases-loop-rest l = length l.rest
+abbrev pub decreases-loop-line : goal.decreases-loop-line
+decreases-loop-line l = length l.lines

@@ -1,0 +1,14 @@
+use Rattle.std.proofs.Common.{◌≡◌, length, string_bytes}
+use denote.Shadow.{shadow}
+use denote.Text.{Utf8}
+use Rattle.html_render_tree_scripts.specs.Commands.{unescaped}
+use Rattle.html_render_tree_scripts.specs.Plain.{with_more}
+use Rattle.html_render_tree_scripts.proofs.texts.push_unescaped.Given as goal
+
+-- what is left, after what is put, is what is wanted
+abbrev pub invariant-loop-before : goal.invariant-loop-before
+invariant-loop-before l =
+    shadow (Utf8 l.rest) × (with_more (string_bytes l.initial.plain) (unescaped l.text) ≡ with_more (string_bytes l.plain) (unescaped l.rest))
+
+abbrev pub decreases-loop-before : goal.decreases-loop-before
+decreases-loop-before l = length l.rest

@@ -1,0 +1,4 @@
+pub mod Calls
+pub mod Escapes
+pub mod Lines
+pub mod Texts
