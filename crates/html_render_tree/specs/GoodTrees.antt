@@ -1,14 +1,16 @@
 -- What a finished render tree is like where its tables stand.
-use Rattle.std.specs.Prelude.{Bool, true, false, ◌&&◌, List, ◌∷◌, Option, Some, None}
+use Rattle.std.specs.Prelude.{Bool, true, false, ◌&&◌, List, ◌∷◌, Option, Some, None, if◌then◌else◌}
 use Rattle.html_render_dom_values.specs.Forest.{Forest, none, node}
 use Rattle.html_render_parts.specs.declared.table.cells.GridCell.{GridCell}
 use Rattle.html_render_layout_nodes.specs.declared.tree.NodeKind.{NodeKind}
-use Rattle.html_render_layout_nodes.specs.declared.tree.NodeKind.TheVariants.{Table, TableRow, TableCell}
+use Rattle.html_render_layout_nodes.specs.declared.tree.NodeKind.TheVariants.{Text, Break, Image, Svg, FragmentStart, Table, TableRow, TableCell}
 use Rattle.html_render_layout_nodes.specs.declared.tree.RenderNode.{RenderNode}
 
--- where trees stand: below a table of which these rows are still to come, below a row of which these cells are, or anywhere else
+-- where trees stand: below a table of which these rows are still to come, below a row of which these cells are, below a node
+-- that has no children, or anywhere else
 pub data Place : Type 0 where
   Anywhere : Place
+  Nowhere : Place
   InTable : (rows : List (List GridCell)) → Place
   InRow : (cells : List GridCell) → Place
 
@@ -17,6 +19,15 @@ abbrev pub is_over : Place → Bool
 is_over (InTable (cells ∷ rows)) = false
 is_over (InRow (cell ∷ cells)) = false
 is_over _ = true
+
+-- texts, breaks, images, drawings and fragment marks have no children
+abbrev pub is_leaf : NodeKind → Bool
+is_leaf (Text text) = true
+is_leaf Break = true
+is_leaf (Image image) = true
+is_leaf (Svg title) = true
+is_leaf (FragmentStart name) = true
+is_leaf _ = false
 
 -- where the trees below a node of this kind stand, and those beside it; none where such a node doesn't stand there
 pub record Around : Type 0 where
@@ -27,13 +38,13 @@ abbrev pub around : Place → NodeKind → Option Around
 around Anywhere (Table grid) = Some (record { below = InTable grid.cells.rows; beside = Anywhere })
 around Anywhere TableRow = None
 around Anywhere TableCell = None
-around Anywhere kind = Some (record { below = Anywhere; beside = Anywhere })
+around Anywhere kind = Some (record { below = if is_leaf kind then Nowhere else Anywhere; beside = Anywhere })
 around (InTable (cells ∷ rows)) TableRow = Some (record { below = InRow cells; beside = InTable rows })
 around (InRow (cell ∷ cells)) TableCell = Some (record { below = Anywhere; beside = InRow cells })
 around _ _ = None
 
 -- GOOD TREES: each table stands over as many rows as its grid has, each of these over as many cells, and no row, cell or other
--- part of a table stands anywhere else
+-- part of a table stands anywhere else; and no node stands below a leaf
 abbrev pub are_good_below : (below beside : Place → Bool) → Option Around → Bool
 are_good_below below beside None = false
 are_good_below below beside (Some a) = below a.below && beside a.beside

@@ -2,10 +2,16 @@
 pub mod Texts
 pub mod Decorations
 pub mod Rendering
--- the exit status of the program
+-- the program: its words, its faults, its streams, and what it gives
+pub mod Words
+pub mod Faults
+pub mod Streams
+pub mod Sequence
 pub mod Program
 -- what a finished render tree is like where its tables stand
 pub mod GoodTrees
+-- which of its nodes a layout visits
+pub mod Visited
 -- laws of the definitions
 pub mod laws
 -- what a document is, for callers that keep handles

@@ -1,179 +1,137 @@
 //! The program `htree` as a function: a script of DOM calls becomes text.
 //!
 //! `run(alloc, words, &mut input, &mut output, &mut faults)` with the words `11`, `plain`, `overflow` and the
-//! input `<p` and `"Hello wide world` writes `Hello wide` and `world` to `output` and answers 0.
+//! input `<p` and `"Hello wide world` writes `Hello wide` and `world` to `output` and returns 0.
 
-ghost use Rattle.std.specs.Prelude.{◌≡◌, ◌≤◌};
-ghost use Rattle.html_render_tree.specs.Program.{status_of};
+ghost use Rattle.std.specs.Prelude.{◌≡◌, ◌≤◌, None, IfErr, IfOk, IsSome, OnOk, map, string_bytes};
+ghost use Rattle.std.specs.IoError.{error_kind};
+ghost use Rattle.html_render_tree.specs.declared.htree.faults.Fault.{Fault};
+ghost use Rattle.html_render_tree.specs.Faults.{line_of, exit_status, words_fault};
+ghost use Rattle.html_render_tree.specs.Program.{document_in, run_outcome, EndsWith, IsReadFault, ReadSuch, Succeeds};
+ghost use Rattle.html_render_tree.specs.Streams.{AppendsFront, Writes};
+ghost use Rattle.html_render_tree.specs.Words.{settings_of};
 
-use crate::config::{Config, plain, plain_no_decorate, rich};
-use html_render_dom::Error;
+use faults::Fault;
 use html_render_dom::dom::RcDom;
-use html_render_parts_decorators::decorate::TextDecorator;
-use html_render_tree_scripts::building::{ScriptError, built};
+use html_render_tree_scripts::building::built;
 use std::alloc::Global;
 use std::io;
-use std::io::{ErrorKind, Read, Write};
-use thiserror::Error;
+use std::io::{Read, Write};
+use words::Settings;
 
-/// Why there is no text.
-#[derive(Debug, Drop, Error)]
-enum Fault {
-    #[error("{0}")]
-    Refused(Error),
-    #[error("htree: arguments")]
-    Arguments,
-    #[error("htree: line {0}")]
-    Line(usize),
-    #[error("htree: input")]
-    Input,
-    #[error("htree: output")]
-    Output,
-}
+mod faults;
+mod rendering;
+mod streams;
+mod words;
 
-impl Fault {
-    /// The program's exit status.
-    fn status(&self) -> u8
-        ensures { result ≡ status_of self.now }
-    {
-        match self {
-            Fault::Refused(_) => 1,
-            _ => 2,
-        }
-    }
-}
-
-impl From<Error> for Fault {
-    /// A document can't be rendered, or memory is out.
-    fn from(error: Error) -> Fault {
-        Fault::Refused(error)
-    }
-}
-
-impl From<ScriptError> for Fault {
-    /// A line is faulty, or memory is out.
-    fn from(error: ScriptError) -> Fault {
-        match error {
-            ScriptError::Refused(error) => Fault::Refused(error),
-            ScriptError::FaultyLine(number) => Fault::Line(number),
-        }
-    }
-}
-
-/// A configuration that the program's words can name.
-#[derive(Clone, Copy)]
-enum Preset {
-    /// `plain`: with decorations and footnotes.
-    Plain,
-    /// `rich`: with annotations, which a text doesn't show, and without decorations and footnotes.
-    Rich,
-    /// `bare`: without any.
-    Bare,
-}
-
-impl Preset {
-    /// The preset of a word.
-    fn read(word: &str) -> Result<Preset, Fault> {
-        match word {
-            "plain" => Ok(Preset::Plain),
-            "rich" => Ok(Preset::Rich),
-            "bare" => Ok(Preset::Bare),
-            _ => Err(Fault::Arguments),
-        }
-    }
-}
-
-/// What the program's words ask for.
-#[derive(Clone, Copy)]
-struct Settings {
-    width: usize,
-    preset: Preset,
-    overflow: bool,
-}
-
-impl Settings {
-    /// The settings of `WIDTH [plain|rich|bare] [overflow]`; without a preset it is `plain`.
-    fn read(words: &[String]) -> Result<Settings, Fault> {
-        let (words, overflow) = match words {
-            [front @ .., last] if last.as_str() == "overflow" => (front, true),
-            _ => (words, false),
-        };
-        let (width, preset) = match words {
-            [width] => (width, Preset::Plain),
-            [width, preset] => (width, Preset::read(preset.as_str())?),
-            _ => return Err(Fault::Arguments),
-        };
-        match width.as_str().parse::<usize>() {
-            Ok(width) => Ok(Settings {
-                width,
-                preset,
-                overflow,
-            }),
-            Err(_) => Err(Fault::Arguments),
-        }
-    }
-}
-
-/// The whole input.
-fn read_all<R: Read>(alloc: Global, input: &mut R) -> Result<String, Fault> {
-    let mut bytes = Vec::new(alloc);
-    if let Err(error) = input.read_to_end(&mut bytes) {
-        return Err(match error.kind() {
-            ErrorKind::OutOfMemory => Fault::Refused(Error::OutOfMemory),
-            _ => Fault::Input,
-        });
-    }
-    String::from_utf8(bytes).map_err(|_| Fault::Input)
-}
-
-/// The DOM that the script in `input` builds. The script is dropped.
-fn read_dom<R: Read>(alloc: Global, input: &mut R) -> Result<RcDom, Fault> {
-    let script = read_all(alloc, input)?;
+/// Builds the DOM of the script in `input`. The script is dropped.
+fn read_document<R: Read>(alloc: Global, input: &mut R) -> Result<RcDom, Fault>
+    ensures ok { IfOk result (λ dom. ReadSuch (R.remaining input.old) (R.remaining input.new) (λ bytes. document_in bytes ≡ Ok dom)) }
+    ensures err { IfErr result (λ fault. IsReadFault (R.remaining input.old) (R.remaining input.new) document_in fault) }
+{
+    let bytes = match streams::read_bytes(alloc, input) {
+        Ok(bytes) => bytes,
+        Err(error) => return Err(Fault::of_read(&error)),
+    };
+    let script = streams::script_from(bytes)?;
     Ok(built(alloc, script.as_str())?)
 }
 
-/// The text of a document, as the settings ask for it.
-fn rendered_by<D: TextDecorator>(
-    alloc: Global,
-    config: Config<D>,
-    settings: &Settings,
-    dom: RcDom,
-) -> Result<String, Fault> {
-    let config = if settings.overflow {
-        config.allow_width_overflow()
-    } else {
-        config
-    };
-    let tree = config.dom_into_render_tree(alloc, dom)?;
-    Ok(config.render_to_string(alloc, tree, settings.width)?)
+/// Returns the text of the script in `input`, as the words ask for it. Words of another form are refused before anything
+/// is read.
+fn text_of_input<R: Read>(alloc: Global, words: &[String], input: &mut R) -> Result<String, Fault>
+    ensures words { settings_of (map string_bytes words.now) ≡ None → (result ≡ Err Fault.Arguments) × (input.new ≡ input.old) }
+    ensures ok { IfOk result (λ text.
+        ReadSuch (R.remaining input.old) (R.remaining input.new) (λ bytes. run_outcome (map string_bytes words.now) bytes ≡ Ok (string_bytes text))) }
+    ensures err { IsSome (settings_of (map string_bytes words.now)) → IfErr result (λ fault.
+        IsReadFault (R.remaining input.old) (R.remaining input.new) (run_outcome (map string_bytes words.now)) fault) }
+{
+    let settings = Settings::read(words)?;
+    let dom = read_document(alloc, input)?;
+    rendering::rendered(alloc, &settings, dom)
 }
 
-/// The text of the script in `input`.
-fn rendered<R: Read>(alloc: Global, words: &[String], input: &mut R) -> Result<String, Fault> {
-    let settings = Settings::read(words)?;
-    let dom = read_dom(alloc, input)?;
-    match settings.preset {
-        Preset::Plain => rendered_by(alloc, plain(alloc)?, &settings, dom),
-        Preset::Rich => rendered_by(alloc, rich(alloc), &settings, dom),
-        Preset::Bare => rendered_by(alloc, plain_no_decorate(alloc), &settings, dom),
+/// Writes the text of the script in `input` to `output`.
+fn write_text<R: Read, O: Write>(
+    alloc: Global,
+    words: &[String],
+    input: &mut R,
+    output: &mut O,
+) -> Result<(), Fault>
+    ensures words { settings_of (map string_bytes words.now) ≡ None →
+        (result ≡ Err Fault.Arguments) × (input.new ≡ input.old) × (output.new ≡ output.old) }
+    ensures ok { OnOk result
+        (Succeeds (map string_bytes words.now) (R.remaining input.old) (R.remaining input.new) (O.contents output.old) (O.contents output.new)) }
+    ensures err { IsSome (settings_of (map string_bytes words.now)) → IfErr result (λ fault.
+        EndsWith (map string_bytes words.now) (R.remaining input.old) (R.remaining input.new) (O.contents output.old) (O.contents output.new) fault) }
+{
+    let text = text_of_input(alloc, words, input)?;
+    match streams::write_text(text.as_str(), output) {
+        Ok(()) => Ok(()),
+        Err(_) => Err(Fault::Output),
     }
 }
 
-/// Writes a whole text, and flushes it.
-fn write_text<O: Write>(text: &str, output: &mut O) -> io::Result<()> {
-    output.write_all(text.as_bytes())?;
-    output.flush()
+/// How a run ends.
+#[derive(Drop)]
+struct Ending {
+    /// Exit status.
+    status: u8,
+    /// Whether the line of a fault could be written, if there is one.
+    reported: io::Result<()>,
 }
 
-/// Writes the text of the script in `input` to `output`, or one line on what is wrong to `faults`, and answers the
-/// program's exit status: 0 for a text; 1 with an [`Error`]'s text, where the document can't be rendered or memory
-/// is out; 2 with `htree: arguments` for words that are not `WIDTH [plain|rich|bare] [overflow]`, `htree: input` where
-/// `input` can't be read or isn't UTF-8, `htree: line N` (from 1) for a faulty line, `htree: output` where `output`
+impl Ending {
+    /// Writes the line of a fault, and returns how a run with that fault ends.
+    fn with_fault<F: Write>(fault: Fault, faults: &mut F) -> Ending
+        ensures status { result.status ≡ exit_status fault }
+        ensures line { Writes (F.contents faults.old) (F.contents faults.new) result.reported (line_of fault) }
+    {
+        Ending {
+            reported: streams::write_fault(fault, faults),
+            status: fault.status(),
+        }
+    }
+}
+
+/// Does what [`run`] does, and also returns whether the line of a fault could be written.
+fn ended<R: Read, O: Write, F: Write>(
+    alloc: Global,
+    words: &[String],
+    input: &mut R,
+    output: &mut O,
+    faults: &mut F,
+) -> Ending
+    ensures words { settings_of (map string_bytes words.now) ≡ None →
+        (result.status ≡ 2) × (input.new ≡ input.old) × (output.new ≡ output.old)
+        × Writes (F.contents faults.old) (F.contents faults.new) result.reported (line_of Fault.Arguments) }
+    ensures text { result.status ≡ 0 → (faults.new ≡ faults.old)
+        × Succeeds (map string_bytes words.now) (R.remaining input.old) (R.remaining input.new) (O.contents output.old) (O.contents output.new) }
+    ensures fault { 1 ≤ result.status → IsSome (settings_of (map string_bytes words.now)) →
+        (fault : Fault) × (result.status ≡ exit_status fault)
+        × Writes (F.contents faults.old) (F.contents faults.new) result.reported (line_of fault)
+        × EndsWith (map string_bytes words.now) (R.remaining input.old) (R.remaining input.new) (O.contents output.old) (O.contents output.new) fault }
+    ensures status { result.status ≤ 2 }
+{
+    match write_text(alloc, words, input, output) {
+        Ok(()) => Ending {
+            status: 0,
+            reported: Ok(()),
+        },
+        Err(fault) => Ending::with_fault(fault, faults),
+    }
+}
+
+/// Writes the text of the script in `input` to `output`, or one line on what is wrong to `faults`, and returns the
+/// program's exit status: 0 for a text; 1 with an [`Error`](crate::Error)'s text, where the document can't be rendered or
+/// memory is out; 2 with `htree: arguments` for words that are not `WIDTH [plain|rich|bare] [overflow]`, `htree: input`
+/// where `input` can't be read or isn't UTF-8, `htree: line N` (from 1) for a faulty line, `htree: output` where `output`
 /// can't be written or flushed. A failed write to `faults` changes no status.
 ///
 /// The words are those behind the program's name, and are looked at first; then the whole input is read. The width is
 /// a number of columns. `plain`, which is also the preset of words that name none, is text as
-/// [`plain`](crate::config::plain) renders it, `rich` as [`rich`] and `bare` as [`plain_no_decorate`]; `overflow` stands for
+/// [`plain`](crate::config::plain) renders it, `rich` as [`rich`](crate::config::rich) and `bare` as
+/// [`plain_no_decorate`](crate::config::plain_no_decorate); `overflow` stands for
 /// [`Config::allow_width_overflow`](crate::config::Config::allow_width_overflow).
 pub fn run<R: Read, O: Write, F: Write>(
     alloc: Global,
@@ -182,34 +140,38 @@ pub fn run<R: Read, O: Write, F: Write>(
     output: &mut O,
     faults: &mut F,
 ) -> u8
-    ensures { result ≤ 2 }
+    // words of another form are refused, and nothing is read
+    ensures words { settings_of (map string_bytes words.now) ≡ None →
+        (result ≡ 2) × (input.new ≡ input.old) × (output.new ≡ output.old)
+        × AppendsFront (F.contents faults.old) (F.contents faults.new) (line_of Fault.Arguments) }
+
+    // with 0, the text that the words ask for of all of the input is written to the output, and no fault is
+    ensures text { result ≡ 0 → (faults.new ≡ faults.old)
+        × Succeeds (map string_bytes words.now) (R.remaining input.old) (R.remaining input.new) (O.contents output.old) (O.contents output.new) }
+
+    // otherwise there is a fault of that status, and its line is written, or a front of it, if that fails
+    ensures fault { 1 ≤ result → IsSome (settings_of (map string_bytes words.now)) →
+        (fault : Fault) × (result ≡ exit_status fault)
+        × AppendsFront (F.contents faults.old) (F.contents faults.new) (line_of fault)
+        × EndsWith (map string_bytes words.now) (R.remaining input.old) (R.remaining input.new) (O.contents output.old) (O.contents output.new) fault }
+    ensures status { result ≤ 2 }
 {
-    match rendered(alloc, words, input) {
-        Ok(text) => match write_text(text.as_str(), output) {
-            Ok(()) => 0,
-            Err(_) => report(&Fault::Output, faults),
-        },
-        Err(fault) => report(&fault, faults),
-    }
+    let Ending {
+        status,
+        reported: _,
+    } = ended(alloc, words, input, output, faults);
+    status
 }
 
-/// What [`run`] does where the program's words can't be had: 1 and `Out of memory` where memory is out, otherwise 2
-/// and `htree: arguments`.
+/// Ends a program whose words can't be read, for this error, as [`run`] ends: with 1 and `Out of memory` where memory is
+/// out, otherwise with 2 and `htree: arguments`.
 pub fn run_without_words<F: Write>(error: &io::Error, faults: &mut F) -> u8
-    ensures refused { 1 ≤ result }
-    ensures at_most { result ≤ 2 }
+    ensures status { result ≡ exit_status (words_fault (error_kind error.now)) }
+    ensures line { AppendsFront (F.contents faults.old) (F.contents faults.new) (line_of (words_fault (error_kind error.now))) }
 {
-    let fault = match error.kind() {
-        ErrorKind::OutOfMemory => Fault::Refused(Error::OutOfMemory),
-        _ => Fault::Arguments,
-    };
-    report(&fault, faults)
-}
-
-/// Writes a line on what is wrong, and answers the exit status.
-fn report<F: Write>(fault: &Fault, faults: &mut F) -> u8
-    ensures { result ≡ status_of fault.now }
-{
-    let _ = writeln!(faults, "{fault}");
-    fault.status()
+    let Ending {
+        status,
+        reported: _,
+    } = Ending::with_fault(Fault::of_words(error), faults);
+    status
 }

@@ -1,6 +1,6 @@
 //! Laws of what is rendered, each the contract of a function that does nothing.
 
-ghost use Rattle.std.specs.Prelude.{◌≡◌, ◌↔◌, true, None, IfSome, map, replicate};
+ghost use Rattle.std.specs.Prelude.{◌≡◌, ◌↔◌, None, IfSome, map, replicate};
 ghost use Rattle.html_render_dom_rules.specs.Selectors.{specificity_of};
 ghost use Rattle.html_render_dom_cascade.specs.declared.origins.StyleOrigin.TheVariants as origin;
 ghost use Rattle.html_render_dom_values.specs.Forest.{Forest};
@@ -9,8 +9,9 @@ ghost use Rattle.html_render_layout_states.specs.Layout.{layout_lines, mark_name
 ghost use Rattle.html_render_layout.specs.Promises.{AreLines};
 ghost use Rattle.html_render_tree.specs.Decorations.{decorations, decoration_specificity};
 
-use html_render_dom::Error;
-use html_render_dom::dom::Handle;
+mod equality;
+mod visiting;
+
 use html_render_layout_estimates::settings::{ImageRenderMode, LayoutSettings};
 use html_render_layout_nodes::tree::RenderNode;
 use html_render_parts_decorators::decorate::{RichAnnotation, TextDecorator};
@@ -34,12 +35,6 @@ fn lines_and_names_are_there_together<D: TextDecorator>()
     ensures { (settings : LayoutSettings) (tree : Forest RenderNode) (decorator : D) (block : BlockSetting) →
         (layout_lines D.decoration settings tree decorator block ≡ None)
         ↔ (mark_names D.decoration settings tree decorator block ≡ None) }
-{}
-
-/// Two errors are equal exactly if they are the same, and two handles exactly if they name the same node.
-fn errors_and_handles_are_equal_as_values(a: Error, b: Error, x: Handle, y: Handle)
-    ensures errors { (⟦<Error as PartialEq>⟧.eq a b ≡ true) ↔ (a ≡ b) }
-    ensures handles { (⟦<Handle as PartialEq>⟧.eq x y ≡ true) ↔ (x ≡ y) }
 {}
 
 /// By default an image without a title isn't shown, and what stands in nothing has the annotation of that.

@@ -22,5 +22,5 @@ pub mod table {
 
 /// Documents that scripts build: texts whose lines are calls on a DOM.
 pub mod script {
-    pub use html_render_tree_scripts::building::built;
+    pub use html_render_tree_scripts::building::{ScriptError, built};
 }

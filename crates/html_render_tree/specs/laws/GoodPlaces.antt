@@ -1,5 +1,5 @@
 -- Good trees beside each other, what is inserted into them, and which rows a grid has.
-use Rattle.std.proofs.Common.{◌≡◌, ℕ, ◌+◌, ◌-◌, Bool, true, ◌&&◌, List, [], ◌∷◌, ◌++◌, map, refl, ap, ◌∙◌}
+use Rattle.std.proofs.Common.{◌≡◌, ℕ, ◌+◌, ◌-◌, Bool, true, ◌&&◌, if◌then◌else◌, List, [], ◌∷◌, ◌++◌, map, refl, ap, ◌∙◌}
 use Rattle.std.proofs.lemmas.Bool.{and_from, and_parts}
 use Rattle.html_render_dom_values.specs.Forest.{none, node, followed_by}
 use Rattle.html_render_parts.specs.Placement.{own_from, own_rows_from, due_end, not_due, hanging}
@@ -12,7 +12,7 @@ use Rattle.html_render_layout_nodes.specs.declared.tree.NodeKind.{NodeKind}
 use Rattle.html_render_layout_nodes.specs.declared.tree.NodeKind.TheVariants.{Table, TableRow, TableCell}
 use Rattle.html_render_tree_mapping.specs.Tables.{spanned, spanned_in, width_of}
 use Rattle.html_render_tree_mapping.specs.Results.{Nodes, in_first}
-use Rattle.html_render_tree.specs.GoodTrees.{Place, Anywhere, InTable, InRow, around, are_good_below, are_good}
+use Rattle.html_render_tree.specs.GoodTrees.{Place, Anywhere, Nowhere, InTable, InRow, is_leaf, around, are_good_below, are_good}
 
 -- two tests
 and-map : {a b a' b' : Bool} → (a ≡ true → a' ≡ true) → (b ≡ true → b' ≡ true) → (a && b) ≡ true → (a' && b') ≡ true
@@ -63,7 +63,7 @@ at-anywhere : (kind : NodeKind) (t u u' : Nodes) → (are_good Anywhere u ≡ tr
 at-anywhere (Table grid) t u u' outer h = and-map {a = are_good (InTable grid.cells.rows) t} (λ e. e) outer h
 at-anywhere TableRow t u u' outer h = cc
 at-anywhere TableCell t u u' outer h = cc
-at-anywhere kind t u u' outer h = and-map {a = are_good Anywhere t} (λ e. e) outer h
+at-anywhere kind t u u' outer h = and-map {a = are_good (if is_leaf kind then Nowhere else Anywhere) t} (λ e. e) outer h
 
 -- among cells, and among rows, those below it are others too
 pub at-row : (kind : NodeKind) (c : GridCell) (cs ds : List GridCell) (t t' u u' : Nodes) →

@@ -9,7 +9,7 @@ use Rattle.html_render_dom_values.specs.Forest.{none, node, followed_by}
 use Rattle.html_render_dom_values.specs.Outcome.{◌>>=◌}
 use Rattle.html_render_layout_nodes.specs.declared.tree.Estimate.{Estimate}
 use Rattle.html_render_layout_nodes.specs.declared.tree.NodeKind.{NodeKind}
-use Rattle.html_render_layout_nodes.specs.declared.tree.NodeKind.TheVariants.{Container, FragmentStart, Table, TableCell, TableRow, Text}
+use Rattle.html_render_layout_nodes.specs.declared.tree.NodeKind.TheVariants.{Break, Container, FragmentStart, Image, Svg, Table, TableCell, TableRow, Text}
 use Rattle.html_render_layout_nodes.specs.declared.tree.NodeStyle.{NodeStyle}
 use Rattle.html_render_layout_nodes.specs.declared.tree.RenderNode.{RenderNode}
 use Rattle.html_render_layout_nodes.specs.Kinds.{holds_insertions}
@@ -30,7 +30,7 @@ a_result role n has_children below = record { role = role; node = n; has_childre
 abbrev a_node : NodeKind → NodeStyle → Estimate → RenderNode
 a_node kind style estimate = record { kind = kind; style = style; estimate = estimate }
 
--- a node that is no table and no part of one
+-- a node that may have children, and is no table and no part of one
 abbrev pub IsPlain : NodeKind → Type 0
 IsPlain kind = around Anywhere kind ≡ Some (record { below = Anywhere; beside = Anywhere })
 
@@ -197,6 +197,11 @@ plain-holds : (kind : NodeKind) → holds_insertions kind ≡ true → IsPlain k
 plain-holds (Table grid) h = cc
 plain-holds TableRow h = cc
 plain-holds TableCell h = cc
+plain-holds (Text content) h = cc
+plain-holds Break h = cc
+plain-holds (Image image) h = cc
+plain-holds (Svg title) h = cc
+plain-holds (FragmentStart name) h = cc
 plain-holds kind h = refl
 
 module _ (front back : Nodes) (f : are_good Anywhere front ≡ true) (b : are_good Anywhere back ≡ true) where

@@ -1,5 +1,5 @@
 -- THE RENDER TREE of a document is good where its tables stand.
-use Rattle.std.proofs.Common.{◌≡◌, ℕ, Bool, true, false, ◌&&◌, if◌then◌else◌, List, [], ◌∷◌, ◌++◌, map, flat_map, filter, Option, Some, None}
+use Rattle.std.proofs.Common.{◌≡◌, ℕ, Bool, true, false, not, ◌&&◌, if◌then◌else◌, List, [], ◌∷◌, ◌++◌, map, flat_map, filter, Option, Some, None}
 use Rattle.std.proofs.Common.{is_some, IfSome, option_map, option_to_list, refl, sym, ap, ◌∙◌, subst}
 use Rattle.std.specs.Prelude.{codes}
 use Rattle.std.specs.List.{list_any}
@@ -19,7 +19,7 @@ use Rattle.html_render_parts.specs.TableCells.{CellGrid, on_columns}
 use Rattle.html_render_parts.specs.declared.table.Span.{Span}
 use Rattle.html_render_layout_nodes.specs.Tables.{TableParts, unmeasured_table}
 use Rattle.html_render_layout_nodes.specs.declared.tree.NodeKind.{NodeKind}
-use Rattle.html_render_layout_nodes.specs.declared.tree.NodeKind.TheVariants.{Container, Table, TableRow, TableCell}
+use Rattle.html_render_layout_nodes.specs.declared.tree.NodeKind.TheVariants.{Text, Break, Image, Svg, FragmentStart, Container, Table, TableRow, TableCell}
 use Rattle.html_render_layout_nodes.specs.declared.tree.NodeStyle.{NodeStyle}
 use Rattle.html_render_tree_mapping.specs.declared.mapping.ElementKind.{ElementKind}
 use Rattle.html_render_tree_mapping.specs.declared.mapping.ElementKind.TheVariants.{Node, Part}
@@ -33,10 +33,11 @@ use Rattle.html_render_tree_mapping.specs.Conversion.{element_mapping, own_style
 use Rattle.html_render_tree_mapping.specs.Marks.{mark_of}
 use Rattle.html_render_tree_mapping.specs.Results.{Nodes, Result, Role, Contents, Caption, Rows, Row, Cell, beside, trees_of, of_role, stands_alone}
 use Rattle.html_render_tree_mapping.specs.Results.{is_caption, are_rows, row_over, rows_over, spans_of, table_over, captioned, table_of, keeps, counts}
-use Rattle.html_render_tree_mapping.specs.Results.{built, mapped, styled, result_of, results, render_tree_of}
+use Rattle.html_render_tree_mapping.specs.Results.{built, mapped, over, styled, result_of, results, render_tree_of}
 use Rattle.html_render_tree_convert.specs.laws.Roles.{as_block, cell_spans, have_rows, in_style, is_cell, is_row, joined, row_spans}
 use Rattle.html_render_tree_convert.specs.laws.Mappings.{fits_kind, stands_as_is, fits, element_fits}
-use Rattle.html_render_tree.specs.GoodTrees.{Anywhere, InTable, InRow, are_good}
+use Rattle.html_render_tree.specs.GoodTrees.{Anywhere, InTable, InRow, is_leaf, are_good}
+use Rattle.html_render_tree.specs.laws.GoodKinds.{is_inner, parents_inner, element_parents}
 use Rattle.html_render_tree.specs.laws.GoodPlaces.{cells_like, rows_like, own_rows-alike, rows-good-same}
 use Rattle.html_render_tree.specs.laws.GoodResults.{good-then, good-map, IsPlain, IsGoodIn, IsGoodResult, IsGoodIfAny, AllGood, AllGoodOf, AreGoodIn}
 use Rattle.html_render_tree.specs.laws.GoodResults.{filter-good, of_role-good, AllGoodOf-append, AllGoodOf-more, plain-good, alone-good, trees_of-good}
@@ -129,26 +130,38 @@ row_over-good style rs g =
     below-good (InRow (cells_like spans)) (Row spans) (in_style style TableRow)
     (λ t h. and_from _ _ h refl) (beside rs) (cells-good rs g)
 
-plain-as-is : (kind : NodeKind) → stands_as_is kind ≡ true → IsPlain kind
-plain-as-is (Table grid) m = cc
-plain-as-is TableRow m = cc
-plain-as-is TableCell m = cc
-plain-as-is kind m = refl
+plain-as-is : (kind : NodeKind) → stands_as_is kind ≡ true → not (is_leaf kind) ≡ true → IsPlain kind
+plain-as-is (Table grid) m i = cc
+plain-as-is TableRow m i = cc
+plain-as-is TableCell m i = cc
+plain-as-is (Text words) m i = cc
+plain-as-is Break m i = cc
+plain-as-is (Image image) m i = cc
+plain-as-is (Svg title) m i = cc
+plain-as-is (FragmentStart name) m i = cc
+plain-as-is kind m i = refl
+
+-- a node without children
+leaf-good : (style : NodeStyle) (kind : NodeKind) → stands_as_is kind ≡ true → IsGoodResult (over style kind [])
+leaf-good style (Table grid) m = cc
+leaf-good style TableRow m = cc
+leaf-good style TableCell m = cc
+leaf-good style kind m = refl
 
 built-good : (caption foot : Bool) (if_empty : IfEmpty) (kind : ElementKind) (style : NodeStyle) (rs : List Result) →
-    fits_kind caption foot if_empty kind ≡ true → AllGood rs → IsGoodIfAny (built kind style rs)
-built-good caption foot if_empty (Part part.Table) style rs m g =
+    fits_kind caption foot if_empty kind ≡ true → is_inner kind ≡ true → AllGood rs → IsGoodIfAny (built kind style rs)
+built-good caption foot if_empty (Part part.Table) style rs m i g =
     table_of-good style (of_role is_caption rs) (of_role (are_rows false) rs ++ of_role (are_rows true) rs)
     (of_role-good is_caption rs g) (with_rows-good rs g)
-built-good caption foot if_empty (Part part.Body) style rs m g = rows_over-good false (of_role is_row rs) (of_role-good is_row rs g)
-built-good caption foot if_empty (Part part.Foot) style rs m g = rows_over-good true (of_role is_row rs) (of_role-good is_row rs g)
-built-good caption foot if_empty (Part part.Row) style rs m g = row_over-good style (of_role is_cell rs) (of_role-good is_cell rs g)
-built-good caption foot if_empty (Part (part.Cell span)) style rs m g =
+built-good caption foot if_empty (Part part.Body) style rs m i g = rows_over-good false (of_role is_row rs) (of_role-good is_row rs g)
+built-good caption foot if_empty (Part part.Foot) style rs m i g = rows_over-good true (of_role is_row rs) (of_role-good is_row rs g)
+built-good caption foot if_empty (Part part.Row) style rs m i g = row_over-good style (of_role is_cell rs) (of_role-good is_cell rs g)
+built-good caption foot if_empty (Part (part.Cell span)) style rs m i g =
     below-good Anywhere (Cell span) (in_style style TableCell) (λ t h. and_from _ _ h refl) (trees_of rs) (trees_of-good rs g)
-built-good caption foot if_empty (Part part.Caption) style rs m g =
+built-good caption foot if_empty (Part part.Caption) style rs m i g =
     below-good Anywhere Caption (in_style style Container) (λ t h. (refl, h)) (trees_of rs) (trees_of-good rs g)
-built-good caption foot if_empty (Node kind) style rs m g =
-    over-good style kind (filter (λ r. keeps kind r.node.kind) rs) (plain-as-is kind m) (filter-good (λ r. keeps kind r.node.kind) rs g)
+built-good caption foot if_empty (Node kind) style rs m i g =
+    over-good style kind (filter (λ r. keeps kind r.node.kind) rs) (plain-as-is kind m i) (filter-good (λ r. keeps kind r.node.kind) rs g)
 
 -- what an element becomes, if that is known
 abbrev IsGoodIfKnown : Option (Option Result) → Type 0
@@ -158,21 +171,21 @@ abbrev AllGoodIn : Option (List Result) → Type 0
 AllGoodIn o = IfSome o AllGood
 
 mapped-good : (caption foot : Bool) (mapping : Mapping) (style : NodeStyle) (inside : Option (List Result)) →
-    fits caption foot mapping ≡ true → AllGoodIn inside → IsGoodIfKnown (mapped mapping style inside)
-mapped-good caption foot Nothing style inside m g = tt
-mapped-good caption foot (Leaf kind) style inside m g = over-good style kind [] (plain-as-is kind m) tt
-mapped-good caption foot (Parent kind if_empty) style None m g = tt
-mapped-good caption foot (Parent kind if_empty) style (Some rs) m g =
+    fits caption foot mapping ≡ true → parents_inner mapping ≡ true → AllGoodIn inside → IsGoodIfKnown (mapped mapping style inside)
+mapped-good caption foot Nothing style inside m i g = tt
+mapped-good caption foot (Leaf kind) style inside m i g = leaf-good style kind m
+mapped-good caption foot (Parent kind if_empty) style None m i g = tt
+mapped-good caption foot (Parent kind if_empty) style (Some rs) m i g =
     good-then IsGoodResult IsGoodIfAny _
     (λ r h. cond_both (vanishes if_empty (list_any (λ x. counts kind x.role x.node.kind x.has_children) rs)) None (Some r) IsGoodIfAny (λ e. tt) (λ e. h))
-    (built kind style rs) (built-good caption foot if_empty kind style rs m g)
+    (built kind style rs) (built-good caption foot if_empty kind style rs m i g)
 
 styled-good : (caption foot : Bool) (mapping : Mapping) (mark : Option (List ℕ)) (style : ElementStyle) (inside : Option (List Result)) →
-    fits caption foot mapping ≡ true → AllGoodIn inside → IsGoodIfKnown (styled mapping mark style inside)
-styled-good caption foot mapping mark style inside m g =
+    fits caption foot mapping ≡ true → parents_inner mapping ≡ true → AllGoodIn inside → IsGoodIfKnown (styled mapping mark style inside)
+styled-good caption foot mapping mark style inside m i g =
     cond_both (is_some style.display) (Some None) _ IsGoodIfKnown (λ e. tt)
     (λ e. good-map IsGoodIfAny IsGoodIfAny _ (completed-good mark (value_of style.content_before) (value_of style.content_after))
-    (mapped mapping (node_style style) inside) (mapped-good caption foot mapping (node_style style) inside m g))
+    (mapped mapping (node_style style) inside) (mapped-good caption foot mapping (node_style style) inside m i g))
 
 -- ---- documents
 
@@ -184,7 +197,7 @@ node-good rules (text contents) below inside g = refl
 node-good rules (element name properties template_contents integration_point) below inside g =
     styled-good (is_html name.space && bytes_eq name.local (codes "caption")) (is_html name.space && bytes_eq name.local (codes "tfoot"))
     (element_mapping name.space name.local properties below) (mark_of name properties) (own_style rules name properties) inside
-    (element_fits name.space name.local properties below) g
+    (element_fits name.space name.local properties below) (element_parents name.space name.local properties below) g
 node-good rules (doctype name public_id system_id) below inside g = tt
 node-good rules (comment contents) below inside g = tt
 node-good rules (instruction target contents) below inside g = tt
