@@ -1,4 +1,4 @@
--- What the decorators of samples answer otherwise than plain text does.
+-- What the decorators of cases answer otherwise than plain text.
 use Rattle.std.specs.Prelude.{ℕ, ◌+◌, ◌-◌, ◌^◌, List, codes, if◌then◌else◌, min, pos}
 use Rattle.std.specs.List.{repeat}
 use Rattle.std.specs.Ordering.{int_eq}

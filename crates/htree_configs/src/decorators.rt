@@ -1,4 +1,4 @@
-//! Decorators that samples of documents name: this is how one changes some answers of a decorator.
+//! Decorators that cases name, each of which changes some answers of plain text.
 
 ghost use Rattle.std.specs.Prelude.{refl};
 ghost use Rattle.html_render_tree.specs.Alteration.{unchanged};

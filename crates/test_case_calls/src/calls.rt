@@ -6,10 +6,10 @@ ghost use Rattle.html_render_dom.specs.Edits.{CanAppend};
 
 use crate::faults::Fault;
 use crate::pages::{Page, UNKNOWN};
-use crate::tags::{Tag, attributes};
+use crate::tags::{Tag, attribute, attributes};
 use crate::texts::{split_word, unescaped};
 use crate::watch::Watch;
-use html_render_dom::dom::{ElementFlags, Handle, NodeOrText, QuirksMode, RcDom};
+use html_render_dom::dom::{Attribute, ElementFlags, Handle, NodeOrText, QuirksMode, RcDom};
 use std::alloc::Global;
 
 /// Whether a word is the name of a call.
@@ -20,6 +20,8 @@ pub fn is_call(word: &str) -> bool {
             | "create_comment"
             | "create_pi"
             | "get_template_contents"
+            | "append_element"
+            | "append_str"
             | "append"
             | "append_before_sibling"
             | "append_based_on_parent_node"
@@ -32,8 +34,8 @@ pub fn is_call(word: &str) -> bool {
     )
 }
 
-/// Makes a call once: `<` makes an element of a tag alone, and the others have their names. A node that is made gets the
-/// name that stands first, unless that is `made`.
+/// Makes a call once, by its name; `<` makes an element of a tag alone, and `@` gives a node one attribute. A node that is
+/// made gets the name that is given first, unless that is `made`.
 pub fn make(
     alloc: Global,
     page: &mut Page,
@@ -46,6 +48,7 @@ pub fn make(
         "create_element" => create_flagged(alloc, page, given, watch),
         "create_comment" => create_comment(alloc, page, given, watch),
         "create_pi" => create_pi(alloc, page, given, watch),
+        "append_element" => append_element(alloc, page, given, watch),
         "get_template_contents" => name_contents(alloc, page, given, watch),
         "parse_error" => parse_error(alloc, &mut page.dom, given, watch),
         "set_quirks_mode" => set_quirks_mode(&mut page.dom, given, watch),
@@ -65,10 +68,12 @@ fn edit(
     let (node, more) = split_word(given);
     match name {
         "append" => append(alloc, page, node, more, watch),
+        "append_str" => append_str(alloc, page, node, more, watch),
         "append_before_sibling" => append_before(alloc, page, node, more, watch),
         "append_based_on_parent_node" => append_by_parent(alloc, page, node, more, watch),
         "remove_from_parent" => remove(page, node, watch),
         "reparent_children" => reparent(alloc, page, node, more, watch),
+        "@" => add_attribute(alloc, page, node, more, watch),
         _ => add_attributes(alloc, page, node, more, watch),
     }
 }
@@ -99,6 +104,20 @@ fn create_flagged(alloc: Global, page: &mut Page, given: &str, watch: Watch) -> 
         mathml_annotation_xml_integration_point: flags == "mathml_annotation_xml_integration_point",
     };
     create_element(alloc, page, tag, flags, watch)?;
+    page.name_made(alloc, name)
+}
+
+/// Appends an HTML element without attributes, and names it: `NAME PARENT LOCAL_NAME`.
+fn append_element(alloc: Global, page: &mut Page, given: &str, watch: Watch) -> Result<(), Fault> {
+    let (name, more) = split_word(given);
+    let (parent, local) = split_word(more);
+    let Some(parent) = page.find(parent) else {
+        return Err(UNKNOWN);
+    };
+    watch.begin("append_element");
+    let came = page.dom.append_element(alloc, parent, local);
+    watch.end(&came);
+    page.put_made(came)?;
     page.name_made(alloc, name)
 }
 
@@ -215,6 +234,27 @@ fn append(
     let came = page
         .dom
         .append(alloc, parent, NodeOrText::AppendNode(child));
+    watch.end(&came);
+    Ok(came?)
+}
+
+/// `append_str PARENT "TEXT`.
+fn append_str(
+    alloc: Global,
+    page: &mut Page,
+    parent: &str,
+    text: &str,
+    watch: Watch,
+) -> Result<(), Fault> {
+    let Some(parent) = page.find(parent) else {
+        return Err(UNKNOWN);
+    };
+    let Some(text) = text.strip_prefix('"') else {
+        return Err(Fault::Malformed("there is no text"));
+    };
+    let text = unescaped(alloc, text)?;
+    watch.begin("append_str");
+    let came = page.dom.append_str(alloc, parent, &text);
     watch.end(&came);
     Ok(came?)
 }
@@ -364,13 +404,37 @@ fn add_attributes(
     more: &str,
     watch: Watch,
 ) -> Result<(), Fault> {
-    let Some(node) = page.find(node) else {
-        return Err(UNKNOWN);
-    };
     let Some(fields) = more.strip_prefix('@') else {
         return Err(Fault::Malformed("there are no attributes"));
     };
     let given = attributes(alloc, fields)?;
+    complete(alloc, page, node, given, watch)
+}
+
+/// `add_attrs_if_missing` with one attribute, `NAME=VALUE`, whose value may hold `@`.
+fn add_attribute(
+    alloc: Global,
+    page: &mut Page,
+    node: &str,
+    field: &str,
+    watch: Watch,
+) -> Result<(), Fault> {
+    let mut given = Vec::new(alloc);
+    given.push(attribute(alloc, field)?)?;
+    complete(alloc, page, node, given, watch)
+}
+
+/// Gives an element attributes.
+fn complete(
+    alloc: Global,
+    page: &mut Page,
+    node: &str,
+    given: Vec<Attribute>,
+    watch: Watch,
+) -> Result<(), Fault> {
+    let Some(node) = page.find(node) else {
+        return Err(UNKNOWN);
+    };
     if !page.dom.is_element(node) {
         return Err(Fault::Malformed("the node is no element"));
     }

@@ -1,5 +1,5 @@
 //! Calls by their names, as cases write them: those that build and change a document, and those that answer something of
-//! one, of a style, of a grid, of columns or of a decorator.
+//! one, of its values, of a style, of a grid, of columns or of a decorator.
 //!
 //! `Page::new(alloc, watch)?` is a document; its `take(alloc, "<p", watch)?` makes the calls of a line that has a sign,
 //! `call(alloc, "append", "current \"text", watch)?` one call by its name, and
@@ -18,4 +18,5 @@ pub mod styles;
 pub mod tables;
 pub mod tags;
 pub mod texts;
+pub mod values;
 pub mod watch;

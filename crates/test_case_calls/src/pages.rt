@@ -177,8 +177,8 @@ impl Page {
             let given = format!(in alloc; "current \"{text}")?;
             self.call(alloc, "append", &given, watch)
         } else if let Some(field) = line.strip_prefix('@') {
-            let given = format!(in alloc; "current @{field}")?;
-            self.call(alloc, "add_attrs_if_missing", &given, watch)
+            let given = format!(in alloc; "current {field}")?;
+            self.call(alloc, "@", &given, watch)
         } else {
             self.append_made(alloc, line, watch)
         }

@@ -1,4 +1,4 @@
-//! Style rules: `Author p.note#id::before important Content text`.
+//! Style rules: `Author p.note#id::before important Colour #ff0000 Content text`.
 
 use crate::faults::Fault;
 use crate::texts::{split_word, unescaped};
@@ -100,9 +100,8 @@ fn white_space(name: &str) -> Result<WhiteSpace, Fault> {
     }
 }
 
-/// A property and its value.
-fn style(alloc: Global, text: &str) -> Result<Style, Fault> {
-    let (property, value) = split_word(text);
+/// A property of a value.
+fn style(alloc: Global, property: &str, value: &str) -> Result<Style, Fault> {
     match property {
         "Colour" => Ok(Style::Colour(colour(value)?)),
         "BgColour" => Ok(Style::BgColour(colour(value)?)),
@@ -113,20 +112,60 @@ fn style(alloc: Global, text: &str) -> Result<Style, Fault> {
     }
 }
 
-/// The rule of an origin, a selector and a declaration.
+/// The words of a declaration, and the text after it.
+#[derive(Clone, Copy)]
+struct Words<'a> {
+    important: bool,
+    property: &'a str,
+    value: &'a str,
+    rest: &'a str,
+}
+
+/// Splits a declaration off a text: `important`, if it is so, a property and its value. The value of `Content` is all that
+/// follows, any other a word.
+fn split_declaration(text: &str) -> Words<'_> {
+    let (important, declared) = match text.strip_prefix("important ") {
+        Some(declared) => (true, declared),
+        None => (false, text),
+    };
+    let (property, more) = split_word(declared);
+    let (value, rest) = if property == "Content" {
+        (more, "")
+    } else {
+        split_word(more)
+    };
+    Words {
+        important,
+        property,
+        value,
+        rest,
+    }
+}
+
+/// Reads declarations, which spaces separate.
+fn declarations(alloc: Global, text: &str) -> Result<Vec<Declaration>, Fault> {
+    let mut declarations = Vec::new(alloc);
+    let mut rest = text;
+    for _ in 0..text.len() {
+        if rest.is_empty() {
+            break;
+        }
+        let words = split_declaration(rest);
+        declarations.push(Declaration {
+            important: words.important,
+            style: style(alloc, words.property, words.value)?,
+        })?;
+        rest = words.rest;
+    }
+    Ok(declarations)
+}
+
+/// The rule of an origin, a selector and declarations.
 pub fn rule(alloc: Global, text: &str) -> Result<StyleRule, Fault> {
     let (name, rest) = split_word(text);
     let (selector, declared) = split_word(rest);
     let selector = Selector::read(alloc, selector)?;
-    let (important, declared) = match declared.strip_prefix("important ") {
-        Some(declared) => (true, declared),
-        None => (false, declared),
-    };
-    let mut declarations = Vec::new(alloc);
-    declarations.push(Declaration {
-        important,
-        style: style(alloc, declared)?,
-    })?;
+    let declarations = declarations(alloc, declared)?;
     Ok(StyleRule {
         origin: origin(name)?,
         element: selector.element,

@@ -6,19 +6,25 @@ use crate::tags::Tag;
 use crate::texts::push_escaped;
 use crate::watch::Watch;
 use html_render_dom::style::{
-    ComputedStyle, ContentText, Display, StyleOrigin, StyleRule, WhiteSpace, WithSpec,
+    ComputedStyle, ContentText, Display, RuleIndex, StyleOrigin, StyleRule, WhiteSpace, WithSpec,
     computed_style,
 };
 use std::alloc::{AllocError, Global};
 
-/// The style of an element under the rules of a configuration: a line for each property that has a value.
-pub fn answer(alloc: Global, calls: &[&str], given: &str, watch: Watch) -> Result<String, Fault> {
+/// The rules that the calls of a configuration add.
+fn rules_of(alloc: Global, calls: &[&str]) -> Result<Vec<StyleRule>, Fault> {
     let mut rules = Vec::new(alloc);
     for call in calls {
         if let Some(text) = call.strip_prefix("add_style_rule ") {
             rules.push(rule(alloc, text)?)?;
         }
     }
+    Ok(rules)
+}
+
+/// The style of an element under the rules of a configuration: a line for each property that has a value.
+pub fn answer(alloc: Global, calls: &[&str], given: &str, watch: Watch) -> Result<String, Fault> {
+    let rules = rules_of(alloc, calls)?;
     let tag = Tag::read(alloc, given)?;
     watch.begin("computed_style");
     let came = computed_style(
@@ -30,6 +36,35 @@ pub fn answer(alloc: Global, calls: &[&str], given: &str, watch: Watch) -> Resul
     watch.end(&came);
     let mut shown = String::new(alloc);
     push_style(&mut shown, &came?)?;
+    Ok(shown)
+}
+
+/// The style of an element under the rules of a configuration, by an index of these. One call is watched: the one that is asked.
+pub fn indexed(
+    alloc: Global,
+    calls: &[&str],
+    asked: &str,
+    given: &str,
+    watch: Watch,
+) -> Result<String, Fault> {
+    let rules = rules_of(alloc, calls)?;
+    let tag = Tag::read(alloc, given)?;
+    let (name, attributes) = (tag.name.local.as_str(), &tag.attributes);
+    let of_watch = watch.only_if(asked == "RuleIndex::of");
+    of_watch.begin("RuleIndex::of");
+    let came = RuleIndex::of(alloc, rules.as_slice());
+    of_watch.end(&came);
+    let index = came?;
+    let style_watch = watch.only_if(asked == "RuleIndex::computed_style");
+    style_watch.begin("RuleIndex::computed_style");
+    let came = index.computed_style(alloc, rules.as_slice(), name, attributes);
+    style_watch.end(&came);
+    let style = came?;
+    let mut shown = String::new(alloc);
+    push_style(&mut shown, &style)?;
+    if !shown.is_empty() && !index.may_select(name, attributes) {
+        return Err(Fault::Malformed("a rule is asked that may select nothing"));
+    }
     Ok(shown)
 }
 

@@ -55,14 +55,29 @@ fn push_row(shown: &mut String, row: &[PlacedCell]) -> Result<(), AllocError> {
     shown.push('\n')
 }
 
-/// The grid of rows with `/` between them: its edges, and a line for each row.
-pub fn grid(alloc: Global, given: &str, watch: Watch) -> Result<String, Fault> {
+/// Rows with `/` between them.
+fn rows(alloc: Global, given: &str) -> Result<Vec<Vec<Span>>, Fault> {
     let mut rows = Vec::new(alloc);
     if !given.is_empty() {
         for text in given.split('/') {
             rows.push(row(alloc, text)?)?;
         }
     }
+    Ok(rows)
+}
+
+/// Whether each span of rows is at least 1.
+pub fn validity(alloc: Global, given: &str, watch: Watch) -> Result<String, Fault> {
+    let rows = rows(alloc, given)?;
+    watch.begin("spans_are_valid");
+    let are_valid = spans_are_valid(rows.as_slice());
+    watch.end(&Ok(()));
+    printed_truth(alloc, are_valid)
+}
+
+/// The grid of rows: its edges, and a line for each row.
+pub fn grid(alloc: Global, given: &str, watch: Watch) -> Result<String, Fault> {
+    let rows = rows(alloc, given)?;
     if !spans_are_valid(rows.as_slice()) {
         return Err(Fault::Malformed("a span is 0"));
     }

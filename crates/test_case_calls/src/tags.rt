@@ -93,8 +93,11 @@ fn push_name(shown: &mut String, name: &QualName) -> Result<(), AllocError> {
     shown.push_str(name.local.as_str())
 }
 
-/// Puts attributes behind a text.
-fn push_attributes(shown: &mut String, attributes: &[Attribute]) -> Result<(), AllocError> {
+/// Appends attributes to a text.
+pub(crate) fn push_attributes(
+    shown: &mut String,
+    attributes: &[Attribute],
+) -> Result<(), AllocError> {
     for attribute in attributes {
         write!(shown, "@{}=", attribute.name.local.as_str())?;
         push_escaped(shown, &attribute.value)?;

@@ -70,11 +70,15 @@ pub fn number(text: &str) -> Result<usize, Fault> {
         .map_err(|_| Fault::Malformed("there is no number"))
 }
 
-/// Numbers with spaces between them.
+/// Numbers with spaces between them, where `N*M` is the number `M` `N` times.
 pub fn numbers(alloc: Global, text: &str) -> Result<Vec<usize>, Fault> {
     let mut all = Vec::new(alloc);
     for word in text.split_whitespace() {
-        all.push(number(word)?)?;
+        let (count, word) = word.split_once('*').unwrap_or(("1", word));
+        let value = number(word)?;
+        for _ in 0..number(count)? {
+            all.push(value)?;
+        }
     }
     Ok(all)
 }

@@ -1,8 +1,8 @@
 //! Plays the cases of a file.
 
 use crate::configs::{is_preset, is_setting};
-use crate::programs;
 use crate::rendering::{self, Question, is_rendering};
+use crate::{programs, scripts};
 use html_render_tree::Error;
 use std::alloc::{AllocError, Global};
 use std::mem;
@@ -12,7 +12,7 @@ use test_case_calls::pages::Page;
 use test_case_calls::seen::seen;
 use test_case_calls::texts::split_word;
 use test_case_calls::watch::Watch;
-use test_case_calls::{answers, decorators, styles, tables};
+use test_case_calls::{answers, decorators, styles, tables, values};
 
 /// What is wanted of a question, in the form in which answers are made: each line that is printed behind `|`.
 #[derive(Drop)]
@@ -26,7 +26,7 @@ struct Wanted {
 #[derive(Drop)]
 struct Waiting<'a> {
     question: &'a str,
-    /// What the program is given, for a question that asks for that.
+    /// The input of the program, or a script.
     input: String,
     wanted: Wanted,
 }
@@ -67,6 +67,15 @@ fn split_count(line: &str) -> Option<(usize, bool, &str)> {
     }
     let (digits, text) = line.split_once('/')?;
     Some((digits.parse().ok()?, true, text))
+}
+
+/// A call of a configuration that is made a number of times: `repeat N CALL`.
+fn repeated_setting(line: &str) -> Option<(usize, &str)> {
+    let (count, call) = split_word(line.strip_prefix("repeat ")?);
+    if !is_setting(split_word(call).0) {
+        return None;
+    }
+    Some((count.parse().ok()?, call))
 }
 
 /// Whether a line builds the document by a sign.
@@ -144,13 +153,16 @@ impl<'a> Waiting<'a> {
         }
     }
 
-    /// Takes a line, and answers whether it is one of the program's input or of an answer.
+    /// Takes a line, and answers whether it is one of the input or of an answer.
     fn take(&mut self, line: &str) -> Result<bool, AllocError> {
-        let Some(line) = line.strip_prefix(':') else {
+        if let Some(line) = line.strip_prefix(':') {
+            self.input.push_str(line)?;
+            self.input.push('\n')?;
+        } else if let Some(text) = line.strip_prefix('.') {
+            self.input.push_str(text)?;
+        } else {
             return self.wanted.take(line);
-        };
-        self.input.push_str(line)?;
-        self.input.push('\n')?;
+        }
         Ok(true)
     }
 }
@@ -179,6 +191,11 @@ impl<'a> Case<'a> {
         self.settle(alloc, played)?;
         let (word, given) = split_word(line);
         if line.is_empty() {
+            Ok(())
+        } else if let Some((count, call)) = repeated_setting(line) {
+            for _ in 0..count {
+                self.calls.push(call)?;
+            }
             Ok(())
         } else if has_sign(line) || word == "repeat" {
             self.page.take(alloc, line, played.watch)
@@ -209,20 +226,27 @@ impl<'a> Case<'a> {
             let question = Question {
                 asked,
                 given,
+                script: input,
                 watch,
             };
             return rendering::answer(alloc, &self.calls, &self.page.dom, question);
         }
         match asked {
             "computed_style" => styles::answer(alloc, &self.calls, given, watch),
+            "RuleIndex::of" | "RuleIndex::computed_style" => {
+                styles::indexed(alloc, &self.calls, asked, given, watch)
+            }
             "specificity" => styles::specificity(alloc, given, watch),
             "for_element" => styles::for_element(alloc, given, watch),
+            "spans_are_valid" => tables::validity(alloc, given, watch),
             "table_grid" => tables::grid(alloc, given, watch),
             "cut_fits" | "check_cut" | "column_widths" | "column_widths_metered" => {
                 tables::cut(alloc, asked, given, watch)
             }
             "decorator" => decorators::answer(alloc, given, watch),
             "htree" => programs::answer(alloc, given, input),
+            "built" => scripts::answer(alloc, input, watch),
+            _ if asked.contains("::") => values::answer(alloc, asked, given, watch),
             _ => answers::answer(alloc, &self.page, asked, given, watch),
         }
     }
@@ -309,6 +333,7 @@ impl<'a> Case<'a> {
         let question = Question {
             asked: "sweep_shown",
             given: "",
+            script: "",
             watch: Watch::nobody(),
         };
         match rendering::answer(alloc, &self.calls, &self.page.dom, question) {

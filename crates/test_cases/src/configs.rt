@@ -97,10 +97,27 @@ fn setting(alloc: Global, line: &str, watch: Watch) -> Result<Setting, Fault> {
 }
 
 /// Calls that change a configuration.
-pub fn settings(alloc: Global, lines: &[&str], watch: Watch) -> Result<Vec<Setting>, Fault> {
-    let mut settings = Vec::new(alloc);
+#[derive(Drop)]
+pub struct NamedSettings<'a> {
+    /// The name that a watch is told: that of the call, if there is one.
+    pub name: &'a str,
+    /// The calls, in order.
+    pub calls: Vec<Setting>,
+}
+
+/// Calls that change a configuration.
+pub fn settings<'a>(
+    alloc: Global,
+    lines: &[&'a str],
+    watch: Watch,
+) -> Result<NamedSettings<'a>, Fault> {
+    let mut calls = Vec::new(alloc);
     for line in lines {
-        settings.push(setting(alloc, line, watch)?)?;
+        calls.push(setting(alloc, line, watch)?)?;
     }
-    Ok(settings)
+    let name = match lines {
+        [line] => split_word(line).0,
+        _ => "with_settings",
+    };
+    Ok(NamedSettings { name, calls })
 }

@@ -23,17 +23,20 @@
 //! Texts, comments and values know the escapes `\n` and `\\`. The other calls of `RcDom` stand by their names
 //! (`append p "text`, `append_before_sibling s c`, `create_element e em@id=i template`, ..), and so do those of a
 //! configuration (`rich`, `max_wrap_width 10`, `add_style_rule Author p.note#id::before important Content text`, ..), of
-//! which the first, as `plain`, begins it anew. `document` is the document's name.
+//! which the first, as `plain`, begins it anew; `repeat N CALL` makes one `N` times. A rule's declarations follow each other,
+//! `Content` last. `document` is the document's name.
 //!
 //! A question is a call by its name with what it is given: a width for `render_to_string`, `render_to_lines` (each string
 //! behind its annotations in braces, each name in angles), `render_coloured angles` (each string in angles, behind the number
-//! of its annotations) and `render_to_lines_metered`; `dom_to_render_tree`, and `try_clone` of what that answers; the calls of
-//! `RcDom` that answer something; `computed_style TAG`; `specificity` with a rule and `for_element` with a name; `decorator`
-//! with `plain` or `rich` and a call of it; `table_grid` with the spans of rows (`3x1 2x2 / 1x1`, and `-` for a row without
-//! cells); `column_widths` with minimums, shares and the width (`3 3 / 9 4 / 10`), `column_widths_metered`, `cut_fits` and,
-//! with a cut behind these, `check_cut`; `htree` with words, and an input whose lines stand behind it, each behind `:`. `sweep`
-//! plays a document all of whose texts are laid out at the widths from 1 to 40; every other document is swept where its case
-//! ends.
+//! of its annotations) and `render_to_lines_metered` (which counts also where it is `TooNarrow`); `dom_to_render_tree`, and
+//! `try_clone` of what that answers; the calls of `RcDom` that answer something; `computed_style TAG`, and the same by
+//! `RuleIndex::of` and `RuleIndex::computed_style`; `specificity` with a rule and `for_element` with a name; `decorator`
+//! with `plain` or `rich` and a call of it; `table_grid` and `spans_are_valid` with the spans of rows (`3x1 2x2 / 1x1`, and `-`
+//! for a row without cells); `column_widths` with minimums, shares and the width (`3 3 / 9 4 / 10`, and `5*3` for five times 3),
+//! `column_widths_metered`, `cut_fits` and, with a cut after these, `check_cut`; the calls of names, attributes and texts
+//! (`LocalName::push_str a b`, ..); `built` and `dom_into_render_tree` with a script, and `htree` with words and an input. The
+//! lines of a script or an input follow the question, each after `:`, or after `.` for one without its line feed. `sweep` plays a
+//! document all of whose texts are laid out at the widths from 1 to 40; every other document is swept where its case ends.
 //!
 //! `with_decorator refusing:CALL` is plain text but for one call of the decorator, which refuses memory, and
 //! `render_coloured refusing WIDTH TEXT` under a map that refuses this text.
@@ -49,6 +52,7 @@ mod display;
 mod programs;
 mod refusing;
 mod rendering;
+mod scripts;
 mod sweeps;
 
 use cases::Played;

@@ -2,9 +2,10 @@
 
 ghost use Rattle.std.specs.Prelude.{◌≡◌, IfErr};
 
-use crate::configs::{preset, settings};
+use crate::configs::{NamedSettings, preset, settings};
 use crate::display::displayed;
 use crate::refusing::plain_but;
+use crate::scripts::document;
 use crate::sweeps::{Kept, sweep};
 use html_render_tree::Error;
 use html_render_tree::block::{TaggedLine, TaggedLineElement};
@@ -13,7 +14,7 @@ use html_render_tree::decorate::{PlainDecorator, RichDecorator, TextDecorator};
 use html_render_tree::dom::RcDom;
 use html_render_tree::tree::RenderTree;
 use html_render_tree::widths::Meter;
-use htree_configs::calls::{DecoratorName, Preset, Setting, with_settings};
+use htree_configs::calls::{DecoratorName, Preset, with_settings};
 use std::alloc::{AllocError, Global};
 use test_case_calls::annotations::Shown;
 use test_case_calls::faults::Fault;
@@ -28,6 +29,7 @@ pub fn is_rendering(word: &str) -> bool {
         "preset"
             | "settings"
             | "dom_to_render_tree"
+            | "dom_into_render_tree"
             | "render_to_string"
             | "render_to_lines"
             | "render_to_lines_metered"
@@ -44,6 +46,8 @@ pub struct Question<'a> {
     pub asked: &'a str,
     /// What is given to it.
     pub given: &'a str,
+    /// The script of a document that the call takes.
+    pub script: &'a str,
     /// Who is told of the call.
     pub watch: Watch,
 }
@@ -84,7 +88,7 @@ pub fn answer(
 fn answer_decorated(
     alloc: Global,
     name: DecoratorName,
-    settings: Vec<Setting>,
+    settings: NamedSettings<'_>,
     dom: &RcDom,
     question: Question<'_>,
 ) -> Result<String, Fault> {
@@ -113,7 +117,7 @@ fn answer_decorated(
 fn answer_under<D: TextDecorator>(
     alloc: Global,
     config: Config<D>,
-    settings: Vec<Setting>,
+    settings: NamedSettings<'_>,
     dom: &RcDom,
     question: Question<'_>,
 ) -> Result<String, Fault>
@@ -121,8 +125,8 @@ where
     D::Annotation: Shown,
 {
     let watch = question.watch.only_if(question.asked == "settings");
-    watch.begin("with_settings");
-    let came = with_settings(alloc, config, settings);
+    watch.begin(settings.name);
+    let came = with_settings(alloc, config, settings.calls);
     watch.end(&came);
     let config = came?;
     match question.asked {
@@ -132,6 +136,13 @@ where
         "dom_to_render_tree" => {
             question.watch.begin("dom_to_render_tree");
             let came = config.dom_to_render_tree(alloc, dom);
+            question.watch.end(&came);
+            displayed(alloc, &came?, question.watch)
+        }
+        "dom_into_render_tree" => {
+            let dom = document(alloc, question.script)?;
+            question.watch.begin("dom_into_render_tree");
+            let came = config.dom_into_render_tree(alloc, dom);
             question.watch.end(&came);
             displayed(alloc, &came?, question.watch)
         }
@@ -164,7 +175,7 @@ where
 
 /// What a copy of a render tree is displayed as, once the tree itself is dropped.
 fn copy(alloc: Global, tree: RenderTree, watch: Watch) -> Result<String, Fault> {
-    watch.begin("try_clone");
+    watch.begin("RenderTree::try_clone");
     let came = tree.try_clone(alloc);
     watch.end(&came);
     let copy = came?;
@@ -241,7 +252,7 @@ where
     Ok(shown)
 }
 
-/// What is counted of the layout.
+/// What is counted of the layout, also where it is too narrow.
 fn metered<D: TextDecorator>(
     alloc: Global,
     config: &Config<D>,
@@ -257,9 +268,13 @@ fn metered<D: TextDecorator>(
     ));
     let came = config.render_to_lines_metered(alloc, tree, width, &mut meter);
     watch.end(&came);
-    let _lines = came?;
+    let refusal = match came {
+        Ok(_lines) => "",
+        Err(Error::TooNarrow) => "TooNarrow\n",
+        Err(error) => return Err(Fault::Refused(error)),
+    };
     let (entered, left, frames) = (meter.entered, meter.left, meter.frames);
-    Ok(format!(in alloc; "|entered {entered}, left {left}, frames {frames}\n")?)
+    Ok(format!(in alloc; "{refusal}|entered {entered}, left {left}, frames {frames}\n")?)
 }
 
 /// `<n:text>` for a text under n annotations, or a refusal for one text.

@@ -1,3 +1,0 @@
-mod OwnNodes
-mod Rendered
-mod Sayings

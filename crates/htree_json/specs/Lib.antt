@@ -1,5 +1,0 @@
-pub mod Refusals
-pub mod Service
-pub mod Said
-pub mod Built
-pub mod Documents
