@@ -6,7 +6,10 @@
  * Nothing checks these, so a caller sees to them:
  * - a pointer leads to as many bytes as the length beside it says, and nothing changes them during the call;
  * - a recording is used by one thread at a time, and by no signal handler;
- * - malloc, realloc and free are the program's only allocator, and none of them is called for what this library holds.
+ * - malloc, realloc and free are the program's only allocator, and none of them is called for what this library holds;
+ * - texts and attributes of a page that isn't trusted have no control characters: they are recorded as they are, and rendered, so
+ *   that U+001B in the target of a link can make a terminal write to its clipboard. The bindings for Rust and Python drop U+0000 to
+ *   U+001F but tab and newline, U+007F to U+009F, U+202A to U+202E and U+2066 to U+2069.
  */
 #ifndef HTML_RENDER_H
 #define HTML_RENDER_H

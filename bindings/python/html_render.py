@@ -6,21 +6,24 @@
     world
 
 html5lib parses the HTML as browsers do (Debian's python3-html5lib); its tree becomes the calls of which the library builds the
-document that it renders. The library is the shared one that `bindings/build` makes, in bindings/out, or the file that the variable
+document that it renders, with what a browser shows (html_shown.py). The library is the shared one that `bindings/build` makes, in bindings/out, or the file that the variable
 HTML_RENDER_LIB of the environment names.
 """
 
 import ctypes
 import os
+import re
 from pathlib import Path
 
 import html5lib
 
+from html_shown import ASKED, HTML, WHITE_SPACE, Around, shown, title_of, without_controls
+
 __all__ = ["Error", "TooNarrow", "render"]
 
-_HTML = "http://www.w3.org/1999/xhtml"
-_SPACES = {None: 0, _HTML: 1, "http://www.w3.org/2000/svg": 2, "http://www.w3.org/1998/Math/MathML": 3}
-_TEMPLATE = 4
+_SPACES = {None: 0, HTML: 1, "http://www.w3.org/2000/svg": 2, "http://www.w3.org/1998/Math/MathML": 3}
+_AUTHOR = 3
+_WHITE_SPACE = 3
 
 
 class Error(Exception):
@@ -31,8 +34,24 @@ class TooNarrow(Error):
     """The width is too narrow for the document."""
 
 
+class _Rule(ctypes.Structure):
+    """A style rule of one declaration."""
+
+    _fields_ = [
+        ("element", ctypes.c_char_p),
+        ("id", ctypes.c_char_p),
+        ("classes", ctypes.c_char_p),
+        ("content", ctypes.c_char_p),
+        ("declares", ctypes.c_uint32),
+        ("value", ctypes.c_uint32),
+        ("origin", ctypes.c_uint32),
+        ("important", ctypes.c_int),
+        ("place", ctypes.c_int),
+    ]
+
+
 def _load():
-    """Answers the library, with the types of its functions."""
+    """Returns the library, with the types of its functions."""
     default = Path(__file__).resolve().parent.parent / "out" / "libhtml_render.so"
     library = ctypes.CDLL(os.environ.get("HTML_RENDER_LIB", str(default)))
     recording, number, size, text = ctypes.c_void_p, ctypes.c_uint32, ctypes.c_size_t, ctypes.c_char_p
@@ -41,11 +60,11 @@ def _load():
         ("drop", None, [recording]),
         ("element", number, [recording, number, text, size]),
         ("comment", number, [recording, text, size]),
-        ("template_contents", number, [recording, number]),
         ("attribute", None, [recording, number, number, text, size, text, size]),
         ("append", None, [recording, number, number]),
         ("append_text", None, [recording, number, text, size]),
         ("set", None, [recording, ctypes.c_int, number, text]),
+        ("add_rule", None, [recording, ctypes.POINTER(_Rule)]),
         ("text_of", ctypes.c_int, [recording, ctypes.c_int, size, ctypes.POINTER(ctypes.c_void_p), ctypes.POINTER(size)]),
         ("free", None, [ctypes.c_void_p]),
     ):
@@ -61,6 +80,7 @@ class _Recording:
     """A document as it is recorded, and its settings."""
 
     def __init__(self):
+        self._keeps_controls = False
         self._recording = _library.html_render_new()
         if not self._recording:
             raise MemoryError
@@ -71,37 +91,72 @@ class _Recording:
     def __exit__(self, *_):
         _library.html_render_drop(self._recording)
 
-    def add_children(self, parent, tree):
-        """Records the nodes below one of html5lib's tree, whose own node is `parent`. It doesn't recurse: documents may be deep."""
-        ahead = [(parent, iter(tree.childNodes))]
+    def add_children(self, parent, tree, columns, keep_controls):
+        """Records the nodes below one of html5lib's tree, whose own node is `parent`, as a browser shows them in lines of so many
+        columns. It doesn't recurse: documents may be deep."""
+        self._keeps_controls = keep_controls
+        ahead = [(parent, Around(), iter(tree.childNodes), "")]
         while ahead:
-            above, children = ahead[-1]
+            above, around, children, after = ahead[-1]
             child = next(children, None)
             if child is None:
                 ahead.pop()
-            elif child.nodeType == child.TEXT_NODE:
-                data = _bytes(child.data)
-                _library.html_render_append_text(self._recording, above, data, len(data))
+                self.add_text(above, after)
+            elif child.nodeType == child.TEXT_NODE and not around.hides_texts:
+                self.add_text(above, self._kept(child.data, is_shown=True))
             elif child.nodeType == child.ELEMENT_NODE:
-                ahead.append((self._add_element(above, child), iter(child.childNodes)))
+                found = shown(child, around, columns)
+                if found:
+                    node = self._add_element(above, found)
+                    below = child.childNodes if found.has_children and child.tagName not in ("head", "template", "script", "style") else ()
+                    ahead.append((node, found.around, iter(below), found.after))
 
-    def _add_element(self, parent, tree):
-        name, space = _bytes(tree.localName or tree.tagName), _SPACES.get(tree.namespaceURI, 0)
-        is_template = space == 1 and name == b"template"
-        node = _library.html_render_element(self._recording, space | (_TEMPLATE if is_template else 0), name, len(name))
-        for key, value in tree.attributes.items():
-            local = _bytes(key)
-            data = _bytes(value)
-            _library.html_render_attribute(self._recording, node, 0, local, len(local), data, len(data))
+    def _kept(self, text, is_shown=False):
+        if self._keeps_controls:
+            return text.replace("\u00ad", "") if is_shown else text
+        return without_controls(text, is_shown)
+
+    def _add_element(self, parent, found):
+        """Records the elements that one is shown as, and the text before its children. Returns the innermost one."""
+        for name, space, attributes in found.elements:
+            parent = self.add_element(parent, name, space)
+            for key, value in attributes.items():
+                if key in ASKED:
+                    self._add_attribute(parent, key, value)
+        self.add_text(parent, found.before)
+        return parent
+
+    def add_element(self, parent, name, space=HTML):
+        """Records an element without attributes."""
+        name = _bytes(without_controls(name))
+        node = _library.html_render_element(self._recording, _SPACES.get(space, 0), name, len(name))
         _library.html_render_append(self._recording, parent, node)
-        return _library.html_render_template_contents(self._recording, node) if is_template else node
+        return node
+
+    def _add_attribute(self, node, key, value):
+        private = next((it for it in WHITE_SPACE.values() if key == "class" and value.endswith(" " + it)), "")
+        value = self._kept(value[: len(value) - len(private)], is_shown=key == "alt")
+        name, data = _bytes(key), _bytes(value + private)
+        _library.html_render_attribute(self._recording, node, 0, name, len(name), data, len(data))
+
+    def add_text(self, parent, text):
+        """Records a text, unless it is empty."""
+        if text:
+            data = _bytes(text)
+            _library.html_render_append_text(self._recording, parent, data, len(data))
+
+    def add_white_space(self):
+        """Records the rules of the classes for white space."""
+        for value, space in ((1, "pre"), (2, "pre-wrap")):
+            rule = _Rule(classes=_bytes(WHITE_SPACE[space]), declares=_WHITE_SPACE, value=value, origin=_AUTHOR)
+            _library.html_render_add_rule(self._recording, ctypes.byref(rule))
 
     def set(self, call, number=0, text=None):
         """Records a call of the configuration."""
         _library.html_render_set(self._recording, call, number, text)
 
     def text(self, decorator, width):
-        """Answers the text of the document."""
+        """Returns the text of the document."""
         out, length = ctypes.c_void_p(), ctypes.c_size_t()
         status = _library.html_render_text_of(self._recording, decorator, width, ctypes.byref(out), ctypes.byref(length))
         if status == 0:
@@ -117,22 +172,47 @@ class _Recording:
 
 
 def _bytes(text):
-    """Answers a text in UTF-8; a surrogate that stands alone becomes U+FFFD."""
+    """Returns a text in UTF-8; a surrogate that stands alone becomes U+FFFD."""
     return text.encode("utf-16", "surrogatepass").decode("utf-16", "replace").encode("utf-8")
 
 
-def render(html, width=80, *, decorate=True, footnotes=True, overflow=True, raw_tables=False, borders=True):
-    """Answers the plain text of HTML, a str or bytes, wrapped to `width` columns.
+def _parse(html, charset):
+    """Returns html5lib's tree of a page. The encoding of bytes is that of a byte order mark, the one that is named or that the page
+    declares, or UTF-8 if all of them are, or else windows-1252."""
+    if isinstance(html, str):
+        return html5lib.parse(html, treebuilder="dom")
+    declaration = re.match(rb"<\?xml[^>]*\sencoding\s*=\s*[\"']([\w.:-]+)", html[:1024])
+    likely = declaration[1].decode("ascii") if declaration else None
+    if likely and likely.lower().startswith("utf-16"):
+        likely = "utf-8"
+    try:
+        html.decode("utf-8")
+        default = "utf-8"
+    except UnicodeDecodeError:
+        default = "windows-1252"
+    return html5lib.parse(
+        html, treebuilder="dom", transport_encoding=charset, likely_encoding=likely, default_encoding=default, useChardet=False
+    )
 
-    `decorate` writes signs round emphasis, `footnotes` numbers links and puts their targets at the end, `overflow` lets what is
-    wider than a line stand so rather than raise TooNarrow, `raw_tables` puts the cells of tables one below another, and without
-    `borders` tables are drawn without lines.
+
+def render(
+    html, width=80, *, charset=None, title=False, decorate=True, footnotes=True, overflow=True, raw_tables=False, borders=True, keep_controls=False
+):
+    """Returns the plain text of HTML, a str or bytes, as a browser shows it, wrapped to `width` columns.
+
+    `charset` names the encoding of bytes, as HTTP or a mail does. `title` shows the page's title above its text. `decorate` writes signs
+    around emphasis, `footnotes` numbers links and puts their targets at the end, `overflow` lets what is wider than a line stay so rather
+    than raise TooNarrow, `raw_tables` stacks the cells of tables, and without `borders` tables are drawn without lines.
+    `keep_controls` keeps control characters of the page, which can control a terminal.
     """
     if width < 0:
         raise ValueError("a width is at least 0")
-    tree = html5lib.parse(html, treebuilder="dom")
+    tree = _parse(html, charset)
     with _Recording() as recording:
-        recording.add_children(0, tree)
+        if title and title_of(tree):
+            recording.add_text(recording.add_element(0, "p"), without_controls(title_of(tree), is_shown=True))
+        recording.add_children(0, tree, width, keep_controls)
+        recording.add_white_space()
         for call, wanted, number in ((2, decorate, 0), (3, footnotes, 1), (1, overflow, 0), (10, raw_tables, 1), (11, not borders, 0)):
             if wanted:
                 recording.set(call, number)

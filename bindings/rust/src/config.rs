@@ -1,17 +1,23 @@
 //! How a document is rendered: a builder with html2text's names.
 
+use crate::adapt::{self, Adaptation, PrivateRules};
+use crate::characters::Filter;
 use crate::css::{self, Origin};
+use crate::encoding;
 use crate::error::Error;
+use crate::limits::Refusal;
 use crate::lines::{self, RichAnnotation, TaggedLine, TaggedLineElement, TaggedString};
+use crate::options::Options;
+use crate::pass::Pass;
 use crate::reader::Reader;
+use crate::record::{self, Recorder};
 use crate::records::{self, Page, Setting};
-use crate::sink::Steps;
+use crate::sink::{Sink, Wanted};
+use crate::tree::Tree;
 use html5ever::tree_builder::TreeBuilderOpts;
 use std::io::Read;
 use std::marker::PhantomData;
 use std::mem;
-use tendril::stream::Utf8LossyDecoder;
-use tendril::TendrilSink;
 
 /// What stands in the place of an image whose title is empty.
 #[derive(Clone, Debug, Default, PartialEq, Eq)]
@@ -36,6 +42,9 @@ pub trait Decorator: sealed::Sealed {
     const NUMBER: u32;
 
     #[doc(hidden)]
+    const HAS_COLOURS: bool;
+
+    #[doc(hidden)]
     fn annotation(annotation: RichAnnotation) -> Self::Annotation;
 }
 
@@ -56,12 +65,14 @@ pub struct RichDecorator;
 impl Decorator for PlainDecorator {
     type Annotation = ();
     const NUMBER: u32 = 0;
+    const HAS_COLOURS: bool = false;
     fn annotation(_: RichAnnotation) {}
 }
 
 impl Decorator for RichDecorator {
     type Annotation = RichAnnotation;
     const NUMBER: u32 = 1;
+    const HAS_COLOURS: bool = true;
     fn annotation(annotation: RichAnnotation) -> RichAnnotation {
         annotation
     }
@@ -88,8 +99,21 @@ mod call {
 pub struct Config<D> {
     settings: Vec<Setting>,
     text: String,
+    /// Number of classes of the rule that has most.
+    most_classes: usize,
     uses_doc_css: bool,
+    keeps_controls: bool,
+    max_wrap_width: Option<usize>,
+    /// How pages are read and adapted; `None` for html2text's way.
+    options: Option<Options>,
     decorator: PhantomData<D>,
+}
+
+/// What is recorded of a page.
+struct Recorded {
+    recorder: Recorder,
+    css: String,
+    rules: PrivateRules,
 }
 
 /// Rich text: lines whose characters are annotated.
@@ -109,7 +133,16 @@ pub fn plain_no_decorate() -> Config<PlainDecorator> {
 
 impl<D: Decorator> Config<D> {
     fn new() -> Config<D> {
-        Config { settings: Vec::new(), text: String::new(), uses_doc_css: false, decorator: PhantomData }
+        Config {
+            settings: Vec::new(),
+            text: String::new(),
+            most_classes: 0,
+            uses_doc_css: false,
+            keeps_controls: false,
+            max_wrap_width: None,
+            options: None,
+            decorator: PhantomData,
+        }
     }
 
     fn with(mut self, kind: u32, number: usize) -> Config<D> {
@@ -162,7 +195,8 @@ impl<D: Decorator> Config<D> {
     }
 
     /// A paragraph's lines have at most so many columns.
-    pub fn max_wrap_width(self, wrap_width: usize) -> Config<D> {
+    pub fn max_wrap_width(mut self, wrap_width: usize) -> Config<D> {
+        self.max_wrap_width = Some(wrap_width);
         self.with(call::MAX_WRAP_WIDTH, wrap_width)
     }
 
@@ -188,8 +222,14 @@ impl<D: Decorator> Config<D> {
 
     fn with_css(mut self, css: &str, origin: Origin) -> Result<Config<D>, Error> {
         let texts = &mut self.text;
-        css::read(css, origin, &mut self.settings, |text| keep(texts, text))?;
-        Ok(self)
+        let as_it_is = Filter { keeps_controls: true, ..Filter::default() };
+        let sheet = css::read(css, origin, as_it_is, &mut self.settings, |text| keep(texts, text));
+        self.most_classes = self.most_classes.max(sheet.most_classes);
+        if sheet.is_well {
+            Ok(self)
+        } else {
+            Err(Error::CssParseError)
+        }
     }
 
     /// The rules of this style sheet are added, as the user's: those that select by an element's name, an id and classes, and what
@@ -217,38 +257,88 @@ impl<D: Decorator> Config<D> {
         self
     }
 
-    /// The steps of the document that HTML in UTF-8 is; bytes that are no UTF-8 become U+FFFD. The input streams into the parser.
-    fn parse(&self, input: impl Read) -> Result<Steps, Error> {
-        let options = TreeBuilderOpts { drop_doctype: true, ..TreeBuilderOpts::default() };
-        let reader = Reader::new(Steps::new(self.uses_doc_css), options);
-        let mut input = input;
-        let steps = Utf8LossyDecoder::new(reader).read_from(&mut input)?;
-        if steps.is_too_large {
-            return Err(Error::OutOfMemory);
+    /// Shows what a browser shows of a page, in the encoding that it is in: `docs/HTML.md` tells it element by element. Without the call
+    /// a page is read as html2text reads it, in UTF-8.
+    pub fn as_shown(mut self, options: Options) -> Config<D> {
+        self.options = Some(options);
+        self
+    }
+
+    /// Keeps control characters of the page, which can control a terminal that the text is written to. Without the call U+0000 to
+    /// U+001F but tab and newline, U+007F to U+009F, U+202A to U+202E and U+2066 to U+2069 are dropped.
+    pub fn keep_controls(mut self) -> Config<D> {
+        self.keeps_controls = true;
+        self
+    }
+
+    /// Reads the bytes of a page, in memory that may be refused.
+    fn bytes(mut input: impl Read) -> Result<Vec<u8>, Error> {
+        const BLOCK: usize = 1 << 16;
+        let mut bytes = Vec::new();
+        loop {
+            bytes.try_reserve(BLOCK).map_err(|_| Error::OutOfMemory)?;
+            if input.by_ref().take(BLOCK as u64).read_to_end(&mut bytes)? == 0 {
+                return Ok(bytes);
+            }
         }
-        Ok(steps)
+    }
+
+    /// Parses a page, and records the document that it is.
+    fn record(&self, input: impl Read, width: usize) -> Result<Recorded, Error> {
+        let bytes = Self::bytes(input)?;
+        let page = match &self.options {
+            Some(options) => encoding::decode(bytes, options.charset)?,
+            None => encoding::decode_utf8(bytes)?,
+        };
+        let is_adapted = self.options.is_some();
+        let filter = Filter { keeps_controls: self.keeps_controls, drops_soft_hyphens: is_adapted }.for_page(&page);
+        let wanted = Wanted { is_asked: if is_adapted { adapt::is_asked } else { record::is_asked }, css: self.uses_doc_css };
+        let options = TreeBuilderOpts { drop_doctype: true, scripting_enabled: !is_adapted, ..TreeBuilderOpts::default() };
+        let sink = Reader::read(&page, Sink::new(Tree::new(filter), wanted), wanted, options).map_err(|refusal| match refusal {
+            Refusal::TooLarge => Error::TooLarge,
+            Refusal::OutOfMemory => Error::OutOfMemory,
+        })?;
+        drop(page);
+        let Sink { mut tree, css, is_quirky, .. } = sink;
+        let adaptation = self.options.map(|options| Adaptation {
+            columns: width.min(self.max_wrap_width.unwrap_or(usize::MAX)).min(u32::MAX as usize) as u32,
+            has_colours: D::HAS_COLOURS,
+            title: options.shows_title.then(|| adapt::title(&tree)).flatten(),
+            is_quirky,
+        });
+        let text = mem::take(&mut tree.text);
+        let (recorder, rules) = Pass::record(&tree, Recorder::new(text, Filter { drops_soft_hyphens: false, ..filter }), adaptation);
+        Ok(Recorded { recorder, css, rules })
     }
 
     /// Calls a function with the page of a document.
-    fn with_page<T>(&self, mut steps: Steps, width: usize, render: impl FnOnce(Page<'_>) -> Result<T, Error>) -> Result<T, Error> {
-        steps.forget_nodes();
-        let (behind, _) = steps.keep(&self.text);
-        let mut settings: Vec<Setting> = self.settings.iter().map(|setting| setting.moved(behind)).collect();
-        let css = mem::take(&mut steps.css);
-        let _ = css::read(&css, Origin::Author, &mut settings, |text| steps.keep(text));
-        if steps.is_too_large {
+    fn with_page<T>(&self, input: impl Read, width: usize, render: impl FnOnce(Page<'_>) -> Result<T, Error>) -> Result<T, Error> {
+        let Recorded { mut recorder, css, rules } = self.record(input, width)?;
+        let (start, _) = recorder.keep(&self.text);
+        let mut settings: Vec<Setting> = self.settings.iter().map(|setting| setting.moved(start)).collect();
+        let filter = Filter { keeps_controls: self.keeps_controls, ..Filter::default() };
+        let sheet = css::read(&css, Origin::Author, filter, &mut settings, |text| recorder.keep(text));
+        rules.push_settings(self.most_classes.max(sheet.most_classes), &mut settings, |text| recorder.keep(text));
+        if recorder.is_out_of_memory {
             return Err(Error::OutOfMemory);
         }
-        render(Page { steps: &steps.steps, text: &steps.text, settings: &settings, decorator: D::NUMBER, width })
+        render(Page { steps: &recorder.steps, text: &recorder.text, settings: &settings, decorator: D::NUMBER, width })
+    }
+
+    /// Calls a function with the settings, whose texts begin a text.
+    #[cfg(test)]
+    pub(crate) fn with_settings<T>(&self, render: impl FnOnce(&[Setting]) -> T) -> T {
+        assert!(self.text.is_empty());
+        render(&self.settings)
     }
 
     /// The text of HTML that is read, wrapped to `width` columns.
     ///
     /// # Errors
     ///
-    /// `IoError` where the input can't be read; `TooNarrow`, `Fail` or `OutOfMemory` where it can't be rendered.
+    /// `IoError` where the input can't be read; `TooNarrow`, `Fail`, `TooLarge` or `OutOfMemory` where it can't be rendered.
     pub fn string_from_read<R: Read>(self, input: R, width: usize) -> Result<String, Error> {
-        self.with_page(self.parse(input)?, width, records::text)
+        self.with_page(input, width, records::text)
     }
 
     /// The lines of HTML that is read, wrapped to `width` columns.
@@ -257,7 +347,7 @@ impl<D: Decorator> Config<D> {
     ///
     /// As [`Config::string_from_read`].
     pub fn lines_from_read<R: Read>(self, input: R, width: usize) -> Result<Vec<TaggedLine<Vec<D::Annotation>>>, Error> {
-        let lines = self.with_page(self.parse(input)?, width, |page| records::lines(page, lines::read))?;
+        let lines = self.with_page(input, width, |page| records::lines(page, lines::read))?;
         let lines = lines.ok_or(Error::Fail)?;
         Ok(lines.into_iter().map(|line| line.map(annotated::<D>)).collect())
     }

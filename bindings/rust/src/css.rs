@@ -2,11 +2,13 @@
 //!
 //! A rule selects by a compound of an element's name, an id and classes, for the element itself or for what stands before or after
 //! its children; other selectors and at-rules are passed over. It declares `color`, `background-color`, `background` where that
-//! is a colour alone, `display: none`, `white-space` and `content`; other declarations are passed over. Attributes `style` aren't read.
+//! is a colour alone, `display: none`, `white-space` and `content`; other declarations are passed over.
 
-use crate::error::Error;
+use crate::adapt::RULE_CLASS;
+use crate::characters::Filter;
 use crate::lines::Colour;
 use crate::records::Setting;
+use crate::tree::Piece;
 use cssparser::{
     parse_important, AtRuleParser, Color, CowRcStr, DeclarationListParser, DeclarationParser, ParseError, Parser, ParserInput,
     ParserState, QualifiedRuleParser, RuleListParser, Token, RGBA,
@@ -36,7 +38,7 @@ enum Place {
 }
 
 /// A compound selector.
-#[derive(Default)]
+#[derive(Clone, Default)]
 struct Selector {
     element: Option<String>,
     id: Option<String>,
@@ -45,7 +47,7 @@ struct Selector {
 }
 
 /// What is declared.
-enum Value {
+pub(crate) enum Value {
     Colour(Colour),
     Background(Colour),
     DisplayNone,
@@ -64,12 +66,19 @@ struct Rule {
     declarations: Vec<Declaration>,
 }
 
+/// Numbers of properties.
+pub(crate) const COLOUR: u32 = 0;
+pub(crate) const BACKGROUND: u32 = 1;
+const DISPLAY_NONE: u32 = 2;
+pub(crate) const WHITE_SPACE: u32 = 3;
+const CONTENT: u32 = 4;
+
 const IMPORTANT: u32 = 4;
 const HAS_ELEMENT: u32 = 32;
 const HAS_ID: u32 = 64;
 const ADD_STYLE_RULE: u32 = 13;
 
-type Read<'i, T> = Result<T, ParseError<'i, ()>>;
+pub(crate) type Read<'i, T> = Result<T, ParseError<'i, ()>>;
 
 /// The next token, which may be white space.
 fn next<'i>(input: &mut Parser<'i, '_>) -> Read<'i, Token<'i>> {
@@ -144,7 +153,7 @@ fn colour<'i>(input: &mut Parser<'i, '_>) -> Read<'i, Colour> {
 }
 
 /// One of these words, by its number.
-fn word<'i>(input: &mut Parser<'i, '_>, words: &[&str]) -> Read<'i, u32> {
+pub(crate) fn word<'i>(input: &mut Parser<'i, '_>, words: &[&str]) -> Read<'i, u32> {
     let word = input.expect_ident()?.clone();
     let found = words.iter().position(|known| word.eq_ignore_ascii_case(known));
     found.map(|number| number as u32).ok_or_else(|| input.new_custom_error(()))
@@ -159,6 +168,21 @@ fn content<'i>(input: &mut Parser<'i, '_>) -> Read<'i, String> {
     Ok(content)
 }
 
+/// Reads the value of a property.
+pub(crate) fn value<'i>(property: &str, input: &mut Parser<'i, '_>) -> Read<'i, Value> {
+    Ok(match property.to_ascii_lowercase().as_str() {
+        "color" => Value::Colour(colour(input)?),
+        "background-color" | "background" => Value::Background(colour(input)?),
+        "display" => {
+            word(input, &["none"])?;
+            Value::DisplayNone
+        }
+        "white-space" => Value::WhiteSpace(word(input, &["normal", "pre", "pre-wrap"])?),
+        "content" => Value::Content(content(input)?),
+        _ => return Err(input.new_custom_error(())),
+    })
+}
+
 /// Reads the declarations of a rule.
 struct Declarations;
 
@@ -167,17 +191,7 @@ impl<'i> DeclarationParser<'i> for Declarations {
     type Error = ();
 
     fn parse_value<'t>(&mut self, name: CowRcStr<'i>, input: &mut Parser<'i, 't>) -> Read<'i, Declaration> {
-        let value = match name.to_ascii_lowercase().as_str() {
-            "color" => Value::Colour(colour(input)?),
-            "background-color" | "background" => Value::Background(colour(input)?),
-            "display" => {
-                word(input, &["none"])?;
-                Value::DisplayNone
-            }
-            "white-space" => Value::WhiteSpace(word(input, &["normal", "pre", "pre-wrap"])?),
-            "content" => Value::Content(content(input)?),
-            _ => return Err(input.new_custom_error(())),
-        };
+        let value = value(&name, input)?;
         let important = input.try_parse(parse_important).is_ok();
         Ok(Declaration { value, important })
     }
@@ -218,82 +232,97 @@ impl<'i> AtRuleParser<'i> for Rules {
     type Error = ();
 }
 
-fn rgb(colour: Colour) -> u32 {
+pub(crate) fn rgb(colour: Colour) -> u32 {
     u32::from_be_bytes([0, colour.r, colour.g, colour.b])
 }
 
-/// The record of what is declared, whose texts are kept by a function.
-fn setting(
-    origin: Origin,
-    selector: &Selector,
-    declaration: &Declaration,
-    keep: &mut impl FnMut(&str) -> (u32, u32),
-) -> Setting {
-    let (number, value, content) = match &declaration.value {
-        Value::Colour(colour) => (0, rgb(*colour), ""),
-        Value::Background(colour) => (1, rgb(*colour), ""),
-        Value::DisplayNone => (2, 0, ""),
-        Value::WhiteSpace(space) => (3, *space, ""),
-        Value::Content(content) => (4, 0, content.as_str()),
-    };
-    let mut flags = origin as u32 | selector.place as u32;
-    for (is_set, flag) in [
-        (declaration.important, IMPORTANT),
-        (selector.element.is_some(), HAS_ELEMENT),
-        (selector.id.is_some(), HAS_ID),
-    ] {
-        if is_set {
-            flags |= flag;
-        }
-    }
-    let (text, text_length) = keep(content);
-    let (element, element_length) = keep(selector.element.as_deref().unwrap_or(""));
-    let (id, id_length) = keep(selector.id.as_deref().unwrap_or(""));
-    let (classes, classes_length) = keep(&selector.classes.join(" "));
+/// A rule of one declaration for the elements of a class, and of an id if one is stated.
+pub(crate) struct RuleOf {
+    pub origin: Origin,
+    pub property: u32,
+    pub value: u32,
+    pub is_important: bool,
+    pub id: Option<Piece>,
+    pub classes: Piece,
+}
+
+/// Returns the record of a rule.
+pub(crate) fn setting_of(rule: RuleOf) -> Setting {
+    let (id, id_length) = rule.id.unwrap_or_default();
+    let (classes, classes_length) = rule.classes;
+    let important = if rule.is_important { IMPORTANT } else { 0 };
+    let has_id = if rule.id.is_some() { HAS_ID } else { 0 };
     Setting {
         kind: ADD_STYLE_RULE,
-        number,
-        value,
-        flags,
-        text,
-        text_length,
-        element,
-        element_length,
+        number: rule.property,
+        value: rule.value,
+        flags: rule.origin as u32 | important | has_id,
         id,
         id_length,
         classes,
         classes_length,
+        ..Setting::default()
     }
 }
 
-/// The records of a style sheet, whose texts are kept by a function.
-///
-/// # Errors
-///
-/// `CssParseError`, where a rule has no block. The records of the other rules are among `settings` then too.
-pub(crate) fn read(
-    css: &str,
-    origin: Origin,
-    settings: &mut Vec<Setting>,
-    mut keep: impl FnMut(&str) -> (u32, u32),
-) -> Result<(), Error> {
+/// Returns the record of a declaration, whose texts are kept by a function. Content goes through a filter.
+fn setting(origin: Origin, selector: &Selector, declaration: &Declaration, filter: Filter, keep: &mut impl FnMut(&str) -> Piece) -> Setting {
+    let (property, value, content) = match &declaration.value {
+        Value::Colour(colour) => (COLOUR, rgb(*colour), ""),
+        Value::Background(colour) => (BACKGROUND, rgb(*colour), ""),
+        Value::DisplayNone => (DISPLAY_NONE, 0, ""),
+        Value::WhiteSpace(space) => (WHITE_SPACE, *space, ""),
+        Value::Content(content) => (CONTENT, 0, content.as_str()),
+    };
+    let (text, text_length) = keep(&filter.filtered(content));
+    let (element, element_length) = keep(selector.element.as_deref().unwrap_or(""));
+    let id = selector.id.as_deref().map(&mut *keep);
+    let classes = keep(&selector.classes.join(" "));
+    let rule = setting_of(RuleOf { origin, property, value, is_important: declaration.important, id, classes });
+    let has_element = if selector.element.is_some() { HAS_ELEMENT } else { 0 };
+    let flags = rule.flags | selector.place as u32 | has_element;
+    Setting { flags, text, text_length, element, element_length, ..rule }
+}
+
+/// Returns the selector under which an element is recorded that has another name there: an `hr` is a `div` of a private class.
+fn renamed(selector: &Selector) -> Option<Selector> {
+    let mut selector = selector.clone();
+    match selector.element.as_deref() {
+        Some("hr") => {
+            selector.element = Some("div".to_owned());
+            selector.classes.push(RULE_CLASS.to_owned());
+            Some(selector)
+        }
+        _ => None,
+    }
+}
+
+/// What is read of a style sheet.
+#[derive(Clone, Copy, Debug, Default)]
+pub(crate) struct Sheet {
+    /// Number of classes of the selector that has most.
+    pub most_classes: usize,
+    /// Whether each of its rules has a block.
+    pub is_well: bool,
+}
+
+/// Appends the records of a style sheet to settings, whose texts are kept by a function. Content goes through a filter.
+pub(crate) fn read(css: &str, origin: Origin, filter: Filter, settings: &mut Vec<Setting>, mut keep: impl FnMut(&str) -> Piece) -> Sheet {
     let mut input = ParserInput::new(css);
     let mut parser = Parser::new(&mut input);
-    let mut is_well = true;
+    let mut sheet = Sheet { most_classes: 0, is_well: true };
     for rule in RuleListParser::new_for_stylesheet(&mut parser, Rules) {
         match rule {
             Ok(rule) => {
-                for selector in &rule.selectors {
-                    settings.extend(rule.declarations.iter().map(|declaration| setting(origin, selector, declaration, &mut keep)));
+                let renamed: Vec<Selector> = rule.selectors.iter().filter_map(renamed).collect();
+                for selector in rule.selectors.iter().chain(&renamed) {
+                    sheet.most_classes = sheet.most_classes.max(selector.classes.len());
+                    settings.extend(rule.declarations.iter().map(|declaration| setting(origin, selector, declaration, filter, &mut keep)));
                 }
             }
             // an at-rule is passed over
-            Err((_, text)) => is_well &= text.trim_start().starts_with('@'),
+            Err((_, text)) => sheet.is_well &= text.trim_start().starts_with('@'),
         }
     }
-    if is_well {
-        Ok(())
-    } else {
-        Err(Error::CssParseError)
-    }
+    sheet
 }

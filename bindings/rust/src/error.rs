@@ -10,10 +10,14 @@ pub enum Error {
     TooNarrow,
     /// The document can't be rendered: a part of a table stands in no table, or its spans pass all bounds.
     Fail,
-    /// Memory is out, or the document has more than 2^32 - 1 bytes of text, nodes or calls.
+    /// Memory is out, or the document has more than 2^32 - 1 bytes of text or calls.
     OutOfMemory,
+    /// The page has more than 5 million nodes or attributes.
+    TooLarge,
     /// A rule of a style sheet has no block.
     CssParseError,
+    /// There is no encoding of this label.
+    UnknownCharset,
     /// The input can't be read.
     IoError(io::Error),
 }
@@ -24,7 +28,9 @@ impl fmt::Display for Error {
             Error::TooNarrow => f.write_str("Output width not wide enough."),
             Error::Fail => f.write_str("The document can't be rendered."),
             Error::OutOfMemory => f.write_str("Out of memory"),
+            Error::TooLarge => f.write_str("too large"),
             Error::CssParseError => f.write_str("A rule of the style sheet has no block."),
+            Error::UnknownCharset => f.write_str("There is no such charset."),
             Error::IoError(error) => error.fmt(f),
         }
     }

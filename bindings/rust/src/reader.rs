@@ -2,34 +2,88 @@
 //!
 //! html5ever's tokenizer goes over the name of a tag character by character, at some 300 instructions each. Most of a page is text
 //! without character references, and tags as `<td>`, `</td>` and `<a href="x">`; these become the same tokens here. All else goes
-//! through html5ever's tokenizer, up to a `>` at which it gives a tag, a comment or a doctype that doesn't begin raw text: there it is
-//! back in the state in which texts and tags are read, which HTML calls the data state.
+//! through html5ever's tokenizer, up to the end of a tag, a comment or a doctype that doesn't begin raw text: there it is back in the
+//! state in which texts and tags are read, which HTML calls the data state.
 
-use crate::sink::Steps;
+use crate::limits::{self, OpenElements, Refusal, FEW_ATTRIBUTES};
+use crate::names::Names;
+use crate::sink::{Sink, Wanted};
+use crate::tree::Id;
 use html5ever::tokenizer::{BufferQueue, Tag, TagKind, Token, TokenSink, TokenSinkResult, Tokenizer, TokenizerOpts, TokenizerResult};
 use html5ever::tree_builder::{TreeBuilder, TreeBuilderOpts};
-use html5ever::{namespace_url, ns, Attribute, LocalName, QualName};
-use std::borrow::Cow;
-use tendril::{fmt, StrTendril, TendrilSink};
+use html5ever::{local_name, namespace_url, ns, Attribute, LocalName, QualName};
+use memchr::{memchr, memchr2, memchr_iter, memmem};
+use tendril::StrTendril;
 
-/// A tree builder, and whether what it was given last ends in the data state.
+/// A tree builder within limits, and what it was given last.
 struct Watched {
-    builder: TreeBuilder<u32, Steps>,
+    builder: TreeBuilder<Id, Sink>,
+    is_asked: fn(&LocalName) -> bool,
+    open: OpenElements,
+    refusal: Option<Refusal>,
+    /// Whether the last token ends in the data state.
     is_at_end: bool,
+    /// The element whose raw text follows the last token.
+    raw: Option<LocalName>,
+    /// Number of attributes of the tag that had most.
+    #[cfg(test)]
+    most_attributes: usize,
+}
+
+impl Watched {
+    /// Drops what a tag has past the limits. Returns whether anything of it is left.
+    fn limit(&mut self, tag: &mut Tag) -> bool {
+        #[cfg(test)]
+        {
+            self.most_attributes = self.most_attributes.max(tag.attrs.len());
+        }
+        if tag.attrs.len() > FEW_ATTRIBUTES {
+            let is_asked = self.is_asked;
+            tag.attrs.retain(|attribute| is_asked(&attribute.name.local) || is_asked_by_builder(&attribute.name.local));
+        }
+        self.open.takes(tag, &self.builder)
+    }
+
+    /// Gives the tree builder a token within the limits.
+    fn take(&mut self, mut token: Token, line: u64) -> TokenSinkResult<Id> {
+        let is_dropped = match &mut token {
+            Token::TagToken(tag) => !self.limit(tag),
+            _ => false,
+        };
+        if is_dropped || self.refusal.is_some() {
+            return TokenSinkResult::Continue;
+        }
+        let result = self.builder.process_token(token, line);
+        self.look_at_size();
+        result
+    }
+
+    #[inline]
+    fn look_at_size(&mut self) {
+        self.refusal = limits::look_at(&mut self.builder.sink.tree).err();
+    }
+}
+
+/// Whether html5ever's tree builder asks for attributes of a name.
+fn is_asked_by_builder(name: &LocalName) -> bool {
+    matches!(*name, local_name!("color") | local_name!("encoding") | local_name!("face") | local_name!("form") | local_name!("size") | local_name!("type"))
 }
 
 impl TokenSink for Watched {
-    type Handle = u32;
+    type Handle = Id;
 
-    fn process_token(&mut self, token: Token, line: u64) -> TokenSinkResult<u32> {
-        let (is_error, can_end) = match token {
-            Token::ParseError(_) => (true, false),
-            Token::TagToken(_) | Token::CommentToken(_) | Token::DoctypeToken(_) => (false, true),
-            _ => (false, false),
+    fn process_token(&mut self, token: Token, line: u64) -> TokenSinkResult<Id> {
+        let (can_end, name) = match &token {
+            Token::ParseError(_) => return self.builder.process_token(token, line),
+            Token::TagToken(tag) => (true, Some(tag.name.clone())),
+            Token::CommentToken(_) | Token::DoctypeToken(_) => (true, None),
+            _ => (false, None),
         };
-        let result = self.builder.process_token(token, line);
-        if !is_error {
-            self.is_at_end = can_end && matches!(result, TokenSinkResult::Continue | TokenSinkResult::Script(_));
+        let result = self.take(token, line);
+        let is_data = matches!(result, TokenSinkResult::Continue | TokenSinkResult::Script(_));
+        self.is_at_end = can_end && is_data;
+        if can_end {
+            self.raw = name.filter(|_| !is_data);
         }
         result
     }
@@ -43,18 +97,51 @@ impl TokenSink for Watched {
     }
 }
 
-/// Takes the text of a page, piece by piece, and gives the steps that build it.
-pub(crate) struct Reader {
-    tokenizer: Tokenizer<Watched>,
-    queue: BufferQueue,
-    /// Whether the tokenizer is in the data state, with nothing that it still waits for.
-    is_in_data: bool,
-    /// Whether a part of the page was read.
-    has_begun: bool,
+/// Number of bytes of a page that its tendrils share, and the most that one token or call has.
+const WINDOW: usize = if cfg!(test) { 24 } else { 1 << 16 };
+
+/// A page, of which pieces become tendrils that share a copy of a part of it.
+struct Page<'a> {
+    text: &'a str,
+    start: usize,
+    window: StrTendril,
+    /// Whether some text has a carriage return or a zero byte.
+    is_odd: bool,
 }
 
-/// Elements behind whose start tag another state follows.
-const RAW: [&str; 10] = ["iframe", "noembed", "noframes", "noscript", "plaintext", "script", "style", "textarea", "title", "xmp"];
+impl<'a> Page<'a> {
+    fn new(text: &'a str) -> Page<'a> {
+        Page { text, start: 0, window: StrTendril::new(), is_odd: memchr2(b'\r', 0, text.as_bytes()).is_some() }
+    }
+
+    /// Returns where a part that begins at an offset ends, if it is to end at another and to have at most `WINDOW` bytes.
+    fn end(&self, start: usize, end: usize) -> usize {
+        if end - start <= WINDOW {
+            return end;
+        }
+        (start + WINDOW - 3..=start + WINDOW).rev().find(|&at| self.text.is_char_boundary(at)).unwrap_or(end)
+    }
+
+    /// Returns a piece of at most `WINDOW` bytes.
+    #[inline]
+    fn piece(&mut self, start: usize, end: usize) -> StrTendril {
+        if start < self.start || end > self.start + self.window.len() {
+            self.start = start;
+            self.window = StrTendril::from_slice(&self.text[start..self.end(start, self.text.len())]);
+        }
+        self.window.subtendril((start - self.start) as u32, (end - start) as u32)
+    }
+}
+
+/// Takes the text of a page, and gives its tree.
+pub(crate) struct Reader<'a> {
+    tokenizer: Tokenizer<Watched>,
+    queue: BufferQueue,
+    page: Page<'a>,
+    names: Names,
+    /// Whether the tokenizer is in the data state, with nothing that it still waits for.
+    is_in_data: bool,
+}
 
 /// A tag in the plainest form, and where it ends.
 struct PlainTag {
@@ -62,13 +149,7 @@ struct PlainTag {
     end: usize,
 }
 
-/// How many bytes from here on a name takes, of small letters, and of digits behind the first.
-fn name_length(text: &[u8]) -> usize {
-    let is_name = |(at, byte): (usize, &u8)| byte.is_ascii_lowercase() || at > 0 && byte.is_ascii_digit();
-    text.iter().enumerate().take_while(|&found| is_name(found)).count()
-}
-
-/// How many bytes from here on the name of an attribute takes, of small letters and hyphens.
+/// Returns the number of bytes from here on that the name of an attribute takes, of small letters and hyphens.
 fn attribute_length(text: &[u8]) -> usize {
     text.iter().take_while(|byte| byte.is_ascii_lowercase() || **byte == b'-').count()
 }
@@ -78,175 +159,375 @@ fn is_special(byte: u8) -> bool {
     matches!(byte, b'&' | b'\r' | 0)
 }
 
-/// The attribute ` name="value"` that begins here, and where it ends.
-fn plain_attribute(chunk: &StrTendril, start: usize) -> Option<(Attribute, usize)> {
-    let text = chunk.as_bytes();
-    let name = start + 1;
-    let name_end = name + attribute_length(text.get(name..)?);
-    if text[start] != b' ' || name_end == name || text.get(name_end..name_end + 2)? != b"=\"" {
-        return None;
+/// Returns the number of bytes of a comment's content and its end, which may be that of the page.
+fn comment_length(content: &[u8]) -> usize {
+    if let [b'>', ..] = content {
+        return 1;
     }
-    let value = name_end + 2;
-    let value_end = value + text[value..].iter().position(|&byte| byte == b'"' || is_special(byte))?;
-    if text[value_end] != b'"' {
-        return None;
+    if let [b'-', b'>', ..] = content {
+        return 2;
     }
-    let name = QualName::new(None, ns!(), LocalName::from(&chunk[name..name_end]));
-    let value = chunk.subtendril(value as u32, (value_end - value) as u32);
-    Some((Attribute { name, value }, value_end + 1))
+    let ends = memmem::find_iter(content, "--");
+    let mut ended = ends.filter_map(|at| match &content[at + 2..] {
+        [b'>', ..] => Some(at + 3),
+        [b'!', b'>', ..] => Some(at + 4),
+        // one hyphen more
+        [b'-', b'>', ..] => Some(at + 4),
+        [b'-', b'!', b'>', ..] => Some(at + 5),
+        _ => None,
+    });
+    ended.next().unwrap_or(content.len())
 }
 
-/// The tag that begins here, where it is written in the plainest way and no raw text follows.
-fn plain_tag(chunk: &StrTendril, start: usize) -> Option<PlainTag> {
-    let text = chunk.as_bytes();
-    let (kind, name) = match text.get(start + 1)? {
-        b'/' => (TagKind::EndTag, start + 2),
-        _ => (TagKind::StartTag, start + 1),
-    };
-    let name_end = name + name_length(text.get(name..)?);
-    let name = &chunk[name..name_end];
-    if name.is_empty() || RAW.contains(&name) {
-        return None;
-    }
-    let mut attrs: Vec<Attribute> = Vec::new();
-    let mut end = name_end;
-    while *text.get(end)? == b' ' && kind == TagKind::StartTag {
-        let (attribute, behind) = plain_attribute(chunk, end)?;
-        if attrs.iter().any(|other| other.name == attribute.name) {
-            return None;
+impl<'a> Reader<'a> {
+    /// Reads a page into a sink.
+    pub fn read(page: &'a str, sink: Sink, wanted: Wanted, options: TreeBuilderOpts) -> Result<Sink, Refusal> {
+        let mut reader = Reader::new(page, sink, wanted, options);
+        reader.tokenizer.sink.look_at_size();
+        let mut at = 0;
+        while at < page.len() && reader.tokenizer.sink.refusal.is_none() {
+            at = if reader.is_in_data { reader.read_in_data(at) } else { reader.feed_raw(at) };
         }
-        attrs.push(attribute);
-        end = behind;
+        reader.tokenizer.end();
+        match reader.tokenizer.sink.refusal {
+            Some(refusal) => Err(refusal),
+            None => Ok(reader.tokenizer.sink.builder.sink),
+        }
     }
-    if text[end] != b'>' {
-        return None;
-    }
-    let tag = Tag { kind, name: LocalName::from(name), self_closing: false, attrs };
-    Some(PlainTag { tag, end: end + 1 })
-}
 
-impl Reader {
-    pub fn new(steps: Steps, options: TreeBuilderOpts) -> Reader {
-        let builder = TreeBuilder::new(steps, options);
-        let watched = Watched { builder, is_at_end: false };
+    fn new(page: &'a str, sink: Sink, wanted: Wanted, options: TreeBuilderOpts) -> Reader<'a> {
+        let builder = TreeBuilder::new(sink, options);
+        let watched = Watched { builder, is_asked: wanted.is_asked, open: OpenElements::default(), refusal: None, is_at_end: false, raw: None, #[cfg(test)] most_attributes: 0 };
         // the tokenizer would drop a byte order mark before each piece that it is given
         let options = TokenizerOpts { discard_bom: false, ..TokenizerOpts::default() };
-        Reader { tokenizer: Tokenizer::new(watched, options), queue: BufferQueue::new(), is_in_data: true, has_begun: false }
+        Reader {
+            tokenizer: Tokenizer::new(watched, options),
+            queue: BufferQueue::new(),
+            page: Page::new(page),
+            names: Names::default(),
+            is_in_data: true,
+        }
     }
 
     /// Gives the tree builder a token. None of these begins raw text, so its answer is to go on.
     fn give(&mut self, token: Token) {
-        let _ = self.tokenizer.sink.process_token(token, 1);
+        let _ = self.tokenizer.sink.take(token, 1);
     }
 
-    fn feed(&mut self, piece: StrTendril) {
+    fn push(&mut self, piece: StrTendril) {
         self.queue.push_back(piece);
         while let TokenizerResult::Script(_) = self.tokenizer.feed(&mut self.queue) {}
     }
 
-    /// Gives the tokenizer what begins here, up to the next `>`, and answers where that ends.
-    fn feed_to_end(&mut self, chunk: &StrTendril, start: usize) -> usize {
-        let rest = &chunk.as_bytes()[start..];
-        let length = match rest.iter().position(|&byte| byte == b'>') {
-            Some(length) => length,
-            None => {
-                self.feed(chunk.subtendril(start as u32, rest.len() as u32));
-                self.is_in_data = false;
-                return chunk.len();
-            }
-        };
-        self.feed(chunk.subtendril(start as u32, length as u32));
-        self.tokenizer.sink.is_at_end = false;
-        self.feed(chunk.subtendril((start + length) as u32, 1));
-        self.is_in_data = self.tokenizer.sink.is_at_end;
-        start + length + 1
+    /// Gives the tokenizer a part of the page.
+    fn feed(&mut self, start: usize, end: usize) {
+        let mut at = start;
+        while at < end && self.tokenizer.sink.refusal.is_none() {
+            let next = self.page.end(at, end);
+            let piece = self.page.piece(at, next);
+            self.push(piece);
+            at = next;
+        }
     }
 
-    /// Reads a text or a tag that begins here in the data state, and answers where it ends.
-    fn read(&mut self, chunk: &StrTendril, start: usize) -> usize {
-        let rest = &chunk.as_bytes()[start..];
-        if rest[0] == b'<' {
-            return match plain_tag(chunk, start) {
+    /// Gives the tokenizer a part of the page and then the `>` that can end it, and looks whether the data state follows.
+    fn feed_to_end(&mut self, start: usize, end: usize) {
+        self.feed(start, end);
+        self.tokenizer.sink.is_at_end = false;
+        self.push(StrTendril::from_char('>'));
+        self.is_in_data = self.tokenizer.sink.is_at_end;
+    }
+
+    /// Gives the tokenizer a part of the page and then a tag whose name begins at an offset, within the limits. Returns its end.
+    fn feed_tag(&mut self, start: usize, name: usize) -> usize {
+        let extent = limits::tag_extent(self.page.text.as_bytes(), name);
+        if extent.is_closed {
+            self.feed_to_end(start, extent.cut.unwrap_or(extent.end - 1));
+        } else {
+            self.is_in_data = false;
+            self.feed(start, extent.cut.unwrap_or(extent.end));
+        }
+        extent.end
+    }
+
+    /// Gives the tokenizer all up to the next `>` and that. Returns where it ends.
+    fn feed_past(&mut self, start: usize, from: usize) -> usize {
+        match memchr(b'>', &self.page.text.as_bytes()[from..]) {
+            Some(length) => {
+                self.feed_to_end(start, from + length);
+                from + length + 1
+            }
+            None => self.feed_rest(start),
+        }
+    }
+
+    /// Gives the tokenizer the rest of the page. Returns its end.
+    fn feed_rest(&mut self, start: usize) -> usize {
+        self.is_in_data = false;
+        self.feed(start, self.page.text.len());
+        self.page.text.len()
+    }
+
+    /// Gives the tokenizer what begins here in the data state: text, and the tag, comment or doctype after it. Returns its end.
+    fn feed_in_data(&mut self, start: usize) -> usize {
+        let bytes = self.page.text.as_bytes();
+        for open in memchr_iter(b'<', &bytes[start..]).map(|length| start + length) {
+            match &bytes[open + 1..] {
+                [b'a'..=b'z' | b'A'..=b'Z', ..] => return self.feed_tag(start, open + 1),
+                [b'/', b'a'..=b'z' | b'A'..=b'Z', ..] => return self.feed_tag(start, open + 2),
+                // this is dropped, and gives no token
+                [b'/', b'>', ..] => {
+                    self.feed(start, open + 3);
+                    return open + 3;
+                }
+                [b'!', b'[', ..] if self.tokenizer.sink.adjusted_current_node_present_but_not_in_html_namespace() => {
+                    return self.feed_foreign_declaration(start, open);
+                }
+                [b'/' | b'!' | b'?', ..] => return self.feed_past(start, open),
+                // the `<` is text
+                _ => {}
+            }
+        }
+        self.feed_rest(start)
+    }
+
+    /// Gives the tokenizer a CDATA section or a comment in foreign content. Returns its end.
+    fn feed_foreign_declaration(&mut self, start: usize, open: usize) -> usize {
+        let rest = &self.page.text[open..];
+        if !rest.starts_with("<![CDATA[") {
+            return self.feed_past(start, open);
+        }
+        match rest.find("]]>") {
+            Some(length) => {
+                let end = open + length + "]]>".len();
+                self.feed(start, end);
+                end
+            }
+            None => self.feed_rest(start),
+        }
+    }
+
+    /// Gives the tokenizer what begins here in another state: raw text up to its end tag, or a part of a comment. Returns its end.
+    fn feed_raw(&mut self, start: usize) -> usize {
+        let bytes = self.page.text.as_bytes();
+        let raw = match &self.tokenizer.sink.raw {
+            Some(raw) => raw,
+            None => return self.feed_past(start, start),
+        };
+        let is_end = |open: usize| {
+            let name = open + 2..open + 2 + raw.len();
+            bytes.get(open + 1) == Some(&b'/') && matches!(bytes.get(name), Some(found) if found.eq_ignore_ascii_case(raw.as_bytes()))
+        };
+        match memchr_iter(b'<', &bytes[start..]).map(|length| start + length).find(|&open| is_end(open)) {
+            Some(open) => self.feed_tag(start, open + 2),
+            None => self.feed_rest(start),
+        }
+    }
+
+    /// Reads a text, a tag or a comment that begins here in the data state. Returns its end.
+    fn read_in_data(&mut self, start: usize) -> usize {
+        let bytes = self.page.text.as_bytes();
+        match &bytes[start..] {
+            [b'<', b'!', b'-', b'-', content @ ..] => {
+                self.give(Token::CommentToken(StrTendril::new()));
+                start + "<!--".len() + comment_length(content)
+            }
+            [b'<', ..] => match self.plain_tag(start) {
                 Some(PlainTag { tag, end }) => {
                     self.give(Token::TagToken(tag));
                     end
                 }
-                None => self.feed_to_end(chunk, start),
-            };
-        }
-        let length = rest.iter().position(|&byte| byte == b'<' || is_special(byte)).unwrap_or(rest.len());
-        if length < rest.len() && rest[length] != b'<' {
-            return self.feed_to_end(chunk, start);
-        }
-        let text = chunk.subtendril(start as u32, length as u32);
-        self.give(Token::CharacterTokens(text));
-        start + length
-    }
-}
-
-impl TendrilSink<fmt::UTF8> for Reader {
-    type Output = Steps;
-
-    fn process(&mut self, chunk: StrTendril) {
-        // a byte order mark before the page is no part of it
-        let mut at = if !self.has_begun && chunk.starts_with('\u{feff}') { '\u{feff}'.len_utf8() } else { 0 };
-        self.has_begun |= !chunk.is_empty();
-        while at < chunk.len() {
-            at = if self.is_in_data { self.read(&chunk, at) } else { self.feed_to_end(&chunk, at) };
+                None => self.feed_in_data(start),
+            },
+            text => {
+                let end = start + self.text_length(text);
+                if end < bytes.len() && bytes[end] != b'<' {
+                    return self.feed_in_data(start);
+                }
+                self.give_text(start, end);
+                end
+            }
         }
     }
 
-    fn error(&mut self, _: Cow<'static, str>) {}
+    /// Returns the number of bytes of a text up to a tag or what the tokenizer makes something else of.
+    fn text_length(&self, text: &[u8]) -> usize {
+        let length = if self.page.is_odd {
+            text.iter().position(|&byte| byte == b'<' || is_special(byte))
+        } else {
+            memchr2(b'<', b'&', text)
+        };
+        length.unwrap_or(text.len())
+    }
 
-    fn finish(mut self) -> Steps {
-        self.tokenizer.end();
-        self.tokenizer.sink.builder.sink
+    /// Gives the tree builder a text.
+    fn give_text(&mut self, start: usize, end: usize) {
+        let mut at = start;
+        while at < end {
+            let next = self.page.end(at, end);
+            let piece = self.page.piece(at, next);
+            self.give(Token::CharacterTokens(piece));
+            at = next;
+        }
+    }
+
+    /// Returns the attribute ` name="value"` that begins here, and where it ends.
+    fn plain_attribute(&mut self, start: usize) -> Option<(Attribute, usize)> {
+        let text = self.page.text.as_bytes();
+        let name = start + 1;
+        let name_end = name + attribute_length(text.get(name..)?);
+        if text[start] != b' ' || name_end == name || text.get(name_end..name_end + 2)? != b"=\"" {
+            return None;
+        }
+        let value = name_end + 2;
+        let value_end = value + text[value..].iter().position(|&byte| byte == b'"' || is_special(byte))?;
+        if text[value_end] != b'"' || value_end - value > WINDOW {
+            return None;
+        }
+        let name = QualName::new(None, ns!(), self.names.name(&self.page.text[name..name_end]));
+        let value = self.page.piece(value, value_end);
+        Some((Attribute { name, value }, value_end + 1))
+    }
+
+    /// Returns the tag that begins here, where it is written in the plainest way and no raw text follows.
+    fn plain_tag(&mut self, start: usize) -> Option<PlainTag> {
+        let text = self.page.text.as_bytes();
+        let (kind, name) = match text.get(start + 1)? {
+            b'/' => (TagKind::EndTag, start + 2),
+            _ => (TagKind::StartTag, start + 1),
+        };
+        let (name, name_end) = self.names.tag_name(self.page.text, name)?;
+        let mut attrs: Vec<Attribute> = Vec::new();
+        let mut end = name_end;
+        while *text.get(end)? == b' ' && kind == TagKind::StartTag {
+            let (attribute, after) = self.plain_attribute(end)?;
+            if attrs.len() >= FEW_ATTRIBUTES || attrs.iter().any(|other| other.name == attribute.name) {
+                return None;
+            }
+            attrs.push(attribute);
+            end = after;
+        }
+        if text[end] != b'>' {
+            return None;
+        }
+        let tag = Tag { kind, name, self_closing: false, attrs };
+        Some(PlainTag { tag, end: end + 1 })
     }
 }
 
 #[cfg(test)]
 mod tests {
     use super::*;
+    use crate::characters::Filter;
+    use crate::config::plain;
+    use crate::moves::Moves;
+    use crate::pass::Pass;
+    use crate::record::{self, Recorder};
+    use crate::records::Step;
+    use crate::tree::{Tree, MAX_ATTRIBUTES};
     use html5ever::driver::ParseOpts;
-    use tendril::SliceExt;
+    use tendril::{SliceExt, TendrilSink};
 
-    const PIECES: [&str; 60] = [
+    const PIECES: [&str; 76] = [
         "<p>", "</p>", "<td>", "</td>", "<table>", "</table>", "<tr>", "<b>", "</b>", "<i>", "</i>", "<a href=\"x\">", "</a>", "<a href='y'>", "<img src=\"a&amp;b\" alt=\"t\">",
         "<br/>", "<br />", "<BR>", "<div class=\"c\" class=\"d\">", "</div>", "<div id=\"i\" title=\"a>b\">", "text", " ", "\n", "\r\n", "\r", "\0", "&amp;", "&am", "&lt", "&#x41;", "&",
-        "<", ">", "<!-- c -->", "<!--", "-->", "<!DOCTYPE html>", "<!x>", "</>", "<script>", "</script>", "<style>", "</style>", "<title>", "</title>", "<textarea>", "</textarea>",
-        "<svg>", "</svg>", "<![CDATA[x]]>", "<math>", "<template>", "</template>", "<select>", "<pre>", "\n<li>", "<h1>", "\u{feff}", "\u{e9}\u{754c}",
+        "<", ">", "<!-- c -->", "<!--", "-->", "-", "!>", "<!DOCTYPE html>", "<!x>", "</>", "<script>", "</script>", "<style>", "</style>", "<title>", "</title>", "<textarea>", "</textarea>",
+        "<svg>", "</svg>", "<![CDATA[x]]>", "<math>", "<template>", "</template>", "<select>", "<pre>", "\n<li>", "<h1>", "\u{feff}", "\u{e9}\u{754c}", "<ul>", "<ol start=\"3\">",
+        "<font color='a'>", "<body class=x>", "<html id=y>", "</body>", "<caption>", "<th>", "<option>", "<noscript>", "<mtext>", "<annotation-xml encoding='text/html'>", "</p a='>' b>", "<foreignObject>",
     ];
 
-    /// Its tokenizer drops a byte order mark behind each script too.
-    fn by_html5ever(page: &str) -> Steps {
+    const WANTED: Wanted = Wanted { is_asked: record::is_asked, css: true };
+
+    fn new_sink() -> Sink {
+        Sink::new(Tree::new(Filter { keeps_controls: true, ..Filter::default() }), WANTED)
+    }
+
+    fn recorded(mut sink: Sink) -> (Vec<Step>, String, String) {
+        let text = std::mem::take(&mut sink.tree.text);
+        let (recorder, _) = Pass::record(&sink.tree, Recorder::new(text, sink.tree.filter), None);
+        (recorder.steps, String::from_utf8(recorder.text).unwrap(), sink.css)
+    }
+
+    /// Its tokenizer drops a byte order mark after each script too.
+    fn by_html5ever(page: &str) -> Sink {
         let options = ParseOpts { tokenizer: TokenizerOpts { discard_bom: false, ..TokenizerOpts::default() }, ..ParseOpts::default() };
-        let page = page.strip_prefix('\u{feff}').unwrap_or(page);
-        html5ever::parse_document(Steps::new(true), options).one(page.to_tendril())
+        html5ever::parse_document(new_sink(), options).one(page.to_tendril())
     }
 
-    fn by_reader(page: &str, cut: usize) -> Steps {
-        let mut reader = Reader::new(Steps::new(true), TreeBuilderOpts::default());
-        let mut rest = page;
-        while !rest.is_empty() {
-            let end = (cut..).find(|&at| at >= rest.len() || rest.is_char_boundary(at)).unwrap_or(rest.len()).min(rest.len());
-            reader.process(rest[..end].to_tendril());
-            rest = &rest[end..];
-        }
-        reader.finish()
+    fn by_reader(page: &str) -> Sink {
+        Reader::read(page, new_sink(), WANTED, TreeBuilderOpts::default()).unwrap()
     }
 
-    #[test]
-    fn as_html5ever_reads() {
+    /// Calls a function with random pages: so many, or as many times that as the variable HTML_RENDER_ROUNDS of the environment says.
+    fn for_random_pages(count: usize, mut look: impl FnMut(&str)) {
+        let rounds = std::env::var("HTML_RENDER_ROUNDS").ok().and_then(|rounds| rounds.parse().ok()).unwrap_or(1);
         let mut state: u64 = 1;
         let mut random = |below: usize| {
             state = state.wrapping_mul(6364136223846793005).wrapping_add(1442695040888963407);
             (state >> 33) as usize % below
         };
-        for _ in 0..5_000 {
-            let count = 1 + random(30);
-            let page: String = (0..count).map(|_| PIECES[random(PIECES.len())]).collect();
-            let (one, other) = (by_html5ever(&page), by_reader(&page, 1 + random(40)));
-            assert_eq!((one.steps, one.text, one.css), (other.steps, other.text, other.css), "{page:?}");
+        for _ in 0..count * rounds {
+            let pieces = 1 + random(30);
+            let page: String = (0..pieces).map(|_| PIECES[random(PIECES.len())]).collect();
+            look(&page);
         }
+    }
+
+    #[test]
+    fn as_html5ever_reads() {
+        for_random_pages(5_000, |page| assert_eq!(recorded(by_reader(page)), recorded(by_html5ever(page)), "{page:?}"));
+    }
+
+    #[test]
+    fn as_the_library_moves_nodes() {
+        for_random_pages(2_000, |page| {
+            let moves = Moves::read(page.strip_prefix('\u{feff}').unwrap_or(page));
+            for width in [9, 80] {
+                let ours = plain().keep_controls().string_from_read(page.as_bytes(), width);
+                let theirs = plain().with_settings(|settings| moves.render(settings, width));
+                assert_eq!(format!("{ours:?}"), format!("{theirs:?}"), "{page:?}");
+            }
+        });
+    }
+
+    #[test]
+    fn attributes_are_limited_in_each_state() {
+        let attributes: String = (0..2 * MAX_ATTRIBUTES).map(|number| format!(" a{number}='>'")).collect();
+        for (before, name) in [("", "p"), ("</>", "p"), ("&amp; < ", "p"), ("<svg><![CDATA[>]]>", "p"), ("<title>", "/title"), ("<script>", "/script"), ("", "/p")] {
+            let page = format!("{before}<{name}{attributes}>x");
+            let mut most = 0;
+            let mut reader = Reader::new(&page, new_sink(), WANTED, TreeBuilderOpts::default());
+            let mut at = 0;
+            while at < page.len() {
+                at = if reader.is_in_data { reader.read_in_data(at) } else { reader.feed_raw(at) };
+                most = most.max(reader.tokenizer.sink.most_attributes);
+            }
+            assert_eq!(most, MAX_ATTRIBUTES, "{before}<{name}");
+        }
+    }
+
+    #[test]
+    fn nodes_are_limited() {
+        let read = |page: &str| Reader::read(page, new_sink(), WANTED, TreeBuilderOpts::default()).map(|sink| sink.tree.node_count());
+        assert!(read(&"<br>".repeat(limits::MAX_NODES / 2)).is_ok());
+        assert_eq!(read(&"<br>".repeat(limits::MAX_NODES)), Err(Refusal::TooLarge));
+        let fonts: String = (0..500).map(|size| format!("<font size={size}>")).collect();
+        assert_eq!(read(&("<p>".to_owned() + &fonts + &"<p>x".repeat(1_000))), Err(Refusal::TooLarge));
+    }
+
+    #[test]
+    fn start_tags_past_the_limit_are_dropped() {
+        // the depth of the node that was made last
+        let depth = |page: &str| {
+            let tree = by_reader(&[page, "<br>"].concat()).tree;
+            std::iter::successors(tree.ids().last(), |&node| Some(tree.parent(node)).filter(|&parent| parent != crate::tree::NONE)).count()
+        };
+        assert_eq!(depth(&"<div>".repeat(600)), depth(&"<div>".repeat(2_000)));
+        let fonts: String = (0..600).map(|size| format!("<font size={size}><p>x")).collect();
+        assert!(depth(&fonts) <= 600);
+        let attributes = "<p id=\"a\" class=\"b\" title=\"c\" name=\"d\">".repeat(1_000);
+        assert_eq!(depth(&(attributes + &"<div>".repeat(2_000))), depth(&"<div>".repeat(2_000)));
+        let scripts = "<div>".repeat(600) + "<script>x</script><br>y";
+        assert!(recorded(by_reader(&scripts)).1.starts_with("yhtml"));
     }
 }

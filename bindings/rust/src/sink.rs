@@ -1,283 +1,152 @@
-//! html5ever's tree builder, whose calls become steps.
+//! html5ever's tree builder over the tree of a page.
 
-use crate::records::Step;
+use crate::tree::{Attr, Data, Element, Id, Tree, DOCUMENT, NONE};
 use html5ever::tree_builder::{ElementFlags, NodeOrText, QuirksMode, TreeSink};
-use html5ever::{local_name, namespace_url, ns, Attribute, ExpandedName, LocalName, Namespace, QualName};
+use html5ever::{local_name, namespace_url, ns, Attribute, ExpandedName, LocalName, QualName};
 use std::borrow::Cow;
 use tendril::StrTendril;
 
-/// The kinds of steps, by their numbers.
-mod kind {
-    pub const MAKE_ELEMENT: u32 = 1;
-    pub const MAKE_COMMENT: u32 = 2;
-    pub const MAKE_INSTRUCTION: u32 = 3;
-    pub const ADD_ATTRIBUTE: u32 = 4;
-    pub const PUT_NODE: u32 = 5;
-    pub const PUT_TEXT: u32 = 6;
-    pub const PUT_NODE_BEFORE: u32 = 7;
-    pub const PUT_TEXT_BEFORE: u32 = 8;
-    pub const PUT_NODE_BY_PARENT: u32 = 9;
-    pub const PUT_TEXT_BY_PARENT: u32 = 10;
-    pub const REMOVE: u32 = 11;
-    pub const REPARENT: u32 = 12;
-    pub const TEMPLATE_CONTENTS: u32 = 13;
-    pub const APPEND_ELEMENT: u32 = 16;
+/// What is kept of a page beside its nodes.
+#[derive(Clone, Copy)]
+pub(crate) struct Wanted {
+    /// Whether attributes of a name are asked for.
+    pub is_asked: fn(&LocalName) -> bool,
+    /// Whether the texts of style sheets are.
+    pub css: bool,
 }
 
-const TEMPLATE: u32 = 4;
-const INTEGRATION_POINT: u32 = 8;
-
-/// Whether rendering asks for attributes of a name. Others aren't recorded.
-fn is_asked(name: &LocalName) -> bool {
-    matches!(
-        *name,
-        local_name!("alt")
-            | local_name!("class")
-            | local_name!("colspan")
-            | local_name!("href")
-            | local_name!("id")
-            | local_name!("name")
-            | local_name!("rowspan")
-            | local_name!("src")
-            | local_name!("start")
-    )
-}
-
-/// What the tree builder asks of a node that it made.
-struct Made {
-    name: Option<QualName>,
-    contents: u32,
-    is_integration_point: bool,
-}
-
-/// A document as the steps that build it, over one text.
-pub(crate) struct Steps {
-    pub steps: Vec<Step>,
-    pub text: Vec<u8>,
-    /// Whether it has more than numbers of 32 bits can name.
-    pub is_too_large: bool,
-    /// The texts of its style sheets, if they are asked for.
+/// The tree that html5ever's tree builder makes.
+pub(crate) struct Sink {
+    pub tree: Tree,
+    /// The texts of the page's style sheets, if they are asked for.
     pub css: String,
-    reads_css: bool,
-    made: Vec<Made>,
-    /// The element that was made last and the number of its step, where no step stands behind that but of the element itself.
-    fresh: Option<(u32, usize)>,
+    /// Whether the page is in quirks mode.
+    pub is_quirky: bool,
+    wanted: Wanted,
 }
 
-impl Steps {
-    /// No steps yet; with or without the texts of style sheets.
-    pub fn new(reads_css: bool) -> Steps {
-        Steps {
-            steps: Vec::new(),
-            text: Vec::new(),
-            is_too_large: false,
-            css: String::new(),
-            reads_css,
-            fresh: None,
-            made: vec![Made { name: None, contents: 0, is_integration_point: false }],
-        }
+impl Sink {
+    pub fn new(tree: Tree, wanted: Wanted) -> Sink {
+        Sink { tree, css: String::new(), is_quirky: false, wanted }
     }
 
-    /// A number, as steps have it.
-    fn number(&mut self, number: usize) -> u32 {
-        u32::try_from(number).unwrap_or_else(|_| {
-            self.is_too_large = true;
-            0
-        })
-    }
-
-    /// Where a text begins that is kept, and its length.
-    pub fn keep(&mut self, text: &str) -> (u32, u32) {
-        let start = self.number(self.text.len());
-        let length = self.number(text.len());
-        self.text.extend_from_slice(text.as_bytes());
-        (start, length)
-    }
-
-    /// Gives up what the tree builder asks of nodes.
-    pub fn forget_nodes(&mut self) {
-        self.made = Vec::new();
-    }
-
-    fn make(&mut self, made: Made) -> u32 {
-        let node = self.number(self.made.len());
-        self.made.push(made);
-        node
-    }
-
-    /// Adds a step, which isn't about the element that was made last alone.
-    fn push(&mut self, step: Step) {
-        self.fresh = None;
-        self.steps.push(step);
-    }
-
-    /// Adds a step that puts a text somewhere: to that of the last step, where that puts one there.
-    fn put_text(&mut self, step: Step, text: &str) {
-        let (value, value_length) = self.keep(text);
-        match self.steps.last_mut() {
-            Some(last) if (last.kind, last.node, last.other) == (step.kind, step.node, step.other) => last.value_length += value_length,
-            _ => self.push(Step { value, value_length, ..step }),
-        }
-    }
-
-    /// Puts a node behind the children of another: as it is made, where it was made last.
-    fn append_node(&mut self, parent: u32, child: u32) {
-        match self.fresh.take() {
-            Some((node, step)) if node == child => {
-                self.steps[step].kind = kind::APPEND_ELEMENT;
-                self.steps[step].node = parent;
-            }
-            _ => self.push(Step { kind: kind::PUT_NODE, node: parent, child, ..Step::default() }),
-        }
-    }
-
-    fn add_attribute(&mut self, node: u32, attribute: &Attribute) {
-        if !is_asked(&attribute.name.local) {
-            return;
-        }
-        let (name, name_length) = self.keep(&attribute.name.local);
-        let flags = space(&attribute.name.ns);
-        let (value, value_length) = self.keep(&attribute.value);
-        self.steps.push(Step { kind: kind::ADD_ATTRIBUTE, flags, node, name, name_length, value, value_length, ..Step::default() });
-    }
-
-    /// Whether a node is one of HTML's elements of this name.
-    fn is_html(&self, node: u32, local: &LocalName) -> bool {
-        let name = &self.made[node as usize].name;
-        matches!(name, Some(name) if name.ns == ns!(html) && name.local == *local)
-    }
-
-    /// Puts a node by one kind of step, a text by another.
-    fn put(&mut self, step: Step, by_node: u32, by_text: u32, child: NodeOrText<u32>) {
+    /// Inserts a node, which leaves its place, or a text before a node that has a parent.
+    fn insert_before(&mut self, sibling: Id, child: NodeOrText<Id>) {
         match child {
-            NodeOrText::AppendNode(child) => self.push(Step { kind: by_node, child, ..step }),
-            NodeOrText::AppendText(text) => self.put_text(Step { kind: by_text, ..step }, &text),
+            NodeOrText::AppendNode(node) => {
+                self.tree.detach(node);
+                self.tree.insert(self.tree.parent(sibling), sibling, node);
+            }
+            NodeOrText::AppendText(text) => self.tree.insert_text(self.tree.parent(sibling), sibling, &text),
         }
     }
 }
 
-fn space(namespace: &Namespace) -> u32 {
-    if *namespace == ns!(html) {
-        1
-    } else if *namespace == ns!(svg) {
-        2
-    } else if *namespace == ns!(mathml) {
-        3
-    } else {
-        0
-    }
-}
+impl TreeSink for Sink {
+    type Handle = Id;
+    type Output = Sink;
 
-impl TreeSink for Steps {
-    type Handle = u32;
-    type Output = Steps;
-
-    fn finish(self) -> Steps {
+    fn finish(self) -> Sink {
         self
     }
 
     fn parse_error(&mut self, _message: Cow<'static, str>) {}
 
-    fn get_document(&mut self) -> u32 {
-        0
+    fn get_document(&mut self) -> Id {
+        DOCUMENT
     }
 
-    fn elem_name<'a>(&'a self, target: &'a u32) -> ExpandedName<'a> {
-        match &self.made[*target as usize].name {
-            Some(name) => name.expanded(),
+    fn elem_name<'a>(&'a self, target: &'a Id) -> ExpandedName<'a> {
+        match self.tree.element(*target) {
+            Some(element) => ExpandedName { ns: &element.space, local: &element.name },
             None => panic!("html5ever asks the name of an element alone"),
         }
     }
 
-    fn create_element(&mut self, name: QualName, attrs: Vec<Attribute>, flags: ElementFlags) -> u32 {
-        let (start, name_length) = self.keep(&name.local);
-        let is_integration_point = flags.mathml_annotation_xml_integration_point;
-        let mut bits = space(&name.ns);
+    fn create_element(&mut self, name: QualName, attributes: Vec<Attribute>, flags: ElementFlags) -> Id {
+        let node = self.tree.add_element(name, attributes, self.wanted.is_asked);
+        if flags.mathml_annotation_xml_integration_point {
+            if let Some(element) = self.tree.element_mut(node) {
+                element.is_integration_point = true;
+            }
+        }
+        // the contents of a template have the number after its own
         if flags.template {
-            bits |= TEMPLATE;
+            self.tree.add(Data::Root);
         }
-        if is_integration_point {
-            bits |= INTEGRATION_POINT;
-        }
-        let step = self.steps.len();
-        self.push(Step { kind: kind::MAKE_ELEMENT, flags: bits, name: start, name_length, ..Step::default() });
-        let node = self.make(Made { name: Some(name), contents: 0, is_integration_point });
-        for attribute in &attrs {
-            self.add_attribute(node, attribute);
-        }
-        if flags.template {
-            self.steps.push(Step { kind: kind::TEMPLATE_CONTENTS, node, ..Step::default() });
-            self.made[node as usize].contents = self.made.len() as u32;
-            self.make(Made { name: None, contents: 0, is_integration_point: false });
-        }
-        self.fresh = Some((node, step));
         node
     }
 
-    // a comment parts the texts round it, whatever it says
-    fn create_comment(&mut self, _text: StrTendril) -> u32 {
-        self.push(Step { kind: kind::MAKE_COMMENT, ..Step::default() });
-        self.make(Made { name: None, contents: 0, is_integration_point: false })
+    fn create_comment(&mut self, _text: StrTendril) -> Id {
+        self.tree.add(Data::Comment)
     }
 
-    fn create_pi(&mut self, _target: StrTendril, _contents: StrTendril) -> u32 {
-        self.push(Step { kind: kind::MAKE_INSTRUCTION, ..Step::default() });
-        self.make(Made { name: None, contents: 0, is_integration_point: false })
+    fn create_pi(&mut self, _target: StrTendril, _contents: StrTendril) -> Id {
+        self.tree.add(Data::Comment)
     }
 
-    fn append(&mut self, parent: &u32, child: NodeOrText<u32>) {
+    fn append(&mut self, parent: &Id, child: NodeOrText<Id>) {
         match child {
-            NodeOrText::AppendNode(child) => self.append_node(*parent, child),
-            // the text of a style sheet or a script isn't shown
-            NodeOrText::AppendText(text) if self.is_html(*parent, &local_name!("style")) => {
-                if self.reads_css {
-                    self.css.push_str(&text);
+            NodeOrText::AppendNode(node) => self.tree.insert(*parent, NONE, node),
+            NodeOrText::AppendText(text) => match self.tree.element(*parent) {
+                // the text of a style sheet or a script isn't shown
+                Some(Element { name: local_name!("style"), space: ns!(html), .. }) => {
+                    if self.wanted.css {
+                        self.css.push_str(&text);
+                    }
                 }
-            }
-            NodeOrText::AppendText(_) if self.is_html(*parent, &local_name!("script")) => {}
-            NodeOrText::AppendText(text) => self.put_text(Step { kind: kind::PUT_TEXT, node: *parent, ..Step::default() }, &text),
+                Some(Element { name: local_name!("script"), space: ns!(html), .. }) => {}
+                _ => self.tree.insert_text(*parent, NONE, &text),
+            },
         }
     }
 
-    fn append_before_sibling(&mut self, sibling: &u32, child: NodeOrText<u32>) {
-        let step = Step { node: *sibling, ..Step::default() };
-        self.put(step, kind::PUT_NODE_BEFORE, kind::PUT_TEXT_BEFORE, child);
+    fn append_before_sibling(&mut self, sibling: &Id, child: NodeOrText<Id>) {
+        self.insert_before(*sibling, child);
     }
 
-    fn append_based_on_parent_node(&mut self, element: &u32, previous: &u32, child: NodeOrText<u32>) {
-        let step = Step { node: *element, other: *previous, ..Step::default() };
-        self.put(step, kind::PUT_NODE_BY_PARENT, kind::PUT_TEXT_BY_PARENT, child);
+    fn append_based_on_parent_node(&mut self, element: &Id, previous: &Id, child: NodeOrText<Id>) {
+        if self.tree.parent(*element) == NONE {
+            if let NodeOrText::AppendNode(node) = child {
+                self.tree.detach(node);
+            }
+            self.append(previous, child);
+        } else {
+            self.insert_before(*element, child);
+        }
     }
 
-    // neither a doctype nor the quirks mode changes a text
     fn append_doctype_to_document(&mut self, _name: StrTendril, _public: StrTendril, _system: StrTendril) {}
 
-    fn set_quirks_mode(&mut self, _mode: QuirksMode) {}
-
-    fn get_template_contents(&mut self, target: &u32) -> u32 {
-        self.made[*target as usize].contents
+    fn set_quirks_mode(&mut self, mode: QuirksMode) {
+        self.is_quirky = mode == QuirksMode::Quirks;
     }
 
-    fn same_node(&self, x: &u32, y: &u32) -> bool {
+    fn get_template_contents(&mut self, target: &Id) -> Id {
+        *target + 1
+    }
+
+    fn same_node(&self, x: &Id, y: &Id) -> bool {
         x == y
     }
 
-    fn add_attrs_if_missing(&mut self, target: &u32, attrs: Vec<Attribute>) {
-        self.fresh = None;
-        for attribute in &attrs {
-            self.add_attribute(*target, attribute);
+    fn add_attrs_if_missing(&mut self, target: &Id, attributes: Vec<Attribute>) {
+        for Attribute { name, value } in attributes {
+            if (self.wanted.is_asked)(&name.local) {
+                self.tree.add_attribute_if_missing(*target, Attr { name: name.local, value });
+            }
         }
     }
 
-    fn remove_from_parent(&mut self, target: &u32) {
-        self.push(Step { kind: kind::REMOVE, node: *target, ..Step::default() });
+    fn remove_from_parent(&mut self, target: &Id) {
+        self.tree.detach(*target);
     }
 
-    fn reparent_children(&mut self, node: &u32, new_parent: &u32) {
-        self.push(Step { kind: kind::REPARENT, node: *node, other: *new_parent, ..Step::default() });
+    fn reparent_children(&mut self, node: &Id, new_parent: &Id) {
+        self.tree.move_children(*node, *new_parent);
     }
 
-    fn is_mathml_annotation_xml_integration_point(&self, target: &u32) -> bool {
-        self.made[*target as usize].is_integration_point
+    fn is_mathml_annotation_xml_integration_point(&self, target: &Id) -> bool {
+        matches!(self.tree.element(*target), Some(element) if element.is_integration_point)
     }
 }

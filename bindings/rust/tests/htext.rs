@@ -1,6 +1,10 @@
 //! The program.
 
+use std::ffi::OsStr;
+use std::fs;
 use std::io::Write;
+use std::os::unix::ffi::OsStrExt;
+use std::path::{Path, PathBuf};
 use std::process::{Command, Output, Stdio};
 
 fn htext(words: &[&str], page: &str) -> Output {
@@ -74,9 +78,65 @@ fn faults() {
     assert_eq!(fault(&["-w", "x"], "").0, 2);
     assert_eq!(fault(&["--colour"], ""), (2, "htext: no such option: --colour; htext --help tells how\n".to_owned()));
     assert_eq!(fault(&["--css", "h1"], "x").0, 2);
-    assert_eq!(fault(&["a", "b"], "").0, 2);
+    assert_eq!(fault(&["--charset", "klingon"], "").0, 2);
+    assert_eq!(fault(&["--pad=1"], "").0, 2);
     let (status, message) = fault(&["no/such.html"], "");
     assert!(status == 3 && message.starts_with("htext: no/such.html: "), "{message}");
+    assert!(fault(&["--narrow", "-w1"], "\u{754c}").1.starts_with("htext: -: "));
+}
+
+#[test]
+fn values_in_a_word() {
+    for words in [["-w5"], ["-w=5"], ["--width=5"]] {
+        assert_eq!(text(&words, "<p>one two"), "one\ntwo\n");
+    }
+    assert_eq!(text(&["-sbare"], PAGE), text(&["-s", "bare"], PAGE));
+}
+
+/// A folder of its own for a test.
+fn folder(name: &str) -> PathBuf {
+    let folder = PathBuf::from(env!("CARGO_TARGET_TMPDIR")).join(name);
+    fs::create_dir_all(&folder).unwrap();
+    folder
+}
+
+#[test]
+fn several_files() {
+    let folder = folder("several");
+    let file = |name: &[u8]| folder.join(OsStr::from_bytes(name));
+    let (one, other, missing) = (file(b"one.html"), file(b"other-\xff.html"), file(b"missing"));
+    fs::write(&one, "<p>a").unwrap();
+    fs::write(&other, "<p>b").unwrap();
+    let run = |files: &[&Path]| {
+        let output = Command::new(env!("CARGO_BIN_EXE_htext")).args(files).stdin(Stdio::null()).output().unwrap();
+        (output.status.code(), String::from_utf8(output.stdout).unwrap(), String::from_utf8_lossy(&output.stderr).into_owned())
+    };
+    assert_eq!(run(&[&one, &other]), (Some(0), "a\nb\n".to_owned(), String::new()));
+    let (status, text, message) = run(&[&one, &missing, &other]);
+    assert_eq!((status, text.as_str()), (Some(3), "a\nb\n"));
+    assert!(message.starts_with(&format!("htext: {}: ", missing.display())), "{message}");
+}
+
+#[test]
+fn output_to_a_file() {
+    let file = folder("output").join("text");
+    let _ = fs::remove_file(&file);
+    let name = file.to_str().unwrap();
+    assert_eq!(text(&["-o", name, "--style", "rich"], "<p>a"), "");
+    assert_eq!(fs::read_to_string(&file).unwrap(), "a\n");
+    fs::remove_file(&file).unwrap();
+    assert_eq!(fault(&["-o", name, "no/such.html"], "").0, 3);
+    assert!(!file.exists());
+    assert_eq!(fault(&["-o", "no/such/folder"], "").0, 3);
+}
+
+#[test]
+fn titles_charsets_and_controls() {
+    assert_eq!(text(&["--title"], "<title>T</title><p>a"), "T\n\na\n");
+    assert_eq!(text(&["--charset=koi8-r"], "<p>a"), "a\n");
+    assert_eq!(text(&["--keep-controls", "--no-links"], "<p>a<a href='&#27;'>b</a>"), "a[b]\n");
+    assert_eq!(text(&[], "<a href='&#27;x'>b</a>"), "[b][1]\n\n[1]: x\n");
+    assert_eq!(text(&["--keep-controls"], "<a href='&#27;x'>b</a>"), "[b][1]\n\n[1]: \u{1b}x\n");
 }
 
 #[test]

@@ -1,0 +1,230 @@
+"""What a browser shows of a page: how html_render.py records the elements of html5lib's tree. docs/HTML.md tells it element by element.
+
+An element becomes a `Shown`: the elements that it is recorded as, one inside the other, and the texts around its children. A walk that
+records a tree asks `shown` for each of its elements, with the `Around` of its parent.
+"""
+
+import re
+from dataclasses import dataclass, replace
+
+HTML = "http://www.w3.org/1999/xhtml"
+
+# classes that no page has: control characters aren't recorded
+WHITE_SPACE = {"pre": "\x01pre", "pre-wrap": "\x01pre-wrap", "break-spaces": "\x01pre-wrap"}
+
+ASKED = frozenset("alt class colspan href id name rowspan src start".split())
+
+_CONTROLS = re.compile("[\x00-\x08\x0b-\x1f\x7f-\x9f\u202a-\u202e\u2066-\u2069]")
+_DROPPED = frozenset("canvas datalist noembed noframes title".split())
+_BLOCKS = frozenset(
+    "address article aside center details dialog fieldset figcaption figure footer form header hgroup legend main nav optgroup option"
+    " search section summary".split()
+)
+_WITHIN = {"dir": "ul", "menu": "ul", "listing": "pre", "plaintext": "pre", "xmp": "pre", **dict.fromkeys(_BLOCKS, "div")}
+_EMBEDDED = frozenset("audio embed frame iframe object video".split())
+_FIELDS = frozenset("button input select textarea".split())
+_SIGNED = frozenset("b code em strong".split())
+_PREFIXES = {"blockquote": 2, "dd": 2, "h1": 2, "h2": 3, "h3": 4, "h4": 5, "h5": 6, "h6": 7}
+_PARTS = {"table": ("table", None), "tbody": ("section", "table"), "thead": ("section", "table"), "tfoot": ("section", "table")}
+_PARTS.update({"tr": ("row", "section"), "td": ("cell", "row"), "th": ("cell", "row")})
+_SIZES = frozenset("xx-small x-small small medium large x-large xx-large xxx-large initial".split())
+_SYSTEM_FONTS = frozenset("caption icon menu message-box small-caption status-bar".split())
+_LENGTH = re.compile(r"([-+]?(?:\d+\.?\d*|\.\d+))(%|[a-z]*)")
+_RULE = "\u2500"
+_RULE_IN_CELL = 3
+
+
+@dataclass(frozen=True)
+class Around:
+    """What is known of the elements around a place."""
+
+    is_invisible: bool = False
+    has_no_size: bool = False
+    quotations: int = 0
+    part: str = None
+    margin: int = 0
+    item_margin: int = 0
+    is_in_cell: bool = False
+
+    @property
+    def hides_texts(self):
+        """Whether texts aren't shown."""
+        return self.is_invisible or self.has_no_size
+
+    def inside(self):
+        """Returns what is known in an element, before what the element itself changes."""
+        return replace(self, part=None, margin=self.margin + self.item_margin, item_margin=0)
+
+
+@dataclass
+class Shown:
+    """How an element is recorded: names and attributes, the outermost one first; texts before and after its children."""
+
+    elements: list
+    around: Around
+    before: str = ""
+    after: str = ""
+    has_children: bool = True
+
+
+def without_controls(text, is_shown=False):
+    """Returns a text without control characters; without soft hyphens too, if it is shown."""
+    text = _CONTROLS.sub("", text)
+    return text.replace("\u00ad", "") if is_shown else text
+
+
+def title_of(tree):
+    """Returns the text of a page's first `title`, with single spaces."""
+    found = tree.getElementsByTagName("title")
+    found = [it for it in found if it.namespaceURI == HTML]
+    return " ".join("".join(it.data for it in found[0].childNodes if it.nodeType == it.TEXT_NODE).split()) if found else ""
+
+
+def _declarations(style):
+    """Returns the declarations of an attribute `style` that win, by their names."""
+    found = {}
+    style = re.sub(r"/\*.*?(?:\*/|$)", "", style, flags=re.DOTALL)
+    for part in re.findall(r"""(?:"[^"]*"|'[^']*'|\([^)]*\)|[^;])+""", style):
+        name, colon, value = part.partition(":")
+        name, (value, bang, important) = name.strip().lower(), value.lower().partition("!")
+        is_important = bang != "" and important.strip() == "important"
+        if colon and (is_important or not found.get(name, ("", False))[1]) and _is_valid(name, value.strip()):
+            found[name] = (value.strip(), is_important)
+    return {name: value for name, (value, _) in found.items()}
+
+
+def _is_valid(name, value):
+    """Whether a value says something, of the properties that are asked for."""
+    if name in ("display", "visibility", "overflow", "white-space", "mso-hide"):
+        return re.fullmatch(r"[a-z-]+(?:\s+[a-z-]+)*", value) is not None and value not in ("inherit", "unset", "revert")
+    if name == "max-height":
+        return _LENGTH.fullmatch(value) is not None or value == "none"
+    if name == "font-size":
+        return _size(value) is not None
+    if name == "font":
+        return _font_size(value) is not None
+    return False
+
+
+def _size(value):
+    """Whether a size is above 0; None where it is none, or one relative to the size around it."""
+    length = _LENGTH.fullmatch(value)
+    if length:
+        is_relative = length[2] in ("%", "em", "ex", "ch", "cap", "ic", "lh")
+        return None if is_relative and float(length[1]) != 0 else float(length[1]) != 0
+    return True if value in _SIZES else None
+
+
+def _font_size(value):
+    """The same of the value of `font`, whose size follows words and a number for the weight."""
+    for word in re.split(r"[\s/]+", value):
+        length = _LENGTH.fullmatch(word)
+        if length and not (length[2] == "" and float(length[1]) != 0):
+            return _size(word)
+        if word in _SYSTEM_FONTS or word in _SIZES:
+            return True
+    return None
+
+
+def _is_dropped(attributes, style):
+    """Whether nothing is shown of an element, nor of what is in it."""
+    is_displayed = style["display"] != "none" if "display" in style else "hidden" not in attributes
+    height = _LENGTH.fullmatch(style.get("max-height", ""))
+    is_clipped = style.get("overflow", "").split()[-1:] in (["hidden"], ["clip"])
+    has_no_height = height is not None and float(height[1]) == 0 and height[2] != "%"
+    return not is_displayed or style.get("mso-hide") == "all" or has_no_height and is_clipped
+
+
+def _attributes_of(element):
+    """Returns the attributes of one of html5lib's elements."""
+    return dict(element.attributes.items())
+
+
+def _style_of(attributes):
+    return _declarations(attributes["style"]) if "style" in attributes else {}
+
+
+def _number_prefix(element, attributes):
+    """Returns the columns of the prefix that the items of an `ol` have."""
+    items = [it for it in element.childNodes if it.nodeType == it.ELEMENT_NODE and it.tagName == "li"]
+    count = sum(not _is_dropped(found, _style_of(found)) for found in map(_attributes_of, items))
+    start = attributes.get("start", "1")
+    first = int(start) if re.fullmatch(r"[-+]?[0-9]{1,19}", start) and -(2**63) <= int(start) < 2**63 else 1
+    return max(len(str(first)), len(str(min(first + max(count - 1, 0), 2**63 - 1)))) + 2
+
+
+def _link(element, attributes):
+    """Returns the target and the name of what an element embeds, or None if it can't be followed."""
+    target = attributes.get("data" if element.tagName == "object" else "src")
+    if target is None and element.tagName in ("audio", "video"):
+        sources = (it for it in element.childNodes if it.nodeType == it.ELEMENT_NODE and it.tagName == "source" and it.hasAttribute("src"))
+        target = next((it.getAttribute("src") for it in sources), None)
+    if target is None or not target.strip() or re.match(r"\s*(?:about|blob|data|javascript|vbscript):", target, re.IGNORECASE):
+        return None
+    path = re.split("[?#]", target.strip())[0].rstrip("/")
+    return target, attributes.get("title", "").strip() or path.rpartition("/")[2] or target.strip()
+
+
+def _changed(around, tag, attributes, style):
+    """Returns what is known in an element, with what it says of its texts."""
+    inside = around.inside()
+    if "visibility" in style:
+        inside = replace(inside, is_invisible=style["visibility"] in ("hidden", "collapse"))
+    sizes = [_size(style["font-size"])] if "font-size" in style else [_font_size(style["font"])] if "font" in style else []
+    if sizes or tag in _FIELDS:
+        inside = replace(inside, has_no_size=not (sizes or [True])[0])
+    return inside
+
+
+def shown(element, around, columns):
+    """Returns how an element is recorded where a line has so many columns, or None if nothing of it is."""
+    attributes, tag = _attributes_of(element), element.tagName
+    style = _style_of(attributes)
+    inside = _changed(around, tag, attributes, style)
+    is_html = element.namespaceURI == HTML
+    if _is_dropped(attributes, style) or inside.is_invisible and tag in ("img", "svg"):
+        return None
+    if style.get("white-space") in WHITE_SPACE:
+        attributes["class"] = " ".join([attributes.get("class", ""), WHITE_SPACE[style["white-space"]]])
+    recorded = Shown([(tag, element.namespaceURI, attributes)], inside)
+    if is_html:
+        return _changed_element(recorded, element, attributes, around, columns)
+    return recorded
+
+
+def _changed_element(recorded, element, attributes, around, columns):
+    """Returns how one of HTML's elements is recorded, with what its name changes."""
+    tag, inside = element.tagName, recorded.around
+    if tag in _DROPPED or tag == "dialog" and "open" not in attributes:
+        return None
+    if tag in _WITHIN:
+        recorded.elements.append((_WITHIN[tag], HTML, {}))
+    if tag in ("ul", "dir", "menu"):
+        recorded.around = replace(inside, item_margin=2)
+    elif tag == "ol":
+        recorded.around = replace(inside, item_margin=_number_prefix(element, attributes))
+    elif tag in _PREFIXES:
+        recorded.around = replace(inside, margin=inside.margin + _PREFIXES[tag])
+    elif tag in _SIGNED and inside.hides_texts:
+        recorded.elements[0] = ("span", HTML, attributes)
+    elif tag in _PARTS:
+        part, place = _PARTS[tag]
+        if place not in (None, around.part):
+            recorded.elements[0] = ("div", HTML, attributes)
+        else:
+            recorded.around = replace(inside, part=part, is_in_cell=inside.is_in_cell or part == "cell")
+    elif tag == "hr":
+        width = max(columns - inside.margin, 0)
+        recorded.elements[0] = ("div", HTML, attributes)
+        recorded.before = "" if inside.is_invisible else _RULE * (min(width, _RULE_IN_CELL) if inside.is_in_cell else width)
+        recorded.has_children = False
+    elif tag == "q" and not inside.hides_texts:
+        recorded.before, recorded.after = ("\u201c", "\u201d") if inside.quotations % 2 == 0 else ("\u2018", "\u2019")
+        recorded.around = replace(inside, quotations=inside.quotations + 1)
+    elif tag in _EMBEDDED and not (tag == "object" and not attributes.get("data", "").strip()):
+        link = _link(element, attributes)
+        recorded.has_children = False
+        if link and not inside.hides_texts:
+            recorded.elements += [("div", HTML, {})] * (tag == "frame") + [("a", HTML, {"href": link[0]})]
+            recorded.before = without_controls(link[1], is_shown=True)
+    return recorded

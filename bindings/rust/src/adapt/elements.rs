@@ -1,0 +1,129 @@
+//! What becomes of HTML's elements, by their names.
+
+use html5ever::{local_name, LocalName};
+
+/// What becomes of an element.
+#[derive(Clone, Copy, Debug, PartialEq, Eq)]
+pub(crate) enum Change {
+    /// It is recorded as it is.
+    Kept,
+    /// Nothing of it is recorded.
+    Dropped,
+    /// Its contents are recorded in an element of their own, inside it.
+    Within(Inner),
+    /// A `dialog`: a block if it is open.
+    Dialog,
+    /// An `hr`.
+    Rule,
+    /// A `q`.
+    Quotation,
+    /// Its contents are dropped; a link stands for what it embeds.
+    Embedded,
+    /// An `object`: embedded contents if it names any.
+    Object,
+    /// A list, whose items have prefixes.
+    List(List),
+    /// A block whose lines have a prefix of so many columns.
+    Prefixed(u32),
+    /// A part of a table.
+    Table(Part),
+    /// It has signs around its texts: none if these are hidden.
+    Signed,
+    /// A form's field, whose texts have a size of their own.
+    Sized,
+}
+
+/// An element in which contents are recorded.
+#[derive(Clone, Copy, Debug, PartialEq, Eq)]
+pub(crate) enum Inner {
+    Division,
+    List,
+    Preformatted,
+}
+
+impl Inner {
+    pub fn name(self) -> LocalName {
+        match self {
+            Inner::Division => local_name!("div"),
+            Inner::List => local_name!("ul"),
+            Inner::Preformatted => local_name!("pre"),
+        }
+    }
+}
+
+#[derive(Clone, Copy, Debug, PartialEq, Eq)]
+pub(crate) enum List {
+    Ordered,
+    Unordered,
+}
+
+/// A part of a table, by what it is in.
+#[derive(Clone, Copy, Debug, PartialEq, Eq)]
+pub(crate) enum Part {
+    Table,
+    Section,
+    Row,
+    Cell,
+}
+
+/// Returns what becomes of an HTML element.
+pub(crate) fn change_of(name: &LocalName) -> Change {
+    match *name {
+        local_name!("canvas") | local_name!("datalist") | local_name!("noembed") | local_name!("noframes") | local_name!("title") => Change::Dropped,
+        local_name!("address")
+        | local_name!("article")
+        | local_name!("aside")
+        | local_name!("center")
+        | local_name!("details")
+        | local_name!("fieldset")
+        | local_name!("figcaption")
+        | local_name!("figure")
+        | local_name!("footer")
+        | local_name!("form")
+        | local_name!("header")
+        | local_name!("hgroup")
+        | local_name!("legend")
+        | local_name!("main")
+        | local_name!("nav")
+        | local_name!("optgroup")
+        | local_name!("option")
+        | local_name!("section")
+        | local_name!("summary") => Change::Within(Inner::Division),
+        local_name!("dialog") => Change::Dialog,
+        local_name!("dir") | local_name!("menu") => Change::Within(Inner::List),
+        local_name!("listing") | local_name!("plaintext") | local_name!("xmp") => Change::Within(Inner::Preformatted),
+        local_name!("hr") => Change::Rule,
+        local_name!("q") => Change::Quotation,
+        local_name!("audio") | local_name!("embed") | local_name!("frame") | local_name!("iframe") | local_name!("video") => Change::Embedded,
+        local_name!("object") => Change::Object,
+        local_name!("ol") => Change::List(List::Ordered),
+        local_name!("ul") => Change::List(List::Unordered),
+        local_name!("blockquote") | local_name!("dd") | local_name!("h1") => Change::Prefixed(2),
+        local_name!("h2") => Change::Prefixed(3),
+        local_name!("h3") => Change::Prefixed(4),
+        local_name!("h4") => Change::Prefixed(5),
+        local_name!("h5") => Change::Prefixed(6),
+        local_name!("h6") => Change::Prefixed(7),
+        local_name!("table") => Change::Table(Part::Table),
+        local_name!("tbody") | local_name!("tfoot") | local_name!("thead") => Change::Table(Part::Section),
+        local_name!("tr") => Change::Table(Part::Row),
+        local_name!("td") | local_name!("th") => Change::Table(Part::Cell),
+        local_name!("b") | local_name!("code") | local_name!("em") | local_name!("strong") => Change::Signed,
+        local_name!("button") | local_name!("input") | local_name!("select") | local_name!("textarea") => Change::Sized,
+        // newer than html5ever's table of names
+        _ if name.len() == 6 && **name == *"search" => Change::Within(Inner::Division),
+        _ => Change::Kept,
+    }
+}
+
+#[cfg(test)]
+mod tests {
+    use super::*;
+
+    #[test]
+    fn names() {
+        assert_eq!(change_of(&LocalName::from("search")), Change::Within(Inner::Division));
+        assert_eq!(change_of(&LocalName::from("span")), Change::Kept);
+        assert_eq!(change_of(&local_name!("h6")), Change::Prefixed(7));
+    }
+}

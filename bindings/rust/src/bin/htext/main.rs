@@ -1,0 +1,194 @@
+//! Prints HTML as wrapped text: `htext --help` tells how.
+
+mod terminal;
+mod words;
+
+use html_render::config::{plain, plain_no_decorate, rich, Config, Decorator, ImageRenderMode};
+use html_render::Error;
+use std::ffi::{OsStr, OsString};
+use std::fs::File;
+use std::io::{self, Read, Write};
+use std::path::Path;
+use std::process::ExitCode;
+use words::{Change, Choices, Images, Style, Task, Usage};
+
+const HELP: &str = "\
+Usage: htext [OPTION]... [FILE]...
+
+Prints the HTML of each FILE, or of standard input where it is - or there is
+none, as text wrapped to a width.
+
+  -w, --width N       columns of a line; else those of the terminal, or 80
+  -s, --style STYLE   plain: signs round emphasis, footnotes for links (default)
+                      rich: colours and links, where the output is a terminal
+                      bare: neither
+  -o, --output FILE   write the text to FILE
+      --title         show the title of the page above its text
+      --charset NAME  the encoding of the page, as HTTP or a mail names it; else
+                      what the page declares, or UTF-8, or windows-1252
+      --no-links      no footnotes for links
+      --no-wrap-links targets behind the document aren't cut
+      --raw-tables    cells of tables stand one below another
+      --no-borders    tables are drawn without borders
+      --fence-tables  tables stand between lines of three backquotes
+      --max-width N   a paragraph's lines have at most N columns
+      --pad           lines are filled with spaces
+      --images MODE   of images without a text: none, name (of the file), always
+      --narrow        fail where a character or a prefix is wider than a line,
+                      rather than let it stand beyond the width
+      --css RULES     style rules, as 'h1.note { color: #aa0000 }'; again for more
+      --page-css      the rules of the page's own <style> elements
+      --keep-controls keep control characters of the page, which can control a
+                      terminal
+  -h, --help          print this
+  -V, --version       print the version
+
+Exit status: 0 done, 1 not rendered, 2 wrong usage, 3 not read or not written.
+";
+
+/// Why a text isn't printed.
+enum Fault {
+    Usage(String),
+    /// A file that isn't rendered.
+    Render(OsString, Error),
+    /// A file that isn't written; `None` for standard output.
+    Write(Option<OsString>, io::Error),
+}
+
+impl Fault {
+    fn status(&self) -> u8 {
+        match self {
+            Fault::Usage(_) => 2,
+            Fault::Render(_, Error::IoError(_)) | Fault::Write(..) => 3,
+            Fault::Render(..) => 1,
+        }
+    }
+
+    /// Whether it only says that who reads the output has enough of it.
+    fn is_enough(&self) -> bool {
+        matches!(self, Fault::Write(None, error) if error.kind() == io::ErrorKind::BrokenPipe)
+    }
+
+    fn tell(&self) {
+        match self {
+            Fault::Usage(what) => eprintln!("htext: {what}; htext --help tells how"),
+            Fault::Render(file, error) => eprintln!("htext: {}: {error}", Path::new(file).display()),
+            Fault::Write(Some(file), error) => eprintln!("htext: {}: {error}", Path::new(file).display()),
+            Fault::Write(None, error) => eprintln!("htext: {error}"),
+        }
+    }
+}
+
+impl From<Usage> for Fault {
+    fn from(Usage(what): Usage) -> Fault {
+        Fault::Usage(what)
+    }
+}
+
+fn changed<D: Decorator>(config: Config<D>, choices: &Choices) -> Result<Config<D>, Error> {
+    let mut config = config.as_shown(choices.options).add_css(&choices.css)?;
+    for change in &choices.changes {
+        config = match *change {
+            Change::NoLinks => config.link_footnotes(false),
+            Change::NoWrapLinks => config.no_link_wrapping(),
+            Change::RawTables => config.raw_mode(true),
+            Change::NoBorders => config.no_table_borders(),
+            Change::FenceTables => config.fence_tables(),
+            Change::MaxWidth(columns) => config.max_wrap_width(columns),
+            Change::Pad => config.pad_block_width(),
+            Change::PageCss => config.use_doc_css(),
+            Change::KeepControls => config.keep_controls(),
+            Change::Images(Images::None) => config.empty_img_mode(ImageRenderMode::IgnoreEmpty),
+            Change::Images(Images::Name) => config.empty_img_mode(ImageRenderMode::Filename),
+            Change::Images(Images::Always) => config.empty_img_mode(ImageRenderMode::ShowAlways),
+        };
+    }
+    Ok(if choices.is_narrow { config } else { config.allow_width_overflow() })
+}
+
+fn input(file: &OsStr) -> io::Result<Box<dyn Read>> {
+    if file == "-" {
+        Ok(Box::new(io::stdin().lock()))
+    } else {
+        Ok(Box::new(File::open(file)?))
+    }
+}
+
+fn text_of(file: &OsStr, choices: &Choices) -> Result<String, Error> {
+    let width = choices.width.unwrap_or_else(terminal::columns);
+    let input = input(file)?;
+    match choices.style {
+        Style::Rich if choices.output.is_none() && terminal::is_output() => changed(rich(), choices)?.coloured(input, width, terminal::shown),
+        Style::Rich => changed(rich(), choices)?.string_from_read(input, width),
+        Style::Plain => changed(plain(), choices)?.string_from_read(input, width),
+        Style::Bare => changed(plain_no_decorate(), choices)?.string_from_read(input, width),
+    }
+}
+
+/// Where texts are written. A file is made when the first one is.
+struct Output<'a> {
+    file: Option<&'a OsString>,
+    to: Option<Box<dyn Write>>,
+}
+
+impl Output<'_> {
+    fn write(&mut self, text: &str) -> Result<(), Fault> {
+        self.try_to_write(text).map_err(|error| Fault::Write(self.file.cloned(), error))
+    }
+
+    fn try_to_write(&mut self, text: &str) -> io::Result<()> {
+        let to = match (&mut self.to, self.file) {
+            (Some(to), _) => to,
+            (to @ None, Some(file)) => to.insert(Box::new(File::create(file)?)),
+            (to @ None, None) => to.insert(Box::new(io::stdout().lock())),
+        };
+        to.write_all(text.as_bytes())?;
+        to.flush()
+    }
+}
+
+/// Prints the files that the choices name. A file that isn't rendered is told of, and doesn't keep the others from being printed.
+/// Returns the status of the first such file, or 0.
+fn print(choices: &Choices) -> Result<u8, Fault> {
+    let mut output = Output { file: choices.output.as_ref(), to: None };
+    let mut status = 0;
+    for file in &choices.files {
+        match text_of(file, choices) {
+            Ok(text) => output.write(&text)?,
+            Err(error) => {
+                let fault = Fault::Render(file.clone(), error);
+                fault.tell();
+                status = if status == 0 { fault.status() } else { status };
+            }
+        }
+    }
+    Ok(status)
+}
+
+fn tell(text: &str) -> Result<u8, Fault> {
+    Output { file: None, to: None }.write(text)?;
+    Ok(0)
+}
+
+fn run() -> Result<u8, Fault> {
+    match words::read(std::env::args_os().skip(1))? {
+        Task::Help => tell(HELP),
+        Task::Version => tell(&format!("htext {}\n", env!("CARGO_PKG_VERSION"))),
+        Task::Print(choices) => {
+            plain().add_css(&choices.css).map_err(|_| Fault::Usage("a rule of --css has no block".to_owned()))?;
+            print(&choices)
+        }
+    }
+}
+
+fn main() -> ExitCode {
+    html_render::give_back_large_blocks();
+    match run() {
+        Ok(status) => ExitCode::from(status),
+        Err(fault) if fault.is_enough() => ExitCode::SUCCESS,
+        Err(fault) => {
+            fault.tell();
+            ExitCode::from(fault.status())
+        }
+    }
+}

@@ -1,0 +1,223 @@
+//! The words of the command line.
+
+use html_render::Options;
+use std::ffi::{OsStr, OsString};
+use std::os::unix::ffi::{OsStrExt, OsStringExt};
+
+/// What is wrong with the words.
+#[derive(Debug)]
+pub struct Usage(pub String);
+
+#[derive(Clone, Copy, PartialEq, Eq)]
+pub enum Style {
+    Plain,
+    Rich,
+    Bare,
+}
+
+#[derive(Clone, Copy)]
+pub enum Change {
+    NoLinks,
+    NoWrapLinks,
+    RawTables,
+    NoBorders,
+    FenceTables,
+    MaxWidth(usize),
+    Pad,
+    PageCss,
+    KeepControls,
+    Images(Images),
+}
+
+#[derive(Clone, Copy)]
+pub enum Images {
+    None,
+    Name,
+    Always,
+}
+
+/// What the words ask for.
+pub struct Choices {
+    pub width: Option<usize>,
+    pub style: Style,
+    pub changes: Vec<Change>,
+    pub css: String,
+    pub is_narrow: bool,
+    pub options: Options,
+    pub output: Option<OsString>,
+    /// The files to print; `-` is standard input.
+    pub files: Vec<OsString>,
+}
+
+/// What the program does.
+pub enum Task {
+    Print(Choices),
+    Help,
+    Version,
+}
+
+/// A word that is an option, and the value in the same word.
+struct Word {
+    option: String,
+    value: Option<OsString>,
+}
+
+impl Word {
+    /// Reads `--option`, `--option=value`, `-o`, `-ovalue` or `-o=value`.
+    fn of(word: &OsStr) -> Word {
+        let bytes = word.as_bytes();
+        let (option, value) = if bytes.starts_with(b"--") {
+            match bytes.iter().position(|&byte| byte == b'=') {
+                Some(at) => (&bytes[..at], Some(&bytes[at + 1..])),
+                None => (bytes, None),
+            }
+        } else {
+            // an option of one character
+            let length = word.to_string_lossy().chars().nth(1).map_or(0, char::len_utf8);
+            let (option, rest) = bytes.split_at((1 + length).min(bytes.len()));
+            (option, (!rest.is_empty()).then(|| rest.strip_prefix(b"=").unwrap_or(rest)))
+        };
+        Word { option: String::from_utf8_lossy(option).into_owned(), value: value.map(|value| OsString::from_vec(value.to_vec())) }
+    }
+
+    fn fault(&self, what: &str) -> Usage {
+        Usage(format!("{} {what}", self.option))
+    }
+
+    /// Returns the value, which may be the next word.
+    fn value(&mut self, words: &mut impl Iterator<Item = OsString>) -> Result<OsString, Usage> {
+        self.value.take().or_else(|| words.next()).ok_or_else(|| self.fault("takes a value"))
+    }
+
+    fn text(&mut self, words: &mut impl Iterator<Item = OsString>) -> Result<String, Usage> {
+        self.value(words)?.into_string().map_err(|_| self.fault("takes a text in UTF-8"))
+    }
+
+    fn number(&mut self, words: &mut impl Iterator<Item = OsString>) -> Result<usize, Usage> {
+        let text = self.text(words)?;
+        text.parse().map_err(|_| self.fault(&format!("takes a number of columns, and not {text:?}")))
+    }
+
+    /// Refuses a value.
+    fn alone(&self) -> Result<(), Usage> {
+        match self.value {
+            Some(_) => Err(self.fault("takes no value")),
+            None => Ok(()),
+        }
+    }
+}
+
+/// Reads the words of the command line.
+pub fn read(mut words: impl Iterator<Item = OsString>) -> Result<Task, Usage> {
+    let mut choices = Choices {
+        width: None,
+        style: Style::Plain,
+        changes: Vec::new(),
+        css: String::new(),
+        is_narrow: false,
+        options: Options::new(),
+        output: None,
+        files: Vec::new(),
+    };
+    while let Some(word) = words.next() {
+        if word == "--" {
+            choices.files.extend(&mut words);
+        } else if word == "-" || !word.as_bytes().starts_with(b"-") {
+            choices.files.push(word);
+        } else if let Some(task) = choices.take(Word::of(&word), &mut words)? {
+            return Ok(task);
+        }
+    }
+    if choices.files.is_empty() {
+        choices.files.push("-".into());
+    }
+    Ok(Task::Print(choices))
+}
+
+impl Choices {
+    /// Takes an option. Returns what the program does in the place of printing, if the option says so.
+    fn take(&mut self, mut word: Word, words: &mut impl Iterator<Item = OsString>) -> Result<Option<Task>, Usage> {
+        let option = word.option.clone();
+        match option.as_str() {
+            "-w" | "--width" => self.width = Some(word.number(words)?),
+            "-s" | "--style" => {
+                self.style = match word.text(words)?.as_str() {
+                    "plain" => Style::Plain,
+                    "rich" => Style::Rich,
+                    "bare" => Style::Bare,
+                    other => return Err(Usage(format!("no such style: {other}"))),
+                }
+            }
+            "-o" | "--output" => self.output = Some(word.value(words)?),
+            "--charset" => {
+                let label = word.text(words)?;
+                self.options = self.options.charset(&label).map_err(|_| Usage(format!("no such charset: {label}")))?;
+            }
+            "--css" => self.css.push_str(&word.text(words)?),
+            "--max-width" => self.changes.push(Change::MaxWidth(word.number(words)?)),
+            "--images" => self.changes.push(Change::Images(match word.text(words)?.as_str() {
+                "none" => Images::None,
+                "name" => Images::Name,
+                "always" => Images::Always,
+                other => return Err(Usage(format!("no such mode: {other}"))),
+            })),
+            _ => return self.take_alone(&word),
+        }
+        Ok(None)
+    }
+
+    /// Takes an option without a value.
+    fn take_alone(&mut self, word: &Word) -> Result<Option<Task>, Usage> {
+        let change = match word.option.as_str() {
+            "-h" | "--help" => return Ok(Some(Task::Help)),
+            "-V" | "--version" => return Ok(Some(Task::Version)),
+            "--title" => {
+                self.options = self.options.title();
+                return word.alone().map(|()| None);
+            }
+            "--narrow" => {
+                self.is_narrow = true;
+                return word.alone().map(|()| None);
+            }
+            "--no-links" => Change::NoLinks,
+            "--no-wrap-links" => Change::NoWrapLinks,
+            "--raw-tables" => Change::RawTables,
+            "--no-borders" => Change::NoBorders,
+            "--fence-tables" => Change::FenceTables,
+            "--pad" => Change::Pad,
+            "--page-css" => Change::PageCss,
+            "--keep-controls" => Change::KeepControls,
+            other => return Err(Usage(format!("no such option: {other}"))),
+        };
+        word.alone()?;
+        self.changes.push(change);
+        Ok(None)
+    }
+}
+
+#[cfg(test)]
+mod tests {
+    use super::*;
+
+    fn word(text: &[u8]) -> (String, Option<Vec<u8>>) {
+        let word = Word::of(OsStr::from_bytes(text));
+        (word.option, word.value.map(OsStringExt::into_vec))
+    }
+
+    #[test]
+    fn options_and_values() {
+        for (text, option, value) in [
+            ("-w80", "-w", Some("80")),
+            ("-w=80", "-w", Some("80")),
+            ("-w", "-w", None),
+            ("--width=80", "--width", Some("80")),
+            ("--css=a=b", "--css", Some("a=b")),
+            ("-\u{e9}x", "-\u{e9}", Some("x")),
+        ] {
+            assert_eq!(word(text.as_bytes()), (option.to_owned(), value.map(|value| value.as_bytes().to_vec())), "{text}");
+        }
+        assert_eq!(word(b"--output=\xff"), ("--output".to_owned(), Some(b"\xff".to_vec())));
+        assert_eq!(word(b"-o\xff"), ("-o".to_owned(), Some(b"\xff".to_vec())));
+        assert_eq!(word(b"-\xff").1, None);
+    }
+}

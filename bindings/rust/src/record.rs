@@ -1,0 +1,178 @@
+//! Records the steps that build a document: elements, attributes and texts in document order.
+
+use crate::characters::Filter;
+use crate::records::Step;
+use crate::tree::Piece;
+use html5ever::{local_name, namespace_url, ns, LocalName, Namespace};
+
+/// The kinds of steps, by their numbers.
+mod kind {
+    pub const MAKE_COMMENT: u32 = 2;
+    pub const ADD_ATTRIBUTE: u32 = 4;
+    pub const PUT_NODE: u32 = 5;
+    pub const PUT_TEXT: u32 = 6;
+    pub const APPEND_ELEMENT: u32 = 16;
+}
+
+/// Number of a recorded node: 0 is the document.
+pub(crate) type Handle = u32;
+
+/// Number of the HTML namespace.
+pub(crate) const HTML: u32 = 1;
+
+/// Returns the number of a namespace.
+pub(crate) fn space(namespace: &Namespace) -> u32 {
+    if *namespace == ns!(html) {
+        HTML
+    } else if *namespace == ns!(svg) {
+        2
+    } else if *namespace == ns!(mathml) {
+        3
+    } else {
+        0
+    }
+}
+
+/// Whether rendering asks for attributes of a name. Others aren't recorded.
+pub(crate) fn is_asked(name: &LocalName) -> bool {
+    matches!(
+        *name,
+        local_name!("alt")
+            | local_name!("class")
+            | local_name!("colspan")
+            | local_name!("href")
+            | local_name!("id")
+            | local_name!("name")
+            | local_name!("rowspan")
+            | local_name!("src")
+            | local_name!("start")
+    )
+}
+
+/// Number of names whose place in the text is remembered.
+const NAMES: usize = 128;
+
+/// The character that a horizontal line is of.
+const RULE: &str = "\u{2500}";
+
+/// Maximum number of columns of a horizontal line.
+const MAX_RULE: u32 = 1 << 16;
+
+/// The steps of a document, over one text.
+pub(crate) struct Recorder {
+    pub steps: Vec<Step>,
+    pub text: Vec<u8>,
+    /// Whether there is more than numbers of 32 bits can name, or memory is out.
+    pub is_out_of_memory: bool,
+    filter: Filter,
+    names: Vec<(LocalName, Piece)>,
+    /// The longest horizontal line so far.
+    rule: Piece,
+    node_count: u32,
+}
+
+impl Recorder {
+    /// Returns a recorder without steps, over a text to which names and attributes are added, which go through a filter.
+    pub fn new(text: Vec<u8>, filter: Filter) -> Recorder {
+        Recorder {
+            steps: Vec::new(),
+            text,
+            is_out_of_memory: false,
+            filter,
+            names: vec![(local_name!(""), (0, 0)); NAMES],
+            rule: (0, 0),
+            node_count: 0,
+        }
+    }
+
+    /// Keeps a text as it is.
+    pub fn keep(&mut self, text: &str) -> Piece {
+        self.keep_by(text, |text, to| to.extend_from_slice(text.as_bytes()))
+    }
+
+    /// Keeps a text without what the filter drops.
+    pub fn keep_filtered(&mut self, text: &str) -> Piece {
+        let filter = self.filter;
+        self.keep_by(text, |text, to| filter.append(text, to))
+    }
+
+    /// Returns a piece of so many characters of a horizontal line, which is kept once.
+    pub fn rule(&mut self, columns: u32) -> Piece {
+        let columns = columns.min(MAX_RULE) as usize;
+        if (self.rule.1 as usize) < RULE.len() * columns {
+            self.rule = self.keep(&RULE.repeat(columns));
+        }
+        (self.rule.0, (RULE.len() * columns) as u32)
+    }
+
+    fn keep_by(&mut self, text: &str, append: impl FnOnce(&str, &mut Vec<u8>)) -> Piece {
+        let start = self.text.len();
+        if start + text.len() > u32::MAX as usize || self.text.try_reserve(text.len()).is_err() {
+            self.is_out_of_memory = true;
+            return (0, 0);
+        }
+        append(text, &mut self.text);
+        (start as u32, (self.text.len() - start) as u32)
+    }
+
+    fn keep_name(&mut self, name: &LocalName) -> Piece {
+        let slot = name.get_hash() as usize % NAMES;
+        if self.names[slot].0 != *name {
+            let piece = self.keep_by(name, |name, to| Filter::default().append(name, to));
+            self.names[slot] = (name.clone(), piece);
+        }
+        self.names[slot].1
+    }
+
+    fn push(&mut self, step: Step) {
+        if self.steps.len() == self.steps.capacity() && self.steps.try_reserve(1).is_err() {
+            self.is_out_of_memory = true;
+            return;
+        }
+        self.steps.push(step);
+    }
+
+    /// Returns the number of nodes that were made.
+    pub fn node_count(&self) -> u32 {
+        self.node_count
+    }
+
+    fn count_node(&mut self) -> Handle {
+        match self.node_count.checked_add(1) {
+            Some(count) => self.node_count = count,
+            None => self.is_out_of_memory = true,
+        }
+        self.node_count
+    }
+
+    /// Appends an element to the children of a node.
+    pub fn element(&mut self, parent: Handle, space: u32, name: &LocalName) -> Handle {
+        let (name, name_length) = self.keep_name(name);
+        self.push(Step { kind: kind::APPEND_ELEMENT, flags: space, node: parent, name, name_length, ..Step::default() });
+        self.count_node()
+    }
+
+    /// Gives the element that was made last an attribute.
+    pub fn attribute(&mut self, node: Handle, name: &LocalName, value: &str) {
+        let value = self.keep_filtered(value);
+        self.attribute_of_piece(node, name, value);
+    }
+
+    /// Gives the element that was made last an attribute whose value is kept already.
+    pub fn attribute_of_piece(&mut self, node: Handle, name: &LocalName, (value, value_length): Piece) {
+        let (name, name_length) = self.keep_name(name);
+        self.push(Step { kind: kind::ADD_ATTRIBUTE, node, name, name_length, value, value_length, ..Step::default() });
+    }
+
+    /// Appends a text to the children of a node. It joins a text before it.
+    pub fn text(&mut self, parent: Handle, (value, value_length): Piece) {
+        self.push(Step { kind: kind::PUT_TEXT, node: parent, value, value_length, ..Step::default() });
+    }
+
+    /// Appends a comment to the children of a node, so that the next text doesn't join the one before it.
+    pub fn part_texts(&mut self, parent: Handle) {
+        self.push(Step { kind: kind::MAKE_COMMENT, ..Step::default() });
+        let child = self.count_node();
+        self.push(Step { kind: kind::PUT_NODE, node: parent, child, ..Step::default() });
+    }
+}

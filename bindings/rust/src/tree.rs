@@ -1,0 +1,357 @@
+//! A page as a tree: an arena of nodes over one text.
+//!
+//! A node is a number. Its children are a doubly linked list, so that a node can be moved, and children can be handed over, without
+//! going over siblings. The bytes of all texts are in one vector, and a text is a range of it, as the records of the library want
+//! it. A text that is appended to one whose bytes aren't the vector's last becomes a piece of its own, which continues that one.
+
+use crate::characters::Filter;
+use html5ever::{Attribute, LocalName, Namespace, QualName};
+use tendril::StrTendril;
+
+/// Number of a node.
+pub(crate) type Id = u32;
+
+/// No node.
+pub(crate) const NONE: Id = Id::MAX;
+
+/// The document's number.
+pub(crate) const DOCUMENT: Id = 0;
+
+/// Maximum number of attributes of an element.
+pub(crate) const MAX_ATTRIBUTES: usize = 1_000;
+
+/// An attribute that is asked for.
+#[derive(Clone, Debug)]
+pub(crate) struct Attr {
+    pub name: LocalName,
+    pub value: StrTendril,
+}
+
+/// An element. Its attributes are a range of the tree's.
+#[derive(Debug)]
+pub(crate) struct Element {
+    pub space: Namespace,
+    pub name: LocalName,
+    attributes: u32,
+    attribute_count: u16,
+    /// Whether it is an HTML integration point of MathML's `annotation-xml`.
+    pub is_integration_point: bool,
+}
+
+/// What a node is.
+#[derive(Debug)]
+pub(crate) enum Data {
+    /// The document, or the contents of a template.
+    Root,
+    /// An element.
+    Element(Element),
+    /// A range of the text.
+    Text { start: u32, length: u32, continues: bool },
+    /// A comment or a processing instruction. It parts the texts around it, whatever it says.
+    Comment,
+}
+
+#[derive(Debug)]
+struct Node {
+    parent: Id,
+    previous: Id,
+    next: Id,
+    first: Id,
+    last: Id,
+    data: Data,
+}
+
+/// A range of the text: where it starts, and its length.
+pub(crate) type Piece = (u32, u32);
+
+/// A page's nodes, and their text.
+#[derive(Debug)]
+pub(crate) struct Tree {
+    nodes: Vec<Node>,
+    attributes: Vec<Attr>,
+    pub text: Vec<u8>,
+    pub filter: Filter,
+    /// Whether the text passes what 32 bits can name, or memory is out.
+    pub is_out_of_memory: bool,
+}
+
+impl Tree {
+    /// Returns the tree of a document without children, whose texts go through a filter.
+    pub fn new(filter: Filter) -> Tree {
+        let mut tree = Tree { nodes: Vec::new(), attributes: Vec::new(), text: Vec::new(), filter, is_out_of_memory: false };
+        tree.add(Data::Root);
+        tree
+    }
+
+    #[inline]
+    pub fn node_count(&self) -> usize {
+        self.nodes.len()
+    }
+
+    #[inline]
+    pub fn attribute_count(&self) -> usize {
+        self.attributes.len()
+    }
+
+    /// Whether there is room for so many nodes and attributes.
+    #[inline]
+    pub fn has_room(&self, nodes: usize, attributes: usize) -> bool {
+        self.nodes.capacity() - self.nodes.len() >= nodes && self.attributes.capacity() - self.attributes.len() >= attributes
+    }
+
+    /// Makes room for so many nodes and attributes. Returns whether there is memory for them.
+    pub fn make_room(&mut self, nodes: usize, attributes: usize) -> bool {
+        self.nodes.try_reserve(nodes).is_ok() && self.attributes.try_reserve(attributes).is_ok()
+    }
+
+    /// Adds a node that has no parent.
+    pub fn add(&mut self, data: Data) -> Id {
+        let node = self.nodes.len() as Id;
+        self.nodes.push(Node { parent: NONE, previous: NONE, next: NONE, first: NONE, last: NONE, data });
+        node
+    }
+
+    /// Adds an element that has no parent, with those of the attributes that are asked for.
+    pub fn add_element(&mut self, name: QualName, attributes: Vec<Attribute>, is_asked: impl Fn(&LocalName) -> bool) -> Id {
+        let start = self.attributes.len();
+        let asked = attributes.into_iter().filter(|attribute| is_asked(&attribute.name.local));
+        self.attributes.extend(asked.take(MAX_ATTRIBUTES).map(|attribute| Attr { name: attribute.name.local, value: attribute.value }));
+        self.add(Data::Element(Element {
+            space: name.ns,
+            name: name.local,
+            attributes: start as u32,
+            attribute_count: (self.attributes.len() - start) as u16,
+            is_integration_point: false,
+        }))
+    }
+
+    /// Gives an element an attribute, unless it has one of that name or `MAX_ATTRIBUTES`.
+    pub fn add_attribute_if_missing(&mut self, node: Id, attribute: Attr) {
+        let found = self.attributes_of(node);
+        if found.len() >= MAX_ATTRIBUTES || found.iter().any(|other| other.name == attribute.name) {
+            return;
+        }
+        // the range moves to the end of the tree's attributes, where it can grow
+        let end = self.attributes.len();
+        if let Data::Element(element) = &mut self.nodes[node as usize].data {
+            let range = element.attributes as usize..element.attributes as usize + element.attribute_count as usize;
+            if range.end != end {
+                element.attributes = end as u32;
+                self.attributes.extend_from_within(range);
+            }
+            element.attribute_count += 1;
+            self.attributes.push(attribute);
+        }
+    }
+
+    pub fn data(&self, node: Id) -> &Data {
+        &self.nodes[node as usize].data
+    }
+
+    /// Returns a node's element, if it is one.
+    pub fn element(&self, node: Id) -> Option<&Element> {
+        match self.data(node) {
+            Data::Element(element) => Some(element),
+            _ => None,
+        }
+    }
+
+    /// Returns a node's element for changes, if it is one.
+    pub fn element_mut(&mut self, node: Id) -> Option<&mut Element> {
+        match &mut self.nodes[node as usize].data {
+            Data::Element(element) => Some(element),
+            _ => None,
+        }
+    }
+
+    /// Returns the attributes that were asked for of an element; none of another node.
+    pub fn attributes_of(&self, node: Id) -> &[Attr] {
+        match self.element(node) {
+            Some(element) => &self.attributes[element.attributes as usize..][..element.attribute_count as usize],
+            None => &[],
+        }
+    }
+
+    /// Returns the value of an element's attribute.
+    pub fn attribute(&self, node: Id, name: &LocalName) -> Option<&StrTendril> {
+        self.attributes_of(node).iter().find(|attribute| attribute.name == *name).map(|attribute| &attribute.value)
+    }
+
+    pub fn first_child(&self, node: Id) -> Id {
+        self.nodes[node as usize].first
+    }
+
+    pub fn next_sibling(&self, node: Id) -> Id {
+        self.nodes[node as usize].next
+    }
+
+    pub fn parent(&self, node: Id) -> Id {
+        self.nodes[node as usize].parent
+    }
+
+    /// Returns the children of a node.
+    pub fn children(&self, node: Id) -> impl Iterator<Item = Id> + '_ {
+        let first = self.first_child(node);
+        std::iter::successors((first != NONE).then(|| first), move |&child| {
+            let next = self.next_sibling(child);
+            (next != NONE).then(|| next)
+        })
+    }
+
+    /// Returns the nodes in the order in which they were made.
+    pub fn ids(&self) -> impl Iterator<Item = Id> {
+        0..self.nodes.len() as Id
+    }
+
+    /// Appends a node, which has no parent, to the children of another, or inserts it before one of these.
+    pub fn insert(&mut self, parent: Id, before: Id, node: Id) {
+        let previous = if before == NONE { self.nodes[parent as usize].last } else { self.nodes[before as usize].previous };
+        let links = &mut self.nodes[node as usize];
+        (links.parent, links.previous, links.next) = (parent, previous, before);
+        match previous {
+            NONE => self.nodes[parent as usize].first = node,
+            _ => self.nodes[previous as usize].next = node,
+        }
+        match before {
+            NONE => self.nodes[parent as usize].last = node,
+            _ => self.nodes[before as usize].previous = node,
+        }
+    }
+
+    /// Takes a node out of its parent's children, if it has a parent.
+    pub fn detach(&mut self, node: Id) {
+        let Node { parent, previous, next, .. } = self.nodes[node as usize];
+        if parent == NONE {
+            return;
+        }
+        match previous {
+            NONE => self.nodes[parent as usize].first = next,
+            _ => self.nodes[previous as usize].next = next,
+        }
+        match next {
+            NONE => self.nodes[parent as usize].last = previous,
+            _ => self.nodes[next as usize].previous = previous,
+        }
+        let links = &mut self.nodes[node as usize];
+        (links.parent, links.previous, links.next) = (NONE, NONE, NONE);
+    }
+
+    /// Moves all children of a node after those of another.
+    pub fn move_children(&mut self, from: Id, to: Id) {
+        let (first, last) = (self.nodes[from as usize].first, self.nodes[from as usize].last);
+        if first == NONE {
+            return;
+        }
+        let mut child = first;
+        while child != NONE {
+            self.nodes[child as usize].parent = to;
+            child = self.nodes[child as usize].next;
+        }
+        let end = self.nodes[to as usize].last;
+        self.nodes[first as usize].previous = end;
+        match end {
+            NONE => self.nodes[to as usize].first = first,
+            _ => self.nodes[end as usize].next = first,
+        }
+        self.nodes[to as usize].last = last;
+        (self.nodes[from as usize].first, self.nodes[from as usize].last) = (NONE, NONE);
+    }
+
+    /// Appends a text to the children of a node, or inserts it before one of these. It joins a text directly before its place.
+    pub fn insert_text(&mut self, parent: Id, before: Id, text: &str) {
+        let (start, length) = self.keep(text);
+        if length == 0 {
+            return;
+        }
+        let previous = if before == NONE { self.nodes[parent as usize].last } else { self.nodes[before as usize].previous };
+        let mut continues = false;
+        if previous != NONE {
+            if let Data::Text { start: other, length: other_length, .. } = &mut self.nodes[previous as usize].data {
+                if *other + *other_length == start {
+                    *other_length += length;
+                    return;
+                }
+                continues = true;
+            }
+        }
+        let node = self.add(Data::Text { start, length, continues });
+        self.insert(parent, before, node);
+    }
+
+    /// Keeps a text, without what the filter drops of it.
+    fn keep(&mut self, text: &str) -> Piece {
+        let start = self.text.len();
+        if start + text.len() > u32::MAX as usize || self.text.try_reserve(text.len()).is_err() {
+            self.is_out_of_memory = true;
+            return (0, 0);
+        }
+        self.filter.append(text, &mut self.text);
+        (start as u32, (self.text.len() - start) as u32)
+    }
+
+    /// Appends the text of a node's children that are texts.
+    pub fn push_text_of(&self, node: Id, text: &mut String) {
+        for child in self.children(node) {
+            if let Data::Text { start, length, .. } = *self.data(child) {
+                text.push_str(&String::from_utf8_lossy(&self.text[start as usize..][..length as usize]));
+            }
+        }
+    }
+}
+
+#[cfg(test)]
+mod tests {
+    use super::*;
+    use html5ever::{local_name, namespace_url, ns};
+
+    fn element(tree: &mut Tree) -> Id {
+        tree.add_element(QualName::new(None, ns!(html), local_name!("p")), Vec::new(), |_| true)
+    }
+
+    fn text(tree: &Tree, node: Id) -> String {
+        let mut text = String::new();
+        tree.push_text_of(node, &mut text);
+        text
+    }
+
+    #[test]
+    fn nodes_are_moved() {
+        let mut tree = Tree::new(Filter::default());
+        let (one, two, three) = (element(&mut tree), element(&mut tree), element(&mut tree));
+        tree.insert(DOCUMENT, NONE, one);
+        tree.insert(DOCUMENT, NONE, three);
+        tree.insert(DOCUMENT, three, two);
+        assert_eq!(tree.children(DOCUMENT).collect::<Vec<_>>(), [one, two, three]);
+        tree.detach(two);
+        tree.insert(one, NONE, two);
+        tree.move_children(DOCUMENT, two);
+        assert_eq!(tree.children(two).collect::<Vec<_>>(), [one, three]);
+        assert_eq!(tree.first_child(DOCUMENT), NONE);
+    }
+
+    #[test]
+    fn texts_join_the_one_before() {
+        let mut tree = Tree::new(Filter::default());
+        let one = element(&mut tree);
+        tree.insert(DOCUMENT, NONE, one);
+        tree.insert_text(DOCUMENT, one, "a");
+        tree.insert_text(one, NONE, "b");
+        tree.insert_text(DOCUMENT, one, "c");
+        tree.insert_text(one, NONE, "d");
+        assert_eq!((text(&tree, DOCUMENT), text(&tree, one)), ("ac".to_owned(), "bd".to_owned()));
+        let continues = |node| matches!(tree.data(node), Data::Text { continues: true, .. });
+        assert_eq!(tree.children(DOCUMENT).map(continues).collect::<Vec<_>>(), [false, true, false]);
+    }
+
+    #[test]
+    fn attributes_are_added_where_they_are_missing() {
+        let mut tree = Tree::new(Filter::default());
+        let (one, two) = (element(&mut tree), element(&mut tree));
+        let attribute = |name, value: &str| Attr { name, value: value.into() };
+        for (node, name, value) in [(one, local_name!("id"), "a"), (two, local_name!("id"), "b"), (one, local_name!("class"), "c"), (one, local_name!("id"), "d")] {
+            tree.add_attribute_if_missing(node, attribute(name, value));
+        }
+        let values = |node| tree.attributes_of(node).iter().map(|attribute| attribute.value.to_string()).collect::<Vec<_>>();
+        assert_eq!((values(one), values(two)), (vec!["a".to_owned(), "c".to_owned()], vec!["b".to_owned()]));
+    }
+}

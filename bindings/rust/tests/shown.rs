@@ -1,0 +1,135 @@
+//! What a browser shows of a page: the cases of `shown/cases.txt`, and what they can't say.
+
+use html_render::config::{plain, plain_no_decorate, rich, Config, PlainDecorator, RichDecorator};
+use html_render::{from_read, render, Colour, Options, RichAnnotation};
+use std::collections::BTreeSet;
+
+const CASES: &str = include_str!("../../shown/cases.txt");
+const DOCUMENT: &str = include_str!("../../../docs/HTML.md");
+
+/// The cases: the row of the document, the page and its text.
+fn cases() -> Vec<(&'static str, &'static str, &'static str)> {
+    let parts = CASES.split("\n=== ").skip(1);
+    parts
+        .map(|part| {
+            let (row, rest) = part.split_once('\n').unwrap();
+            let (page, text) = rest.split_once("\n---\n").unwrap();
+            (row, page, text.trim_end_matches('\n'))
+        })
+        .collect()
+}
+
+#[test]
+fn each_case() {
+    let mut others = String::new();
+    for (row, page, text) in cases() {
+        let shown = render(page, 20).unwrap();
+        if shown.trim_end_matches('\n') != text {
+            others.push_str(&format!("{row}\n{page}\n---\n{shown}\n"));
+        }
+    }
+    assert!(others.is_empty(), "{others}");
+}
+
+#[test]
+fn each_row_of_the_document_has_a_case() {
+    let elements = DOCUMENT.split("\n## ").find(|part| part.starts_with("Elements\n")).unwrap();
+    let rows: BTreeSet<&str> = elements.lines().filter_map(|line| line.strip_prefix("| ")?.split(" | ").next()).filter(|row| *row != "Element").collect();
+    let of_cases: BTreeSet<&str> = cases().into_iter().map(|(row, _, _)| row).collect();
+    assert_eq!(rows, of_cases);
+}
+
+fn shown(html: &str, config: Config<PlainDecorator>, width: usize) -> String {
+    config.as_shown(Options::new()).string_from_read(html.as_bytes(), width).unwrap()
+}
+
+#[test]
+fn html2text_s_way_is_kept() {
+    let page = "a<section>b</section><noscript><b>c</b></noscript><p hidden>d<hr><q>e</q>";
+    assert_eq!(from_read(page.as_bytes(), 80).unwrap(), "ab<b>c</b>\n\nd\n\ne\n");
+    assert_eq!(from_read("so\u{ad}ft".as_bytes(), 80).unwrap(), "so\u{ad}ft\n");
+    assert_eq!(from_read(&b"\xe9"[..], 80).unwrap(), "\u{fffd}\n");
+}
+
+#[test]
+fn control_characters_are_kept_if_asked() {
+    let page = "<p>a<a href='x\u{1b}y'>b</a>";
+    assert_eq!(shown(page, plain(), 80), "a[b][1]\n\n[1]: xy\n");
+    assert_eq!(shown(page, plain().keep_controls(), 80), "a[b][1]\n\n[1]: x\u{1b}y\n");
+    assert_eq!(from_read(page.as_bytes(), 80).unwrap(), "a[b][1]\n\n[1]: xy\n");
+    let sheet = "<style>p::before { content: 'a\\1b b' }</style><p>c";
+    assert_eq!(shown(sheet, plain().use_doc_css(), 80), "abc\n");
+}
+
+#[test]
+fn nothing_controls_a_terminal() {
+    let bad: String = ('\0'..='\u{9f}').chain('\u{202a}'..='\u{202e}').chain('\u{2066}'..='\u{2069}').filter(|c| !"\n\t".contains(*c)).filter(|c| c.is_control() || *c > '\u{9f}').collect();
+    let references: String = bad.chars().map(|c| format!("&#{};", c as u32)).collect();
+    let page = format!(
+        "<style>b::before{{content:'{bad}'}}</style><title>t{bad}</title><p id='{bad}' class='{references}'>a{bad}{references}<b>b</b>\
+         <a href='https://x/{bad}{references}' name='{references}'>c</a><img src='{references}' alt='d{references}'><svg><title>e{references}</title></svg>\
+         <iframe src='f{references}'></iframe><video src=g title='h{references}'></video><pre>i{bad}{references}</pre><table><caption>{references}j<tr><td>k{references}</table>"
+    );
+    let is_clean = |text: &str| text.chars().all(|c| c == '\n' || !c.is_control() && !bad.contains(c));
+    let options = Options::new().title();
+    for width in [5, 80] {
+        for config in [plain(), plain_no_decorate()] {
+            let text = config.use_doc_css().allow_width_overflow().as_shown(options).string_from_read(page.as_bytes(), width).unwrap();
+            assert!(is_clean(&text), "{text:?}");
+            assert!("tabcdefhijk".chars().all(|c| text.contains(c)), "{text}");
+        }
+        let lines = rich().use_doc_css().allow_width_overflow().as_shown(options).lines_from_read(page.as_bytes(), width).unwrap();
+        assert!(is_clean(&format!("{lines:?}").replace("\\0", "\0").replace("\\u{", "\u{1b}")), "{lines:?}");
+    }
+}
+
+#[test]
+fn rules_are_as_wide_as_there_is_room() {
+    assert_eq!(shown("<hr>", plain().max_wrap_width(3), 80), "───\n");
+    assert_eq!(render("<blockquote><hr>", 3).unwrap(), "> ─\n");
+    assert_eq!(render("<blockquote><hr>", 2).unwrap(), "");
+    assert_eq!(shown("a<hr class=b>c", plain().add_css("hr.b { display: none }").unwrap(), 80), "ac\n");
+}
+
+#[test]
+fn rules_are_never_too_narrow() {
+    for page in ["<hr>", "<ul><li><hr>", "<ol start=-9><li><hr><li>", "<dl><dd><blockquote><hr>", "<h3><hr>", "<table><tr><td><hr>", "<table><tr><td><ul><li><hr>"] {
+        for width in 1..20 {
+            let text = render(page, width).unwrap_or_else(|error| panic!("{page} at {width}: {error}"));
+            assert!(text.lines().all(|line| line.chars().count() <= width && line.trim_end() != "─ ─"), "{page} at {width}: {text}");
+        }
+    }
+}
+
+#[test]
+fn colours_of_inline_styles() {
+    let colours = |page: &str, config: Config<RichDecorator>| {
+        let lines = config.as_shown(Options::new()).lines_from_read(page.as_bytes(), 80).unwrap();
+        let tag = lines[0].tagged_strings().next().unwrap().tag.clone();
+        tag
+    };
+    let red = RichAnnotation::Colour(Colour { r: 255, g: 0, b: 0 });
+    let blue = RichAnnotation::BgColour(Colour { r: 0, g: 0, b: 255 });
+    assert_eq!(colours("<p style='color: red; background-color: blue'>a", rich()), [red.clone(), blue]);
+    // over every rule of a sheet, but an important one
+    let sheet = "<style>p#i.a.b.c { color: green } p { color: green }</style>";
+    assert_eq!(colours(&format!("{sheet}<p id=i class='a b c' style='color: red'>a"), rich().use_doc_css()), [red.clone()]);
+    let important = "<style>p { color: lime !important }</style><p style='color: red'>a";
+    assert_eq!(colours(important, rich().use_doc_css()), [RichAnnotation::Colour(Colour { r: 0, g: 255, b: 0 })]);
+    assert_eq!(colours("<style>p { color: lime !important }</style><p style='color: red !important'>a", rich().use_doc_css()), [red]);
+}
+
+#[test]
+fn sheets_are_asked_for() {
+    let page = "<style>section { display: none }</style><section>a</section>b";
+    assert_eq!(shown(page, plain(), 80), "a\nb\n");
+    assert_eq!(shown(page, plain().use_doc_css(), 80), "b\n");
+}
+
+#[test]
+fn titles() {
+    let text = |page: &str| plain().as_shown(Options::new().title()).string_from_read(page.as_bytes(), 10).unwrap();
+    assert_eq!(text("<title> The\n title that is </title><p>a"), "The title\nthat is\n\na\n");
+    assert_eq!(text("<title> </title><p>a"), "a\n");
+    assert_eq!(text("<svg><title>b</title></svg><p>a"), "[b]\n\na\n");
+}
