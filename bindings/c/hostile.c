@@ -1,5 +1,6 @@
-/* Gives the library what a hostile page could: a document 100,000 deep, a text of a billion bytes that isn't there; and refuses each
- * growth of memory in turn to a document that is recorded and rendered, and looks that no block is lost.
+/* Gives the library what a hostile page could: a document 100,000 deep, a text of a billion bytes that isn't there, settings whose
+ * texts leave the buffer; looks which of several faults a call names; and refuses each growth of memory in turn to a document that is
+ * recorded and rendered, and looks that no block is lost.
  *
  * It is linked with --wrap for malloc, calloc, realloc, aligned_alloc, posix_memalign and free. */
 #include "html_render.h"
@@ -101,6 +102,110 @@ static void billion(void) {
     expect(html_render_text(&step, 1, text, 1, &none, 0, 0, 80, &out, &length) == HTML_RENDER_BAD_STEP && !out && length == 0, "a text that isn't there is taken");
 }
 
+/* Steps and settings over the text "ab\xC3\xA9", whose last two bytes are one character. */
+struct given {
+    struct html_render_step steps[2];
+    struct html_render_setting settings[2];
+    size_t step_count, setting_count, width;
+    uint32_t decorator;
+};
+
+/* A paragraph of the document with the text "ab", in 80 columns. */
+static struct given paragraph(void) {
+    struct given g = {0};
+    g.steps[0].kind = 16; /* an element of HTML, "a", below the document */
+    g.steps[0].flags = HTML_RENDER_HTML;
+    g.steps[0].name_length = 1;
+    g.steps[1].kind = 6; /* a text below node 1 */
+    g.steps[1].node = 1;
+    g.steps[1].value_length = 2;
+    g.step_count = 2;
+    g.width = 80;
+    return g;
+}
+
+/* Expects a status and a size of both calls, and that only 0 gives anything. */
+static void expect_both(const struct given *g, enum html_render_status status, size_t size, const char *what) {
+    static const uint8_t text[4] = {'a', 'b', 0xC3, 0xA9};
+    uint8_t *out = NULL;
+    size_t length = 77;
+    uint32_t was = html_render_text(g->steps, g->step_count, text, sizeof text, g->settings, g->setting_count, g->decorator, g->width, &out, &length);
+    expect(was == status && (out != NULL) == (status == HTML_RENDER_OK) && (status == HTML_RENDER_OK || length == size), what);
+    html_render_free(out);
+    out = NULL;
+    length = 77;
+    was = html_render_lines(g->steps, g->step_count, text, sizeof text, g->settings, g->setting_count, g->decorator, g->width, &out, &length);
+    expect(was == status && (out != NULL) == (status == HTML_RENDER_OK) && (status == HTML_RENDER_OK || length == size), what);
+    expect(!out || out[length] == 0, "no zero byte follows the records");
+    html_render_free(out);
+}
+
+/* A style rule that hides what it selects, behind a setting that is none of a text's. */
+static struct given with_rule(uint32_t flags) {
+    struct given g = paragraph();
+    g.settings[0].kind = HTML_RENDER_ALLOW_WIDTH_OVERFLOW;
+    g.settings[1].kind = 13;
+    g.settings[1].number = HTML_RENDER_DISPLAY_NONE;
+    g.settings[1].flags = flags;
+    g.setting_count = 2;
+    return g;
+}
+
+static void settings_past_the_text(void) {
+    enum { HAS_ELEMENT = 32, HAS_ID = 64 };
+    struct given g = paragraph();
+    g.settings[0].kind = HTML_RENDER_EMPTY_IMG_MODE;
+    g.settings[0].number = 2;
+    g.settings[0].text_length = 4;
+    g.setting_count = 1;
+    expect_both(&g, HTML_RENDER_OK, 0, "a title that is all of the text is refused");
+    g.settings[0].text_length = 5;
+    expect_both(&g, HTML_RENDER_BAD_SETTING, 0, "a title that leaves the text is taken");
+    g.settings[0].text_length = 3;
+    expect_both(&g, HTML_RENDER_BAD_SETTING, 0, "a title that ends in a character is taken");
+    g.settings[0].text = UINT32_MAX;
+    g.settings[0].text_length = UINT32_MAX;
+    expect_both(&g, HTML_RENDER_BAD_SETTING, 0, "a title that begins past the text is taken");
+    g.settings[0].number = 3;
+    expect_both(&g, HTML_RENDER_OK, 0, "a title that isn't asked for is looked at");
+
+    g = with_rule(0);
+    g.settings[1].element = g.settings[1].id_length = g.settings[1].text = 5;
+    expect_both(&g, HTML_RENDER_OK, 0, "texts that a rule doesn't state are looked at");
+    g.settings[1].flags = HAS_ELEMENT;
+    expect_both(&g, HTML_RENDER_BAD_SETTING, 1, "an element's name that leaves the text is taken");
+    g.settings[1].flags = HAS_ID;
+    expect_both(&g, HTML_RENDER_BAD_SETTING, 1, "an id that leaves the text is taken");
+    g = with_rule(0);
+    g.settings[1].classes_length = 5;
+    expect_both(&g, HTML_RENDER_BAD_SETTING, 1, "classes that leave the text are taken");
+    g = with_rule(0);
+    g.settings[1].number = HTML_RENDER_CONTENT;
+    g.settings[1].text_length = 5;
+    expect_both(&g, HTML_RENDER_BAD_SETTING, 1, "a content that leaves the text is taken");
+}
+
+/* The first of several faults counts. */
+static void faults_in_order(void) {
+    struct given g = paragraph();
+    expect_both(&g, HTML_RENDER_OK, 0, "a paragraph isn't rendered");
+    g.width = 0;
+    expect_both(&g, HTML_RENDER_TOO_NARROW, 0, "width 0 isn't too narrow");
+    g.steps[0].name = 2;
+    expect_both(&g, HTML_RENDER_BAD_STEP, 0, "a name that ends in a character is taken");
+    g.settings[0].kind = HTML_RENDER_PAD_BLOCK_WIDTH;
+    g.settings[1].kind = 14;
+    g.setting_count = 2;
+    expect_both(&g, HTML_RENDER_BAD_SETTING, 1, "a setting of no kind is taken");
+    g.decorator = 2;
+    expect_both(&g, HTML_RENDER_BAD_DECORATOR, 0, "a third decorator is taken");
+    g = paragraph();
+    g.steps[1].node = 2;
+    expect_both(&g, HTML_RENDER_BAD_STEP, 1, "a node that isn't there is taken");
+    g.decorator = HTML_RENDER_RICH;
+    expect_both(&g, HTML_RENDER_BAD_STEP, 1, "a node that isn't there is taken");
+}
+
 /* Records and renders a page, and answers the status; 3 too where nothing can be recorded. */
 static int page_of(char **text, size_t *length) {
     static const char *const CELLS[] = {"To", "Minutes", "Lighthouse Point", "20"};
@@ -152,6 +257,8 @@ int main(void) {
     long two, all;
     deep();
     billion();
+    settings_past_the_text();
+    faults_in_order();
     two = refusals(2);
     all = refusals(1000000000);
     if (!failed)

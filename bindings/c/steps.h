@@ -19,8 +19,10 @@ struct html_render_setting {
     uint32_t kind, number, value, flags, text, text_length, element, element_length, id, id_length, classes, classes_length;
 };
 
-/* Render the document that steps build, in UTF-8 or as records of lines. They answer an `html_render_status`, with
- * `out` to be given to html_render_free at 0 alone. */
+/* Render the document that steps build, in UTF-8 or as records of lines, with a zero byte after them. They answer an
+ * `html_render_status`: 0 with the bytes in `out`, to be given to html_render_free, and how many they are in `length`; 3 where memory
+ * is out; else the first of these reasons: 6 the decorator, 5 a setting, 4 a step, 2 the document, 1 the width. `out` is then as it was,
+ * and `length` the number of the setting or the step, from 0, and 0 otherwise. */
 uint32_t html_render_text(const struct html_render_step *steps, size_t step_count, const uint8_t *text, size_t text_length, const struct html_render_setting *settings, size_t setting_count, uint32_t decorator, size_t width, uint8_t **out, size_t *length);
 uint32_t html_render_lines(const struct html_render_step *steps, size_t step_count, const uint8_t *text, size_t text_length, const struct html_render_setting *settings, size_t setting_count, uint32_t decorator, size_t width, uint8_t **out, size_t *length);
 

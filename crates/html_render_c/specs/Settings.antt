@@ -1,5 +1,9 @@
 -- WHAT RECORDS OF SETTINGS MAKE of the options of a configuration, over the text of which their texts are pieces.
-use Rattle.std.specs.Prelude.{ℕ, ◌==◌, ◌++◌, ◌/◌, ◌%◌, if◌then◌else◌, true, false, not, List, [], ◌∷◌, Option, Some, None, option_map, option_and_then}
+use Rattle.std.specs.Prelude.{◌≡◌, ℕ, ◌+◌, ◌==◌, ◌++◌, ◌/◌, ◌%◌, if◌then◌else◌, Bool, true, false, not, ◌&&◌, nat_le, List, [], ◌∷◌, length, take, slice_get}
+use Rattle.std.specs.Prelude.{Option, Some, None, option_map, option_and_then}
+use Rattle.std.specs.Str.{is_utf8}
+use Rattle.html_render_dom_values.specs.Outcome.{◌>>=◌}
+use Rattle.html_render_dom_values.specs.declared.errors.Error.TheVariants.{TooNarrow, Fail, OutOfMemory}
 use Rattle.html_render_dom_cascade.specs.declared.origins.StyleOrigin.{StyleOrigin}
 use Rattle.html_render_dom_cascade.specs.declared.origins.StyleOrigin.TheVariants as origin
 use Rattle.html_render_dom_rules.specs.Rules.{Rule, StyleValue, colour, bg_colour, display, white_space, content}
@@ -15,7 +19,18 @@ use Rattle.html_render_layout_estimates.specs.declared.settings.ImageRenderMode.
 use Rattle.html_render_tree.specs.Decorations.{decorations}
 use Rattle.html_render_tree.specs.Rendering.{Options}
 use Rattle.html_render_tree_steps.specs.Steps.{piece}
+use Rattle.html_render_c.specs.declared.faults.Fault.{Fault}
+use Rattle.html_render_c.specs.declared.faults.Fault.TheVariants as fault
 use Rattle.html_render_c.specs.declared.settings.Setting.{Setting}
+
+-- the text of a record: a piece of the text over which it is; none where that leaves it, or isn't in UTF-8
+abbrev pub text_at : (text : List ℕ) → (start size : ℕ) → Option (List ℕ)
+text_at text start size =
+    if nat_le (start + size) (length text) && is_utf8 (piece text start size) then Some (piece text start size) else None
+
+-- a text that a record may state: where it doesn't, where it begins and how long it is mean nothing
+abbrev pub stated : (is_stated : Bool) → Option (List ℕ) → Option (Option (List ℕ))
+stated is_stated t = if is_stated then option_map Some t else Some None
 
 -- 0xRRGGBB
 abbrev pub rgb : ℕ → Colour
@@ -29,7 +44,7 @@ abbrev pub declared_in : (text : List ℕ) → Setting → Option StyleValue
 declared_in text s =
     if s.number == 0 then Some (colour (rgb s.value)) else if s.number == 1 then Some (bg_colour (rgb s.value))
     else if s.number == 2 then Some (display shown.None) else if s.number == 3 then option_map white_space (treatment s.value)
-    else if s.number == 4 then Some (content (piece text s.text s.text_length)) else None
+    else if s.number == 4 then option_map content (text_at text s.text s.text_length) else None
 
 abbrev pub origin_in : (flags : ℕ) → StyleOrigin
 origin_in flags =
@@ -38,22 +53,27 @@ origin_in flags =
 abbrev pub place_in : (flags : ℕ) → Option PseudoElement
 place_in flags = if flags / 8 % 2 == 1 then Some Before else if flags / 16 % 2 == 1 then Some After else None
 
--- the rule of a record that declares this
-abbrev pub rule_in : (text : List ℕ) → Setting → StyleValue → Rule
-rule_in text s value = record {
-  origin = origin_in s.flags;
-  element = if s.flags / 32 % 2 == 1 then Some (piece text s.element s.element_length) else None;
-  id = if s.flags / 64 % 2 == 1 then Some (piece text s.id s.id_length) else None;
-  classes = words (piece text s.classes s.classes_length);
-  pseudo = place_in s.flags;
-  declarations = record { important = s.flags / 4 % 2 == 1; style = value } ∷ [];
-}
+-- the rule of a record; none where it declares nothing, or a text that it states is none
+abbrev pub rule_in : (text : List ℕ) → Setting → Option Rule
+rule_in text s = do
+  value ← declared_in text s
+  element ← stated (s.flags / 32 % 2 == 1) (text_at text s.element s.element_length)
+  id ← stated (s.flags / 64 % 2 == 1) (text_at text s.id s.id_length)
+  classes ← text_at text s.classes s.classes_length
+  Some (record {
+    origin = origin_in s.flags;
+    element = element;
+    id = id;
+    classes = words classes;
+    pseudo = place_in s.flags;
+    declarations = record { important = s.flags / 4 % 2 == 1; style = value } ∷ [];
+  })
 
--- what stands in the place of an image whose title is empty
+-- what is shown in place of an image whose title is empty
 abbrev pub image_mode_in : (text : List ℕ) → Setting → Option ImageRenderMode
 image_mode_in text s =
     if s.number == 0 then Some IgnoreEmpty else if s.number == 1 then Some ShowAlways
-    else if s.number == 2 then Some (Replace (piece text s.text s.text_length)) else if s.number == 3 then Some Filename else None
+    else if s.number == 2 then option_map Replace (text_at text s.text s.text_length) else if s.number == 3 then Some Filename else None
 
 -- the options after a record; none where it is no setting
 abbrev pub with_setting : {S : Type 0} → (text : List ℕ) → Options S → Setting → Option (Options S)
@@ -70,10 +90,27 @@ with_setting text options s =
     else if s.kind == 10 then Some (record options { settings = record options.settings { raw_mode = not (s.number == 0); table_borders = false } })
     else if s.kind == 11 then Some (record options { settings = record options.settings { table_borders = false } })
     else if s.kind == 12 then Some (record options { settings = record options.settings { fence_tables = true } })
-    else if s.kind == 13 then option_map (λ value. record options { rules = options.rules ++ rule_in text s value ∷ [] }) (declared_in text s)
+    else if s.kind == 13 then option_map (λ rule. record options { rules = options.rules ++ rule ∷ [] }) (rule_in text s)
     else None
 
 -- the options after records, one after another
 abbrev pub configured : {S : Type 0} → (text : List ℕ) → List Setting → Options S → Option (Options S)
 configured text [] options = Some options
 configured text (s ∷ settings) options = option_and_then (configured text settings) (with_setting text options s)
+
+-- the setting of this number is faulty: those before it make options, of which it makes none
+pub record IsFaultySetting {S : Type 0} (text : List ℕ) (settings : List Setting) (begin : Options S) (number : ℕ) : Type 0 where
+  pub options : Options S
+  pub made_before : configured text (take number settings) begin ≡ Some options
+  pub setting : Setting
+  pub is_setting : slice_get settings number ≡ Some setting
+  pub not_made : with_setting text options setting ≡ None
+
+-- why settings make no options: one is faulty, or memory is out
+abbrev pub IsSettingFault : {S : Type 0} → (text : List ℕ) → List Setting → (begin : Options S) → Fault → Type 0
+IsSettingFault text settings begin (fault.Setting number) = IsFaultySetting text settings begin number
+IsSettingFault text settings begin (fault.Refused OutOfMemory) = Unit {0}
+IsSettingFault text settings begin (fault.Refused TooNarrow) = ⊥
+IsSettingFault text settings begin (fault.Refused Fail) = ⊥
+IsSettingFault text settings begin (fault.Step number) = ⊥
+IsSettingFault text settings begin fault.Decorator = ⊥

@@ -1,6 +1,7 @@
 //! Why nothing is rendered.
 
-ghost use Rattle.std.specs.Prelude.{◌≤◌};
+ghost use Rattle.std.specs.Prelude.{◌≡◌, ◌≤◌};
+ghost use Rattle.html_render_c.specs.Faults.{code_of, record_of};
 
 use html_render_tree::Error;
 use html_render_tree_steps::building::StepError;
@@ -20,6 +21,10 @@ pub enum Fault {
 }
 
 impl From<Error> for Fault {
+    ghost use Rattle.html_render_c.specs.declared.faults.Fault.TheVariants.{Refused};
+
+    ghost from_gives = { λ error fault. fault ≡ Refused error };
+
     /// A call is refused.
     fn from(error: Error) -> Fault {
         Fault::Refused(error)
@@ -27,6 +32,11 @@ impl From<Error> for Fault {
 }
 
 impl From<AllocError> for Fault {
+    ghost use Rattle.html_render_c.specs.declared.faults.Fault.TheVariants.{Refused};
+    ghost use Rattle.html_render_dom_values.specs.declared.errors.Error.TheVariants.{OutOfMemory};
+
+    ghost from_gives = { λ _ fault. fault ≡ Refused OutOfMemory };
+
     /// Memory is out.
     fn from(refusal: AllocError) -> Fault {
         Fault::Refused(Error::from(refusal))
@@ -34,6 +44,11 @@ impl From<AllocError> for Fault {
 }
 
 impl<T: Drop> From<AllocFailed<T>> for Fault {
+    ghost use Rattle.html_render_c.specs.declared.faults.Fault.TheVariants.{Refused};
+    ghost use Rattle.html_render_dom_values.specs.declared.errors.Error.TheVariants.{OutOfMemory};
+
+    ghost from_gives = { λ _ fault. fault ≡ Refused OutOfMemory };
+
     /// Memory is out; what could not be kept is dropped.
     fn from(refusal: AllocFailed<T>) -> Fault {
         Fault::Refused(Error::from(refusal))
@@ -41,6 +56,10 @@ impl<T: Drop> From<AllocFailed<T>> for Fault {
 }
 
 impl From<StepError> for Fault {
+    ghost use Rattle.html_render_c.specs.Faults.{fault_of};
+
+    ghost from_gives = { λ error fault. fault ≡ fault_of error };
+
     /// The document isn't built.
     fn from(error: StepError) -> Fault {
         match error {
@@ -53,7 +72,8 @@ impl From<StepError> for Fault {
 impl Fault {
     /// The number by which a caller is told.
     pub fn code(self) -> u32
-        ensures { (1 ≤ result) × (result ≤ 6) }
+        ensures code { result ≡ code_of self }
+        ensures range { (1 ≤ result) × (result ≤ 6) }
     {
         match self {
             Fault::Refused(Error::TooNarrow) => 1,
@@ -66,7 +86,9 @@ impl Fault {
     }
 
     /// The number of the record that is faulty, or 0.
-    pub fn record(self) -> usize {
+    pub fn record(self) -> usize
+        ensures { result ≡ record_of self }
+    {
         match self {
             Fault::Step(number) | Fault::Setting(number) => number,
             Fault::Refused(_) | Fault::Decorator => 0,

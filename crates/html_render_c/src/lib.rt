@@ -4,8 +4,10 @@
 //! that pointers and lengths are those of arrays that nothing else changes, and that `malloc` and `free` are the program's own.
 #![tactic(auto)]
 
-ghost use Rattle.std.specs.Prelude.{◌≡◌, ◌≤◌, ℕ, List, length, vec_len, IsOkAnd};
-ghost use Rattle.html_render_c.specs.Pages.{IsPlainPage, IsRichPage};
+ghost use Rattle.std.specs.Prelude.{◌≡◌, ◌≤◌, ◌-◌, IfOk, IfErr, length};
+ghost use Rattle.std.specs.Vec.{vec_ptr};
+ghost use Rattle.html_render_c.specs.Faults.{code_of, record_of};
+ghost use Rattle.html_render_c.specs.Pages.{IsPlainLines, IsPlainText, IsReturned, IsRichLines, IsRichText};
 
 mod faults;
 mod lines;
@@ -14,26 +16,32 @@ mod rules;
 mod settings;
 
 use faults::Fault;
+use html_render_tree::decorate::RichAnnotation;
 use html_render_tree_steps::step::Step;
 use rendering::{Given, lines, text};
 use settings::Setting;
 use std::alloc::Global;
 
-/// Gives bytes away, in memory that the caller frees, and answers 0; or answers the number of a fault, and gives in `size` the
-/// number of the record that is faulty.
+/// Hands the memory of bytes over to the caller: `out` is their address, and they stay there until the caller frees them.
+fn hand_over(bytes: Vec<u8>, out: &mut *mut u8) -> &'static mut [u8]
+    ensures place { out.new ≡ vec_ptr bytes }
+    ensures lent { result.now ≡ bytes.items }
+{
+    let mut bytes = bytes;
+    *out = bytes.as_mut_ptr();
+    bytes.leak()
+}
+
+/// Returns the status of a result. Hands its bytes over, the last of which is a zero that `size` doesn't count; of a fault `size` is
+/// the number of the faulty record.
 fn give(given: Result<Vec<u8>, Fault>, out: &mut *mut u8, size: &mut usize) -> u32
+    ensures ok { IfOk given (λ ended. (result ≡ 0) × (size.new ≡ length ended.items - 1) × (out.new ≡ vec_ptr ended)) }
+    ensures err { IfErr given (λ fault. (result ≡ code_of fault) × (size.new ≡ record_of fault) × (out.new ≡ out.old)) }
     ensures status { result ≤ 6 }
-    ensures given { result ≡ 0 → IsOkAnd given (λ bytes. size.new ≡ vec_len bytes) }
 {
     match given {
-        Ok(mut bytes) => {
-            *size = bytes.len();
-            // so that there is memory to free, and a text ends as C wants it
-            if bytes.push(0).is_err() {
-                return 3;
-            }
-            *out = bytes.as_mut_ptr();
-            let _ = bytes.leak();
+        Ok(ended) => {
+            *size = hand_over(ended, out).len().saturating_sub(1);
             0
         }
         Err(fault) => {
@@ -45,11 +53,16 @@ fn give(given: Result<Vec<u8>, Fault>, out: &mut *mut u8, size: &mut usize) -> u
 
 /// Renders the document that steps build to its text, in `width` columns.
 ///
-/// The names and texts of steps and settings are pieces of `text`. `decorator` is 0 for that of plain text, 1 for that of rich
-/// text. At 0 `out` and `size` are those of the text, in UTF-8, whose memory the caller frees; a zero byte
-/// stands behind it. Else nothing is to be freed: 1 is
-/// too narrow, 2 that the document can't be rendered, 3 want of memory, 4 a faulty step and 5 a faulty setting, whose number is
-/// then in `size`, and 6 another decorator.
+/// The names and texts of steps and settings are pieces of `text`. `decorator` is 0 for that of plain text, and 1 for that of rich
+/// text. Returns a status:
+///
+/// - 0: `out` is the address of the text, in UTF-8, with a zero byte after it, and `size` its length without the zero. The caller
+///   frees it.
+/// - 3: out of memory.
+/// - Otherwise the first of these reasons: 6, there is no such decorator; 5, a setting is faulty, and 4, a step, of which `size` is
+///   the number of the first; 2, the document has no render tree; 1, the width is too narrow.
+///
+/// With another status than 0 nothing is to be freed: `out` is as it was. With another than 0, 4 and 5 `size` is 0.
 #[unsafe(no_mangle)]
 pub extern "C" fn html_render_text(
     alloc: Global,
@@ -62,8 +75,9 @@ pub extern "C" fn html_render_text(
     size: &mut usize,
 ) -> u32
     ensures status { result ≤ 6 }
-    ensures plain { decorator ≡ 0 → result ≡ 0 → (shown : List ℕ) × (size.new ≡ length shown) × IsPlainPage text.now steps.now settings.now width shown }
-    ensures rich { decorator ≡ 1 → result ≡ 0 → (shown : List ℕ) × (size.new ≡ length shown) × IsRichPage text.now steps.now settings.now width shown }
+    ensures plain { decorator ≡ 0 → IsReturned (IsPlainText text.now steps.now settings.now width) result size.new out.old out.new }
+    ensures rich { decorator ≡ 1 → IsReturned (IsRichText text.now steps.now settings.now width) result size.new out.old out.new }
+    ensures other { 2 ≤ decorator → (result ≡ 6) × (size.new ≡ 0) × (out.new ≡ out.old) }
 {
     let given = Given {
         steps,
@@ -75,15 +89,16 @@ pub extern "C" fn html_render_text(
 
 /// Renders the document that steps build to lines of tagged strings, in `width` columns.
 ///
-/// As [`html_render_text`]; at 0 the bytes are records, each a letter and what follows it, numbers in 4 bytes, the lowest first:
+/// Returns what [`html_render_text`] does, with records in place of the text: each a letter and what follows it, numbers in 4 bytes,
+/// the lowest first, and the greatest such number for any that is greater:
 ///
 /// - `L`: a line begins.
-/// - `S`: a string: how many annotations it has, these, the length of its text in bytes, and that.
-/// - `F`: a part of the document begins here: the length of its name, and that.
+/// - `S`: a string: the number of its annotations, these, the length of its text in bytes, and that.
+/// - `F`: a part of the document begins here: the length of its name in bytes, and that.
 ///
 /// An annotation is a letter and what follows it: `d` none of its own; `l` a link and `i` an image, with the length of the target
-/// or source, and that; `e` emphasis, `b` strong text, `s` text struck out, `c` code, `p` preformatted text and `q` on a
-/// continuation line; `f` a colour and `g` a background, with the three parts. Under the decorator of plain text there are none.
+/// or source in bytes, and that; `e` emphasis, `b` strong text, `s` text struck out, `c` code, `p` preformatted text and `q` on a
+/// continuation line; `f` a colour and `g` a background, with the three parts. Under the decorator of plain text each is `d`.
 #[unsafe(no_mangle)]
 pub extern "C" fn html_render_lines(
     alloc: Global,
@@ -95,7 +110,10 @@ pub extern "C" fn html_render_lines(
     out: &mut *mut u8,
     size: &mut usize,
 ) -> u32
-    ensures { result ≤ 6 }
+    ensures status { result ≤ 6 }
+    ensures plain { decorator ≡ 0 → IsReturned (IsPlainLines text.now steps.now settings.now width) result size.new out.old out.new }
+    ensures rich { decorator ≡ 1 → IsReturned (IsRichLines ⟦<RichAnnotation as PartialEq>⟧.eq text.now steps.now settings.now width) result size.new out.old out.new }
+    ensures other { 2 ≤ decorator → (result ≡ 6) × (size.new ≡ 0) × (out.new ≡ out.old) }
 {
     let given = Given {
         steps,

@@ -1,17 +1,18 @@
 //! What a document of steps is rendered to.
 
-ghost use Rattle.std.specs.Prelude.{◌≡◌, Some, IfOk, string_bytes};
-ghost use Rattle.html_render_c.specs.Pages.{IsPageOf, IsPlainPage, IsRichPage, IsTextOf};
-ghost use Rattle.html_render_c.specs.Settings.{configured};
+ghost use Rattle.std.specs.Prelude.{◌≡◌, ◌≤◌, ◌++◌, ◌∷◌, [], Some, Ok, Err, IfOk, IfErr, string_bytes};
+ghost use Rattle.html_render_c.specs.Pages.{Ends, IsDocumentOutcome, IsOutcome, IsPlainLines, IsPlainText, IsRichLines, IsRichText, IsTreeFault, IsTreeOf, records_written, text_written};
+ghost use Rattle.html_render_c.specs.Settings.{configured, IsSettingFault};
 
 use crate::faults::Fault;
 use crate::lines::{Written, write_lines};
 use crate::settings::{Setting, with_setting};
 use html_render_tree::config::{Config, plain_no_decorate, rich};
-use html_render_tree::decorate::TextDecorator;
+use html_render_tree::decorate::{RichAnnotation, TextDecorator};
+use html_render_tree::tree::RenderTree;
 use html_render_tree_steps::building::built;
 use html_render_tree_steps::step::Step;
-use std::alloc::Global;
+use std::alloc::{AllocError, Global};
 
 /// What a caller gives: the steps of a document, and the settings, over one text.
 #[derive(Clone, Copy)]
@@ -24,14 +25,19 @@ pub struct Given<'a> {
     pub settings: &'a [Setting],
 }
 
-/// A configuration after the calls that records are, in order.
+/// Returns a configuration after the calls of records, in order.
+///
+/// # Errors
+///
+/// `Setting` at the first record that is faulty; `OutOfMemory`.
 fn with_settings<D: TextDecorator>(
     alloc: Global,
     config: Config<D>,
     text: &[u8],
     settings: &[Setting],
 ) -> Result<Config<D>, Fault>
-    ensures { IfOk result (λ made. configured text.now settings.now config ≡ Some made) }
+    ensures ok { IfOk result (λ made. configured text.now settings.now config ≡ Some made) }
+    ensures err { IfErr result (λ fault. IsSettingFault text.now settings.now config fault) }
 {
     let mut config = config;
     let mut rest = settings;
@@ -45,34 +51,82 @@ fn with_settings<D: TextDecorator>(
     Ok(config)
 }
 
-/// The text of the document under a configuration.
+/// Returns the render tree of the document of the steps.
+///
+/// # Errors
+///
+/// `Step` at the first step that is faulty; `Fail`, where the document has no render tree; `OutOfMemory`.
+fn tree_of<D: TextDecorator>(
+    alloc: Global,
+    given: Given<'_>,
+    config: &Config<D>,
+) -> Result<RenderTree, Fault>
+    ensures ok { IfOk result (λ tree. IsTreeOf config.now.rules given.entry.text.now given.entry.steps.now tree) }
+    ensures err { IfErr result (λ fault. IsTreeFault config.now.rules given.entry.text.now given.entry.steps.now fault) }
+{
+    let dom = built(alloc, given.text, given.steps)?;
+    Ok(config.dom_into_render_tree(alloc, dom)?)
+}
+
+/// Returns bytes with a zero byte after them.
+fn ended(bytes: Vec<u8>) -> Result<Vec<u8>, AllocError>
+    ensures { IfOk result (λ ended. ended.items ≡ bytes.items ++ 0 ∷ []) }
+{
+    let mut bytes = bytes;
+    bytes.push(0)?;
+    Ok(bytes)
+}
+
+/// Returns the text of the document under a configuration.
 fn text_under<D: TextDecorator>(
     alloc: Global,
     given: Given<'_>,
     config: &Config<D>,
     width: usize,
-) -> Result<String, Fault>
-    ensures { IfOk result (λ shown. IsTextOf D.decoration config.now given.entry.text.now given.entry.steps.now width (string_bytes shown)) }
+) -> Result<Vec<u8>, Fault>
+    ensures ok { IfOk result (λ bytes. IsDocumentOutcome (text_written D.decoration width) config.now given.entry.text.now given.entry.steps.now (Ok bytes.items)) }
+    ensures err { IfErr result (λ fault. IsDocumentOutcome (text_written D.decoration width) config.now given.entry.text.now given.entry.steps.now (Err fault)) }
 {
-    let dom = built(alloc, given.text, given.steps)?;
-    let tree = config.dom_into_render_tree(alloc, dom)?;
-    Ok(config.render_to_string(alloc, tree, width)?)
+    let tree = tree_of(alloc, given, config)?;
+    Ok(config.render_to_string(alloc, tree, width)?.into_bytes())
 }
 
-/// The text of the document, with a configuration that is still to be set.
+/// Returns the records of the lines of the document under a configuration.
+fn records_under<D: TextDecorator>(
+    alloc: Global,
+    given: Given<'_>,
+    config: &Config<D>,
+    width: usize,
+) -> Result<Vec<u8>, Fault>
+where
+    D::Annotation: Written,
+    ensures ok { IfOk result (λ bytes. IsDocumentOutcome (records_written D.decoration D.Annotation.eq D.Annotation.annotation_record width)
+        config.now given.entry.text.now given.entry.steps.now (Ok bytes.items)) }
+    ensures err { IfErr result (λ fault. IsDocumentOutcome (records_written D.decoration D.Annotation.eq D.Annotation.annotation_record width)
+        config.now given.entry.text.now given.entry.steps.now (Err fault)) }
+{
+    let tree = tree_of(alloc, given, config)?;
+    let lines = config.render_to_lines(alloc, tree, width)?;
+    let mut bytes = Vec::new(alloc);
+    write_lines(&mut bytes, &lines)?;
+    Ok(bytes)
+}
+
+/// Returns the text of the document, with a zero byte after it, with a configuration that is still to be set.
 fn text_with<D: TextDecorator>(
     alloc: Global,
     given: Given<'_>,
     config: Config<D>,
     width: usize,
 ) -> Result<Vec<u8>, Fault>
-    ensures { IfOk result (λ shown. IsPageOf D.decoration config given.entry.text.now given.entry.steps.now given.entry.settings.now width shown.items) }
+    ensures { Ends (IsOutcome (text_written D.decoration width) config given.entry.text.now given.entry.steps.now given.entry.settings.now) result }
 {
     let config = with_settings(alloc, config, given.text, given.settings)?;
-    Ok(text_under(alloc, given, &config, width)?.into_bytes())
+    let text = text_under(alloc, given, &config, width)?;
+    Ok(ended(text)?)
 }
 
-/// The lines of the document, with a configuration that is still to be set.
+/// Returns the records of the lines of the document, with a zero byte after them, with a configuration that is still to be set.
 fn lines_with<D: TextDecorator>(
     alloc: Global,
     given: Given<'_>,
@@ -81,34 +135,47 @@ fn lines_with<D: TextDecorator>(
 ) -> Result<Vec<u8>, Fault>
 where
     D::Annotation: Written,
+    ensures { Ends (IsOutcome (records_written D.decoration D.Annotation.eq D.Annotation.annotation_record width) config
+        given.entry.text.now given.entry.steps.now given.entry.settings.now) result }
 {
     let config = with_settings(alloc, config, given.text, given.settings)?;
-    let dom = built(alloc, given.text, given.steps)?;
-    let tree = config.dom_into_render_tree(alloc, dom)?;
-    let lines = config.render_to_lines(alloc, tree, width)?;
-    let mut bytes = Vec::new(alloc);
-    write_lines(&mut bytes, &lines)?;
-    Ok(bytes)
+    let records = records_under(alloc, given, &config, width)?;
+    Ok(ended(records)?)
 }
 
-/// The text of the document, under the decorator of plain text.
+/// Returns the text of the document under the decorator of plain text, with a zero byte after it.
 fn plain_text(alloc: Global, given: Given<'_>, width: usize) -> Result<Vec<u8>, Fault>
-    ensures { IfOk result (λ shown. IsPlainPage given.entry.text.now given.entry.steps.now given.entry.settings.now width shown.items) }
+    ensures { Ends (IsPlainText given.entry.text.now given.entry.steps.now given.entry.settings.now width) result }
 {
     text_with(alloc, given, plain_no_decorate(alloc), width)
 }
 
-/// The text of the document, under the decorator of rich text.
+/// Returns the text of the document under the decorator of rich text, with a zero byte after it.
 fn rich_text(alloc: Global, given: Given<'_>, width: usize) -> Result<Vec<u8>, Fault>
-    ensures { IfOk result (λ shown. IsRichPage given.entry.text.now given.entry.steps.now given.entry.settings.now width shown.items) }
+    ensures { Ends (IsRichText given.entry.text.now given.entry.steps.now given.entry.settings.now width) result }
 {
     text_with(alloc, given, rich(alloc), width)
 }
 
-/// The text of the document, under the decorator of this number.
+/// Returns the records of the lines of the document under the decorator of plain text, with a zero byte after them.
+fn plain_lines(alloc: Global, given: Given<'_>, width: usize) -> Result<Vec<u8>, Fault>
+    ensures { Ends (IsPlainLines given.entry.text.now given.entry.steps.now given.entry.settings.now width) result }
+{
+    lines_with(alloc, given, plain_no_decorate(alloc), width)
+}
+
+/// Returns the records of the lines of the document under the decorator of rich text, with a zero byte after them.
+fn rich_lines(alloc: Global, given: Given<'_>, width: usize) -> Result<Vec<u8>, Fault>
+    ensures { Ends (IsRichLines ⟦<RichAnnotation as PartialEq>⟧.eq given.entry.text.now given.entry.steps.now given.entry.settings.now width) result }
+{
+    lines_with(alloc, given, rich(alloc), width)
+}
+
+/// Returns the text of the document under the decorator of this number, with a zero byte after it.
 pub fn text(alloc: Global, given: Given<'_>, decorator: u32, width: usize) -> Result<Vec<u8>, Fault>
-    ensures plain { decorator ≡ 0 → IfOk result (λ shown. IsPlainPage given.entry.text.now given.entry.steps.now given.entry.settings.now width shown.items) }
-    ensures rich { decorator ≡ 1 → IfOk result (λ shown. IsRichPage given.entry.text.now given.entry.steps.now given.entry.settings.now width shown.items) }
+    ensures plain { decorator ≡ 0 → Ends (IsPlainText given.entry.text.now given.entry.steps.now given.entry.settings.now width) result }
+    ensures rich { decorator ≡ 1 → Ends (IsRichText given.entry.text.now given.entry.steps.now given.entry.settings.now width) result }
+    ensures other { 2 ≤ decorator → result ≡ Err Fault.Decorator }
 {
     match decorator {
         0 => plain_text(alloc, given, width),
@@ -117,16 +184,20 @@ pub fn text(alloc: Global, given: Given<'_>, decorator: u32, width: usize) -> Re
     }
 }
 
-/// The lines of the document, under the decorator of this number.
+/// Returns the records of the lines of the document under the decorator of this number, with a zero byte after them.
 pub fn lines(
     alloc: Global,
     given: Given<'_>,
     decorator: u32,
     width: usize,
-) -> Result<Vec<u8>, Fault> {
+) -> Result<Vec<u8>, Fault>
+    ensures plain { decorator ≡ 0 → Ends (IsPlainLines given.entry.text.now given.entry.steps.now given.entry.settings.now width) result }
+    ensures rich { decorator ≡ 1 → Ends (IsRichLines ⟦<RichAnnotation as PartialEq>⟧.eq given.entry.text.now given.entry.steps.now given.entry.settings.now width) result }
+    ensures other { 2 ≤ decorator → result ≡ Err Fault.Decorator }
+{
     match decorator {
-        0 => lines_with(alloc, given, plain_no_decorate(alloc), width),
-        1 => lines_with(alloc, given, rich(alloc), width),
+        0 => plain_lines(alloc, given, width),
+        1 => rich_lines(alloc, given, width),
         _ => Err(Fault::Decorator),
     }
 }

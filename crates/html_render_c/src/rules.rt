@@ -1,9 +1,9 @@
 //! Style rules, as records of numbers.
 
-ghost use Rattle.std.specs.Prelude.{◌≡◌, ◌==◌, ◌/◌, ◌%◌, if◌then◌else◌, Some, None, map, option_map, string_bytes, IfOk, IfSome};
+ghost use Rattle.std.specs.Prelude.{◌≡◌, ◌==◌, ◌/◌, ◌%◌, Some, None, map, option_map, string_bytes, IfOk, IfErr};
 ghost use Rattle.html_render_dom_rules.specs.Rules.{rule_of, style_value_of};
 ghost use Rattle.html_render_dom_rules.specs.Selectors.{words};
-ghost use Rattle.html_render_tree_steps.specs.Steps.{piece};
+ghost use Rattle.html_render_c.specs.Settings as settings;
 ghost use Rattle.html_render_c.specs.Settings.{declared_in, origin_in, place_in, rgb, rule_in, treatment};
 
 use crate::settings::Setting;
@@ -14,12 +14,38 @@ use html_render_tree::style::{
 use html_render_tree_steps::pieces::piece_of;
 use std::alloc::{AllocError, Global};
 
-/// A copy of a piece of a text, if it is one.
-fn copied(alloc: Global, text: &[u8], start: u32, length: u32) -> Result<Option<String>, AllocError>
-    ensures { IfOk result (λ s. IfSome s (λ t. string_bytes t ≡ piece text.now start length)) }
+/// Returns the text of a record: a piece of `text`, or `None` if it leaves that or isn't in UTF-8.
+pub fn text_at(text: &[u8], start: u32, length: u32) -> Option<&str>
+    ensures { option_map (λ piece. piece.now) result ≡ settings.text_at text.now start length }
 {
-    match piece_of(text, start as usize, length as usize) {
+    piece_of(text, start as usize, length as usize)
+}
+
+/// Returns a copy of the text of a record, or `None` if it has none.
+fn copied(alloc: Global, text: &[u8], start: u32, length: u32) -> Result<Option<String>, AllocError>
+    ensures { IfOk result (λ copy. option_map string_bytes copy ≡ settings.text_at text.now start length) }
+{
+    match text_at(text, start, length) {
         Some(piece) => Ok(Some(String::from_str(alloc, piece)?)),
+        None => Ok(None),
+    }
+}
+
+/// Returns a copy of a text that a record may state, or `None` if it states what is none. What it doesn't state isn't looked at.
+fn stated(
+    alloc: Global,
+    is_stated: bool,
+    text: &[u8],
+    start: u32,
+    length: u32,
+) -> Result<Option<Option<String>>, AllocError>
+    ensures { IfOk result (λ copy. option_map (option_map string_bytes) copy ≡ settings.stated is_stated (settings.text_at text.now start length)) }
+{
+    if !is_stated {
+        return Ok(Some(None));
+    }
+    match copied(alloc, text, start, length)? {
+        Some(copy) => Ok(Some(Some(copy))),
         None => Ok(None),
     }
 }
@@ -47,9 +73,9 @@ fn white_space_of(number: u32) -> Option<WhiteSpace>
     }
 }
 
-/// What a rule declares, if that is anything.
+/// Returns what a rule declares, or `None` if that is nothing.
 fn style_of(alloc: Global, text: &[u8], setting: &Setting) -> Result<Option<Style>, AllocError>
-    ensures { IfOk result (λ s. IfSome s (λ style. declared_in text.now setting.now ≡ Some (style_value_of style))) }
+    ensures { IfOk result (λ style. option_map style_value_of style ≡ declared_in text.now setting.now) }
 {
     match setting.number {
         0 => Ok(Some(Style::Colour(colour_of(setting.value)))),
@@ -104,50 +130,55 @@ fn words_of(alloc: Global, text: &str) -> Result<Vec<String>, AllocError>
     Ok(copies)
 }
 
-/// A text, where it is stated.
-fn stated(is_stated: bool, text: String) -> Option<String>
-    ensures { option_map string_bytes result ≡ if is_stated then Some (string_bytes text) else None }
-{
-    if is_stated { Some(text) } else { None }
-}
-
-/// The rule of a record that declares this, if its texts are pieces of the text.
+/// Returns the selector of a record, as a rule that declares this, or `None` if a text that it states is none.
 fn rule_with(
     alloc: Global,
     text: &[u8],
     setting: &Setting,
     style: Style,
 ) -> Result<Option<StyleRule>, Error>
-    ensures { IfOk result (λ r. IfSome r (λ rule. rule_of rule ≡ rule_in text.now setting.now (style_value_of style))) }
+    requires { declared_in text.now setting.now ≡ Some (style_value_of style) }
+    ensures ok { IfOk result (λ rule. option_map rule_of rule ≡ rule_in text.now setting.now) }
+    ensures err { IfErr result (λ e. e ≡ Error.OutOfMemory) }
 {
-    let element = copied(alloc, text, setting.element, setting.element_length)?;
-    let id = copied(alloc, text, setting.id, setting.id_length)?;
-    let classes = piece_of(
+    let flags = setting.flags;
+    let has_element = flags / 32 % 2 == 1;
+    let has_id = flags / 64 % 2 == 1;
+    let Some(element) = stated(
+        alloc,
+        has_element,
         text,
-        setting.classes as usize,
-        setting.classes_length as usize,
-    );
-    let (Some(element), Some(id), Some(classes)) = (element, id, classes) else {
+        setting.element,
+        setting.element_length,
+    )?
+    else {
+        return Ok(None);
+    };
+    let Some(id) = stated(alloc, has_id, text, setting.id, setting.id_length)? else {
+        return Ok(None);
+    };
+    let Some(classes) = text_at(text, setting.classes, setting.classes_length) else {
         return Ok(None);
     };
     let mut declarations = Vec::with_capacity(alloc, 1)?;
     declarations.push(Declaration {
-        important: setting.flags / 4 % 2 == 1,
+        important: flags / 4 % 2 == 1,
         style,
     })?;
     Ok(Some(StyleRule {
-        origin: origin_of(setting.flags),
-        element: stated(setting.flags / 32 % 2 == 1, element),
-        id: stated(setting.flags / 64 % 2 == 1, id),
+        origin: origin_of(flags),
+        element,
+        id,
         classes: words_of(alloc, classes)?,
-        pseudo: pseudo_of(setting.flags),
+        pseudo: pseudo_of(flags),
         declarations,
     }))
 }
 
-/// The rule that a record is over a text, if it is one.
+/// Returns the rule of a record over a text, or `None` if it is none.
 pub fn rule_of(alloc: Global, text: &[u8], setting: &Setting) -> Result<Option<StyleRule>, Error>
-    ensures { IfOk result (λ r. IfSome r (λ rule. option_map (rule_in text.now setting.now) (declared_in text.now setting.now) ≡ Some (rule_of rule))) }
+    ensures ok { IfOk result (λ rule. option_map rule_of rule ≡ rule_in text.now setting.now) }
+    ensures err { IfErr result (λ e. e ≡ Error.OutOfMemory) }
 {
     match style_of(alloc, text, setting)? {
         Some(style) => rule_with(alloc, text, setting, style),

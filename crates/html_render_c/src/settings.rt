@@ -1,14 +1,13 @@
 //! The settings of a configuration, as records of numbers.
 
-ghost use Rattle.std.specs.Prelude.{◌≡◌, Some, IfOk, IfSome};
+ghost use Rattle.std.specs.Prelude.{◌≡◌, IfOk, IfErr};
 ghost use Rattle.html_render_c.specs.Settings.{image_mode_in, with_setting};
 
-use crate::rules::rule_of;
+use crate::rules::{rule_of, text_at};
 use html_render_tree::Error;
 use html_render_tree::config::{Config, ImageRenderMode};
 use html_render_tree::decorate::TextDecorator;
 use html_render_tree::text::Text;
-use html_render_tree_steps::pieces::piece_of;
 use std::alloc::Global;
 
 /// A call that changes a configuration.
@@ -50,22 +49,20 @@ pub struct Setting {
     pub classes_length: u32,
 }
 
-/// What stands in the place of an image whose title is empty, if the record says that.
+/// Returns what is shown in place of an image whose title is empty, or `None` if the record names nothing.
 fn image_mode(
     alloc: Global,
     text: &[u8],
     setting: &Setting,
 ) -> Result<Option<ImageRenderMode>, Error>
-    ensures { IfOk result (λ mode. IfSome mode (λ m. image_mode_in text.now setting.now ≡ Some m)) }
+    ensures ok { IfOk result (λ mode. mode ≡ image_mode_in text.now setting.now) }
+    ensures err { IfErr result (λ e. e ≡ Error.OutOfMemory) }
 {
     match setting.number {
         0 => Ok(Some(ImageRenderMode::IgnoreEmpty)),
         1 => Ok(Some(ImageRenderMode::ShowAlways)),
-        2 => match piece_of(text, setting.text as usize, setting.text_length as usize) {
-            Some(title) => {
-                let title = String::from_str(alloc, title)?;
-                Ok(Some(ImageRenderMode::Replace(Text::from(title))))
-            }
+        2 => match text_at(text, setting.text, setting.text_length) {
+            Some(title) => Ok(Some(ImageRenderMode::Replace(Text::from_str(alloc, title)?))),
             None => Ok(None),
         },
         3 => Ok(Some(ImageRenderMode::Filename)),
@@ -73,7 +70,7 @@ fn image_mode(
     }
 }
 
-/// A configuration whose images without a title are shown as a record says, if it says that.
+/// Returns a configuration whose images without a title are shown as a record says, or `None` if it names nothing.
 fn with_images<D: TextDecorator>(
     alloc: Global,
     config: Config<D>,
@@ -81,7 +78,8 @@ fn with_images<D: TextDecorator>(
     setting: &Setting,
 ) -> Result<Option<Config<D>>, Error>
     requires { setting.now.kind ≡ 6 }
-    ensures { IfOk result (λ made. IfSome made (λ m. with_setting text.now config setting.now ≡ Some m)) }
+    ensures ok { IfOk result (λ made. made ≡ with_setting text.now config setting.now) }
+    ensures err { IfErr result (λ e. e ≡ Error.OutOfMemory) }
 {
     match image_mode(alloc, text, setting)? {
         Some(mode) => Ok(Some(config.empty_img_mode(mode))),
@@ -89,7 +87,7 @@ fn with_images<D: TextDecorator>(
     }
 }
 
-/// A configuration with the rule that a record is, if it is one.
+/// Returns a configuration with the rule of a record after the others, or `None` if it is none.
 fn with_rule<D: TextDecorator>(
     alloc: Global,
     config: Config<D>,
@@ -97,7 +95,8 @@ fn with_rule<D: TextDecorator>(
     setting: &Setting,
 ) -> Result<Option<Config<D>>, Error>
     requires { setting.now.kind ≡ 13 }
-    ensures { IfOk result (λ made. IfSome made (λ m. with_setting text.now config setting.now ≡ Some m)) }
+    ensures ok { IfOk result (λ made. made ≡ with_setting text.now config setting.now) }
+    ensures err { IfErr result (λ e. e ≡ Error.OutOfMemory) }
 {
     match rule_of(alloc, text, setting)? {
         Some(rule) => Ok(Some(config.add_style_rule(alloc, rule)?)),
@@ -105,14 +104,15 @@ fn with_rule<D: TextDecorator>(
     }
 }
 
-/// A configuration after the call that a record is over a text, if it is one.
+/// Returns a configuration after the call of a record over a text, or `None` if it is none.
 pub fn with_setting<D: TextDecorator>(
     alloc: Global,
     config: Config<D>,
     text: &[u8],
     setting: &Setting,
 ) -> Result<Option<Config<D>>, Error>
-    ensures { IfOk result (λ made. IfSome made (λ m. with_setting text.now config setting.now ≡ Some m)) }
+    ensures ok { IfOk result (λ made. made ≡ with_setting text.now config setting.now) }
+    ensures err { IfErr result (λ e. e ≡ Error.OutOfMemory) }
 {
     let is_on = setting.number != 0;
     Ok(match setting.kind {

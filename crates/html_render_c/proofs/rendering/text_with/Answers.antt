@@ -1,9 +1,12 @@
--- The options are those of the configuration that is set.
-use Rattle.std.proofs.Common.{ap, subst, sym}
-use Rattle.html_render_c.specs.Pages.{IsTextOf}
+-- A fault of the document is the outcome, since no setting is faulty.
+use Rattle.std.proofs.lemmas.Result.{err_from_is_err_and}
+use Rattle.html_render_c.specs.Pages.{text_written}
+use Rattle.html_render_c.proofs.Outcomes.{outcome-from_document}
 use Rattle.html_render_c.proofs.rendering.text_with.Goals as goal
 
-pub returns : goal.returns
-returns g c =
-    let text = IsTextOf g.D.TextDecorator.decoration c.in_ok-config.config c.args.given.text.now c.args.given.steps.now c.args.width in
-    (c.in_ok-config.config, c.in_ok-config.ensures, subst text (ap (λ v. v.items) (sym c.into_bytes.ensures.value)) c.in_ok-text_under.ensures)
+pub returns-in_err-text : goal.returns-in_err-text
+returns-in_err-text g c =
+    let p = err_from_is_err_and c.from_residual-in_err-text.result c.from_residual-in_err-text.ensures.1 in
+    rw (p.1, p.2)
+    (outcome-from_document (text_written g.D.TextDecorator.decoration c.args.width) c.args.config c.args.given.text.now c.args.given.steps.now c.args.given.settings.now
+    c.in_ok-config.config c.in_ok-config.ensures.ok c.in_err-text.field-0.0 c.in_err-text.ensures.err)

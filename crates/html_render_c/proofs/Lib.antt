@@ -1,0 +1,4 @@
+pub mod Texts
+pub mod TextAt
+pub mod Made
+pub mod Outcomes
