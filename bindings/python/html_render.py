@@ -17,7 +17,7 @@ from pathlib import Path
 
 import html5lib
 
-from html_shown import ASKED, HTML, WHITE_SPACE, Around, shown, title_of, without_controls
+from html_shown import ASKED, HTML, WHITE_SPACE, Around, Items, is_loose, loose_in, shown, takes, title_of, without_controls
 
 __all__ = ["Error", "TooNarrow", "render"]
 
@@ -95,21 +95,34 @@ class _Recording:
         """Records the nodes below one of html5lib's tree, whose own node is `parent`, as a browser shows them in lines of so many
         columns. It doesn't recurse: documents may be deep."""
         self._keeps_controls = keep_controls
-        ahead = [(parent, Around(), iter(tree.childNodes), "")]
+        ahead = [(parent, Around(), Items(), iter(tree.childNodes), "")]
         while ahead:
-            above, around, children, after = ahead[-1]
+            above, around, items, children, after = ahead[-1]
             child = next(children, None)
             if child is None:
                 ahead.pop()
                 self.add_text(above, after)
             elif child.nodeType == child.TEXT_NODE and not around.hides_texts:
-                self.add_text(above, self._kept(child.data, is_shown=True))
+                place = self._place_of(child, above, around, items)
+                self.add_text(above if place is None else place, self._kept(child.data, is_shown=True))
             elif child.nodeType == child.ELEMENT_NODE:
-                found = shown(child, around, columns)
+                place = self._place_of(child, above, around, items)
+                found = shown(child, around if place is None else around.in_loose(), columns)
                 if found:
-                    node = self._add_element(above, found)
+                    node = self._add_element(above if place is None else place, found)
+                    if around.holds is not None and takes(around, child):
+                        items.item, items.loose = node, None
                     below = child.childNodes if found.has_children and child.tagName not in ("head", "template", "script", "style") else ()
-                    ahead.append((node, found.around, iter(below), found.after))
+                    ahead.append((node, found.around, Items(), iter(below), found.after))
+
+    def _place_of(self, child, above, around, items):
+        """Returns the node that shows a child of a list that isn't an item of it, or None for another child."""
+        if is_loose(child, around):
+            if items.loose is None:
+                name, is_in_item = loose_in(around, items.item)
+                items.loose = self.add_element(items.item if is_in_item else above, name)
+            return items.loose
+        return items.loose if child.nodeType == child.TEXT_NODE else None
 
     def _kept(self, text, is_shown=False):
         if self._keeps_controls:

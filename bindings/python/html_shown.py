@@ -29,7 +29,12 @@ _PARTS = {"table": ("table", None), "tbody": ("section", "table"), "thead": ("se
 _PARTS.update({"tr": ("row", "section"), "td": ("cell", "row"), "th": ("cell", "row")})
 _SIZES = frozenset("xx-small x-small small medium large x-large xx-large xxx-large initial".split())
 _SYSTEM_FONTS = frozenset("caption icon menu message-box small-caption status-bar".split())
+_WHITE = " \t\n\f\r"
 _LENGTH = re.compile(r"([-+]?(?:\d+\.?\d*|\.\d+))(%|[a-z]*)")
+_ITEMS = frozenset(["li"])
+_DESCRIPTIONS = frozenset(["dd", "div", "dt"])
+_SHOWN_WITHOUT_TEXT = frozenset("audio embed frame hr iframe img input object video".split())
+_UNREAD = frozenset("head script style template".split())
 _RULE = "\u2500"
 _RULE_IN_CELL = 3
 
@@ -45,6 +50,7 @@ class Around:
     margin: int = 0
     item_margin: int = 0
     is_in_cell: bool = False
+    holds: frozenset = None
 
     @property
     def hides_texts(self):
@@ -53,7 +59,19 @@ class Around:
 
     def inside(self):
         """Returns what is known in an element, before what the element itself changes."""
-        return replace(self, part=None, margin=self.margin + self.item_margin, item_margin=0)
+        return replace(self, part=None, margin=self.margin + self.item_margin, item_margin=0, holds=None)
+
+    def in_loose(self):
+        """Returns what is known in an element that shows what is directly in a list."""
+        return replace(self, holds=None, margin=self.margin + (_PREFIXES["dd"] if self.holds == _DESCRIPTIONS else 0))
+
+
+@dataclass
+class Items:
+    """What was recorded last directly in a list: the node of an item, and that after it which shows what isn't an item."""
+
+    item: int = None
+    loose: int = None
 
 
 @dataclass
@@ -149,6 +167,8 @@ def _number_prefix(element, attributes):
     items = [it for it in element.childNodes if it.nodeType == it.ELEMENT_NODE and it.tagName == "li"]
     count = sum(not _is_dropped(found, _style_of(found)) for found in map(_attributes_of, items))
     start = attributes.get("start", "1")
+    elements = (it.tagName for it in element.childNodes if it.nodeType == it.ELEMENT_NODE)
+    count += next(elements, "li") != "li"
     first = int(start) if re.fullmatch(r"[-+]?[0-9]{1,19}", start) and -(2**63) <= int(start) < 2**63 else 1
     return max(len(str(first)), len(str(min(first + max(count - 1, 0), 2**63 - 1)))) + 2
 
@@ -176,6 +196,45 @@ def _changed(around, tag, attributes, style):
     return inside
 
 
+def takes(around, element):
+    """Whether an element is recorded directly in the one around it; a `div` in a `dl` dissolves there."""
+    return around.holds is None or element.namespaceURI == HTML and element.tagName in around.holds
+
+
+def is_loose(node, around):
+    """Whether a text or an element with something to show is directly in a list, and isn't an item of it."""
+    if around.holds is None:
+        return False
+    if node.nodeType == node.TEXT_NODE:
+        return node.data.strip(_WHITE) != ""
+    attributes = _attributes_of(node)
+    is_html = node.namespaceURI == HTML
+    if is_html and (node.tagName in _DROPPED or node.tagName == "dialog" and "open" not in attributes) or takes(around, node):
+        return False
+    return _is_filled(node) and not _is_dropped(attributes, _style_of(attributes))
+
+
+def _is_filled(node):
+    """Whether there is something to show in a node."""
+    ahead = [node]
+    while ahead:
+        node = ahead.pop()
+        if node.nodeType == node.TEXT_NODE and node.data.strip(_WHITE):
+            return True
+        if node.nodeType == node.ELEMENT_NODE and (node.namespaceURI != HTML or node.tagName not in _UNREAD):
+            if node.namespaceURI != HTML or node.tagName in _SHOWN_WITHOUT_TEXT:
+                return True
+            ahead.extend(node.childNodes)
+    return False
+
+
+def loose_in(around, item):
+    """Returns the name of the element that shows what is directly in a list, and whether it is put into the item before it."""
+    if around.holds == _DESCRIPTIONS:
+        return "dd", False
+    return ("li", False) if item is None else ("div", True)
+
+
 def shown(element, around, columns):
     """Returns how an element is recorded where a line has so many columns, or None if nothing of it is."""
     attributes, tag = _attributes_of(element), element.tagName
@@ -187,6 +246,8 @@ def shown(element, around, columns):
     if style.get("white-space") in WHITE_SPACE:
         attributes["class"] = " ".join([attributes.get("class", ""), WHITE_SPACE[style["white-space"]]])
     recorded = Shown([(tag, element.namespaceURI, attributes)], inside)
+    if is_html and around.holds == _DESCRIPTIONS and element.tagName == "div":
+        return Shown([], replace(inside, holds=_DESCRIPTIONS))
     if is_html:
         return _changed_element(recorded, element, attributes, around, columns)
     return recorded
@@ -200,9 +261,11 @@ def _changed_element(recorded, element, attributes, around, columns):
     if tag in _WITHIN:
         recorded.elements.append((_WITHIN[tag], HTML, {}))
     if tag in ("ul", "dir", "menu"):
-        recorded.around = replace(inside, item_margin=2)
+        recorded.around = replace(inside, item_margin=2, holds=_ITEMS)
     elif tag == "ol":
-        recorded.around = replace(inside, item_margin=_number_prefix(element, attributes))
+        recorded.around = replace(inside, item_margin=_number_prefix(element, attributes), holds=_ITEMS)
+    elif tag == "dl":
+        recorded.around = replace(inside, holds=_DESCRIPTIONS)
     elif tag in _PREFIXES:
         recorded.around = replace(inside, margin=inside.margin + _PREFIXES[tag])
     elif tag in _SIGNED and inside.hides_texts:

@@ -1,8 +1,8 @@
 //! Goes over a page's tree in document order, and records the steps that build its document.
 
-use crate::adapt::{Adaptation, Adapter, Context, PrivateRules};
+use crate::adapt::{self, Adaptation, Adapter, Context, Holds, PrivateRules};
 use crate::record::{self, Handle, Recorder};
-use crate::tree::{Data, Element, Id, Tree, DOCUMENT, NONE};
+use crate::tree::{Data, Element, Id, Piece, Tree, DOCUMENT, NONE};
 use html5ever::{local_name, namespace_url, ns};
 
 /// Where something is recorded.
@@ -40,11 +40,21 @@ impl Entered {
     }
 }
 
+/// What was recorded last directly in a list.
+#[derive(Clone, Copy, Default)]
+struct Items {
+    /// The item.
+    item: Option<Handle>,
+    /// The element after it that shows what isn't an item.
+    loose: Option<Handle>,
+}
+
 /// A node whose children are being recorded.
 struct Frame {
     node: Id,
     place: Place,
     last: Last,
+    items: Items,
     end: &'static str,
 }
 
@@ -70,7 +80,7 @@ impl<'a> Pass<'a> {
             adapter.begin(&mut self.recorder);
         }
         let document = Place { handle: DOCUMENT, context: Context::default() };
-        self.frames.push(Frame { node: DOCUMENT, place: document, last: Last::Other, end: "" });
+        self.frames.push(Frame { node: DOCUMENT, place: document, last: Last::Other, items: Items::default(), end: "" });
         let mut next = self.tree.first_child(DOCUMENT);
         while let Some(frame) = self.frames.last_mut() {
             let node = next;
@@ -85,15 +95,18 @@ impl<'a> Pass<'a> {
                     if frame.place.context.hides_texts() {
                         continue;
                     }
-                    if frame.last == Last::Text && !continues {
-                        self.recorder.part_texts(frame.place.handle);
-                    }
+                    let is_apart = frame.last == Last::Text && !continues;
                     frame.last = Last::Text;
-                    self.recorder.text(frame.place.handle, (*start, *length));
+                    let parent = self.parent_of_text((*start, *length));
+                    if is_apart {
+                        self.recorder.part_texts(parent);
+                    }
+                    self.recorder.text(parent, (*start, *length));
                 }
                 Data::Element(element) => {
                     if let Some(Entered { handle, context, last, end }) = self.open(node, element) {
-                        self.frames.push(Frame { node, place: Place { handle, context }, last, end });
+                        let place = Place { handle, context };
+                        self.frames.push(Frame { node, place, last, items: Items::default(), end });
                         next = self.tree.first_child(node);
                     }
                 }
@@ -103,8 +116,9 @@ impl<'a> Pass<'a> {
     }
 
     fn open(&mut self, node: Id, element: &'a Element) -> Option<Entered> {
+        let around = self.place_of(node, element)?;
         let frame = self.frames.last_mut()?;
-        let (around, count) = (frame.place, self.recorder.node_count());
+        let count = self.recorder.node_count();
         let entered = match &mut self.adapter {
             Some(adapter) => adapter.open(&mut self.recorder, node, element, around),
             None => {
@@ -118,8 +132,51 @@ impl<'a> Pass<'a> {
         if self.recorder.node_count() != count {
             frame.last = Last::Other;
         }
+        if around.context.holds != Holds::Anything && around.context.holds.takes(element) {
+            if let Some(Entered { handle, .. }) = entered {
+                frame.items = Items { item: Some(handle), loose: None };
+            }
+        }
         // nothing in a head is shown
         entered.filter(|_| element.name != local_name!("head") || element.space != ns!(html))
+    }
+
+    /// Returns the node among whose children a text is put: one of its own, where it is directly in a list.
+    fn parent_of_text(&mut self, piece: Piece) -> Handle {
+        match self.frames.last() {
+            Some(&Frame { place, items, .. }) => match items.loose {
+                Some(loose) => loose,
+                None if place.context.holds == Holds::Anything || adapt::is_blank(&self.recorder.text, piece) => place.handle,
+                None => self.open_loose(),
+            },
+            None => DOCUMENT,
+        }
+    }
+
+    /// Returns where an element is recorded: in one of its own, where it is directly in a list and isn't an item.
+    fn place_of(&mut self, node: Id, element: &Element) -> Option<Place> {
+        let Frame { place, items, .. } = *self.frames.last()?;
+        if place.context.holds == Holds::Anything {
+            return Some(place);
+        }
+        let text = &self.recorder.text;
+        if !self.adapter.as_mut().map_or(false, |adapter| adapter.is_loose(text, node, element, place.context.holds)) {
+            return Some(place);
+        }
+        let handle = items.loose.unwrap_or_else(|| self.open_loose());
+        Some(Place { handle, context: place.context.in_loose() })
+    }
+
+    /// Records an element for what is directly in a list.
+    fn open_loose(&mut self) -> Handle {
+        match (self.frames.last_mut(), &mut self.adapter) {
+            (Some(frame), Some(adapter)) => {
+                let loose = adapter.open_loose(&mut self.recorder, frame.place, frame.items.item);
+                frame.items.loose = Some(loose);
+                loose
+            }
+            _ => DOCUMENT,
+        }
     }
 
     /// Ends the innermost element whose children are recorded.

@@ -23,6 +23,8 @@ pub(crate) enum Change {
     Object,
     /// A list, whose items have prefixes.
     List(List),
+    /// A `dl`.
+    Descriptions,
     /// A block whose lines have a prefix of so many columns.
     Prefixed(u32),
     /// A part of a table.
@@ -98,6 +100,7 @@ pub(crate) fn change_of(name: &LocalName) -> Change {
         local_name!("object") => Change::Object,
         local_name!("ol") => Change::List(List::Ordered),
         local_name!("ul") => Change::List(List::Unordered),
+        local_name!("dl") => Change::Descriptions,
         local_name!("blockquote") | local_name!("dd") | local_name!("h1") => Change::Prefixed(2),
         local_name!("h2") => Change::Prefixed(3),
         local_name!("h3") => Change::Prefixed(4),

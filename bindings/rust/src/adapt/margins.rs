@@ -2,7 +2,7 @@
 
 use super::elements::List;
 use super::{is_dropped, said_by};
-use crate::tree::{Id, Tree};
+use crate::tree::{Data, Id, Tree};
 use html5ever::{local_name, namespace_url, ns};
 
 /// Columns of a rule in a table's cell.
@@ -60,11 +60,18 @@ fn start(tree: &Tree, node: Id) -> i64 {
     tree.attribute(node, &local_name!("start")).and_then(|start| start.parse().ok()).unwrap_or(1)
 }
 
+/// Whether something precedes the first item of a list, which may become an item.
+fn begins_loose(tree: &Tree, node: Id) -> bool {
+    let first = tree.children(node).find(|&child| matches!(tree.data(child), Data::Element(_)));
+    matches!(first.and_then(|first| tree.element(first)), Some(element) if element.name != local_name!("li"))
+}
+
 /// Returns the columns of the prefix that the items of an `ol` have: the wider one of its first and last number.
 fn number_prefix(tree: &Tree, node: Id) -> u32 {
     let is_item = |&child: &Id| matches!(tree.element(child), Some(element) if element.name == local_name!("li") && element.space == ns!(html));
     let count = tree.children(node).filter(is_item).filter(|&item| !is_dropped(&said_by(tree.attributes_of(item), true))).count();
     let first = start(tree, node);
+    let count = count + usize::from(begins_loose(tree, node));
     let last = first.saturating_add(count.saturating_sub(1) as i64);
     let columns = |number: i64| number.to_string().len() as u32 + 2;
     columns(first).max(columns(last))

@@ -4,10 +4,12 @@
 
 mod elements;
 mod embedded;
+mod lists;
 mod margins;
 mod private;
 mod style;
 
+pub(crate) use lists::{is_blank, Holds};
 pub(crate) use private::{PrivateRules, RULE_CLASS};
 
 use crate::pass::{Entered, Last, Place};
@@ -15,6 +17,7 @@ use crate::record::{self, Handle, Recorder};
 use crate::tree::{Attr, Element, Id, Tree, DOCUMENT};
 use elements::{change_of, Change, Inner, List, Part};
 use html5ever::{local_name, namespace_url, ns, LocalName};
+use lists::Filled;
 use margins::Margins;
 use style::InlineStyle;
 
@@ -29,10 +32,21 @@ pub(crate) struct Context {
     quotations: u8,
     /// The part of a table that is directly around, as it is recorded.
     part: Option<Part>,
+    /// What the element directly around holds.
+    pub holds: Holds,
     margins: Margins,
 }
 
 impl Context {
+    /// Returns the context in an element that shows what is directly in a list.
+    pub fn in_loose(self) -> Context {
+        let mut context = self;
+        if self.holds == Holds::Descriptions {
+            context.margins.add(DESCRIPTION);
+        }
+        Context { holds: Holds::Anything, ..context }
+    }
+
     /// Whether texts aren't shown.
     pub fn hides_texts(&self) -> bool {
         self.is_invisible || self.has_no_size
@@ -40,9 +54,12 @@ impl Context {
 
     /// Returns the context in an element, before what the element itself changes.
     fn inside(self) -> Context {
-        Context { part: None, margins: self.margins.inside(), ..self }
+        Context { part: None, holds: Holds::Anything, margins: self.margins.inside(), ..self }
     }
 }
+
+/// Columns of the prefix of a description.
+const DESCRIPTION: u32 = 2;
 
 /// How a page is adapted.
 #[derive(Debug)]
@@ -83,12 +100,13 @@ struct Opened<'a> {
 pub(crate) struct Adapter<'a> {
     tree: &'a Tree,
     adaptation: Adaptation,
+    filled: Filled,
     pub rules: PrivateRules,
 }
 
 impl<'a> Adapter<'a> {
     pub fn new(tree: &'a Tree, adaptation: Adaptation) -> Adapter<'a> {
-        Adapter { tree, adaptation, rules: PrivateRules::default() }
+        Adapter { tree, adaptation, filled: Filled::default(), rules: PrivateRules::default() }
     }
 
     /// Records what precedes the document: its title, if it is asked for.
@@ -111,6 +129,10 @@ impl<'a> Adapter<'a> {
         if is_dropped(&opened.said) || context.is_invisible && is_picture(element) {
             return None;
         }
+        if is_html && around.context.holds == Holds::Descriptions && element.name == local_name!("div") {
+            context.holds = Holds::Descriptions;
+            return Some(Entered::new(around.handle, context));
+        }
         match change {
             Change::Signed if context.hides_texts() => Some(Entered::new(self.record_as(recorder, &opened, &local_name!("span"), ""), context)),
             Change::Kept | Change::Signed | Change::Sized => Some(Entered::new(self.record(recorder, &opened), context)),
@@ -131,7 +153,12 @@ impl<'a> Adapter<'a> {
                 None
             }
             Change::List(list) => {
+                context.holds = Holds::Items;
                 context.margins.add_list(list, self.tree, node);
+                Some(Entered::new(self.record(recorder, &opened), context))
+            }
+            Change::Descriptions => {
+                context.holds = Holds::Descriptions;
                 Some(Entered::new(self.record(recorder, &opened), context))
             }
             Change::Prefixed(columns) => {
@@ -139,6 +166,29 @@ impl<'a> Adapter<'a> {
                 Some(Entered::new(self.record(recorder, &opened), context))
             }
             Change::Table(part) => Some(self.open_part(recorder, &opened, part, around.context.part, context)),
+        }
+    }
+
+    /// Whether an element with something to show is directly in a list, and isn't an item of it.
+    pub fn is_loose(&mut self, text: &[u8], node: Id, element: &Element, holds: Holds) -> bool {
+        let is_html = element.space == ns!(html);
+        let attributes = self.tree.attributes_of(node);
+        let is_shown = match change_of(&element.name) {
+            _ if holds.takes(element) => false,
+            _ if !is_html => true,
+            Change::Dropped => false,
+            Change::Dialog => attributes.iter().any(|attribute| attribute.name == local_name!("open")),
+            _ => true,
+        };
+        is_shown && self.filled.has(self.tree, text, node) && !is_dropped(&said_by(attributes, is_html))
+    }
+
+    /// Records the element that shows what is directly in a list: a division of the item before it, or an item or a description.
+    pub fn open_loose(&mut self, recorder: &mut Recorder, place: Place, item: Option<Handle>) -> Handle {
+        match (place.context.holds, item) {
+            (Holds::Items, Some(item)) => recorder.element(item, record::HTML, &local_name!("div")),
+            (Holds::Descriptions, _) => recorder.element(place.handle, record::HTML, &local_name!("dd")),
+            _ => recorder.element(place.handle, record::HTML, &local_name!("li")),
         }
     }
 
@@ -160,6 +210,7 @@ impl<'a> Adapter<'a> {
     fn open_within(&mut self, recorder: &mut Recorder, opened: &Opened<'_>, inner: Inner, mut context: Context) -> Entered {
         let handle = self.record(recorder, opened);
         if inner == Inner::List {
+            context.holds = Holds::Items;
             context.margins.add_list(List::Unordered, self.tree, opened.node);
         }
         Entered::new(recorder.element(handle, record::HTML, &inner.name()), context)
