@@ -17,7 +17,7 @@ from pathlib import Path
 
 import html5lib
 
-from html_shown import ASKED, HTML, WHITE_SPACE, Around, Items, is_loose, loose_in, shown, takes, title_of, without_controls
+from html_shown import ASKED, HTML, WHITE_SPACE, Around, Items, is_item, is_loose, loose_in, shown, takes, title_of, without_controls
 
 __all__ = ["Error", "TooNarrow", "render"]
 
@@ -109,20 +109,35 @@ class _Recording:
                 place = self._place_of(child, above, around, items)
                 found = shown(child, around if place is None else around.in_loose(), columns)
                 if found:
+                    if is_item(child, around):
+                        above = self._list_of(child, above, items)
                     node = self._add_element(above if place is None else place, found)
                     if around.holds is not None and takes(around, child):
                         items.item, items.loose = node, None
                     below = child.childNodes if found.has_children and child.tagName not in ("head", "template", "script", "style") else ()
-                    ahead.append((node, found.around, Items(), iter(below), found.after))
+                    inner = Items(list=node)
+                    if found.numbers:
+                        inner = Items(list=node, parent=above if place is None else place, attributes=found.elements[0][2], numbers=found.numbers)
+                    ahead.append((node, found.around, inner, iter(below), found.after))
 
     def _place_of(self, child, above, around, items):
         """Returns the node that shows a child of a list that isn't an item of it, or None for another child."""
         if is_loose(child, around):
             if items.loose is None:
                 name, is_in_item = loose_in(around, items.item)
-                items.loose = self.add_element(items.item if is_in_item else above, name)
+                items.loose = self.add_element(items.item if is_in_item else self._list_of(None, above, items), name)
             return items.loose
         return items.loose if child.nodeType == child.TEXT_NODE else None
+
+    def _list_of(self, item, above, items):
+        """Returns the node of the list that an item is put in: another one where the numbers of an `ol` jump."""
+        number = items.numbers.count(item) if items.numbers else None
+        if number is not None:
+            items.list = self.add_element(items.parent, "ol")
+            for key, value in {**items.attributes, "start": str(number)}.items():
+                if key in ASKED:
+                    self._add_attribute(items.list, key, value)
+        return items.list if items.numbers else above
 
     def _kept(self, text, is_shown=False):
         if self._keeps_controls:

@@ -67,11 +67,34 @@ class Around:
 
 
 @dataclass
+class Numbers:
+    """The numbers of the items of an `ol`: that of the next item unless it has its own, what is added from an item to the next, and the
+    number that the library gives the next one, since it counts upwards."""
+
+    following: int
+    step: int
+    counted: int
+
+    def count(self, item):
+        """Counts an item, an element or None. Returns its number, if it isn't the one that the library gives it."""
+        own = _integer(item.getAttribute("value")) if item and item.hasAttribute("value") else None
+        number = self.following if own is None else own
+        jumps = number != self.counted
+        self.following, self.counted = number + self.step, number + 1
+        return number if jumps else None
+
+
+@dataclass
 class Items:
-    """What was recorded last directly in a list: the node of an item, and that after it which shows what isn't an item."""
+    """What was recorded last directly in a list: the node of an item, and that after it which shows what isn't an item; the list's node
+    and, of an `ol`, the node that it is in, its attributes and its numbers."""
 
     item: int = None
     loose: int = None
+    list: int = None
+    parent: int = None
+    attributes: dict = None
+    numbers: Numbers = None
 
 
 @dataclass
@@ -83,6 +106,7 @@ class Shown:
     before: str = ""
     after: str = ""
     has_children: bool = True
+    numbers: Numbers = None
 
 
 def without_controls(text, is_shown=False):
@@ -162,15 +186,35 @@ def _style_of(attributes):
     return _declarations(attributes["style"]) if "style" in attributes else {}
 
 
-def _number_prefix(element, attributes):
-    """Returns the columns of the prefix that the items of an `ol` have."""
-    items = [it for it in element.childNodes if it.nodeType == it.ELEMENT_NODE and it.tagName == "li"]
-    count = sum(not _is_dropped(found, _style_of(found)) for found in map(_attributes_of, items))
-    start = attributes.get("start", "1")
-    elements = (it.tagName for it in element.childNodes if it.nodeType == it.ELEMENT_NODE)
-    count += next(elements, "li") != "li"
-    first = int(start) if re.fullmatch(r"[-+]?[0-9]{1,19}", start) and -(2**63) <= int(start) < 2**63 else 1
-    return max(len(str(first)), len(str(min(first + max(count - 1, 0), 2**63 - 1)))) + 2
+def _integer(text):
+    """Returns an integer as HTML has it, or None: what follows the digits is passed over. One of more than 32 bits says nothing."""
+    found = re.match(r"[ \t\n\f\r]*([-+]?[0-9]+)", text or "")
+    number = int(found[1][:12]) if found else None
+    return number if number is not None and -(2**31) <= number < 2**31 else None
+
+
+def _numbers(element, attributes):
+    """Returns how the items of an `ol` are numbered, and the columns of their widest prefix. What precedes its first item without being
+    one counts as an item."""
+    elements = [it for it in element.childNodes if it.nodeType == it.ELEMENT_NODE]
+    items = [_attributes_of(it) for it in elements if it.tagName == "li"]
+    items = [it for it in items if not _is_dropped(it, _style_of(it))]
+    present = (it for it in element.childNodes if it.nodeType == it.ELEMENT_NODE or it.nodeType == it.TEXT_NODE and it.data.strip(_WHITE))
+    begins_loose = next((it.nodeType == it.TEXT_NODE or it.tagName != "li" for it in present), False)
+    step = -1 if "reversed" in attributes else 1
+    start = _integer(attributes.get("start"))
+    if start is None:
+        start = len(items) if step < 0 else 1
+    numbers = [start, start + step * len(items)] if begins_loose else [start]
+    first, following = None, start
+    for item in items:
+        own = _integer(item.get("value"))
+        number = following if own is None else own
+        first = number if first is None else first
+        numbers.append(number)
+        following = number + step
+    first = start if first is None or begins_loose else first
+    return Numbers(first, step, first), max(len(str(number)) for number in numbers) + 2
 
 
 def _link(element, attributes):
@@ -199,6 +243,12 @@ def _changed(around, tag, attributes, style):
 def takes(around, element):
     """Whether an element is recorded directly in the one around it; a `div` in a `dl` dissolves there."""
     return around.holds is None or element.namespaceURI == HTML and element.tagName in around.holds
+
+
+def is_item(node, around):
+    """Whether an element is an item of the list directly around it, and shown."""
+    attributes = _attributes_of(node)
+    return around.holds == _ITEMS and takes(around, node) and not _is_dropped(attributes, _style_of(attributes))
 
 
 def is_loose(node, around):
@@ -263,7 +313,9 @@ def _changed_element(recorded, element, attributes, around, columns):
     if tag in ("ul", "dir", "menu"):
         recorded.around = replace(inside, item_margin=2, holds=_ITEMS)
     elif tag == "ol":
-        recorded.around = replace(inside, item_margin=_number_prefix(element, attributes), holds=_ITEMS)
+        recorded.numbers, columns = _numbers(element, attributes)
+        recorded.around = replace(inside, item_margin=columns, holds=_ITEMS)
+        recorded.elements[0] = (tag, HTML, {**attributes, "start": str(recorded.numbers.following)})
     elif tag == "dl":
         recorded.around = replace(inside, holds=_DESCRIPTIONS)
     elif tag in _PREFIXES:

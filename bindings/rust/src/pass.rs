@@ -1,6 +1,6 @@
 //! Goes over a page's tree in document order, and records the steps that build its document.
 
-use crate::adapt::{self, Adaptation, Adapter, Context, Holds, PrivateRules};
+use crate::adapt::{self, Adaptation, Adapter, Context, Holds, Numbers, PrivateRules};
 use crate::record::{self, Handle, Recorder};
 use crate::tree::{Data, Element, Id, Piece, Tree, DOCUMENT, NONE};
 use html5ever::{local_name, namespace_url, ns};
@@ -31,12 +31,14 @@ pub(crate) struct Entered {
     pub last: Last,
     /// Text after the children.
     pub end: &'static str,
+    /// The numbers of the children, if these are the items of an `ol`.
+    pub numbers: Option<Numbers>,
 }
 
 impl Entered {
     /// Returns an element in which nothing is recorded yet.
     pub fn new(handle: Handle, context: Context) -> Entered {
-        Entered { handle, context, last: Last::Other, end: "" }
+        Entered { handle, context, last: Last::Other, end: "", numbers: None }
     }
 }
 
@@ -55,6 +57,7 @@ struct Frame {
     place: Place,
     last: Last,
     items: Items,
+    numbers: Option<Numbers>,
     end: &'static str,
 }
 
@@ -80,7 +83,7 @@ impl<'a> Pass<'a> {
             adapter.begin(&mut self.recorder);
         }
         let document = Place { handle: DOCUMENT, context: Context::default() };
-        self.frames.push(Frame { node: DOCUMENT, place: document, last: Last::Other, items: Items::default(), end: "" });
+        self.frames.push(Frame { node: DOCUMENT, place: document, last: Last::Other, items: Items::default(), numbers: None, end: "" });
         let mut next = self.tree.first_child(DOCUMENT);
         while let Some(frame) = self.frames.last_mut() {
             let node = next;
@@ -104,9 +107,9 @@ impl<'a> Pass<'a> {
                     self.recorder.text(parent, (*start, *length));
                 }
                 Data::Element(element) => {
-                    if let Some(Entered { handle, context, last, end }) = self.open(node, element) {
+                    if let Some(Entered { handle, context, last, end, numbers }) = self.open(node, element) {
                         let place = Place { handle, context };
-                        self.frames.push(Frame { node, place, last, items: Items::default(), end });
+                        self.frames.push(Frame { node, place, last, items: Items::default(), numbers, end });
                         next = self.tree.first_child(node);
                     }
                 }
@@ -116,7 +119,10 @@ impl<'a> Pass<'a> {
     }
 
     fn open(&mut self, node: Id, element: &'a Element) -> Option<Entered> {
-        let around = self.place_of(node, element)?;
+        let mut around = self.place_of(node, element)?;
+        if around.context.holds == Holds::Items && Holds::Items.takes(element) {
+            around.handle = self.list_of(Some(node));
+        }
         let frame = self.frames.last_mut()?;
         let count = self.recorder.node_count();
         let entered = match &mut self.adapter {
@@ -167,8 +173,24 @@ impl<'a> Pass<'a> {
         Some(Place { handle, context: place.context.in_loose() })
     }
 
+    /// Returns the node of the list that an item is put in: another one where the numbers of an `ol` jump.
+    fn list_of(&mut self, item: Option<Id>) -> Handle {
+        match (self.frames.last_mut(), &mut self.adapter) {
+            (Some(frame), Some(adapter)) => {
+                if let Some(numbers) = &mut frame.numbers {
+                    frame.place.handle = adapter.open_item(&mut self.recorder, frame.node, item, numbers).unwrap_or(frame.place.handle);
+                }
+                frame.place.handle
+            }
+            _ => DOCUMENT,
+        }
+    }
+
     /// Records an element for what is directly in a list.
     fn open_loose(&mut self) -> Handle {
+        if matches!(self.frames.last(), Some(Frame { items: Items { item: None, .. }, .. })) {
+            self.list_of(None);
+        }
         match (self.frames.last_mut(), &mut self.adapter) {
             (Some(frame), Some(adapter)) => {
                 let loose = adapter.open_loose(&mut self.recorder, frame.place, frame.items.item);

@@ -6,10 +6,12 @@ mod elements;
 mod embedded;
 mod lists;
 mod margins;
+mod numbers;
 mod private;
 mod style;
 
 pub(crate) use lists::{is_blank, Holds};
+pub(crate) use numbers::Numbers;
 pub(crate) use private::{PrivateRules, RULE_CLASS};
 
 use crate::pass::{Entered, Last, Place};
@@ -18,7 +20,8 @@ use crate::tree::{Attr, Element, Id, Tree, DOCUMENT};
 use elements::{change_of, Change, Inner, List, Part};
 use html5ever::{local_name, namespace_url, ns, LocalName};
 use lists::Filled;
-use margins::Margins;
+use margins::{Margins, BULLET};
+use numbers::Plan;
 use style::InlineStyle;
 
 /// What is known of the elements around a place.
@@ -77,7 +80,7 @@ pub(crate) struct Adaptation {
 /// Whether an adaptation asks for attributes of a name.
 pub(crate) fn is_asked(name: &LocalName) -> bool {
     record::is_asked(name)
-        || matches!(*name, local_name!("data") | local_name!("hidden") | local_name!("open") | local_name!("style") | local_name!("title"))
+        || matches!(*name, local_name!("data") | local_name!("hidden") | local_name!("open") | local_name!("reversed") | local_name!("style") | local_name!("title") | local_name!("value"))
 }
 
 /// What an element's attributes say of it.
@@ -94,6 +97,8 @@ struct Opened<'a> {
     attributes: &'a [Attr],
     parent: Handle,
     said: Said,
+    /// The number that an `ol` starts with, where it isn't 1.
+    start: Option<i64>,
 }
 
 /// Records elements as a browser shows them.
@@ -122,7 +127,7 @@ impl<'a> Adapter<'a> {
     pub fn open(&mut self, recorder: &mut Recorder, node: Id, element: &'a Element, around: Place) -> Option<Entered> {
         let attributes = self.tree.attributes_of(node);
         let is_html = element.space == ns!(html);
-        let opened = Opened { node, element, attributes, parent: around.handle, said: said_by(attributes, is_html) };
+        let mut opened = Opened { node, element, attributes, parent: around.handle, said: said_by(attributes, is_html), start: None };
         let change = if is_html { change_of(&element.name) } else { Change::Kept };
         let mut context = around.context.inside();
         self.hide_texts(&mut context, &opened.said, change);
@@ -152,10 +157,18 @@ impl<'a> Adapter<'a> {
                 self.record_embedded(recorder, &opened, context);
                 None
             }
-            Change::List(list) => {
+            Change::List(List::Unordered) => {
                 context.holds = Holds::Items;
-                context.margins.add_list(list, self.tree, node);
+                context.margins.add_items(BULLET);
                 Some(Entered::new(self.record(recorder, &opened), context))
+            }
+            Change::List(List::Ordered) => {
+                let plan = Plan::of(self.tree, &recorder.text, node);
+                context.holds = Holds::Items;
+                context.margins.add_items(plan.columns);
+                opened.start = Some(plan.first).filter(|&first| first != 1);
+                let handle = self.record(recorder, &opened);
+                Some(Entered { numbers: Some(plan.numbers(around.handle)), ..Entered::new(handle, context) })
             }
             Change::Descriptions => {
                 context.holds = Holds::Descriptions;
@@ -183,6 +196,17 @@ impl<'a> Adapter<'a> {
         is_shown && self.filled.has(self.tree, text, node) && !is_dropped(&said_by(attributes, is_html))
     }
 
+    /// Counts an item of an `ol`. Returns the list that it is put in, if its number isn't the next one: lists count upwards one by one.
+    pub fn open_item(&mut self, recorder: &mut Recorder, list: Id, item: Option<Id>, numbers: &mut Numbers) -> Option<Handle> {
+        if item.map_or(false, |item| is_dropped(&said_by(self.tree.attributes_of(item), true))) {
+            return None;
+        }
+        let start = numbers.count(item.and_then(|item| numbers::own_number(self.tree, item)));
+        let (element, attributes) = (self.tree.element(list)?, self.tree.attributes_of(list));
+        let part = Opened { node: list, element, attributes, parent: numbers.parent, said: said_by(attributes, true), start };
+        start.map(|_| self.record(recorder, &part))
+    }
+
     /// Records the element that shows what is directly in a list: a division of the item before it, or an item or a description.
     pub fn open_loose(&mut self, recorder: &mut Recorder, place: Place, item: Option<Handle>) -> Handle {
         match (place.context.holds, item) {
@@ -200,7 +224,7 @@ impl<'a> Adapter<'a> {
     /// Records an element under a name and a private class, with its attributes.
     fn record_as(&mut self, recorder: &mut Recorder, opened: &Opened<'_>, name: &LocalName, class: &str) -> Handle {
         let handle = recorder.element(opened.parent, record::space(&opened.element.space), name);
-        if !opened.attributes.is_empty() || !class.is_empty() {
+        if !opened.attributes.is_empty() || !class.is_empty() || opened.start.is_some() {
             self.record_attributes(recorder, handle, opened, class);
         }
         handle
@@ -211,7 +235,7 @@ impl<'a> Adapter<'a> {
         let handle = self.record(recorder, opened);
         if inner == Inner::List {
             context.holds = Holds::Items;
-            context.margins.add_list(List::Unordered, self.tree, opened.node);
+            context.margins.add_items(BULLET);
         }
         Entered::new(recorder.element(handle, record::HTML, &inner.name()), context)
     }
@@ -300,6 +324,9 @@ impl<'a> Adapter<'a> {
             }
         }
         for attribute in opened.attributes.iter().filter(|attribute| record::is_asked(&attribute.name)) {
+            if attribute.name == local_name!("start") {
+                continue;
+            }
             match (&attribute.name, id) {
                 (name @ &local_name!("id"), Some(id)) => recorder.attribute_of_piece(handle, name, id),
                 (name @ &local_name!("class"), _) if !classes.is_empty() => {
@@ -314,6 +341,9 @@ impl<'a> Adapter<'a> {
                 }
                 (name, _) => recorder.attribute(handle, name, &attribute.value),
             }
+        }
+        if let Some(start) = opened.start {
+            recorder.attribute(handle, &local_name!("start"), &start.to_string());
         }
         if !classes.is_empty() {
             let piece = recorder.keep(&classes);
