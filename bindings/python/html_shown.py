@@ -20,6 +20,8 @@ _BLOCKS = frozenset(
     "address article aside center details dialog fieldset figcaption figure footer form header hgroup legend main nav optgroup option"
     " search section summary".split()
 )
+_BUTTONS = {"button": "", "image": "Submit", "reset": "Reset", "submit": "Submit"}
+_FILL = "____"
 _WITHIN = {"dir": "ul", "menu": "ul", "listing": "pre", "plaintext": "pre", "xmp": "pre", **dict.fromkeys(_BLOCKS, "div")}
 _EMBEDDED = frozenset("audio embed frame iframe object video".split())
 _FIELDS = frozenset("button input select textarea".split())
@@ -229,6 +231,50 @@ def _link(element, attributes):
     return target, attributes.get("title", "").strip() or path.rpartition("/")[2] or target.strip()
 
 
+def _input(attributes):
+    """Returns what an `input` is shown as, or None for a hidden one."""
+    value, kind = attributes.get("value", "").strip(), attributes.get("type", "").strip().lower()
+    is_checked = "checked" in attributes
+    if kind == "hidden" or kind == "button" and not value:
+        return None
+    if kind == "checkbox":
+        return "[x]" if is_checked else "[ ]"
+    if kind == "radio":
+        return "(*)" if is_checked else "( )"
+    if kind in _BUTTONS:
+        alternative = attributes.get("alt", "").strip() if kind == "image" else ""
+        return f"[ {alternative or value or _BUTTONS[kind]} ]"
+    return f"[{'' if kind == 'password' else value}{_FILL}]"
+
+
+def _select(element, attributes):
+    """Returns what a `select` is shown as: its chosen options, or the first if one has to be chosen."""
+    children = [it for it in element.childNodes if it.nodeType == it.ELEMENT_NODE]
+    options = [inner for it in children for inner in (it.childNodes if it.tagName == "optgroup" else [it])]
+    options = [it for it in options if it.nodeType == it.ELEMENT_NODE and it.tagName == "option"]
+    options = [it for it in options if not _is_dropped(_attributes_of(it), _style_of(_attributes_of(it)))]
+    chosen = [it for it in options if it.hasAttribute("selected")]
+    if "multiple" not in attributes:
+        chosen = chosen[-1:] or options[:1]
+    names = [" ".join("".join(it.data for it in option.childNodes if it.nodeType == it.TEXT_NODE).split()) for option in chosen]
+    return f"[{', '.join(filter(None, names)) or _FILL}]"
+
+
+def _changed_field(recorded, element, attributes):
+    """Returns how a form's field is recorded."""
+    tag, hides_texts = element.tagName, recorded.around.hides_texts
+    if tag == "textarea":
+        recorded.elements.append(("pre", HTML, {}))
+        return recorded
+    if tag == "button":
+        recorded.before, recorded.after = ("", "") if hides_texts else ("[ ", " ]")
+        return recorded
+    text = _input(attributes) if tag == "input" else _select(element, attributes)
+    recorded.has_children = False
+    recorded.before = "" if hides_texts or text is None else without_controls(text, is_shown=True)
+    return None if text is None else recorded
+
+
 def _changed(around, tag, attributes, style):
     """Returns what is known in an element, with what it says of its texts."""
     inside = around.inside()
@@ -308,6 +354,8 @@ def _changed_element(recorded, element, attributes, around, columns):
     tag, inside = element.tagName, recorded.around
     if tag in _DROPPED or tag == "dialog" and "open" not in attributes:
         return None
+    if tag in _FIELDS:
+        return _changed_field(recorded, element, attributes)
     if tag in _WITHIN:
         recorded.elements.append((_WITHIN[tag], HTML, {}))
     if tag in ("ul", "dir", "menu"):

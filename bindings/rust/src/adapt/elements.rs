@@ -32,7 +32,7 @@ pub(crate) enum Change {
     /// It has signs around its texts: none if these are hidden.
     Signed,
     /// A form's field, whose texts have a size of their own.
-    Sized,
+    Field(Field),
 }
 
 /// An element in which contents are recorded.
@@ -57,6 +57,15 @@ impl Inner {
 pub(crate) enum List {
     Ordered,
     Unordered,
+}
+
+/// A form's field.
+#[derive(Clone, Copy, Debug, PartialEq, Eq)]
+pub(crate) enum Field {
+    Button,
+    Input,
+    Lines,
+    Select,
 }
 
 /// A part of a table, by what it is in.
@@ -112,7 +121,10 @@ pub(crate) fn change_of(name: &LocalName) -> Change {
         local_name!("tr") => Change::Table(Part::Row),
         local_name!("td") | local_name!("th") => Change::Table(Part::Cell),
         local_name!("b") | local_name!("code") | local_name!("em") | local_name!("strong") => Change::Signed,
-        local_name!("button") | local_name!("input") | local_name!("select") | local_name!("textarea") => Change::Sized,
+        local_name!("button") => Change::Field(Field::Button),
+        local_name!("input") => Change::Field(Field::Input),
+        local_name!("select") => Change::Field(Field::Select),
+        local_name!("textarea") => Change::Field(Field::Lines),
         // newer than html5ever's table of names
         _ if name.len() == 6 && **name == *"search" => Change::Within(Inner::Division),
         _ => Change::Kept,

@@ -4,6 +4,7 @@
 
 mod elements;
 mod embedded;
+mod forms;
 mod lists;
 mod margins;
 mod numbers;
@@ -17,7 +18,7 @@ pub(crate) use private::{PrivateRules, RULE_CLASS};
 use crate::pass::{Entered, Last, Place};
 use crate::record::{self, Handle, Recorder};
 use crate::tree::{Attr, Element, Id, Tree, DOCUMENT};
-use elements::{change_of, Change, Inner, List, Part};
+use elements::{change_of, Change, Field, Inner, List, Part};
 use html5ever::{local_name, namespace_url, ns, LocalName};
 use lists::Filled;
 use margins::{Margins, BULLET};
@@ -80,7 +81,20 @@ pub(crate) struct Adaptation {
 /// Whether an adaptation asks for attributes of a name.
 pub(crate) fn is_asked(name: &LocalName) -> bool {
     record::is_asked(name)
-        || matches!(*name, local_name!("data") | local_name!("hidden") | local_name!("open") | local_name!("reversed") | local_name!("style") | local_name!("title") | local_name!("value"))
+        || matches!(
+            *name,
+            local_name!("checked")
+                | local_name!("data")
+                | local_name!("hidden")
+                | local_name!("multiple")
+                | local_name!("open")
+                | local_name!("reversed")
+                | local_name!("selected")
+                | local_name!("style")
+                | local_name!("title")
+                | local_name!("type")
+                | local_name!("value")
+        )
 }
 
 /// What an element's attributes say of it.
@@ -140,7 +154,8 @@ impl<'a> Adapter<'a> {
         }
         match change {
             Change::Signed if context.hides_texts() => Some(Entered::new(self.record_as(recorder, &opened, &local_name!("span"), ""), context)),
-            Change::Kept | Change::Signed | Change::Sized => Some(Entered::new(self.record(recorder, &opened), context)),
+            Change::Kept | Change::Signed => Some(Entered::new(self.record(recorder, &opened), context)),
+            Change::Field(field) => self.open_field(recorder, &opened, field, context),
             Change::Dropped => None,
             Change::Within(inner) => Some(self.open_within(recorder, &opened, inner, context)),
             Change::Dialog => {
@@ -240,6 +255,28 @@ impl<'a> Adapter<'a> {
         Entered::new(recorder.element(handle, record::HTML, &inner.name()), context)
     }
 
+    /// Records a form's field, as a text where its contents aren't in the tree.
+    fn open_field(&mut self, recorder: &mut Recorder, opened: &Opened<'_>, field: Field, context: Context) -> Option<Entered> {
+        let shown = match field {
+            Field::Button => Some("[ ".to_owned()),
+            Field::Input => forms::input(self.tree, opened.node),
+            Field::Lines => Some(String::new()),
+            Field::Select => Some(forms::select(self.tree, &recorder.text, opened.node)),
+        }?;
+        let handle = self.record(recorder, opened);
+        if !context.hides_texts() && !shown.is_empty() {
+            let shown = self.tree.filter.filtered(&shown);
+            let piece = recorder.keep(&shown);
+            recorder.text(handle, piece);
+        }
+        match field {
+            Field::Button if context.hides_texts() => Some(Entered::new(handle, context)),
+            Field::Button => Some(Entered { last: Last::Joined, end: " ]", ..Entered::new(handle, context) }),
+            Field::Lines => Some(Entered::new(recorder.element(handle, record::HTML, &local_name!("pre")), context)),
+            Field::Input | Field::Select => None,
+        }
+    }
+
     /// Records a `q`, and the mark at its start.
     fn open_quotation(&mut self, recorder: &mut Recorder, opened: &Opened<'_>, mut context: Context) -> Entered {
         let handle = self.record(recorder, opened);
@@ -304,7 +341,7 @@ impl<'a> Adapter<'a> {
         if let Some(is_visible) = style.and_then(InlineStyle::is_visible) {
             context.is_invisible = !is_visible;
         }
-        let has_own_size = change == Change::Sized || self.adaptation.is_quirky && change == Change::Table(Part::Table);
+        let has_own_size = matches!(change, Change::Field(_)) || self.adaptation.is_quirky && change == Change::Table(Part::Table);
         match style.and_then(InlineStyle::has_size) {
             Some(has_size) => context.has_no_size = !has_size,
             None if has_own_size => context.has_no_size = false,
