@@ -1,4 +1,4 @@
--- What columns need for their cells.
+-- The widths that columns need for their cells.
 use Rattle.std.proofs.Common.{◌≡◌, ℕ, ◌+◌, ◌≤◌, ◌<◌, List, length, map, sym, ap, ◌∙◌, arith}
 use Rattle.std.specs.Prelude.{slice_index, slice_index_or}
 use Rattle.std.proofs.lemmas.List.{ext_get_or}
@@ -23,7 +23,7 @@ least_over columns cells h =
     All-map (λ (s : Span). s.start + s.count ≤ columns) (λ c. part c c.least) cells
     (All-weaker (IsCell columns) (λ c. c.start + c.count ≤ columns) (λ c i. i.over) cells h)
 
--- the greatest sizes and least widths are what the columns need
+-- the greatest preferred and minimum widths over columns, joined, are the columns' needs
 pub needed : (columns : ℕ) (cells : List CellNeed) (sizes least : List ℕ) (needs : List ColumnNeed) →
     AreGreatest columns (map (λ c. part c c.size) cells) sizes → AreGreatest columns (map (λ c. part c c.least) cells) least →
     length needs ≡ length sizes →

@@ -1,4 +1,4 @@
--- The columns at the level as the code lists them, and in which order a sort puts them.
+-- The columns at the level as the code lists them, and the order into which it sorts them.
 use Rattle.std.proofs.Common.{◌≡◌, ◌≢◌, ℕ, ◌+◌, ◌-◌, ◌<◌, ◌≤◌, List, [], ◌∷◌, ◌++◌, All, map, length, min, take, sym, ap, ◌∙◌, arith, get_or, set}
 use Rattle.std.proofs.Common.{length-append}
 use Rattle.std.proofs.lemmas.List.{map-append, get_or-map, get_or-take, length-map, length-take}
@@ -15,7 +15,7 @@ use Rattle.html_render_parts_widths.specs.declared.lowering.AtLevel.{AtLevel}
 use Rattle.html_render_parts_widths.specs.laws.Cuts.{length-ranges, ranges-at}
 use Rattle.html_render_parts_widths.proofs.CutLowering.{AreLoweredSoFar, full-at-level, next-lowered, one-more, one-not, reordered, ordered-far}
 
--- the columns at the level among the first n
+-- whether a list holds the columns at the level among the first n, with their full widths
 pub record ColumnsSoFar (ms ss : List ℕ) (level n : ℕ) (cs : List AtLevel) : Type 0 where
   pub places : AreAtLevel ms ss level n (map (λ c. c.place) cs)
   pub widths : All (λ c. c.width.0 ≡ get_or ms c.place 0 + level) cs
@@ -49,7 +49,7 @@ column-skipped ms ss level n cs e h so_far below = record {
   count = λ pos. let old = so_far.count pos in omega (arith, old, one-range ms ss level n e h, one-range ms ss (level - 1) n e h);
 }
 
--- a column that isn't sorted behind another of another place is lowered before it
+-- of two columns at different places, the one that isn't sorted after the other is lowered before it
 not-behind : (width width' place place' : ℕ) → is_lt (ordering_then (nat_cmp width width') (nat_cmp place' place)) ≡ false →
     place ≢ place' → LoweredBefore width place width' place'
 not-behind width width' place place' h ne = grind (arith, nat_tests)
@@ -81,14 +81,14 @@ sorted-in-order ms ss level cs ds at widths moves sorted =
           (λ same. differ (at_place k in_k ∙ same ∙ sym (at_place (k + 1) in_next)))));
     }
 
--- a loop over the first `count` columns in order, of which `index` are lowered
+-- the state of the loop over the first `count` columns in order: `index` of them are lowered
 pub record IsLowering (ms ss : List ℕ) (level count : ℕ) (items : List AtLevel) (index : ℕ) (old ws : List ℕ) : Type 0 where
   pub columns : List AtLevel
   pub order : AreInOrder ms ss level (map (λ c. c.place) columns)
   pub prefix : items ≡ take count columns
   pub so_far : AreLoweredSoFar ms ss (map (λ c. c.place) columns) level index old ws
 
--- the column that the loop is at
+-- whether the loop's next column exists, and has a width above 0
 pub record IsNext (ms ss : List ℕ) (level : ℕ) (old ws : List ℕ) (place : ℕ) : Type 0 where
   pub inside : place < length ws
   pub some : 0 < get_or ws place 0

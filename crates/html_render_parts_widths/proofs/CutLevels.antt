@@ -1,4 +1,4 @@
--- Capped ranges: their sum grows with the level, by at most one a column.
+-- The sum of capped ranges grows with the level, by at most 1 for each column. Each probe halves the levels left to search.
 use Rattle.std.proofs.Common.{◌≡◌, ℕ, ◌+◌, ◌-◌, ◌*◌, ◌^◌, ◌<◌, ◌≤◌, List, [], ◌∷◌, length, min, sum, refl, arith, get_or, zero, suc, add-one, inl, inr}
 use Rattle.std.proofs.Math.Nat.{pow-suc, mul-le-mul_right}
 use Rattle.std.proofs.Math.Pow.{pow_mono}
@@ -13,7 +13,7 @@ pub capped_sum-mono : (l m : ℕ) (xs : List ℕ) → l ≤ m → capped_sum l x
 capped_sum-mono l m [] h = omega arith
 capped_sum-mono l m (x ∷ xs) h = omega (arith, capped_sum-cons l x xs, capped_sum-cons m x xs, capped_sum-mono l m xs h)
 
--- one level more is at most one more a column
+-- raising the level by 1 raises the sum by at most 1 for each column
 pub capped_sum-step : (l : ℕ) (xs : List ℕ) → capped_sum (l + 1) xs ≤ capped_sum l xs + length xs
 capped_sum-step l [] = omega arith
 capped_sum-step l (x ∷ xs) = omega (arith, capped_sum-cons l x xs, capped_sum-cons (l + 1) x xs, capped_sum-step l xs)
@@ -22,14 +22,15 @@ pub capped_sum-zero : (xs : List ℕ) → capped_sum 0 xs ≡ 0
 capped_sum-zero [] = refl
 capped_sum-zero (x ∷ xs) = omega (arith, capped_sum-cons 0 x xs, capped_sum-zero xs)
 
--- no range is above the greatest
+-- at the greatest range or above it, the level caps no range
 pub capped_sum-greatest : (ms ss : List ℕ) (l : ℕ) → largest_slack ms ss ≤ l → capped_sum l (ranges ms ss) ≡ sum (ranges ms ss)
 capped_sum-greatest (m ∷ ms) (s ∷ ss) l h =
     let here : s - m ≤ l = omega arith in
     omega (arith, here, capped_sum-cons l (s - m) (ranges ms ss), sum_by-cons (λ x. x), capped_sum-greatest ms ss l (omega arith))
 capped_sum-greatest ms ss l h = refl
 
--- what is above the wanted sum is less than a unit a column, and only there at a level above 0
+-- an excess over the wanted sum needs a level above 0 whose predecessor isn't enough, and is at most one unit for each
+-- column
 pub excess-some : (level : ℕ) (xs : List ℕ) (w : ℕ) → IsLevel level xs w → 0 < capped_sum level xs - w → (0 < level) × (capped_sum (level - 1) xs < w)
 excess-some zero xs w h some = absurd (let e = capped_sum-zero xs in omega arith)
 excess-some (suc l) xs w h some = (omega arith, let t = h.least (suc l - 1) (omega arith) in t)
@@ -41,7 +42,7 @@ excess-below (suc l) xs w h =
     let e : suc l ≡ l + 1 = omega arith in
     rw e (let u = capped_sum-step l xs in omega (arith, t, u))
 
--- widths that are below the full ones of a level have at most that sum
+-- widths that are at most the full widths at a level add up to at most the minimums plus the capped ranges
 pub sum-below : (ms rs ws : List ℕ) (l : ℕ) → length ws ≡ length ms → length rs ≡ length ms →
     ((k : ℕ) → k < length ms → get_or ws k 0 ≤ get_or ms k 0 + min (get_or rs k 0) l) → sum ws ≤ sum ms + capped_sum l rs
 sum-below [] rs [] l e f h = omega arith
@@ -53,7 +54,7 @@ sum-below ms rs ws l e f h = cc
 
 -- ---- halving
 
--- what a probe leaves of the levels: at most half, and no less than that
+-- bounds on the probes after one more probe, which leaves a distance of `e` between the lowest and the highest level
 pub record IsProbed (d e p top : ℕ) : Type 0 where
   pub probes : p + 1 ≤ 64
   pub halved : e * 2 ^ (p + 1) ≤ top

@@ -1,4 +1,4 @@
--- The columns at the level, and what lowering the first of them does to the widths.
+-- The columns at the level, and the effect of lowering the first of them on the widths.
 use Rattle.std.proofs.Common.{◌≡◌, ◌≢◌, ℕ, ◌+◌, ◌-◌, ◌<◌, ◌≤◌, List, [], ◌∷◌, ◌++◌, length, refl, sym, ap, ◌∙◌, arith, get_or, set, inl, inr, suc}
 use Rattle.std.proofs.Common.{zero, length-append}
 use Rattle.std.proofs.Math.Seq.{get_or-append_seam}
@@ -13,7 +13,7 @@ use Rattle.std.proofs.lemmas.Bool.{cases_lt, cases_eq}
 use Rattle.html_render_parts_widths.specs.Cuts.{full_width, slack}
 use Rattle.html_render_parts_widths.specs.CutSteps.{LoweredBefore, AreAtLevel, AreInOrder, AreLowered}
 
--- ---- which columns are at the level
+-- ---- the list of columns at the level
 
 pub one-more : (ms ss : List ℕ) (level n : ℕ) (ps : List ℕ) → AreAtLevel ms ss level n ps → level ≤ slack ms ss n →
     AreAtLevel ms ss level (n + 1) (ps ++ n ∷ [])
@@ -60,7 +60,7 @@ one-not ms ss level n ps h below = record {
   distinct = h.distinct;
 }
 
--- the places may be listed in any order
+-- the list may have any order
 
 moved : (ps : List ℕ) (i j p : ℕ) → i < length ps → j < length ps → p < length ps
     → (q : ℕ) × (q < length ps) × (get_or (lists.swap ps i j) p 0 ≡ get_or ps q 0) × (get_or (lists.swap ps i j) q 0 ≡ get_or ps p 0)
@@ -96,7 +96,7 @@ pub reordered : (ms ss : List ℕ) (level n : ℕ) (ps qs : List ℕ) → AreAtL
 reordered ms ss level n ps qs h moves =
     IsPermutation-keeps ps (λ l. AreAtLevel ms ss level n l) h (λ l i j in_i in_j k. swapped ms ss level n l i j in_i in_j k) qs moves
 
--- what holds of neighbours holds of any two
+-- an order of neighbours is an order of any two
 pub ordered-far : (f g : ℕ → ℕ) (n : ℕ) → ((k : ℕ) → k + 1 < n → LoweredBefore (f k) (g k) (f (k + 1)) (g (k + 1))) → (p q : ℕ) → p < q →
     q < n → LoweredBefore (f p) (g p) (f q) (g q)
 ordered-far f g n next p zero less in_q = absurd (omega arith)
@@ -110,9 +110,9 @@ ordered-far f g n next p (suc q) less in_q =
       | inr le ↦ let same : p ≡ q = omega arith in rw same step
     ])
 
--- ---- lowering the first of them
+-- ---- lowering the first columns
 
--- the first d are lowered, and the others are not yet
+-- whether the first `d` columns are lowered, and the others aren't yet
 pub record AreLoweredSoFar (ms ss ps : List ℕ) (level d : ℕ) (old ws : List ℕ) : Type 0 where
   pub are_lowered : AreLowered ms ss level d old ws
   pub done : (p : ℕ) → p < d → p < length ps → get_or ws (get_or ps p 0) 0 + 1 ≡ get_or old (get_or ps p 0) 0
@@ -130,7 +130,7 @@ none-lowered ms ss ps level old = record {
   left = λ p le in_p. refl;
 }
 
--- a column at the level has its minimum and the level
+-- the full width of a column at the level is its minimum plus the level
 pub full-at-level : (ms ss old : List ℕ) (level k : ℕ) → ((j : ℕ) → j < length ms → get_or old j 0 ≡ full_width ms ss level j) →
     k < length ms → level ≤ slack ms ss k → get_or old k 0 ≡ get_or ms k 0 + level
 full-at-level ms ss old level k full inside at = let f = full k inside in omega arith

@@ -1,4 +1,4 @@
--- The level form is the fairest cut, and it is the only level form.
+-- The level form is the fairest cut, and it is unique.
 use Rattle.std.proofs.Common.{◌≡◌, ℕ, ◌+◌, ◌-◌, ◌<◌, ◌≤◌, List, [], ◌∷◌, length, min, sum, refl, sym, ◌∙◌, arith, get_or, inl, inr, suc, zero}
 use Rattle.std.proofs.lemmas.List.Sums.{sum_by-cons}
 use Rattle.std.proofs.lemmas.Bool.{cases_lt}
@@ -25,7 +25,7 @@ fairest ms ss w ws level lowered fits form = record {
       let a = form.each i in_i in let b = form.each j in_j in let c = form.first i j in_i in_j in grind arith;
 }
 
--- ---- no other has a smaller largest slack
+-- ---- no cut has a smaller largest slack
 
 pub slack-le-largest : (ms ws : List ℕ) (k : ℕ) → length ws ≡ length ms → k < length ms → get_or ws k 0 - get_or ms k 0 ≤ largest_slack ms ws
 slack-le-largest [] ws k e h = absurd (omega arith)
@@ -59,7 +59,7 @@ least-slack ms ss w ws level lowered fits form vs cut =
 pub wanted-le : (ms ss : List ℕ) (w : ℕ) → CutFits ms ss w → wanted ms ss w ≤ sum (ranges ms ss)
 wanted-le ms ss w h = let e = sum-ranges ms ss h.lengths h.each in omega arith
 
--- full widths have the sum of the minimums and what is capped_sum
+-- full widths add up to the sum of the minimums plus the sum of the capped ranges
 pub sum-full_width : (ms ss ws : List ℕ) (l : ℕ) → length ws ≡ length ms → length ss ≡ length ms →
     ((k : ℕ) → k < length ms → get_or ws k 0 ≡ get_or ms k 0 + min (get_or ss k 0) l) → sum ws ≡ sum ms + capped_sum l ss
 sum-full_width [] [] [] l e f h = refl
@@ -69,7 +69,7 @@ sum-full_width (m ∷ ms) (s ∷ ss) (w ∷ ws) l e f h =
     omega (arith, here, rest, sum_by-cons (λ x. x) w ws, sum_by-cons (λ x. x) m ms, sum_by-cons (λ x. min x l) s ss)
 sum-full_width ms ss ws l e f h = cc
 
--- lowered full widths are the level form
+-- full widths, of which the first at the level are lowered, are the level form
 pub form-lowered : (ms ss : List ℕ) (w : ℕ) (old ws : List ℕ) (level lowered : ℕ) → CutFits ms ss w →
     IsLevel level (ranges ms ss) (wanted ms ss w) → lowered + wanted ms ss w ≡ capped_sum level (ranges ms ss)
     → length old ≡ length ms → ((k : ℕ) → k < length ms → get_or old k 0 ≡ full_width ms ss level k)
@@ -87,7 +87,7 @@ form-lowered ms ss w old ws level lowered fits is rest len each low =
           let t = low.first i j (omega arith) (omega arith) (down.2 ∙ sym f) at (same ∙ sym g) in grind arith;
     }
 
--- ---- there is only one level form
+-- ---- the level form is unique
 
 pub level-only : (rs : List ℕ) (w l m : ℕ) → IsLevel l rs w → IsLevel m rs w → l ≡ m
 level-only rs w l m p q = let a = q.least l in let b = p.least m in let c = p.enough in let d = q.enough in grind arith
@@ -101,7 +101,7 @@ form-only ms ss w ws vs l m d e fits p q =
       let a = p.rest in let b = rw (sym same) at q.rest in omega arith,
     )
 
--- ---- all that is said of a cut
+-- ---- all promises of a cut
 
 pub column-cut : (ms ss : List ℕ) (w : ℕ) (ws : List ℕ) (level lowered : ℕ) → CutFits ms ss w → IsLevelForm ms ss w ws level lowered →
     IsColumnCut ms ss w ws level lowered

@@ -1,4 +1,4 @@
--- Values over many columns, spread over fewer and fewer columns, are in the end the greatest over each.
+-- The steps that spread values end with the greatest value over each column.
 use Rattle.std.proofs.Common.{◌≡◌, ℕ, zero, suc, ◌+◌, ◌-◌, ◌*◌, ◌≤◌, ◌<◌, List, [], ◌∷◌, length, min, max, nat_lt, true, false, inl, inr, ◌⊎◌, sym, ap, ◌∙◌, subst, arith}
 use Rattle.std.specs.Prelude.{slice_index}
 use Rattle.std.proofs.lemmas.Bool.Decides.{eqb_tells, leb_tells, nat_tests}
@@ -7,20 +7,20 @@ use Rattle.html_render_parts_widths.specs.declared.spans.Span.{Span}
 use Rattle.html_render_parts_widths.specs.Spans.{given, greatest_at, AreOver, AreGreatest}
 use Rattle.html_render_parts_widths.specs.SpanSteps.{no_span, span_at, Reaches, IsSpread, split_at, raised_at}
 
--- what a test on two numbers tells
+-- the two outcomes of a test whether one number is below another
 ltb-tells : (a b : ℕ) → ((nat_lt a b ≡ true) × (a < b)) ⊎ ((nat_lt a b ≡ false) × (b ≤ a))
 ltb-tells a b = elim (leb_tells (suc a) b) [ inl t ↦ inl (t.0, omega arith) | inr t ↦ inr (t.0, omega arith) ]
 
--- ---- what is given a column
+-- ---- the value that a span gives a column
 
 given-value : (s : Span) (j : ℕ) → s.start ≤ j → j < s.start + s.count → given s j ≡ s.value
 given-value s j a b = grind (arith, nat_tests)
 
--- a bound on what a span gives a column
+-- a bound on the value that a span gives a column
 given-le : (s : Span) (j bound : ℕ) → (s.start ≤ j → j < s.start + s.count → s.value ≤ bound) → given s j ≤ bound
 given-le s j bound h = grind (arith, nat_tests)
 
--- each span gives no more than the greatest
+-- each span gives a column at most the greatest value over it
 given-greatest : (spans : List Span) (k j : ℕ) → k < length spans → given (span_at spans k) j ≤ greatest_at spans j
 given-greatest [] k j h = absurd (omega (arith, h))
 given-greatest (s ∷ ss) zero j h = omega arith
@@ -38,14 +38,14 @@ span-over all spans k h inside = All-get_or (λ s. s.start + s.count ≤ all) sp
 
 -- ---- the steps
 
--- greater values reach as far
+-- raising values preserves that they reach a span
 reaches-more : (values more : List ℕ) (columns : ℕ) (s : Span) → ((i : ℕ) → slice_index values i ≤ slice_index more i) →
     Reaches values columns s → Reaches more columns s
 reaches-more values more columns s le h = λ j a b.
     let r = h j a b in
     (r.0, r.1, r.2, let e = le r.0 in let v = r.3 in omega (arith, e, v))
 
--- one span more
+-- the greatest count of one span more
 pub counts_more : (spans : List Span) (at most : ℕ) → ((k : ℕ) → k < at → (span_at spans k).count ≤ most) →
     (k : ℕ) → k < at + 1 → (span_at spans k).count ≤ max most (span_at spans at).count
 counts_more spans at most h k inside = elim (ltb-tells k at) [
@@ -55,7 +55,7 @@ counts_more spans at most h k inside = elim (ltb-tells k at) [
       subst (λ n. (span_at spans n).count ≤ max most (span_at spans at).count) (sym same) (omega arith)
 ]
 
--- at first nothing is spread
+-- without spans to spread, zeros are spread
 pub begun : (all most : ℕ) (spans : List Span) (values : List ℕ) → AreOver all spans → length values ≡ all →
     ((k : ℕ) → slice_index values k ≡ 0) → ((k : ℕ) → k < length spans → (span_at spans k).count ≤ most) →
     IsSpread all (min most all + 1) (min most all + 1) 0 spans values
@@ -76,7 +76,7 @@ split-le : (offset : ℕ) (values : List ℕ) (k bound : ℕ) → slice_index va
     (offset ≤ k → slice_index values (k - offset) ≤ bound) → split_at offset values k ≤ bound
 split-le offset values k bound a b = grind (arith, nat_tests)
 
--- each place stands for fewer columns, and the one `offset` places behind it for the others
+-- each window loses its last `offset` columns, and that of the index `offset` places to the right covers them
 pub split_spread : (all longer offset : ℕ) (spans : List Span) (values more : List ℕ) → AreOver all spans → offset < longer →
     longer ≤ 2 * (longer - offset) → offset ≤ longer - offset → length more ≡ all →
     ((k : ℕ) → k < length values → slice_index more k ≡ split_at offset values k) →
@@ -123,7 +123,7 @@ raised-le : (columns : ℕ) (s : Span) (values : List ℕ) (k bound : ℕ) → s
     (k ≡ s.start → s.value ≤ bound) → (k ≡ s.start + (s.count - columns) → s.value ≤ bound) → raised_at columns s values k ≤ bound
 raised-le columns s values k bound a b c = grind (arith, nat_tests)
 
--- one span more
+-- adding a span of `columns` to `longer` columns makes one span more spread
 pub added : (all columns longer k : ℕ) (spans : List Span) (values more : List ℕ) → AreOver all spans → k < length spans →
     columns ≤ (span_at spans k).count → (span_at spans k).count < longer → longer ≤ 2 * columns → length more ≡ length values →
     ((i : ℕ) → slice_index more i ≡ raised_at columns (span_at spans k) values i) →
@@ -158,7 +158,7 @@ added all columns longer k spans values more over inside least less twice places
       ];
     }
 
--- a span that is over fewer columns, or was spread before
+-- a span of fewer than `columns` columns needs no step, nor does one that is spread already
 pub passed : (all columns longer k : ℕ) (spans : List Span) (values : List ℕ) → k < length spans →
     (columns ≤ (span_at spans k).count → longer ≤ (span_at spans k).count) →
     IsSpread all columns longer k spans values → IsSpread all columns longer (k + 1) spans values
@@ -173,7 +173,7 @@ passed all columns longer k spans values inside other h = record {
   ];
 }
 
--- all of them
+-- with all spans added, all of at least `columns` columns are spread
 pub all_added : (all columns longer : ℕ) (spans : List Span) (values : List ℕ) →
     IsSpread all columns longer (length spans) spans values → IsSpread all columns columns 0 spans values
 all_added all columns longer spans values h = record {
@@ -183,7 +183,7 @@ all_added all columns longer spans values h = record {
   short = λ k none. absurd (omega (arith, none));
 }
 
--- places that stand for themselves alone
+-- with windows of one column, the values are the greatest over each column
 pub ended : (all : ℕ) (spans : List Span) (values : List ℕ) → IsSpread all 1 1 0 spans values → AreGreatest all spans values
 ended all spans values h = record {
   columns_of = h.places;

@@ -1,26 +1,27 @@
--- What the answer of a column cut is.
+-- The promises of a column cut's result.
 use Rattle.std.specs.Prelude.{◌≡◌, ℕ, ◌+◌, ◌-◌, ◌/◌, ◌<◌, ◌≤◌, List, length, sum, slice_index, slice_range}
 use Rattle.html_render_parts_widths.specs.Cuts.{largest_slack, cut_by_units, IsCut, IsFairestCut, IsLevelForm}
 
--- widths that columns are cut to, with their level and the number of lowered columns
+-- whether widths, level and number of lowered columns are those of the cut of columns
 pub record IsColumnCut (minimums shares : List ℕ) (width : ℕ) (widths : List ℕ) (level lowered : ℕ) : Type 0 where
   -- they are the level form
   pub form : IsLevelForm minimums shares width widths level lowered
-  -- no other widths, level and number are
+  -- the level form is unique
   pub only_form : (others : List ℕ) (l d : ℕ) → IsLevelForm minimums shares width others l d → (others ≡ widths) × (l ≡ level) × (d ≡ lowered)
   -- the widths are a fairest cut
   pub fairest : IsFairestCut minimums shares width widths
-  -- no others are
+  -- the fairest cut is unique
   pub only_fairest : (other : List ℕ) → IsFairestCut minimums shares width other → other ≡ widths
-  -- the loop of single units gives them
+  -- the loop of single units gives the same widths
   pub by_units : widths ≡ cut_by_units minimums shares width
-  -- with the separators between them they are at most the width
+  -- the widths and the separators between them are at most the width
   pub within : sum widths + (length widths - 1) ≤ width
   -- no cut has a smaller largest slack
   pub least_slack : (other : List ℕ) → IsCut minimums shares width other → largest_slack minimums widths ≤ largest_slack minimums other
-  -- where the shares' sum passes the minimums' by at most the width, no more units than the width are taken
+  -- if the sum of shares passes that of minimums by at most the width, at most `width` units are taken
   pub units_taken : sum shares ≤ sum minimums + width → sum shares - sum widths ≤ width
-  -- columns side by side that are each at least their part of a size have that size together, with the separators between them
+  -- if each of `count` neighbouring minimums is at least its part of `size`, their widths and the separators between them
+  -- add up to at least `size`
   pub neighbours : (from count size : ℕ) → 0 < count → from + count ≤ length minimums →
       ((k : ℕ) → from ≤ k → k < from + count → size / count ≤ slice_index minimums k) →
       size ≤ sum (slice_range widths from (from + count)) + (count - 1)

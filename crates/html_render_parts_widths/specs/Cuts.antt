@@ -1,44 +1,45 @@
--- How the columns of a table are cut to its width. Each column has a minimum, the least width that it can have, and a share,
--- the width that it would like. Between neighbouring columns stands a separator, 1 wide.
+-- How the columns of a table are cut to its width. Each column has a minimum, its least possible width, and a share, its
+-- preferred width at the table's width. Between neighbouring columns is a separator of width 1.
 use Rattle.std.specs.Prelude.{◌≡◌, ◌≢◌, ℕ, ◌+◌, ◌-◌, ◌<◌, ◌≤◌, ◌⊎◌, List, [], ◌∷◌, zero, suc, length, min, max, sum, sum_by, slice_index}
 use Rattle.std.specs.Prelude.{slice_set, nat_lt, ◌==◌, ◌||◌, ◌&&◌, if◌then◌else◌}
 
--- the shares can be cut to the width
+-- whether the shares can be cut to the width
 pub record CutFits (minimums shares : List ℕ) (width : ℕ) : Type 0 where
   pub lengths : length minimums ≡ length shares
   pub each : (k : ℕ) → k < length minimums → slice_index minimums k ≤ slice_index shares k
   pub room : sum minimums + (length minimums - 1) ≤ width
 
--- what the columns' widths add up to: all of the shares, or what the separators leave of the width
+-- the sum of a cut's widths: the sum of the shares, or the width without the separators if that is less
 abbrev pub total_width : List ℕ → ℕ → ℕ
 total_width shares width = min (sum shares) (width - (length shares - 1))
 
--- how far a column is above its minimum
+-- the distance of a column's width to its minimum
 abbrev pub slack : List ℕ → List ℕ → ℕ → ℕ
 slack minimums widths k = slice_index widths k - slice_index minimums k
 
--- the largest slack, 0 where there is no column; that of the shares is the greatest range
+-- the largest slack; 0 without columns. That of the shares is the greatest range
 abbrev pub largest_slack : List ℕ → List ℕ → ℕ
 largest_slack (minimum ∷ minimums) (width ∷ widths) = max (width - minimum) (largest_slack minimums widths)
 largest_slack minimums widths = 0
 
 -- ---- the fairest cut
 
--- of two columns, the first gives a unit before the second: by greater slack, then by greater width, then as the left one
+-- whether the first of two columns gives a unit before the second: by greater slack, then greater width, then as the left
+-- one
 abbrev pub GivesBefore : (slack width place slack' width' place' : ℕ) → Type 0
 GivesBefore slack width place slack' width' place' =
     (slack' < slack) ⊎ ((slack' ≡ slack) × ((width' < width) ⊎ ((width' ≡ width) × (place < place'))))
 
 module _ (minimums shares : List ℕ) where
-  -- each width is between its minimum and its share, and where there is a column they add up
+  -- whether each width is between its minimum and its share, and the widths of one or more columns add up to the total width
   pub record IsCut (width : ℕ) (widths : List ℕ) : Type 0 where
     pub lengths : length widths ≡ length minimums
     pub lower : (k : ℕ) → k < length minimums → slice_index minimums k ≤ slice_index widths k
     pub upper : (k : ℕ) → k < length minimums → slice_index widths k ≤ slice_index shares k
     pub total : 0 < length minimums → sum widths ≡ total_width shares width
 
-  -- a cut whose last unit was taken from the right column, whichever it was: with that unit back, its column gives
-  -- before each other
+  -- whether a cut took its last unit, whichever it was, from the right column: with that unit put back, its column gives
+  -- before each other one
   pub record IsFairestCut (width : ℕ) (widths : List ℕ) : Type 0 where
     pub is_cut : IsCut width widths
     pub last_unit : (i j : ℕ) → i < length minimums → j < length minimums → i ≢ j → slice_index widths i < slice_index shares i →
@@ -47,7 +48,7 @@ module _ (minimums shares : List ℕ) where
 
 -- ---- the level form
 
--- the range of each column: its share less its minimum
+-- the range of each column: its share minus its minimum
 abbrev pub ranges : List ℕ → List ℕ → List ℕ
 ranges (minimum ∷ minimums) (share ∷ shares) = (share - minimum) ∷ ranges minimums shares
 ranges minimums shares = []
@@ -56,26 +57,27 @@ ranges minimums shares = []
 abbrev pub capped_sum : ℕ → List ℕ → ℕ
 capped_sum level ranges = sum_by (λ range. min range level) ranges
 
--- the least level at which the capped ranges are enough
+-- whether a level is the least one at which the capped ranges add up to at least `wanted`
 pub record IsLevel (level : ℕ) (ranges : List ℕ) (wanted : ℕ) : Type 0 where
   pub enough : wanted ≤ capped_sum level ranges
   pub least : (l : ℕ) → l < level → capped_sum l ranges < wanted
 
 module _ (minimums shares : List ℕ) where
-  -- what the widths have above the minimums
+  -- the difference between the sum of a cut's widths and the sum of the minimums
   abbrev pub wanted : ℕ → ℕ
   wanted width = total_width shares width - sum minimums
 
-  -- a column's width where its range is capped at the level
+  -- a column's full width: its minimum plus its range capped at the level
   abbrev pub full_width : (level k : ℕ) → ℕ
   full_width level k = slice_index minimums k + min (slack minimums shares k) level
 
-  -- a column whose range reaches the level is 1 narrower than its full width
+  -- whether a column's range reaches the level, which is above 0, and its width is 1 less than its full width
   abbrev pub IsLowered : (widths : List ℕ) → (level k : ℕ) → Type 0
   IsLowered widths level k = (0 < level) × (level ≤ slack minimums shares k) × (slice_index widths k + 1 ≡ full_width level k)
 
-  -- each column has its full width or is lowered; so many are lowered that the widths add up, and they are the first of the
-  -- columns whose ranges reach the level, by greater width and then from the left
+  -- Whether widths are the level form of a cut: each column has its full width or is lowered, and `lowered` columns are, one
+  -- for each unit of excess. The lowered columns are the first of those whose range reaches the level, by greater width and
+  -- then from the left.
   pub record IsLevelForm (width : ℕ) (widths : List ℕ) (level lowered : ℕ) : Type 0 where
     pub is_level : IsLevel level (ranges minimums shares) (wanted width)
     pub rest : lowered + wanted width ≡ capped_sum level (ranges minimums shares)
@@ -88,7 +90,7 @@ module _ (minimums shares : List ℕ) where
 
 -- ---- the loop of single units
 
--- the column that gives the next unit, among the first n: that of greatest slack, of these the widest, of these the leftmost
+-- the column among the first n that gives the next unit: that of greatest slack, of these the widest, of these the leftmost
 unfoldable pub giver : List ℕ → List ℕ → ℕ → ℕ
 giver minimums widths zero = 0
 giver minimums widths (suc n) =
@@ -96,13 +98,13 @@ giver minimums widths (suc n) =
     if nat_lt (slack minimums widths best) (slack minimums widths n)
     || (slack minimums widths best == slack minimums widths n && nat_lt (slice_index widths best) (slice_index widths n)) then n else best
 
--- a number of units taken, one after the other
+-- the widths after a number of units are taken, one by one
 unfoldable pub without_units : ℕ → List ℕ → List ℕ → List ℕ
 without_units zero minimums widths = widths
 without_units (suc n) minimums widths =
     let from = giver minimums widths (length widths) in
     without_units n minimums (slice_set widths from (slice_index widths from - 1))
 
--- the shares with units taken until they have the total width
+-- the shares after units are taken until their sum is the total width
 unfoldable pub cut_by_units : List ℕ → List ℕ → ℕ → List ℕ
 cut_by_units minimums shares width = without_units (sum shares - total_width shares width) minimums shares

@@ -1,15 +1,15 @@
--- how columns are cut to a width
+-- cuts of columns to a width
 pub mod Cuts
--- what the answer of a cut is
+-- the promises of a cut's result
 pub mod ColumnCuts
--- the widths of a table's columns, by what they need
+-- widths of a table's columns, from their needs
 pub mod Shares
--- values over many columns, and how they are spread
+-- values over ranges of columns, and the steps that spread them
 pub mod Spans
 pub mod SpanSteps
--- the widths of a table's columns, by what its cells need
+-- needs of a table's columns, from its cells
 pub mod Needs
--- what the steps of a cut hand to one another
+-- properties of a cut's intermediate results
 pub mod CutSteps
 -- laws and lemmas of all these
 pub mod laws

@@ -1,4 +1,4 @@
-//! Whether a list of widths is the cut that `column_widths` answers, in a few passes and without memory.
+//! Checks column cuts in a few passes, without allocating.
 
 ghost use Rattle.std.specs.Prelude.{◌≡◌, ◌≢◌, ℕ, ◌+◌, ◌-◌, ◌*◌, ◌^◌, ◌<◌, ◌≤◌, ◌↔◌, ◌⊎◌, length, min, sum, slice_index, IsTrue, IfSome, IfNone};
 ghost use Rattle.html_render_parts_widths.specs.Cuts.{ranges, capped_sum, CutFits, slack, IsLowered, IsLevel, IsLevelForm};
@@ -8,10 +8,10 @@ use super::cut::ColumnCut;
 use super::fit::{cut_fits, sum_up, wanted};
 use super::levels::capped_sum;
 
-/// Whether the columns can be cut to `width`, as [`cut_fits`] says, and `cut` is what
-/// [`column_widths`](super::column_widths) answers for them.
+/// Reports whether the columns can be cut to `width`, as [`cut_fits`] checks, and `cut` equals the result of
+/// [`column_widths`](super::column_widths).
 ///
-/// It takes no memory.
+/// All widths are in columns of text. Checks without searching, and allocates nothing.
 pub fn check_cut(minimums: &[usize], shares: &[usize], width: usize, cut: &ColumnCut) -> bool
     ensures { IsTrue result
         ↔ (CutFits minimums.now shares.now width × IsLevelForm minimums.now shares.now width cut.now.widths.items cut.now.level cut.now.lowered) }
@@ -19,7 +19,7 @@ pub fn check_cut(minimums: &[usize], shares: &[usize], width: usize, cut: &Colum
     cut_fits(minimums, shares, width) && is_level_form(minimums, shares, width, cut)
 }
 
-/// Whether a cut is the level form of columns that fit.
+/// Reports whether `cut` is the level form (`IsLevelForm`) of columns that fit.
 fn is_level_form(minimums: &[usize], shares: &[usize], width: usize, cut: &ColumnCut) -> bool
     requires { CutFits minimums.now shares.now width }
     ensures { IsTrue result ↔ IsLevelForm minimums.now shares.now width cut.now.widths.items cut.now.level cut.now.lowered }
@@ -39,7 +39,7 @@ fn is_level_form(minimums: &[usize], shares: &[usize], width: usize, cut: &Colum
         && lowers_first(minimums, shares, cut.level, widths)
 }
 
-/// The sum of numbers, exact.
+/// Returns the exact sum of the widths.
 fn total(widths: &[usize]) -> u128
     ensures value { result ≡ sum widths.now }
     ensures small { result ≤ length widths.now * 2 ^ 64 }
@@ -51,7 +51,7 @@ fn total(widths: &[usize]) -> u128
     all
 }
 
-/// Whether the level is the least at which the capped ranges are enough. `full` is their sum at the level.
+/// Reports whether `level` is the least level whose capped ranges add up to `needed`. `full` is their sum at `level`.
 fn is_least_level(
     minimums: &[usize],
     shares: &[usize],
@@ -66,7 +66,7 @@ fn is_least_level(
     needed <= full && (level == 0 || capped_sum(minimums, shares, level - 1) < needed)
 }
 
-/// Whether a column has its minimum and its range, capped at the level.
+/// Reports whether a column's width is its minimum plus its range capped at `level`.
 fn is_full(minimum: usize, share: usize, level: usize, width: usize) -> bool
     requires { minimum ≤ share }
     ensures { IsTrue result ↔ (width ≡ minimum + min (share - minimum) level) }
@@ -74,7 +74,8 @@ fn is_full(minimum: usize, share: usize, level: usize, width: usize) -> bool
     width == minimum + (share - minimum).min(level)
 }
 
-/// Whether a column's range reaches the level, which is above 0, and the column is 1 narrower than that.
+/// Reports whether a column is lowered: its range reaches `level`, which is above 0, and its width is 1 less than its
+/// minimum plus `level`.
 fn is_lowered(minimum: usize, share: usize, level: usize, width: usize) -> bool
     requires { minimum ≤ share }
     ensures { IsTrue result ↔ ((0 < level) × (level ≤ share - minimum) × (width + 1 ≡ minimum + min (share - minimum) level)) }
@@ -82,7 +83,7 @@ fn is_lowered(minimum: usize, share: usize, level: usize, width: usize) -> bool
     0 < level && level <= share - minimum && width == minimum + (level - 1)
 }
 
-/// Whether each column has its full width or is lowered.
+/// Reports whether each column has its full width or is lowered.
 fn are_full_or_lowered(minimums: &[usize], shares: &[usize], level: usize, widths: &[usize]) -> bool
     requires columns { AreColumns minimums.now shares.now }
     requires widths { length widths.now ≡ length minimums.now }
@@ -98,7 +99,8 @@ fn are_full_or_lowered(minimums: &[usize], shares: &[usize], level: usize, width
     true
 }
 
-/// The lowered column that is lowered last: the narrowest, of these the rightmost.
+/// Returns the lowered column that is last in the order of lowering: the narrowest, of these the rightmost. `None` if no
+/// column is lowered.
 fn last_lowered(
     minimums: &[usize],
     shares: &[usize],
@@ -124,7 +126,8 @@ fn last_lowered(
     last
 }
 
-/// The column at the level that would be lowered next: the widest of full width, of these the leftmost.
+/// Returns the column that would be lowered next: the widest among those at the level with their full width, of these the
+/// leftmost. `None` if there is no such column.
 fn next_lowered(
     minimums: &[usize],
     shares: &[usize],
@@ -153,7 +156,7 @@ fn next_lowered(
     next
 }
 
-/// Whether each lowered column comes before each other one at the level.
+/// Reports whether each lowered column precedes, in the order of lowering, each column at the level with its full width.
 fn lowers_first(minimums: &[usize], shares: &[usize], level: usize, widths: &[usize]) -> bool
     requires columns { AreColumns minimums.now shares.now }
     requires widths { length widths.now ≡ length minimums.now }

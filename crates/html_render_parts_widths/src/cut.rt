@@ -1,4 +1,4 @@
-//! The widths of a table's columns: the fairest cut of their shares.
+//! Widths of a table's columns: the fairest cut of their shares.
 
 ghost use Rattle.std.specs.Prelude.{◌≡◌, ℕ, ◌+◌, ◌-◌, ◌*◌, ◌^◌, ◌<◌, ◌≤◌, length, min, sum, slice_index, IfOk, IfErr};
 ghost use Rattle.html_render_parts_widths.specs.Cuts.{ranges, capped_sum, full_width, largest_slack, wanted, CutFits, IsLevel, IsLevelForm};
@@ -12,30 +12,32 @@ use super::lowering::lowered;
 use html_render_dom_values::Error;
 use std::alloc::{AllocError, Global};
 
-/// The widths that columns are cut to, and how they come about.
+/// Widths that columns are cut to, with their level form.
 ///
-/// Each column has its minimum and its range (its share less its minimum), the range capped at `level`. Of the columns
-/// whose range reaches `level` the first `lowered`, by greater width and then from the left, are 1 column of text
-/// narrower. With no columns, `level` and `lowered` are 0.
+/// A column's range is its share minus its minimum. Its width is its minimum plus its range capped at `level`. The first
+/// `lowered` of the columns whose range reaches `level`, by greater width and then from the left, are 1 column of text
+/// narrower. Without columns, `level` and `lowered` are 0.
 #[derive(Debug, PartialEq, Eq, Drop)]
 pub struct ColumnCut {
-    /// The width of each column, in columns of text.
+    /// Width of each column, in columns of text.
     pub widths: Vec<usize>,
-    /// The least cap on the ranges at which the widths use what there is, in columns of text.
+    /// Least cap on the ranges at which the widths use all available columns of text.
     pub level: usize,
-    /// How many columns are 1 column of text narrower than their capped range says.
+    /// Number of columns that are 1 column of text narrower than their minimum plus their capped range.
     pub lowered: usize,
 }
 
-/// The widths of the columns: their shares, cut to `width` as fairly as can be.
+/// Cuts the shares of columns to `width`, as fairly as possible.
 ///
-/// The answer is that of this loop: while the widths and a separator between neighbouring columns pass `width`, take 1
-/// from the column of greatest slack (its width less its minimum), of these from the widest, of these from the leftmost.
-/// It is found by at most 64 sums and one sort.
+/// The result is that of this loop: while the widths and a separator of 1 between neighbouring columns pass `width`, take
+/// 1 from the column with the greatest distance to its minimum, of these from the widest, and of these from the leftmost.
+/// It is found by a binary search of at most 64 steps and one sort.
+///
+/// All widths are in columns of text. The caller ensures [`cut_fits`](super::cut_fits).
 ///
 /// # Errors
 ///
-/// `OutOfMemory`.
+/// `OutOfMemory` if an allocation is refused.
 pub fn column_widths(
     alloc: Global,
     minimums: &[usize],
@@ -50,12 +52,14 @@ pub fn column_widths(
     column_widths_metered(alloc, minimums, shares, width, &mut meter)
 }
 
-/// [`column_widths`], and how many sums of capped ranges the search took: it sets `probes` of the meter, counted from
-/// 0, also where it refuses, and leaves the meter's other fields.
+/// Cuts like [`column_widths`], and counts the steps of the search.
+///
+/// Sets the meter's `probes`, counted from 0, also on an error, and leaves its other fields unchanged. The caller ensures
+/// [`cut_fits`](super::cut_fits).
 ///
 /// # Errors
 ///
-/// `OutOfMemory`. The meter is then set all the same.
+/// `OutOfMemory` if an allocation is refused. `probes` is set then, too.
 pub fn column_widths_metered(
     alloc: Global,
     minimums: &[usize],
@@ -66,7 +70,7 @@ pub fn column_widths_metered(
     requires { CutFits minimums.now shares.now width }
     ensures cut { IfOk result (λ c. IsColumnCut minimums.now shares.now width c.widths.items c.level c.lowered) }
 
-    // The search halves the levels up to the greatest range, and counts each halving.
+    // A binary search of the levels up to the greatest range; each halving is one probe.
     ensures probes { meter.new.probes ≤ 64 }
     ensures probes_least { largest_slack minimums.now shares.now + 2 ≤ 2 * 2 ^ meter.new.probes }
     ensures probes_most { 2 ^ meter.new.probes ≤ 2 * largest_slack minimums.now shares.now + 1 }
@@ -86,7 +90,7 @@ pub fn column_widths_metered(
     Ok(cut)
 }
 
-/// The cut at the level that is the least.
+/// Returns the cut at the least level, `found`.
 fn level_form(
     alloc: Global,
     minimums: &[usize],
@@ -115,7 +119,7 @@ fn level_form(
     })
 }
 
-/// How many columns at the level are lowered: as many units as the capped ranges have too many.
+/// Returns the number of columns that are lowered: the sum of the capped ranges minus `needed`.
 fn excess(minimums: &[usize], shares: &[usize], needed: u128, found: Level) -> usize
     requires lengths { length minimums.now ≡ length shares.now }
     requires level { IsLevel found.level (ranges minimums.now shares.now) needed }
@@ -128,7 +132,7 @@ fn excess(minimums: &[usize], shares: &[usize], needed: u128, found: Level) -> u
     (found.sum - needed) as usize
 }
 
-/// Each column's minimum and its range, capped at the level.
+/// Returns the full width of each column: its minimum plus its range capped at `level`.
 fn full_widths(
     alloc: Global,
     minimums: &[usize],

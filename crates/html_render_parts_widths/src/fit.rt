@@ -1,15 +1,20 @@
-//! Whether columns can be cut to a width, and how much of it they keep above their minimums.
+//! Whether columns can be cut to a width, and how much of the width their minimums leave.
 //!
-//! `cut_fits(&[3, 3], &[9, 4], 7)` is `true`: the minimums and the separator are 7.
+//! `cut_fits(&[3, 3], &[9, 4], 7)` is `true`: the minimums and the separator add up to 7.
 
 ghost use Rattle.std.specs.Prelude.{◌≡◌, ◌+◌, ◌-◌, ◌≤◌, ◌↔◌, sum, IsTrue};
 ghost use Rattle.html_render_parts_widths.specs.Cuts.{CutFits, ranges, largest_slack, wanted};
 ghost use Rattle.html_render_parts_widths.specs.CutSteps.{AreColumns};
 
-/// Whether columns of these minimums and shares can be cut to `width`: there are as many minimums as shares, each
-/// minimum is at most its share, and the minimums and a separator between neighbouring columns are at most `width`.
+/// Reports whether columns of these minimums and shares can be cut to `width`.
 ///
-/// All are widths in columns of text. It takes no memory.
+/// They can if
+///
+/// - there are equally many minimums and shares,
+/// - each minimum is at most its share, and
+/// - the minimums and a separator of 1 between neighbouring columns add up to at most `width`.
+///
+/// All widths are in columns of text. Allocates nothing.
 pub fn cut_fits(minimums: &[usize], shares: &[usize], width: usize) -> bool
     ensures { IsTrue result ↔ CutFits minimums.now shares.now width }
 {
@@ -27,18 +32,18 @@ pub fn cut_fits(minimums: &[usize], shares: &[usize], width: usize) -> bool
     true
 }
 
-/// The sums of the minimums and of the shares, and the greatest range.
+/// Sums over all columns, and the greatest range.
 #[derive(Clone, Copy)]
 pub(super) struct Totals {
-    /// The sum of the minimums.
+    /// Sum of the minimums.
     pub(super) minimums: u128,
-    /// The sum of the shares.
+    /// Sum of the shares.
     pub(super) shares: u128,
-    /// The greatest share less its minimum, 0 without columns.
+    /// Greatest difference between a share and its minimum; 0 without columns.
     pub(super) greatest_range: usize,
 }
 
-/// One pass over the columns.
+/// Returns the totals of all columns, in one pass.
 pub(super) fn sum_up(minimums: &[usize], shares: &[usize]) -> Totals
     requires columns { AreColumns minimums.now shares.now }
     ensures minimums { result.minimums ≡ sum minimums.now }
@@ -60,7 +65,7 @@ pub(super) fn sum_up(minimums: &[usize], shares: &[usize]) -> Totals
     }
 }
 
-/// What the widths of a cut have above the minimums.
+/// Returns the difference between the sum of a cut's widths and the sum of the minimums.
 pub(super) fn wanted(minimums: &[usize], shares: &[usize], width: usize, totals: Totals) -> u128
     requires fits { CutFits minimums.now shares.now width }
     requires minimums { totals.minimums ≡ sum minimums.now }

@@ -1,4 +1,4 @@
-//! Laws of cuts and of the meter, each the contract of a function that does nothing.
+//! Laws of cuts and of the meter. Each is the contract of an empty function.
 
 ghost use Rattle.std.specs.Prelude.{◌≡◌, ◌≢◌, ℕ, ◌+◌, ◌-◌, ◌<◌, ◌≤◌, ◌↔◌, ◌⊎◌, List, All, length, map, sum, sum_by, Some, None, IsTrue, IfSome};
 ghost use Rattle.html_render_parts_widths.specs.Cuts.{cut_by_units, CutFits, GivesBefore, IsFairestCut, IsLevelForm};
@@ -9,8 +9,7 @@ use super::Meter;
 use super::needs::CellNeed;
 use super::shares::ColumnNeed;
 
-/// Of two columns at different places exactly one gives a unit before the other, none gives before itself, and what
-/// gives before a column gives before all those that it gives before.
+/// States that the order in which columns give units is a strict order, and total on columns at different places.
 fn columns_give_in_order()
     ensures never_itself { (slack width place : ℕ) → ¬ GivesBefore slack width place slack width place }
     ensures one_way { (slack width place slack' width' place' : ℕ) → GivesBefore slack width place slack' width' place'
@@ -21,7 +20,7 @@ fn columns_give_in_order()
         → GivesBefore slack' width' place' slack'' width'' place'' → GivesBefore slack width place slack'' width'' place'' }
 {}
 
-/// Columns that fit have one fairest cut, which the loop of single units gives.
+/// States that columns that fit have exactly one fairest cut, which the loop of single units computes.
 fn fairest_cuts_are_one()
     ensures some { (minimums shares : List ℕ) (width : ℕ) → CutFits minimums shares width
         → IsFairestCut minimums shares width (cut_by_units minimums shares width) }
@@ -29,15 +28,17 @@ fn fairest_cuts_are_one()
         → IsFairestCut minimums shares width other → other ≡ widths }
 {}
 
-/// Columns that fit have at most one level form: its widths, level and number of lowered columns are the only ones.
+/// States that columns that fit have at most one level form: its widths, level and number of lowered columns are unique.
 fn level_forms_are_one()
     ensures { (minimums shares : List ℕ) (width : ℕ) (widths other : List ℕ) (level lowered l d : ℕ) → CutFits minimums shares width
         → IsLevelForm minimums shares width widths level lowered → IsLevelForm minimums shares width other l d
         → (other ≡ widths) × (l ≡ level) × (d ≡ lowered) }
 {}
 
-/// Columns can be side by side exactly where the width isn't 0 and holds their least widths, with a separator between neighbouring
-/// columns. Their shares can then be cut to the width, and their widths are the fairest cut of these, which is the only one.
+/// States when columns can be side by side, and that their widths are then the fairest cut of their shares.
+///
+/// They can be side by side exactly if the width isn't 0 and their minimum widths, with a separator between neighbouring
+/// columns, are within it. Their shares can then be cut to the width. The fairest cut is unique.
 fn columns_are_cut_fairly()
     ensures side_by_side { (width : ℕ) (needs : List ColumnNeed)
         → IsTrue (stand_side_by_side width needs) ↔ ((0 < width) × (sum (least_widths needs) + (length needs - 1) ≤ width)) }
@@ -48,17 +49,20 @@ fn columns_are_cut_fairly()
     ensures none { (width : ℕ) (needs : List ColumnNeed) → (widths_across width needs ≡ None) ↔ ¬ IsTrue (stand_side_by_side width needs) }
 {}
 
-/// The share of a column that needs no more at least than its size is as much of the width as its size is of all sizes, at least
-/// its least width and at most its size, and 0 for size 0.
+/// States the share of a column whose minimum width is at most its preferred width.
+///
+/// It is 0 if the preferred width is 0. Otherwise it is to the width as the column's preferred width is to the sum of all
+/// preferred widths, but at least the minimum width and at most the preferred width.
 fn shares_are_by_size()
     ensures one { (width total : ℕ) (need : ColumnNeed) → need.least ≤ need.size → share width total need ≡ share_by_size width total need }
     ensures all { (width : ℕ) (needs : List ColumnNeed) → AreWithinSizes needs
         → shares width needs ≡ map (share_by_size width (sum_by (λ n. n.size) needs)) needs }
 {}
 
-/// The shares of columns are together at most their least widths and the width, so that columns side by side take at most as
-/// many units from them as the width has columns of text. Each cell of a table whose columns are side by side has
-/// at least its least width over its columns, with the separators between them.
+/// States bounds on columns that are side by side.
+///
+/// The shares add up to at most the sum of the minimum widths plus the width. So a cut takes at most `width` units from
+/// them. Each cell has at least its minimum width, over its columns and the separators between them.
 fn columns_side_by_side()
     ensures shares { (width : ℕ) (needs : List ColumnNeed) → sum (shares width needs) ≤ sum (least_widths needs) + width }
     ensures taken { (width : ℕ) (needs : List ColumnNeed)
@@ -67,7 +71,7 @@ fn columns_side_by_side()
         → IfSome (widths_across width (column_needs columns cells)) (λ widths. All (HasRoom widths) cells) }
 {}
 
-/// The default of a meter has nothing counted.
+/// States that all counts of a default meter are 0.
 fn meters_start_at_zero(meter: Meter)
     ensures { ⟦<Meter as Default>⟧.is_default meter ↔ ((meter.probes ≡ 0) × (meter.entered ≡ 0) × (meter.left ≡ 0) × (meter.frames ≡ 0)) }
 {}

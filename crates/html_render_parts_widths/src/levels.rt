@@ -1,19 +1,19 @@
-//! The least level at which the capped ranges are enough, found by halving.
+//! Binary search for the least level at which the capped ranges suffice.
 
 ghost use Rattle.std.specs.Prelude.{◌≡◌, ◌+◌, ◌-◌, ◌*◌, ◌^◌, ◌<◌, ◌≤◌, sum};
 ghost use Rattle.html_render_parts_widths.specs.Cuts.{ranges, capped_sum, IsLevel};
 ghost use Rattle.html_render_parts_widths.specs.CutSteps.{AreColumns};
 
-/// A level, and the sum of the ranges, each capped at it.
+/// A level and the sum of the ranges capped at it.
 #[derive(Clone, Copy)]
 pub(super) struct Level {
-    /// The cap on the ranges.
+    /// Cap on each range.
     pub(super) level: usize,
-    /// The sum of the capped ranges.
+    /// Sum of the capped ranges.
     pub(super) sum: u128,
 }
 
-/// The sum of the ranges, each capped at the level: one probe.
+/// Returns the sum of the ranges, each capped at `level`. One call is one probe of the search.
 pub(super) fn capped_sum(minimums: &[usize], shares: &[usize], level: usize) -> u128
     requires columns { AreColumns minimums.now shares.now }
     ensures { result ≡ capped_sum level (ranges minimums.now shares.now) }
@@ -25,7 +25,9 @@ pub(super) fn capped_sum(minimums: &[usize], shares: &[usize], level: usize) -> 
     all
 }
 
-/// The least level that is enough, and how many probes found it. `highest` is a level that is enough.
+/// Returns the least level whose capped ranges add up to at least `wanted`, and the number of probes taken.
+///
+/// The caller ensures that the ranges capped at `highest` add up to at least `wanted`.
 pub(super) fn find_level(
     minimums: &[usize],
     shares: &[usize],

@@ -1,9 +1,10 @@
-//! Column widths, cut fairly, and what a call counted of its own work.
+//! Column widths of tables, cut fairly, and counts of a call's work.
 //!
-//! `column_widths(alloc, &[3, 3], &[9, 4], 10)` is a [`ColumnCut`] of the widths 5 and 4, level 2 and none lowered.
+//! `column_widths(alloc, &[3, 3], &[9, 4], 10)` returns a [`ColumnCut`] with the widths 5 and 4, level 2 and 0 lowered
+//! columns.
 //!
-//! `Meter::default()` has nothing counted; a metered call sets the fields that it names from 0, also where it
-//! refuses, and leaves the others.
+//! All counts of `Meter::default()` are 0. A metered call sets the fields that its documentation names, counted from 0, also
+//! on an error. It leaves the other fields unchanged.
 #![tactic(auto)]
 
 mod check;
@@ -26,12 +27,12 @@ pub use spans::{Span, greatest_values};
 /// Counts of the work of one call.
 #[derive(Clone, Copy, Debug, Default, PartialEq, Eq)]
 pub struct Meter {
-    /// Sums taken in the search of a level.
+    /// Sums taken in the search for a level.
     pub probes: usize,
     /// Nodes that a walk entered.
     pub entered: usize,
-    /// Nodes that a walk left again.
+    /// Nodes that a walk left after their children.
     pub left: usize,
-    /// The most nodes that were open at once.
+    /// Greatest number of nodes open at once.
     pub frames: usize,
 }

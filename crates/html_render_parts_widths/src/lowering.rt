@@ -1,4 +1,4 @@
-//! Which of the columns at the level are lowered: the first, by greater width and then from the left.
+//! Lowering of the columns at the level: the first of them, by greater width and then from the left.
 
 ghost use Rattle.std.specs.Prelude.{◌≡◌, ℕ, ◌+◌, ◌-◌, ◌<◌, ◌≤◌, All, map, length, slice_index, IfOk};
 ghost use Rattle.html_render_parts_widths.specs.Cuts.{ranges, capped_sum, full_width};
@@ -7,16 +7,16 @@ ghost use Rattle.html_render_parts_widths.specs.CutSteps.{AreColumns, AreAtLevel
 use std::alloc::{AllocError, Global};
 use std::cmp::Reverse;
 
-/// A column at the level. Those that come first are lowered first.
+/// A column at the level. The order of these values is the order in which columns are lowered.
 #[derive(Clone, Copy, PartialEq, Eq, PartialOrd, Ord)]
 struct AtLevel {
-    /// Its full width, the greater one first.
+    /// Full width, reversed so that greater widths precede.
     width: Reverse<usize>,
-    /// Its place among all columns.
+    /// Index among all columns.
     place: usize,
 }
 
-/// The columns whose ranges reach the level, from left to right.
+/// Returns the columns whose range reaches `level`, from left to right.
 fn columns_at_level(
     alloc: Global,
     minimums: &[usize],
@@ -39,7 +39,7 @@ fn columns_at_level(
     Ok(columns)
 }
 
-/// The columns whose ranges reach the level, in the order in which they are lowered.
+/// Returns the columns whose range reaches `level`, in the order in which they are lowered.
 fn columns_in_order(
     alloc: Global,
     minimums: &[usize],
@@ -56,7 +56,7 @@ fn columns_in_order(
     Ok(columns)
 }
 
-/// The full widths with the first `count` columns at the level 1 narrower.
+/// Lowers the first `count` columns at the level: subtracts 1 from the full width of each.
 pub(super) fn lowered(
     alloc: Global,
     minimums: &[usize],

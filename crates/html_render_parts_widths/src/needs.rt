@@ -1,4 +1,4 @@
-//! What the columns of a table need for its cells.
+//! Widths that the columns of a table need for its cells.
 
 ghost use Rattle.std.specs.Prelude.{◌≡◌, ◌<◌, ◌↔◌, ℕ, length, map, slice_index, slice_index_or, IfOk, IfErr, IsTrue};
 ghost use Rattle.html_render_parts_widths.specs.Needs.{no_need, part, column_needs, AreSome, AreCells};
@@ -8,20 +8,20 @@ use super::spans::{Span, greatest_values};
 use html_render_dom_values::Error;
 use std::alloc::{AllocError, Global};
 
-/// What a cell needs over its columns, in columns of text.
+/// Widths that a cell needs over its columns, in columns of text.
 #[derive(Clone, Copy)]
 pub struct CellNeed {
-    /// The first of its columns, counted from 0.
+    /// Index of its first column.
     pub start: usize,
-    /// How many columns it has.
+    /// Number of its columns.
     pub count: usize,
-    /// As much as its content has.
+    /// Preferred width of its content.
     pub size: usize,
-    /// The least width in which its content can be laid out well.
+    /// Minimum width of its content.
     pub least: usize,
 }
 
-/// The part of each cell's size that each of its columns has.
+/// Returns, for each cell, the part of its preferred width that each of its columns gets.
 fn size_parts(alloc: Global, cells: &[CellNeed]) -> Result<Vec<Span>, AllocError>
     requires { AreSome cells.now }
     ensures { IfOk result (λ parts. parts.items ≡ map (λ c. part c c.size) cells.now) }
@@ -37,7 +37,7 @@ fn size_parts(alloc: Global, cells: &[CellNeed]) -> Result<Vec<Span>, AllocError
     Ok(parts)
 }
 
-/// The part of each cell's least width that each of its columns has.
+/// Returns, for each cell, the part of its minimum width that each of its columns gets.
 fn least_parts(alloc: Global, cells: &[CellNeed]) -> Result<Vec<Span>, AllocError>
     requires { AreSome cells.now }
     ensures { IfOk result (λ parts. parts.items ≡ map (λ c. part c c.least) cells.now) }
@@ -53,7 +53,7 @@ fn least_parts(alloc: Global, cells: &[CellNeed]) -> Result<Vec<Span>, AllocErro
     Ok(parts)
 }
 
-/// Sizes and least widths of columns together.
+/// Joins the preferred and the minimum widths of columns, column by column.
 fn together(alloc: Global, sizes: &[usize], least: &[usize]) -> Result<Vec<ColumnNeed>, AllocError>
     requires { length least.now ≡ length sizes.now }
     ensures len { IfOk result (λ needs. length needs.items ≡ length sizes.now) }
@@ -70,12 +70,16 @@ fn together(alloc: Global, sizes: &[usize], least: &[usize]) -> Result<Vec<Colum
     Ok(needs)
 }
 
-/// What columns need for their cells: each as much as the greatest part of a cell that stands over it. A cell's size, and its
-/// least width, are parted equally among its columns, and rounded down.
+/// Returns the preferred and the minimum width that each column needs for its cells.
+///
+/// A cell's preferred width and its minimum width are divided equally among its columns, and rounded down. A column needs
+/// the greatest part of any cell that covers it, separately for preferred and for minimum widths; 0 without such a cell.
+/// All widths are in columns of text. The caller ensures that each cell has a column and that its columns are among the
+/// `columns` of the table.
 ///
 /// # Errors
 ///
-/// `OutOfMemory`.
+/// `OutOfMemory` if an allocation is refused.
 #[tactic(auto, using(crate::proofs::ColumnNeeds::are_some, crate::proofs::ColumnNeeds::sizes_over, crate::proofs::ColumnNeeds::least_over, crate::proofs::ColumnNeeds::needed))]
 pub fn column_needs(
     alloc: Global,

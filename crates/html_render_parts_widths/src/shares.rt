@@ -1,6 +1,6 @@
-//! How wide the columns of a table are where they stand side by side.
+//! Widths of a table's columns that are side by side.
 //!
-//! `widths_across(alloc, &[ColumnNeed { size: 9, least: 3 }, ColumnNeed { size: 3, least: 3 }], 8)` is 4 and 3.
+//! `widths_across(alloc, &[ColumnNeed { size: 9, least: 3 }, ColumnNeed { size: 3, least: 3 }], 8)` returns 4 and 3.
 
 ghost use Rattle.std.specs.Prelude.{◌≡◌, ◌≤◌, option_map, sum_by, IfOk, IfErr};
 ghost use Rattle.html_render_parts_widths.specs.Shares.{least_widths, share, shares, stand_side_by_side, widths_across};
@@ -9,16 +9,16 @@ use super::cut::column_widths;
 use html_render_dom_values::Error;
 use std::alloc::{AllocError, Global};
 
-/// What a column of a table needs for its content, in columns of text.
+/// Widths that a column of a table needs for its content, in columns of text.
 #[derive(Clone, Copy)]
 pub struct ColumnNeed {
-    /// As much as its content has.
+    /// Preferred width of its content.
     pub size: usize,
-    /// The least width in which its content can be laid out well.
+    /// Minimum width of its content.
     pub least: usize,
 }
 
-/// The sizes of columns together.
+/// Returns the sum of the preferred widths.
 fn total_size(needs: &[ColumnNeed]) -> u128
     ensures { result ≡ sum_by (λ n. n.size) needs.now }
 {
@@ -29,7 +29,7 @@ fn total_size(needs: &[ColumnNeed]) -> u128
     total
 }
 
-/// The share of a column in a width, where the sizes of all are so much together.
+/// Returns the share of a column in `width`. `total` is the sum of all columns' preferred widths.
 fn share(need: ColumnNeed, width: usize, total: u128) -> usize
     requires { need.size ≤ total }
     ensures { result ≡ share width total need }
@@ -41,7 +41,7 @@ fn share(need: ColumnNeed, width: usize, total: u128) -> usize
     part.min(need.size as u128).max(need.least as u128) as usize
 }
 
-/// The shares of columns in a width.
+/// Returns the share of each column in `width`.
 fn shares(alloc: Global, needs: &[ColumnNeed], width: usize) -> Result<Vec<usize>, AllocError>
     ensures { IfOk result (λ all. all.items ≡ shares width needs.now) }
 {
@@ -53,7 +53,7 @@ fn shares(alloc: Global, needs: &[ColumnNeed], width: usize) -> Result<Vec<usize
     Ok(all)
 }
 
-/// The least widths of columns.
+/// Returns the minimum width of each column.
 fn least_widths(alloc: Global, needs: &[ColumnNeed]) -> Result<Vec<usize>, AllocError>
     ensures { IfOk result (λ all. all.items ≡ least_widths needs.now) }
 {
@@ -64,8 +64,10 @@ fn least_widths(alloc: Global, needs: &[ColumnNeed]) -> Result<Vec<usize>, Alloc
     Ok(all)
 }
 
-/// Whether columns can stand side by side: their least widths, and a separator between neighbouring columns, are at most
-/// `width`, which isn't 0. It takes no memory.
+/// Reports whether columns can be side by side in `width`: it isn't 0, and their minimum widths and a separator of 1
+/// between neighbouring columns add up to at most `width`.
+///
+/// All widths are in columns of text. Allocates nothing.
 pub fn stand_side_by_side(needs: &[ColumnNeed], width: usize) -> bool
     ensures { result ≡ stand_side_by_side width needs.now }
 {
@@ -77,13 +79,15 @@ pub fn stand_side_by_side(needs: &[ColumnNeed], width: usize) -> bool
     width != 0 && least + separators <= width as u128
 }
 
-/// The widths of a table's columns where they stand side by side in `width`; none where they can't. A column's share is as
-/// much of the width as its size is of all sizes, but no more than its size and no less than its least width; the widths
-/// are the fairest cut of the shares, as [`column_widths`] answers it.
+/// Returns the widths of a table's columns side by side in `width`; `None` if they can't be side by side.
+///
+/// A column's share is to `width` as its preferred width is to the sum of all preferred widths, rounded down, but at most
+/// its preferred width and at least its minimum width. The minimum width counts if the two limits contradict. The widths
+/// are the fairest cut of the shares, that of [`column_widths`]. All widths are in columns of text.
 ///
 /// # Errors
 ///
-/// `OutOfMemory`.
+/// `OutOfMemory` if an allocation is refused.
 #[tactic(auto, using(crate::specs::laws::SharesFit::shares_fit))]
 pub fn widths_across(
     alloc: Global,

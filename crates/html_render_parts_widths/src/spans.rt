@@ -1,4 +1,4 @@
-//! The greatest of the values that stand over each column, where a value may stand over many columns.
+//! Greatest value over each column, of values that each cover a range of columns.
 
 ghost use Rattle.std.specs.Prelude.{◌≡◌, ◌≤◌, ◌<◌, ◌+◌, ◌-◌, ◌*◌, ◌==◌, ℕ, length, max, slice_index, if◌then◌else◌, IfOk, IfErr};
 ghost use Rattle.html_render_parts_widths.specs.Spans.{AreOver, AreGreatest};
@@ -7,18 +7,18 @@ ghost use Rattle.html_render_parts_widths.specs.SpanSteps.{IsSpread, span_at, sp
 use html_render_dom_values::Error;
 use std::alloc::{AllocError, Global};
 
-/// A value over columns beside each other.
+/// A value that covers neighbouring columns.
 #[derive(Clone, Copy)]
 pub struct Span {
-    /// The first of the columns, counted from 0.
+    /// Index of the first column.
     pub start: usize,
-    /// How many columns there are.
+    /// Number of columns.
     pub count: usize,
-    /// The value.
+    /// Value of each of these columns.
     pub value: usize,
 }
 
-/// `count` zeros.
+/// Returns `count` zeros.
 fn zeros(alloc: Global, count: usize) -> Result<Vec<usize>, AllocError>
     ensures len { IfOk result (λ v. length v.items ≡ count) }
     ensures each { IfOk result (λ v. (k : ℕ) → slice_index v.items k ≡ 0) }
@@ -30,7 +30,7 @@ fn zeros(alloc: Global, count: usize) -> Result<Vec<usize>, AllocError>
     Ok(zeros)
 }
 
-/// As many columns as the longest of the spans is over.
+/// Returns the greatest number of columns of a span; 0 without spans.
 #[tactic(auto, using(crate::proofs::Spreading::counts_more))]
 fn longest(spans: &[Span]) -> usize
     ensures { (k : ℕ) → k < length spans.now → (span_at spans.now k).count ≤ result }
@@ -42,7 +42,7 @@ fn longest(spans: &[Span]) -> usize
     longest
 }
 
-/// Each place gets the greater of its value and the one `offset` places before it.
+/// Replaces each value by the greater of itself and the old value `offset` places to its left, if there is one.
 fn split(values: &mut Vec<usize>, offset: usize)
     requires { 0 < offset }
     ensures len { length values.new.items ≡ length values.old.items }
@@ -55,7 +55,7 @@ fn split(values: &mut Vec<usize>, offset: usize)
     }
 }
 
-/// A place gets this value, if its own is less.
+/// Raises the value at `at` to at least `value`.
 fn raise(values: &mut Vec<usize>, at: usize, value: usize)
     requires { at < length values.old.items }
     ensures len { length values.new.items ≡ length values.old.items }
@@ -65,8 +65,10 @@ fn raise(values: &mut Vec<usize>, at: usize, value: usize)
     values[at] = values[at].max(value);
 }
 
-/// Raises the places of a span that is over at least `columns` columns, and at most twice as many: the first place, and the one
-/// that stands for the span's last columns.
+/// Adds a span of at least `columns` and at most twice `columns` columns to values that each count for `columns` columns.
+///
+/// Raises two values: the one at the span's start, and the one whose last column is the span's last. Together they cover
+/// the span.
 fn add(values: &mut Vec<usize>, span: Span, columns: usize)
     requires inside { span.start + span.count ≤ length values.old.items }
     requires least { columns ≤ span.count }
@@ -78,7 +80,7 @@ fn add(values: &mut Vec<usize>, span: Span, columns: usize)
     raise(values, span.start + (span.count - columns), span.value);
 }
 
-/// Adds the span at a place, if it is over at least `columns` columns and fewer than `longer`.
+/// Adds the span `spans[at]` if it has at least `columns` and fewer than `longer` columns.
 #[tactic(auto, using(crate::proofs::Spreading::added, crate::proofs::Spreading::passed))]
 fn add_at(values: &mut Vec<usize>, spans: &[Span], at: usize, columns: usize, longer: usize)
     requires over { AreOver (length values.old.items) spans.now }
@@ -95,7 +97,7 @@ fn add_at(values: &mut Vec<usize>, spans: &[Span], at: usize, columns: usize, lo
     add(values, span, columns);
 }
 
-/// Adds the spans that are over at least `columns` columns, and fewer than `longer`.
+/// Adds each span that has at least `columns` and fewer than `longer` columns.
 #[tactic(auto, using(crate::proofs::Spreading::all_added))]
 fn add_all(values: &mut Vec<usize>, spans: &[Span], columns: usize, longer: usize)
     requires over { AreOver (length values.old.items) spans.now }
@@ -109,12 +111,14 @@ fn add_all(values: &mut Vec<usize>, spans: &[Span], columns: usize, longer: usiz
     }
 }
 
-/// The greatest of the values over each column; 0 where there is none. It takes as many passes over columns and spans as the
-/// number of columns of the longest span has binary digits.
+/// Returns the greatest value of the spans over each column; 0 for a column without a span.
+///
+/// Takes one pass over columns and spans for each binary digit of the longest span's number of columns. The caller
+/// ensures that the spans are within `columns`.
 ///
 /// # Errors
 ///
-/// `OutOfMemory`.
+/// `OutOfMemory` if an allocation is refused.
 #[tactic(auto, using(crate::proofs::Spreading::begun, crate::proofs::Spreading::split_spread, crate::proofs::Spreading::ended))]
 pub fn greatest_values(alloc: Global, columns: usize, spans: &[Span]) -> Result<Vec<usize>, Error>
     requires { AreOver columns spans.now }

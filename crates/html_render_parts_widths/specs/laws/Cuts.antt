@@ -1,4 +1,4 @@
--- Laws of cuts: how much they hold together, and that there is only one fairest.
+-- Laws of cuts: the units that they take, the sums of neighbouring columns, and that the fairest cut is unique.
 use Rattle.std.proofs.Common.{◌≡◌, ℕ, ◌+◌, ◌-◌, ◌*◌, ◌/◌, ◌<◌, ◌≤◌, ◌⊎◌, List, [], ◌∷◌, length, sum, refl, sym, ◌∙◌, arith, get_or, inl, inr, suc}
 use Rattle.std.proofs.Common.{zero, take, drop}
 use Rattle.std.specs.Prelude.{slice_range}
@@ -29,11 +29,11 @@ sum-ranges (m ∷ ms) (s ∷ ss) e h =
     omega (arith, here, rest, sum_by-cons (λ x. x) (s - m) (ranges ms ss), sum_by-cons (λ x. x) m ms, sum_by-cons (λ x. x) s ss)
 sum-ranges ms ss e h = cc
 
--- the minimums fit the sum that the widths are to have
+-- the sum of the minimums is at most the sum of a cut's widths
 pub minimums-fit : (ms ss : List ℕ) (w : ℕ) → CutFits ms ss w → sum ms ≤ total_width ss w
 minimums-fit ms ss w h = let e = sum-ranges ms ss h.lengths h.each in let l = h.lengths in let r = h.room in omega arith
 
--- ---- there is only one fairest cut
+-- ---- the fairest cut is unique
 
 pub sum-le : (us vs : List ℕ) → length us ≡ length vs → ((k : ℕ) → k < length us → get_or us k 0 ≤ get_or vs k 0) → sum us ≤ sum vs
 sum-le [] vs e h = omega arith
@@ -42,7 +42,7 @@ sum-le (a ∷ us) (b ∷ vs) e h =
     let here : a ≤ b = h 0 (omega arith) in
     omega (arith, here, sum-le us vs (omega arith) (λ k less. h (suc k) (omega arith)), sum_by-cons (λ z. z))
 
--- two lists of one sum that are in order at each place are equal
+-- two lists of equal sums are equal if one is nowhere below the other
 pub same-from_le : (xs ys : List ℕ) → length xs ≡ length ys → sum xs ≡ sum ys → ((k : ℕ) → k < length xs → get_or ys k 0 ≤ get_or xs k 0) → xs ≡ ys
 same-from_le [] [] e s h = refl
 same-from_le (x ∷ xs) (y ∷ ys) e s h =
@@ -54,7 +54,7 @@ same-from_le (x ∷ xs) (y ∷ ys) e s h =
     cc
 same-from_le xs ys e s h = cc
 
--- some place of xs is below that of ys, or none is
+-- either `xs` is below `ys` at an index, or it is nowhere below
 pub find-below : (xs ys : List ℕ) (n : ℕ) → ((k : ℕ) × (k < n) × (get_or xs k 0 < get_or ys k 0)) ⊎ ((k : ℕ) → k < n → get_or ys k 0 ≤ get_or xs k 0)
 find-below xs ys zero = inr (λ k h. absurd (omega arith))
 find-below xs ys (suc n) = elim (find-below xs ys n) [
@@ -65,7 +65,7 @@ find-below xs ys (suc n) = elim (find-below xs ys n) [
   ]
 ]
 
--- a unit moved from j to i shows that one of the two isn't fairest
+-- two fairest cuts don't cross: one isn't less than the other at `i` and greater at `j`
 crossed : (ms ss : List ℕ) (w : ℕ) (xs ys : List ℕ) (i j : ℕ) → IsFairestCut ms ss w xs → IsFairestCut ms ss w ys → i < length ms →
     j < length ms → get_or xs i 0 < get_or ys i 0 → get_or ys j 0 < get_or xs j 0 → ⊥
 crossed ms ss w xs ys i j p q in_i in_j less more =
@@ -104,7 +104,7 @@ few-units (m ∷ ms) ss w ws fits cut few =
     let t = cut.total (omega arith) in
     omega (arith, t, minimums-fit (m ∷ ms) ss w fits)
 
--- columns that are each at least their part of m have it together, with the separators between them
+-- columns that each have at least their part of `m` add up to at least `m`, with the separators between them
 pub neighbours : (xs : List ℕ) (m : ℕ) → 0 < length xs → ((k : ℕ) → k < length xs → m / length xs ≤ get_or xs k 0) → m ≤ sum xs + (length xs - 1)
 neighbours xs m pos h = let t = at-least xs (m / length xs) h in omega arith
   where
@@ -113,7 +113,7 @@ neighbours xs m pos h = let t = at-least xs (m / length xs) h in omega arith
     at-least (y ∷ ys) q h = let here : q ≤ y = h 0 (omega arith) in let rest = at-least ys q (λ k less. h (suc k) (omega arith)) in
         omega (arith, here, rest, sum_by-cons (λ z. z) y ys)
 
--- what columns side by side hold together
+-- whether neighbouring columns add up to a size, with the separators, if each minimum is at least its part of the size
 abbrev pub HoldTogether : List ℕ → List ℕ → Type 0
 HoldTogether ms ws = (from count size : ℕ) → 0 < count → from + count ≤ length ms →
     ((k : ℕ) → from ≤ k → k < from + count → size / count ≤ get_or ms k 0) → size ≤ sum (slice_range ws from (from + count)) + (count - 1)

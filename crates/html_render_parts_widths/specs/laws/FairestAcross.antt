@@ -1,4 +1,4 @@
--- Columns side by side have the one fairest cut of their shares as their widths.
+-- The widths of columns side by side are the one fairest cut of their shares.
 use Rattle.std.proofs.Common.{◌≡◌, ℕ, ◌+◌, ◌-◌, ◌<◌, ◌≤◌, ◌==◌, true, false, not, leb, List, length, sum, Some, None, refl, ap, ◌∙◌, subst}
 use Rattle.std.proofs.Common.{arith, inl, inr}
 use Rattle.std.proofs.lemmas.Bool.{cases_Bool, and_from, and_parts, leb-true, le-leb}
@@ -10,7 +10,7 @@ use Rattle.html_render_parts_widths.specs.laws.Cuts.{fairest-only}
 use Rattle.html_render_parts_widths.specs.laws.SharesFit.{shares_fit}
 use Rattle.html_render_parts_widths.specs.laws.UnitCut.{cut_by_units-fairest}
 
--- ---- where columns can be side by side
+-- ---- when columns can be side by side
 
 some-width : (w : ℕ) → not (w == 0) ≡ true → 0 < w
 some-width w e = grind (arith, nat_tests)

@@ -1,4 +1,4 @@
--- Which of two columns gives a unit first is a strict order, and total on columns at different places.
+-- The order in which columns give units is a strict order, and total on columns at different places.
 use Rattle.std.proofs.Common.{◌≢◌, ℕ, ◌⊎◌, arith}
 use Rattle.html_render_parts_widths.specs.Cuts.{GivesBefore}
 

@@ -1,5 +1,4 @@
--- What cells need fits: no column needs more than its size, the columns side by side keep to their width, and each cell has its
--- least width over its columns.
+-- Columns side by side are within their width, and each cell has its minimum width over its columns.
 use Rattle.std.proofs.Common.{◌≡◌, ℕ, ◌+◌, ◌-◌, ◌/◌, true, ◌≤◌, ◌<◌, List, [], ◌∷◌, length, sum, map, cond, sym, subst, arith, IfSome}
 use Rattle.std.proofs.Common.{All, Contains, ap, ◌∙◌, get_or, ◌&&◌, leb, nat_lt}
 use Rattle.std.proofs.lemmas.Bool.{and_from, le-leb, lt-ltb}
@@ -19,9 +18,9 @@ use Rattle.html_render_parts_widths.specs.laws.SharesFit.{of_widths}
 pub across_within : (w : ℕ) (needs : List ColumnNeed) → IfSome (widths_across w needs) (λ ws. sum ws + (length ws - 1) ≤ w)
 across_within w needs = of_widths w needs (λ ws. sum ws + (length ws - 1) ≤ w) (cut-within (least_widths needs) (shares w needs) w)
 
--- ---- cells side by side have their least widths
+-- ---- cells side by side have their minimum widths
 
--- no column needs less than the part of any cell over it
+-- a column needs at least the part of each cell that covers it
 given-most : (cells : List CellNeed) (k : ℕ) → All (λ c. given (part c c.least) k ≤ greatest_at (map (λ c. part c c.least) cells) k) cells
 given-most [] k = All-nil (λ c. given (part c c.least) k ≤ greatest_at (map (λ c. part c c.least) []) k)
 given-most (c ∷ cs) k =
@@ -61,7 +60,7 @@ has_room columns cells ws h hold = All-weaker (Contains cells) (HasRoom ws) room
         (given-most cells k) inside in
         omega (arith, least-at k in_columns, part-given c k from to, most))
 
--- where the columns stand side by side, each cell has room for its least width
+-- if the columns are side by side, each cell has room for its minimum width
 pub cells_have_room : (columns : ℕ) (cells : List CellNeed) (w : ℕ) → AreCells columns cells →
     IfSome (widths_across w (column_needs columns cells)) (λ ws. All (HasRoom ws) cells)
 cells_have_room columns cells w h =

@@ -1,4 +1,5 @@
--- The shares of columns that can stand side by side can be cut to the width, and keep to it but for their least widths.
+-- The shares of columns that can be side by side can be cut to the width. They add up to at most the width plus the minimum
+-- widths.
 use Rattle.std.proofs.Common.{◌≡◌, ℕ, ◌+◌, ◌-◌, ◌*◌, ◌/◌, ◌<◌, ◌≤◌, ◌==◌, Bool, true, false, not}
 use Rattle.std.proofs.Common.{zero, suc, cond, ◌&&◌, leb, List, [], ◌∷◌, length, sum, sum_by, map, min, max, refl, ap, sym, ◌∙◌, arith, IfSome, Some, None}
 use Rattle.std.proofs.Math.Nat.{add-mul, div-zero, div-mul-le_self, div-le_of_le-mul, le-div_iff_mul-le}
@@ -37,7 +38,7 @@ shares_fit w needs stand =
       room = omega (arith, room, same);
     }
 
--- what holds of each cut of the shares holds of the widths of columns that stand side by side
+-- a property of all cuts of the shares is one of the widths of columns side by side
 pub of_widths : (w : ℕ) (needs : List ColumnNeed) (P : List ℕ → Type 0) →
     ((ws : List ℕ) → CutFits (least_widths needs) (shares w needs) w → IsCut (least_widths needs) (shares w needs) w ws → P ws) →
     IfSome (widths_across w needs) P
@@ -50,9 +51,9 @@ of_widths w needs P f = by (stand_side_by_side w needs) refl
         (cut_by_units-fairest (least_widths needs) (shares w needs) w fits).is_cut
     by false e = tt
 
--- ---- the shares' sum
+-- ---- the sum of the shares
 
--- two parts of a whole, rounded down, are at most both together, rounded down
+-- the sum of two quotients, each rounded down, is at most the rounded-down quotient of the sum
 div-both : (a b t : ℕ) → a / t + b / t ≤ (a + b) / t
 div-both a b zero = omega (arith, div-zero a, div-zero b)
 div-both a b (suc t) =
@@ -82,12 +83,12 @@ shares_keep w needs =
     let whole : total * w / total ≤ w = div-le_of_le-mul total {m = total * w} {n = w} (omega arith) in
     omega (arith, most, whole)
 
--- so a cut of them takes few units
+-- a cut of the shares takes at most `w` units
 pub few_units_across : (w : ℕ) (needs : List ColumnNeed) → IfSome (widths_across w needs) (λ ws. sum (shares w needs) - sum ws ≤ w)
 few_units_across w needs = of_widths w needs (λ ws. sum (shares w needs) - sum ws ≤ w)
     (λ ws fits cut. few-units (least_widths needs) (shares w needs) w ws fits cut (shares_keep w needs))
 
--- where a column needs no more at least than its size, its share is the one by its size
+-- if a column's minimum width is at most its preferred width, its share is `share_by_size`
 pub share_is : (w t : ℕ) (n : ColumnNeed) → n.least ≤ n.size → share w t n ≡ share_by_size w t n
 share_is w t n h = by (n.size == 0) refl
   where

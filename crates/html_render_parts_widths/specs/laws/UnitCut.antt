@@ -1,4 +1,4 @@
--- The loop of single units gives the fairest cut.
+-- The loop of single units gives a fairest cut.
 use Rattle.std.proofs.Common.{◌≡◌, ◌≢◌, ℕ, ◌+◌, ◌-◌, ◌<◌, ◌≤◌, List, [], ◌∷◌, length, sum, set, refl, sym, ◌∙◌, arith, get_or, nat_lt, ◌==◌}
 use Rattle.std.proofs.Common.{Bool, true, false, ◌||◌, ◌&&◌, if◌then◌else◌, inl, inr, suc, zero}
 use Rattle.std.proofs.lemmas.List.Sums.{sum_by-set}
@@ -9,7 +9,7 @@ use Rattle.html_render_parts_widths.specs.laws.Cuts.{minimums-fit, sum-le}
 use Rattle.html_render_parts_widths.specs.laws.GivingOrder.{gives-transitive}
 use Rattle.html_render_parts_widths.specs.Cuts.{GivesBefore, CutFits, IsFairestCut, slack, total_width, giver, without_units, cut_by_units}
 
--- a cut on its way: the bounds, and that the units were taken from the right columns
+-- whether widths during the loop are within their bounds, and each unit was taken from the right column
 pub record IsFairSoFar (minimums shares widths : List ℕ) : Type 0 where
   pub lengths : length widths ≡ length minimums
   pub lower : (k : ℕ) → k < length minimums → get_or minimums k 0 ≤ get_or widths k 0
@@ -60,7 +60,7 @@ unit-taken ms ss ws i h inside some best =
       ];
     }
 
--- above the minimums' sum, the best column has a unit to take
+-- if the widths add up to more than the minimums, the best column has a unit to give
 pub best-has : (ms ss ws : List ℕ) (i : ℕ) → IsFairSoFar ms ss ws → i < length ws → IsBest ms ws i → sum ms < sum ws → get_or ms i 0 < get_or ws i 0
 best-has ms ss ws i h inside best more = elim (cases_lt (get_or ms i 0) (get_or ws i 0)) [
   | inl less ↦ less
@@ -72,7 +72,7 @@ best-has ms ss ws i h inside best more = elim (cases_lt (get_or ms i 0) (get_or 
 
 -- ---- the loop
 
--- the column b gives before each other one of the first n
+-- whether the column `b` gives before each other one of the first `n`
 abbrev IsGiver : List ℕ → List ℕ → ℕ → ℕ → Type 0
 IsGiver ms ws n b = (b < n) × ((j : ℕ) → j < n → j ≢ b → GivesBefore (slack ms ws b) (get_or ws b 0) b (slack ms ws j) (get_or ws j 0) j)
 
@@ -109,7 +109,7 @@ giver-gives ms ws zero pos = absurd (omega arith)
 giver-gives ms ws (suc zero) pos = one-giver ms ws _
 giver-gives ms ws (suc (suc n)) pos = more-givers ms ws (suc n) (giver ms ws (suc n)) _ (giver-gives ms ws (suc n) (omega arith)) refl
 
--- the units taken are gone, and the cut stays fair
+-- taking `n` units lowers the sum by `n`, and the widths stay fair
 pub units-fair : (n : ℕ) (ms ss ws : List ℕ) → IsFairSoFar ms ss ws → sum ms + n ≤ sum ws →
     IsFairSoFar ms ss (without_units n ms ws) × (sum (without_units n ms ws) + n ≡ sum ws)
 unfolding without_units

@@ -4,7 +4,7 @@ use Rattle.html_render_parts_widths.specs.Cuts.{IsLowered}
 use Rattle.html_render_parts_widths.specs.CutSteps.{LoweredBefore}
 use Rattle.html_render_parts_widths.proofs.check.last_lowered.Given as goal
 
--- the last of the first i
+-- `last` is the last lowered column among the first `i`, in the order of lowering; `None` if none is lowered
 abbrev pub invariant-loop-i : goal.invariant-loop-i
 invariant-loop-i l = MatchOption l.last
     ((k : ℕ) → k < l.i → ¬ IsLowered l.minimums l.shares l.widths l.level k)

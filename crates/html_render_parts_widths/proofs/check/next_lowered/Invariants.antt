@@ -4,7 +4,8 @@ use Rattle.html_render_parts_widths.specs.Cuts.{slack}
 use Rattle.html_render_parts_widths.specs.CutSteps.{IsFull, LoweredBefore}
 use Rattle.html_render_parts_widths.proofs.check.next_lowered.Given as goal
 
--- the next of the first i
+-- `next` is the first column at the level with its full width among the first `i`, in the order of lowering; `None` if there
+-- is none
 abbrev pub invariant-loop-i : goal.invariant-loop-i
 invariant-loop-i l = MatchOption l.next
     ((k : ℕ) → k < l.i → l.level ≤ slack l.minimums l.shares k → ¬ IsFull l.minimums l.shares l.widths l.level k)

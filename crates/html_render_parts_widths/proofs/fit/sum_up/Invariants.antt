@@ -2,7 +2,7 @@ use Rattle.std.proofs.Common.{◌≡◌, ◌*◌, ◌^◌, ◌≤◌, sum, take,
 use Rattle.html_render_parts_widths.specs.Cuts.{largest_slack}
 use Rattle.html_render_parts_widths.proofs.fit.sum_up.Given as goal
 
--- the sums so far, and the greatest range so far and of the rest
+-- the sums cover the first `i` columns; the greatest range of the first and of the rest is that of all
 abbrev pub invariant-loop-i : goal.invariant-loop-i
 invariant-loop-i l = record {
   minimums : l.least_widths ≡ sum (take l.i l.minimums);

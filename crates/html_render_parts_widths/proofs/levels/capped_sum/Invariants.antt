@@ -2,7 +2,7 @@ use Rattle.std.proofs.Common.{◌≡◌, ◌+◌, ◌*◌, ◌^◌, ◌≤◌, d
 use Rattle.html_render_parts_widths.specs.Cuts.{capped_sum, ranges}
 use Rattle.html_render_parts_widths.proofs.levels.capped_sum.Given as goal
 
--- the sum so far and that of the rest
+-- the sum of the first `i` and that of the rest add up to the whole sum
 abbrev pub invariant-loop-i : goal.invariant-loop-i
 invariant-loop-i l = (l.all + capped_sum l.level (ranges (drop l.i l.minimums) (drop l.i l.shares))
     ≡ capped_sum l.level (ranges l.minimums l.shares)) × (l.all ≤ l.i * 2 ^ 64)

@@ -2,7 +2,7 @@ use Rattle.std.proofs.Common.{◌≡◌, ℕ, ◌+◌, ◌-◌, ◌*◌, ◌<◌
 use Rattle.html_render_parts_widths.specs.Cuts.{capped_sum, ranges}
 use Rattle.html_render_parts_widths.proofs.levels.find_level.Given as goal
 
--- the level is among the levels from low to high; each probe has halved their number
+-- the wanted level is between `low` and `high`, and each probe has halved their distance
 abbrev pub invariant-loop-low : goal.invariant-loop-low
 invariant-loop-low l = record {
   ordered : l.low ≤ l.high;

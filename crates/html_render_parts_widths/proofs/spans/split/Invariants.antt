@@ -3,7 +3,7 @@ use Rattle.std.specs.Prelude.{slice_index}
 use Rattle.html_render_parts_widths.specs.SpanSteps.{split_at}
 use Rattle.html_render_parts_widths.proofs.spans.split.Given as goal
 
--- the places from here on are split, and those before aren't
+-- the values from `at` on are split, and those before it are unchanged
 abbrev pub invariant-loop-at : goal.invariant-loop-at
 invariant-loop-at l = record {
   len : length l.values.items ≡ length l.initial.values.items;
