@@ -1,4 +1,4 @@
--- Nodes that are measured, with sizes and without.
+-- Nodes that are measured, with preferred widths and without.
 use Rattle.std.proofs.Common.{◌≡◌, Bool, true, false, ◌||◌, ℕ, ◌+◌, List, ◌∷◌, take, drop, max, refl, sym, ap, ◌∙◌, inl, inr, if◌then◌else◌}
 use Rattle.std.proofs.lemmas.Bool.{cases_Bool, or_parts, or_right, true≢false}
 use Rattle.std.proofs.lemmas.List.{take-append-drop}
@@ -44,12 +44,12 @@ module _ {D A : Type 0} (decoration : Decoration D A) (decorator : D) (settings 
   abbrev all_sized : Forest RenderNode → Forest RenderNode
   all_sized t = measured decoration decorator settings t
 
-  -- what is made of a node over its children
+  -- a node with its measurement over its measured children
   abbrev pub found : (with_sizes : Bool) → RenderNode → (children : Forest RenderNode) → RenderNode
   found with_sizes n children =
       record n { kind = measured_kind n.kind children; estimate = sized_if with_sizes (estimate_of decoration decorator settings n.kind children) }
 
-  -- a node that keeps what was found out of it
+  -- storing a measurement in a node gives the measured node
   pub noted : (b : Bool) (n : RenderNode) (needs : List ColumnNeed) (e : Estimate) (f : Forest RenderNode) →
       with_needs needs n.kind ≡ measured_kind n.kind f → e ≡ sized_if b (estimate_of decoration decorator settings n.kind f) →
       record n { kind = with_needs needs n.kind; estimate = e } ≡ found b n f
@@ -62,12 +62,12 @@ module _ {D A : Type 0} (decoration : Decoration D A) (decorator : D) (settings 
       ap (λ f. node (found true n f) f (after (found true) beside)) (after_sized children)
       ∙ ap (node (found true n (all_sized children)) (all_sized children)) (after_sized beside)
 
-  -- where a table is found, there is one
+  -- if the node to measure is a table, the trees have one
   pub found_table : (b : Bool) (t : Forest RenderNode) (now : List (Entry RenderNode)) (at : ℕ) (e : Entry RenderNode) →
       Found (found b) t now at e → b ≡ has_table t → is_table e.node.kind ≡ true → b ≡ true
   found_table b t now at e f is table = is ∙ table_in t at e (drop (at + 1) (flatten t)) f.entry table
 
-  -- where no node is a table, the first pass leaves the sizes out of the measured trees
+  -- without a table, measuring without preferred widths gives the measured trees without them
   leasts-same : (t : Forest RenderNode) → greatest_least (without_sizes t) ≡ greatest_least t
   leasts-same none = refl
   leasts-same (node n children beside) = ap (max n.estimate.least) (leasts-same beside)
@@ -101,7 +101,7 @@ module _ {D A : Type 0} (decoration : Decoration D A) (decorator : D) (settings 
   abbrev all_measured : Forest RenderNode → Forest RenderNode
   all_measured t = with_needed_sizes (all_sized t)
 
-  -- with their sizes, where a node is a table, and else without
+  -- measuring gives preferred widths if any node is a table, and otherwise none
   pub after_all : (t : Forest RenderNode) → after (found (has_table t)) t ≡ all_measured t
   after_all t = elim (cases_Bool (has_table t)) [
     | inl table ↦ ap (λ b. after (found b) t) table ∙ after_sized t ∙ sym (needed true (tables-measured decoration decorator settings t ∙ table))

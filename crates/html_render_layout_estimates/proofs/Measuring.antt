@@ -1,4 +1,4 @@
--- What measuring from the last node to the first keeps true.
+-- Invariants of measuring from the last node to the first.
 use Rattle.std.proofs.Common.{◌≡◌, ℕ, ◌+◌, ◌-◌, ◌<◌, ◌≤◌, List, [], ◌∷◌, ◌++◌, length, take, drop, set, get_or, zero, suc, refl, sym, ap, ◌∙◌, subst}
 use Rattle.std.proofs.Common.{arith, append_assoc, length-append, length-drop, length-set, inl, inr}
 use Rattle.std.proofs.lemmas.List.{drop-append-le, drop-drop, drop-set, take-set-le, take-take, drop_more, get_or-take, get_or-drop, get_or_default}
@@ -12,7 +12,7 @@ use Rattle.html_render_layout_nodes.specs.laws.Preorder.{forest_of-flatten, flat
 
 -- ---- the tree at a place
 
--- nodes in pre-order, of which the first is over these children
+-- whether nodes in pre-order begin with a node, the nodes of its children and those of its siblings
 pub record IsNodeOver {K : Type 0} (es : List (Entry K)) : Type 0 where
   pub top : K
   pub children : Forest K
@@ -46,7 +46,7 @@ node_at (node k children beside) (suc i) h =
 
 -- ---- nodes that are measured from the last to the first
 
--- each node becomes what this answers of it over its measured children
+-- the trees in which each node is replaced by `measured_by` of it and its measured children
 module _ (measured_by : RenderNode → (children : Forest RenderNode) → RenderNode) where
   abbrev pub after : Forest RenderNode → Forest RenderNode
   after none = none
@@ -61,7 +61,7 @@ module _ (measured_by : RenderNode → (children : Forest RenderNode) → Render
   length-after none = refl
   length-after (node n children beside) = omega (arith, length-append {A = Entry RenderNode}, length-after children, length-after beside)
 
-  -- the nodes from one place on are measured, those before are as they were
+  -- whether the nodes from `at` on are measured, and those before it are unchanged
   pub record Measuring (t : Forest RenderNode) (now : List (Entry RenderNode)) (at : ℕ) : Type 0 where
     pub rest : Forest RenderNode
     pub within : at ≤ length (flatten t)
@@ -70,7 +70,7 @@ module _ (measured_by : RenderNode → (children : Forest RenderNode) → Render
     pub behind : drop at (flatten t) ≡ flatten rest
     pub filled : drop at now ≡ flatten (after rest)
 
-  -- a node that is about to be measured: its children are
+  -- whether the node at `at` is the next one to measure: its children are measured
   pub record Found (t : Forest RenderNode) (now : List (Entry RenderNode)) (at : ℕ) (e : Entry RenderNode) : Type 0 where
     pub children : Forest RenderNode
     pub size : e.size ≡ length (flatten (after children)) + 1
@@ -146,19 +146,19 @@ module _ (measured_by : RenderNode → (children : Forest RenderNode) → Render
             });
       }
 
-  -- the node before those that are measured, where all nodes are at hand
+  -- the node before the measured ones, found among all nodes, is the next one to measure
   pub Measuring-at : (t : Forest RenderNode) (now all : List (Entry RenderNode)) (at : ℕ) (e : Entry RenderNode) → Measuring t now at →
       0 < at → all ≡ now → e ≡ get_or all (at - 1) e → Found t now (at - 1) e
   Measuring-at t now all at e w some same is =
       Measuring-find t now at (at - 1) e w (omega (arith, some)) (is ∙ ap (λ l. get_or l (at - 1) e) same)
 
-  -- the children's nodes, as a part of all nodes
+  -- the nodes of the children, as a part of all nodes, are their measured forest
   pub Found-part : (t : Forest RenderNode) (now all : List (Entry RenderNode)) (at n : ℕ) (e : Entry RenderNode) (f : Found t now at e) →
       all ≡ now → n ≡ e.size - 1 → IsForest (take n (drop (at + 1) all)) (after f.children)
   Found-part t now all at n e f same less =
       IsForest-flatten _ _ (ap (λ m. take m (drop (at + 1) all)) less ∙ ap (λ l. take (e.size - 1) (drop (at + 1) l)) same ∙ f.under)
 
-  -- the node x at the place, changed as the node that was found there is by being measured
+  -- after the change of the node at `at` to its measured one, the nodes from `at` on are measured
   pub Found-next : (t : Forest RenderNode) (now all : List (Entry RenderNode)) (at n : ℕ) (e x : Entry RenderNode)
       (change : RenderNode → RenderNode) (f : Found t now at e) → all ≡ now → n ≡ e.size - 1 →
       change e.node ≡ measured_by e.node (forest_of (take n (drop (at + 1) all))) →

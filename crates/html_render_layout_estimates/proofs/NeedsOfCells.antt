@@ -1,4 +1,4 @@
--- What the cells of a table need stands over its columns, and without trees no cell needs anything.
+-- The needs of a table's cells are over its columns, and without trees there are none.
 use Rattle.std.proofs.Common.{◌≡◌, ◌+◌, ◌<◌, ◌≤◌, ℕ, List, [], ◌∷◌, All, refl}
 use Rattle.std.proofs.lemmas.List.Elements.{All-nil, All-cons, All-head, All-tail, All-append}
 use Rattle.html_render_dom_values.specs.Forest.{Forest, none, node}
@@ -15,7 +15,7 @@ pub rows_without : (rows : List (List GridCell)) → cell_needs rows none ≡ []
 rows_without [] = refl
 rows_without (r ∷ rs) = refl
 
--- a cell of a grid stands over one or more of `columns` columns
+-- whether a cell of a grid covers one or more of `columns` columns
 abbrev pub OnColumns : (columns : ℕ) → GridCell → Type 0
 OnColumns columns c = (c.first + c.columns ≤ columns) × (0 < c.columns)
 

@@ -1,4 +1,4 @@
--- Nodes in pre-order, parted behind the first tree.
+-- Nodes in pre-order, split after the first tree.
 use Rattle.std.proofs.Common.{◌≡◌, ◌+◌, ◌-◌, ◌≤◌, List, ◌∷◌, ◌++◌, length, take, drop, sym, ap, ◌∙◌, arith, length-append}
 use Rattle.std.proofs.Math.Seq.{take-append_seam, drop-append_seam}
 use Rattle.html_render_dom_values.specs.Forest.{Forest, none, node}
@@ -6,7 +6,7 @@ use Rattle.html_render_layout_nodes.specs.declared.tree.Entry.{Entry}
 use Rattle.html_render_layout_nodes.specs.Preorder.{flatten, forest_of}
 use Rattle.html_render_layout_nodes.specs.laws.Preorder.{IsForest, IsForest-flatten}
 
--- the nodes behind an entry, where these many are below it
+-- whether a forest begins with the tree of an entry, whose nodes below are the first of `es`
 pub record Parted {K : Type 0} (t : Forest K) (e : Entry K) (es : List (Entry K)) : Type 0 where
   pub below : Forest K
   pub beside : Forest K

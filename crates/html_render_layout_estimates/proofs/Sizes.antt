@@ -1,4 +1,4 @@
--- The size of a text that is read from its front on.
+-- The preferred width of a text that is read from its start.
 use Rattle.std.proofs.Common.{◌≡◌, ℕ, ◌+◌, ◌-◌, ◌<◌, ◌≤◌, min, Bool, true, false, cond, List, [], ◌∷◌, length, drop}
 use Rattle.std.proofs.Common.{get_or, zero, suc, refl, sym, ap, subst, ◌∙◌, arith}
 use Rattle.std.specs.List.{AllWithin}
@@ -20,7 +20,7 @@ unfolding chars
 chars-ascii b [] h = grind (arith, common_steps)
 chars-ascii b (c ∷ bs) h = grind (arith, common_steps)
 
--- ---- the size, where `k` columns were counted and `spaced` says that white space stands behind them
+-- ---- the preferred width after `k` columns were counted; `spaced` says whether white space follows these
 
 abbrev pub size_on : ℕ → Bool → List ℕ → ℕ
 size_on zero false cs = size_of cs
@@ -58,7 +58,7 @@ size_on-letter (suc k) c cs true e w = omega (arith, columns_of-other c cs true 
 
 -- ---- a text of ASCII characters, byte by byte
 
--- the size of a text, where these columns were counted before a place
+-- whether the preferred width of a text follows from the `k` columns before `at` and the text from `at` on
 pub record Sized (bs : List ℕ) (at k : ℕ) (spaced : Bool) : Type 0 where
   pub within : at ≤ length bs
   pub few : k + cond spaced 1 0 ≤ at
@@ -86,7 +86,7 @@ Sized-letter bs at k n spaced s w within low high is_n is_s = rw (is_n, is_s) (r
     few true h = omega (arith, h)
     few false h = omega (arith, h)
 
--- letters behind which no white space stands
+-- a run of letters without white space before it adds its length
 Sized-letters : (bs : List ℕ) (at k n : ℕ) → Sized bs at k false → at + n ≤ length bs →
     AllWithin (λ b. (33 ≤ b) × (b ≤ 126)) bs at (at + n) → Sized bs (at + n) (k + n) false
 Sized-letters bs at k zero w within letters = subst (λ m. Sized bs m (k + 0) false) (omega arith) (subst (λ m. Sized bs at m false) (omega arith) w)
@@ -96,7 +96,7 @@ Sized-letters bs at k (suc n) w within letters =
     let more = Sized-letter bs (at + n) (k + n) (k + suc n) false false so_far (omega (arith, within)) letter.0 letter.1 (omega arith) refl in
     subst (λ m. Sized bs m (k + suc n) false) (omega arith) more
 
--- a letter and those behind it
+-- a letter and the letters after it
 pub Sized-run : (bs : List ℕ) (at k end n : ℕ) (spaced s : Bool) → Sized bs at k spaced → at < length bs →
     33 ≤ get_or bs at 0 → get_or bs at 0 ≤ 126 → at + 1 ≤ end → end ≤ length bs →
     AllWithin (λ b. (33 ≤ b) × (b ≤ 126)) bs (at + 1) end → n ≡ k + cond spaced 2 1 + (end - (at + 1)) → s ≡ false → Sized bs end n s
@@ -116,7 +116,7 @@ Sized-space bs at k n spaced s w within space small is_n is_s = rw (is_n, is_s) 
       ∙ ap (size_on k spaced) (sym (next-chars bs at within small)) ∙ w.size;
 })
 
--- at the end of the text, or where the limit is reached
+-- at the end of the text, or if the limit is reached, the lesser of count and limit is that of preferred width and limit
 pub Sized-end : (bs : List ℕ) (at k limit : ℕ) (spaced : Bool) → Sized bs at k spaced → length bs ≤ at →
     min k limit ≡ min (size_of (chars bs)) limit
 Sized-end bs at k limit spaced w end =
@@ -127,9 +127,9 @@ pub Sized-reached : (bs : List ℕ) (at k limit : ℕ) (spaced : Bool) → Sized
     min k limit ≡ min (size_of (chars bs)) limit
 Sized-reached bs at k limit spaced w reached = omega (arith, size_on-least k spaced (chars (drop at bs)), w.size, reached)
 
--- ---- letters in front of a text
+-- ---- letters at the start of a text
 
--- one letter
+-- the columns of one letter and the rest
 one-letter : (bs : List ℕ) (at : ℕ) (spaced : Bool) → at < length bs → 33 ≤ get_or bs at 0 → get_or bs at 0 ≤ 126 →
     columns_of spaced (chars (drop at bs)) ≡ cond spaced 1 0 + 1 + columns_of false (chars (drop (at + 1) bs))
 one-letter bs at spaced within low high =
@@ -138,7 +138,7 @@ one-letter bs at spaced within low high =
     ∙ columns_of-other b (chars (drop (at + 1) bs)) spaced (letter-collapsible b low high)
     ∙ omega (arith, plain_width b low high)
 
--- and more
+-- the columns of `n + 1` letters and the rest
 more-letters : (bs : List ℕ) (spaced : Bool) (n : ℕ) → n + 1 ≤ length bs → AllWithin (λ b. (33 ≤ b) × (b ≤ 126)) bs 0 (n + 1) →
     columns_of spaced (chars bs) ≡ cond spaced 1 0 + (n + 1) + columns_of false (chars (drop (n + 1) bs))
 more-letters bs spaced zero within letters =
@@ -159,7 +159,7 @@ letters-columns bs spaced (suc n) some within letters =
     subst (λ k. columns_of spaced (chars bs) ≡ cond spaced 1 0 + k + columns_of false (chars (drop k bs))) (omega arith)
     (more-letters bs spaced n (omega (arith, within)) (λ i d low high. letters i d low (omega (arith, high))))
 
--- ---- a space in front of a text
+-- ---- a space at the start of a text
 
 pub space-columns : (bs : List ℕ) (spaced : Bool) → 0 < length bs → is_collapsible (get_or bs 0 0) ≡ true → get_or bs 0 0 < 128 →
     columns_of spaced (chars bs) ≡ columns_of true (chars (drop 1 bs))

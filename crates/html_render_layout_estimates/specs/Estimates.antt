@@ -1,4 +1,4 @@
--- What each node of a forest measures, from its kind and what its children measure.
+-- The estimate of each node of a forest, from its kind and the estimates of its children.
 use Rattle.std.specs.Prelude.{ℕ, ℤ, pos, ◌+◌, ◌-◌, ◌*◌, ◌/◌, ◌+ℤ◌, ◌-ℤ◌, max, min, List, sum_by}
 use Rattle.std.specs.Int.{saturate_signed, w64}
 use Rattle.std.specs.Str.{chars}
@@ -17,39 +17,40 @@ use Rattle.html_render_layout_estimates.specs.declared.settings.LayoutSettings.{
 use Rattle.html_render_layout_estimates.specs.TextSize.{size_of, saturated}
 use Rattle.html_render_layout_estimates.specs.Cells.{cell_needs}
 
--- how many trees stand beside each other
+-- the number of trees in a forest
 abbrev pub trees : {K : Type 0} → Forest K → ℕ
 trees none = 0
 trees (node k children beside) = trees beside + 1
 
--- the greatest of their least widths, 0 without any
+-- the greatest minimum width of a tree of a forest; 0 without trees
 abbrev pub greatest_least : Forest RenderNode → ℕ
 greatest_least none = 0
 greatest_least (node n children beside) = max n.estimate.least (greatest_least beside)
 
--- their sizes together
+-- the sum of the trees' preferred widths, up to the greatest number
 abbrev pub total_size : Forest RenderNode → ℕ
 total_size none = 0
 total_size (node n children beside) = saturated (n.estimate.size + total_size beside)
 
--- the estimate of what has this least width and this size behind a prefix
+-- the estimate of a node with these widths after a prefix: the prefix's columns are added to both
 abbrev pub behind : (prefix least size children : ℕ) → Estimate
 behind prefix least size children =
     record { least = saturated (least + prefix); size = saturated (size + prefix); prefix = prefix; children = children }
 
--- THE ESTIMATE OF A TABLE: at least each column has what it needs; of the size of a cell each of its columns has an equal part, rounded
--- down, and a column's size is that of all its parts; one column of text stands between any two columns, and a prefix before all
+-- THE ESTIMATE OF A TABLE. Its minimum width is the sum of its columns' minimum widths. Its preferred width is the sum over
+-- its cells of the part that each of their columns has, times these columns. One column of text for each separator and the
+-- prefix are added.
 abbrev pub table_estimate : (columns : ℕ) → List CellNeed → (prefix children : ℕ) → Estimate
 table_estimate columns cells prefix children =
     let least = sum_by (λ n. n.least) (column_needs columns cells) + (columns - 1) in
     behind prefix least (sum_by (λ c. c.size / c.count * c.count) cells + (columns - 1)) children
 
--- WHAT THE COLUMNS of a table NEED for its measured cells is kept in its node, for the layout
+-- a kind with the needs of its columns for its measured cells, if it is a table: THE NEEDS that the layout reads
 abbrev pub measured_kind : NodeKind → (children : Forest RenderNode) → NodeKind
 measured_kind (Table grid) children = Table (record grid { needs = column_needs (columns_of grid.cells) (cell_needs grid.cells.rows children) })
 measured_kind kind children = kind
 
--- the size of a text, and the columns of a prefix, in UTF-8
+-- the preferred width of a text, and the columns of a prefix, both in UTF-8
 abbrev pub text_size : List ℕ → ℕ
 text_size text = saturated (size_of (chars text))
 
@@ -57,15 +58,15 @@ abbrev pub prefix_columns : List ℕ → ℕ
 prefix_columns text = saturated (text_columns (chars text))
 
 module _ {D A : Type 0} (decoration : Decoration D A) (decorator : D) where
-  -- the columns of the prefixes of items, numbered from the first on: those of the first one's or of the last one's, if these are more;
-  -- numbers stop at the ends of their type
+  -- the columns of the widest prefix of a list's items: that of the first item or of the last; numbers stop at the ends of
+  -- their type
   abbrev pub number_columns : (first : ℤ) → (items : ℕ) → ℕ
   number_columns first items =
       let last = saturate_signed w64 (first +ℤ pos items -ℤ pos 1) in
       max (prefix_columns (decoration.ordered_item_prefix decorator first)) (prefix_columns (decoration.ordered_item_prefix decorator last))
 
   module _ (settings : LayoutSettings) where
-    -- the columns of what stands before the lines of a node with this number of children
+    -- the columns of the prefix of a node with this number of children
     abbrev pub prefix_of : NodeKind → (children : ℕ) → ℕ
     prefix_of (Header level) children = prefix_columns (decoration.header_prefix decorator level)
     prefix_of BlockQuote children = prefix_columns (decoration.quote_prefix decorator)
@@ -74,11 +75,12 @@ module _ {D A : Type 0} (decoration : Decoration D A) (decorator : D) where
     prefix_of Dd children = 2
     prefix_of kind children = 0
 
-    -- the estimate of what is written in one piece, of this size
+    -- the estimate of a text in one piece, of this preferred width
     abbrev pub piece : (size : ℕ) → Estimate
     piece size = record { least = min size settings.min_wrap_width; size = size; prefix = 0; children = 0 }
 
-    -- THE ESTIMATE of a node over its measured children: for what stands round it an image has two columns, and a link five
+    -- THE ESTIMATE of a node over its measured children. An image has 2 columns more than its title, and a link 5 more than
+    -- its children, for the decorator's texts around them.
     abbrev pub estimate_of : NodeKind → (children : Forest RenderNode) → Estimate
     estimate_of (Text text) children = piece (text_size text)
     estimate_of Break children = record { least = 1; size = 1; prefix = 0; children = 0 }

@@ -1,14 +1,14 @@
--- how documents are laid out
+-- the default settings of a layout
 pub mod Settings
--- the size of a text
+-- the preferred width of a text
 pub mod TextSize
 -- the cells of a table
 pub mod Cells
--- what the columns of a table need
+-- the needs of a table's columns
 pub mod Columns
 -- THE DEFINITION of estimates
 pub mod Estimates
--- what the passes of the code compute
+-- the result of the code's pass
 pub mod Passes
--- what follows from the definitions
+-- laws of these definitions
 pub mod laws

@@ -1,11 +1,11 @@
--- How documents are laid out, where nothing else is set.
+-- The default settings of a layout.
 use Rattle.std.specs.Prelude.{true, false}
 use Rattle.html_render_layout_estimates.specs.declared.settings.ImageRenderMode.TheVariants.{IgnoreEmpty}
 use Rattle.html_render_layout_estimates.specs.declared.settings.LayoutSettings.{LayoutSettings}
 
--- links have no numbers, what is struck out has strokes, images without a title aren't shown, closing lines are cut, lines aren't
--- padded and leave a text three columns at least, or its own if they are fewer; tables have
--- borders and no fences, and their cells stand side by side where they can
+-- Links have no numbers, U+0336 follows struck-out characters, and images with an empty title aren't shown. Closing lines
+-- are cut. Lines aren't padded, and a text needs 3 columns, or its own if they are fewer. Tables have borders and no fences,
+-- and their cells are side by side if they fit.
 abbrev pub default_settings : LayoutSettings
 default_settings = record {
   link_footnotes = false;

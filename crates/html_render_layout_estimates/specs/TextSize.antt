@@ -1,23 +1,23 @@
--- The size of a text: its columns on a line that is long enough for all of it.
+-- The preferred width of a text: its columns on a line that is long enough for all of it.
 use Rattle.std.specs.Prelude.{ℕ, ◌+◌, ◌-◌, ◌^◌, min, Bool, true, false, List, [], ◌∷◌, if◌then◌else◌}
 use Rattle.html_render_layout_lines.specs.Character.{is_collapsible, width_of}
 
--- counts stop at the greatest number
+-- a number, limited to the greatest one of 64 bits
 abbrev pub saturated : ℕ → ℕ
 saturated n = min n (2 ^ 64 - 1)
 
--- the columns of characters, where a run of white space is one column if another character follows it; spaced says
--- that one stands in front
+-- the columns of characters, where a run of white space counts 1 if another character follows it; `spaced` says whether
+-- white space precedes them
 abbrev pub columns_of : (spaced : Bool) → List ℕ → ℕ
 columns_of spaced [] = 0
 columns_of spaced (c ∷ cs) = if is_collapsible c then columns_of true cs else (if spaced then 1 else 0) + width_of c + columns_of false cs
 
--- the columns without white space in front
+-- the columns of characters without the white space at their start
 abbrev pub inner_columns : List ℕ → ℕ
 inner_columns [] = 0
 inner_columns (c ∷ cs) = if is_collapsible c then inner_columns cs else columns_of false (c ∷ cs)
 
--- THE SIZE OF A TEXT: white space in front of other columns is one more
+-- THE PREFERRED WIDTH OF A TEXT: white space at its start counts 1 if the rest has any column
 abbrev pub size_of : List ℕ → ℕ
 size_of [] = 0
 size_of (c ∷ cs) = if is_collapsible c then inner_columns cs + min (inner_columns cs) 1 else columns_of false (c ∷ cs)

@@ -1,4 +1,4 @@
-//! The cells of a table: over which of its columns each stands, and what it needs there.
+//! Cells of a table: their columns on the table's grid, and the widths that they need there.
 
 ghost use Rattle.std.specs.Prelude.{◌≡◌, ◌++◌, IfOk, IfErr, OnOk};
 ghost use Rattle.html_render_layout_nodes.specs.Preorder.{flatten, forest_of};
@@ -14,7 +14,7 @@ use html_render_parts::table::cells::{GridCell, TableCells};
 use html_render_parts_widths::CellNeed;
 use std::alloc::{AllocError, Global};
 
-/// Adds what the cells of a row need over their columns.
+/// Appends the needs of a row's cells over their columns.
 fn add_row(
     needs: &mut Vec<CellNeed>,
     cells: &[GridCell],
@@ -39,7 +39,7 @@ fn add_row(
     Ok(())
 }
 
-/// Adds what the cells of these rows need.
+/// Appends the needs of the cells of these rows.
 fn add_rows(
     needs: &mut Vec<CellNeed>,
     rows: &[Vec<GridCell>],
@@ -59,12 +59,13 @@ fn add_rows(
     Ok(())
 }
 
-/// What the cells of a table need over its columns, from its rows with their estimates, row by row. What stands in the cells
-/// isn't read.
+/// Returns the minimum and preferred width that each cell of a table needs over its columns, row by row.
+///
+/// `rows` are the table's rows with their cells, all measured. Only the cells' own nodes are read, not their contents.
 ///
 /// # Errors
 ///
-/// `OutOfMemory`.
+/// `OutOfMemory` if an allocation is refused.
 pub fn cell_needs(
     alloc: Global,
     grid: &TableCells,

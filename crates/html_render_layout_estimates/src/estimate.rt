@@ -1,7 +1,8 @@
-//! Estimates of the nodes of a render tree.
+//! Measuring of a render tree: the minimum and preferred width of each node.
 //!
-//! `measure(alloc, &decorator, &settings, tree)?` is the tree with each node's estimate: the least width in which the node
-//! can be laid out well, the columns of the decorator's prefix and the number of children; and in a tree with a table its size.
+//! `measure(alloc, &decorator, &settings, tree)?` returns the tree with an estimate in each node: its minimum width, the
+//! columns of the decorator's prefix and the number of children. If the tree has a table, each estimate has the preferred
+//! width, too.
 
 ghost use Rattle.std.specs.Prelude.{◌≡◌, ◌+◌, ◌+ℤ◌, ◌-ℤ◌, pos, max, min, true, false, IfOk, IfErr, OnOk, MatchBool};
 ghost use Rattle.std.specs.Int.{saturate_signed, w64};
@@ -20,16 +21,16 @@ use html_render_layout_nodes::tree::{Entry, Estimate, Flat, NodeKind, RenderNode
 use html_render_parts_decorators::decorate::TextDecorator;
 use std::alloc::Global;
 
-/// Trees beside each other: how many there are, and the greatest of their least widths.
+/// Totals of the trees beside each other in a slice.
 #[derive(Clone, Copy)]
 struct Children {
-    /// How many trees there are.
+    /// Number of trees.
     count: usize,
-    /// The greatest of their least widths.
+    /// Greatest minimum width of a tree; 0 without trees.
     least: usize,
 }
 
-/// The trees of measured nodes.
+/// Counts the trees in a slice of measured nodes, and finds the greatest of their minimum widths.
 #[inline]
 fn children_of(nodes: &[Entry<RenderNode>]) -> Children
     requires { flatten (forest_of nodes.now) ≡ nodes.now }
@@ -47,7 +48,9 @@ fn children_of(nodes: &[Entry<RenderNode>]) -> Children
     Children { count, least }
 }
 
-/// The number of the last of `items` items.
+/// Returns the number of the last of `items` items that are numbered from `first`, limited to the range of `i64`.
+///
+/// Without items it is `first - 1`.
 fn last_number(first: i64, items: usize) -> i64
     ensures { result ≡ saturate_signed w64 (first +ℤ pos items -ℤ pos 1) }
 {
@@ -58,12 +61,13 @@ fn last_number(first: i64, items: usize) -> i64
     }
 }
 
-/// The columns of the prefixes of a list's items, which are numbered from `first` on: those of the longer one of the
-/// first and the last.
+/// Returns the columns of the widest prefix of a numbered list: that of its first item or of its last.
+///
+/// The list has `items` items, numbered from `first`. Numbers stop at the ends of `i64`.
 ///
 /// # Errors
 ///
-/// `OutOfMemory`.
+/// `OutOfMemory` if an allocation is refused.
 pub fn number_columns<D: TextDecorator>(
     alloc: Global,
     decorator: &D,
@@ -78,7 +82,7 @@ pub fn number_columns<D: TextDecorator>(
     Ok(columns(first_prefix.as_str()).max(columns(last_prefix.as_str())))
 }
 
-/// The columns of the prefix of a node with `children` children.
+/// Returns the columns of the prefix of a node with `children` children; 0 for a kind without a prefix.
 #[inline(always)]
 fn prefix_of<D: TextDecorator>(
     alloc: Global,
@@ -117,7 +121,7 @@ fn prefix_of<D: TextDecorator>(
     }
 }
 
-/// The estimate of what stands in a line, with no children.
+/// Returns the estimate of a node without children and without a prefix. Its preferred width is left 0.
 #[inline]
 fn piece(least: usize) -> Estimate
     ensures { result ≡ record { least = least; size = 0; prefix = 0; children = 0 } }
@@ -130,14 +134,14 @@ fn piece(least: usize) -> Estimate
     }
 }
 
-/// The lesser of an image's size and `limit`.
+/// Returns the lesser of an image's preferred width and `limit`.
 pub(crate) fn image_size_within(title: &str, limit: usize) -> usize
     ensures { result ≡ min (saturated (text_size title.now + 2)) limit }
 {
     size_within(title, limit).saturating_add(2).min(limit)
 }
 
-/// The estimate of a link over measured nodes.
+/// Returns the estimate of a link over its measured children. Its preferred width is left 0.
 fn link_estimate(below: &[Entry<RenderNode>]) -> Estimate
     requires { flatten (forest_of below.now) ≡ below.now }
     ensures { result ≡ record { least = max (greatest_least (forest_of below.now)) 5; size = 0; prefix = 0; children = trees (forest_of below.now) } }
@@ -151,7 +155,7 @@ fn link_estimate(below: &[Entry<RenderNode>]) -> Estimate
     }
 }
 
-/// The estimate of a node that isn't a table over measured ones, without its size.
+/// Returns the estimate of a node that isn't a table over its measured children. Its preferred width is left 0.
 #[inline]
 fn estimate_of<D: TextDecorator>(
     alloc: Global,
@@ -190,7 +194,9 @@ fn estimate_of<D: TextDecorator>(
     }
 }
 
-/// The estimate of a node that isn't a table over measured ones, with its size if these have theirs.
+/// Returns the estimate of a node that isn't a table over its measured children.
+///
+/// The preferred width is computed if `with_sizes` is `true`, for which the children need theirs. Otherwise it is 0.
 fn sized_estimate_of<D: TextDecorator>(
     alloc: Global,
     decorator: &D,
@@ -219,7 +225,10 @@ fn sized_estimate_of<D: TextDecorator>(
     Ok(Estimate { size, ..estimate })
 }
 
-/// What is found out of a node over measured ones, with its size if these have theirs, as they do below a table.
+/// Measures a node over its measured children.
+///
+/// The preferred width is computed if `with_sizes` is `true`, for which the children need theirs. Otherwise it is 0. The
+/// caller ensures that `with_sizes` is `true` for a table.
 #[inline]
 fn measure_of<D: TextDecorator>(
     alloc: Global,
@@ -248,7 +257,7 @@ fn measure_of<D: TextDecorator>(
     })
 }
 
-/// Keeps what was found out of a node.
+/// Stores a measurement in its node.
 #[inline]
 fn note(node: &mut RenderNode, measure: Measure)
     ensures { node.new ≡ record node.old { kind = with_needs measure.needs.items node.old.kind; estimate = measure.estimate } }
@@ -259,7 +268,7 @@ fn note(node: &mut RenderNode, measure: Measure)
     }
 }
 
-/// Whether a node is a table.
+/// Reports whether a node is a table.
 #[inline]
 fn is_table(kind: &NodeKind) -> bool
     ensures { result ≡ is_table kind.now }
@@ -267,7 +276,7 @@ fn is_table(kind: &NodeKind) -> bool
     matches!(kind, NodeKind::Table(_))
 }
 
-/// Whether one of the nodes is a table.
+/// Reports whether any of the nodes is a table.
 fn any_table(entries: &[Entry<RenderNode>]) -> bool
     requires { flatten (forest_of entries.now) ≡ entries.now }
     ensures { result ≡ has_table (forest_of entries.now) }
@@ -280,7 +289,7 @@ fn any_table(entries: &[Entry<RenderNode>]) -> bool
     false
 }
 
-/// Gives nodes their estimates, from the last node to the first: with sizes if one of them is a table.
+/// Gives each node its estimate, from the last node to the first; with preferred widths if any node is a table.
 fn measure_nodes<D: TextDecorator>(
     alloc: Global,
     decorator: &D,
@@ -306,11 +315,13 @@ fn measure_nodes<D: TextDecorator>(
     Ok(())
 }
 
-/// The tree with each node's estimate. Without a table in the tree its size is left out, as 0.
+/// Measures a render tree. Returns it with an estimate in each node, and in each table the widths that its columns need.
+///
+/// Preferred widths are computed only if the tree has a table. Otherwise they are 0.
 ///
 /// # Errors
 ///
-/// `OutOfMemory`.
+/// `OutOfMemory` if an allocation is refused.
 pub fn measure<D: TextDecorator>(
     alloc: Global,
     decorator: &D,

@@ -1,4 +1,4 @@
-//! Laws of the definition of estimates, each the contract of a function that does nothing.
+//! Laws of the definition of estimates. Each is the contract of an empty function.
 
 ghost use Rattle.std.specs.Prelude.{◌≡◌, ◌≤◌, ℕ, All, map, sum_by, false};
 ghost use Rattle.html_render_dom_values.specs.Forest.{Forest};
@@ -13,15 +13,18 @@ ghost use Rattle.html_render_layout_estimates.specs.Passes.{has_table, with_need
 
 use html_render_parts_decorators::decorate::TextDecorator;
 
-/// Each node's least width is at most its size, in all trees, for each decorator and all settings.
+/// States that the minimum width of each measured node is at most its preferred width.
+///
+/// Holds of all trees, decorators and settings.
 #[tactic(auto, using(crate::specs::laws::Least::each_within))]
 fn each_least_width_is_at_most_its_size<D: TextDecorator>()
     ensures { (decorator : D) (settings : LayoutSettings) (trees : Forest RenderNode) →
         All (λ e. e.node.estimate.least ≤ e.node.estimate.size) (flatten (measured D.decoration decorator settings trees)) }
 {}
 
-/// No column of a measured table has a least width above its size, in all trees, for each decorator and all settings, so that each
-/// column's share is the one by its size.
+/// States that no column of a measured table has a minimum width above its preferred width.
+///
+/// So each column's share is `share_by_size`. Holds of all trees, decorators and settings.
 #[tactic(auto, using(crate::specs::laws::Columns::of_columns))]
 fn each_column_is_within_its_size<D: TextDecorator>()
     ensures measured { (decorator : D) (settings : LayoutSettings) (trees : Forest RenderNode) →
@@ -34,7 +37,7 @@ fn each_column_is_within_its_size<D: TextDecorator>()
         (flatten (with_needed_sizes (measured D.decoration decorator settings trees))) }
 {}
 
-/// Of trees without a table each node's size is answered as 0.
+/// States that the code leaves all preferred widths 0 in trees without a table.
 #[tactic(auto, using(crate::specs::laws::Least::each_unsized))]
 fn sizes_are_of_trees_with_tables<D: TextDecorator>()
     ensures { (decorator : D) (settings : LayoutSettings) (trees : Forest RenderNode) → has_table trees ≡ false →

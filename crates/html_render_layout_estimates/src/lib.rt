@@ -1,5 +1,4 @@
-//! Estimates: the least width in which each node of a render tree can be laid out well, and its size; and the settings by which
-//! nodes are measured and laid out.
+//! Minimum and preferred width of each node of a render tree, and the settings of measuring and layout.
 #![tactic(auto)]
 
 pub mod cells;

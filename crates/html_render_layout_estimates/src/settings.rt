@@ -1,4 +1,4 @@
-//! How a document is laid out, beside its width and its decorator.
+//! Settings of measuring and layout, besides the width and the decorator.
 
 ghost use Rattle.std.specs.Prelude.{◌≡◌, IfOk, IfErr};
 
@@ -6,26 +6,26 @@ use html_render_dom_values::Error;
 use html_render_dom_values::text::Text;
 use std::alloc::Global;
 
-/// What stands in the place of an image whose title is empty.
+/// Treatment of images and drawings with an empty title.
 #[derive(Clone, Debug, Default, PartialEq, Eq, Drop)]
 pub enum ImageRenderMode {
-    /// Nothing.
+    /// Shows nothing.
     #[default]
     IgnoreEmpty,
-    /// What the decorator writes for an image of an empty title.
+    /// Shows the image with its empty title, as the decorator writes it.
     ShowAlways,
-    /// The image with this title.
+    /// Shows the image with this title.
     Replace(Text),
-    /// The image with the part of its address behind the last `/` as its title; nothing where that is empty.
+    /// Shows the image with the part of its source after the last `/` as its title; nothing if that part is empty.
     Filename,
 }
 
 impl ImageRenderMode {
-    /// An equal mode.
+    /// Returns a copy of the mode.
     ///
     /// # Errors
     ///
-    /// `OutOfMemory`.
+    /// `OutOfMemory` if an allocation is refused.
     pub fn try_clone(&self, alloc: Global) -> Result<ImageRenderMode, Error>
         ensures ok { IfOk result (λ mode. mode ≡ self.now) }
         ensures err { IfErr result (λ e. e ≡ Error.OutOfMemory) }
@@ -41,26 +41,26 @@ impl ImageRenderMode {
     }
 }
 
-/// How the nodes of a document are laid out.
+/// Settings of measuring and layout.
 #[derive(Drop)]
 pub struct LayoutSettings {
-    /// Whether a link is followed by its number, and a line for each closes the document.
+    /// Whether a link's number follows it, and the document ends with a line for each link.
     pub link_footnotes: bool,
-    /// Whether U+0336 stands behind each character that is struck out.
+    /// Whether U+0336 follows each struck-out character that isn't collapsible white space.
     pub unicode_strikeout: bool,
-    /// What stands in the place of an image whose title is empty.
+    /// Treatment of images and drawings with an empty title.
     pub empty_images: ImageRenderMode,
-    /// Whether the lines that close the document are cut at its width.
+    /// Whether closing lines are cut at the document's width.
     pub wrap_links: bool,
-    /// Whether the lines of paragraphs are filled with spaces up to the width of their block.
+    /// Whether lines of paragraphs are padded with spaces up to the width of their block.
     pub pad_block_width: bool,
-    /// The columns that a text needs at least behind what its lines stand behind, unless its own are fewer.
+    /// Minimum columns left for text after prefixes, unless the text itself has fewer.
     pub min_wrap_width: usize,
-    /// Whether the cells of every table stand one below another.
+    /// Whether the cells of every table are stacked.
     pub raw_mode: bool,
     /// Whether tables have borders.
     pub table_borders: bool,
-    /// Whether a line of three backquotes stands before a table that is in no other one, and another behind it.
+    /// Whether a table that isn't in another table is put between lines of three backquotes.
     pub fence_tables: bool,
 }
 
@@ -70,9 +70,15 @@ impl Default for LayoutSettings {
 
     ghost is_default = { λ s. s ≡ default_settings };
 
-    /// No numbers behind links; characters that are struck out have U+0336 behind them; images without a title aren't shown;
-    /// the lines that close the document are cut; lines aren't filled with spaces; a text needs 3 columns; tables have borders
-    /// and no fences, and their cells stand side by side where they can.
+    /// Returns the default settings:
+    ///
+    /// - Links have no numbers.
+    /// - U+0336 follows struck-out characters.
+    /// - Images and drawings with an empty title aren't shown.
+    /// - Closing lines are cut.
+    /// - Lines aren't padded.
+    /// - A text needs 3 columns.
+    /// - Tables have borders and no fences. Their cells are side by side if they fit.
     fn default() -> LayoutSettings {
         LayoutSettings {
             link_footnotes: false,
@@ -89,11 +95,11 @@ impl Default for LayoutSettings {
 }
 
 impl LayoutSettings {
-    /// Equal settings.
+    /// Returns a copy of the settings.
     ///
     /// # Errors
     ///
-    /// `OutOfMemory`.
+    /// `OutOfMemory` if an allocation is refused.
     pub fn try_clone(&self, alloc: Global) -> Result<LayoutSettings, Error>
         ensures ok { IfOk result (λ settings. settings ≡ self.now) }
         ensures err { IfErr result (λ e. e ≡ Error.OutOfMemory) }

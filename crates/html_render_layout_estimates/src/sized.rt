@@ -1,4 +1,4 @@
-//! The sizes of trees, and the estimates of tables, which stand on them.
+//! Preferred widths of trees, and the estimates of tables, which need them.
 
 ghost use Rattle.std.specs.Prelude.{◌≡◌, ◌*◌, ◌/◌, sum_by, IfOk, IfErr};
 ghost use Rattle.html_render_parts_widths.specs.Needs.{AreSome, column_needs};
@@ -16,7 +16,7 @@ use html_render_parts::table::cells::TableCells;
 use html_render_parts_widths::{CellNeed, ColumnNeed, column_needs};
 use std::alloc::Global;
 
-/// The sizes of trees together.
+/// Returns the sum of the trees' preferred widths, at most `usize::MAX`.
 pub(crate) fn total_size(trees: &[Entry<RenderNode>]) -> usize
     requires { flatten (forest_of trees.now) ≡ trees.now }
     ensures { result ≡ total_size (forest_of trees.now) }
@@ -30,7 +30,8 @@ pub(crate) fn total_size(trees: &[Entry<RenderNode>]) -> usize
     size
 }
 
-/// The sizes of cells together, each as many columns as its columns have of it, in equal parts that are rounded down.
+/// Returns the sum of the cells' preferred widths, each rounded down to a multiple of the cell's number of columns; at most
+/// `usize::MAX`.
 fn size_of_cells(cells: &[CellNeed]) -> usize
     requires { AreSome cells.now }
     ensures { result ≡ saturated (sum_by (λ c. c.size / c.count * c.count) cells.now) }
@@ -42,7 +43,7 @@ fn size_of_cells(cells: &[CellNeed]) -> usize
     size
 }
 
-/// What columns need at least, together.
+/// Returns the sum of the columns' minimum widths, at most `usize::MAX`.
 fn least_of_columns(needs: &[ColumnNeed]) -> usize
     ensures { result ≡ saturated (sum_by (λ n. n.least) needs.now) }
 {
@@ -53,17 +54,22 @@ fn least_of_columns(needs: &[ColumnNeed]) -> usize
     least
 }
 
-/// What is found out of a node as it is measured.
+/// Measurement of one node.
 #[derive(Drop)]
 pub struct Measure {
-    /// Its estimate.
+    /// Estimate of the node.
     pub estimate: Estimate,
-    /// What its columns need, if it is a table.
+    /// Widths that its columns need if it is a table; otherwise empty.
     pub needs: Vec<ColumnNeed>,
 }
 
-/// What is found out of a table on this grid, with `children` children behind a prefix of `prefix` columns, over its measured
-/// rows.
+/// Measures a table on its grid over its measured rows.
+///
+/// `prefix` is the columns of its prefix, `children` the number of its children.
+///
+/// # Errors
+///
+/// `OutOfMemory` if an allocation is refused.
 pub fn measure_table(
     alloc: Global,
     grid: &TableCells,

@@ -1,6 +1,6 @@
-//! The columns of texts, counted no further than is asked.
+//! Columns of texts, counted no further than needed.
 //!
-//! `size_within(" Hello  wide\n", 80)` is 11: the white space in front is one column, and so is that between the words.
+//! `size_within(" Hello  wide\n", 80)` is 11: the white space at the start counts 1, and so does that between the words.
 
 ghost use Rattle.std.specs.Prelude.{◌≡◌, ◌+◌, Bool, if◌then◌else◌, [], ◌∷◌, ◌<◌, ◌≤◌, drop, length, min, true, false, IfOk, IfErr, IfNone, IfSome, MatchOption};
 ghost use Rattle.std.specs.Bool.{OnTrue};
@@ -12,7 +12,7 @@ ghost use Rattle.html_render_layout_estimates.specs.TextSize.{size_of, inner_col
 
 use html_render_layout_lines::character::{is_collapsible, width_of};
 
-/// The columns of a text whose white space stays as it is.
+/// Returns the columns of a text with all its white space, at most `usize::MAX`.
 pub fn columns(text: &str) -> usize
     ensures { result ≡ saturated (text_columns (chars text.now)) }
 {
@@ -23,7 +23,10 @@ pub fn columns(text: &str) -> usize
     columns
 }
 
-/// The lesser of a text's size and `limit`. Nothing is read behind the word that reaches the limit.
+/// Returns the lesser of a text's preferred width and `limit`. Reads no further than the word that reaches the limit.
+///
+/// White space at the text's end doesn't count. Each run of white space in it counts 1, and so does white space at its start
+/// if the rest has any column.
 pub fn size_within(text: &str, limit: usize) -> usize
     ensures { result ≡ min (size_of (chars text.now)) limit }
 {
@@ -36,19 +39,19 @@ pub fn size_within(text: &str, limit: usize) -> usize
     }
 }
 
-/// What was counted of a text before its first byte that isn't printable ASCII, a space or a newline.
+/// Counts of a text before its first byte that isn't printable ASCII, a space or a newline.
 #[derive(Clone, Copy)]
 struct Counted {
-    /// Where that byte stands.
+    /// Index of that byte.
     at: usize,
-    /// The columns before it.
+    /// Columns before it.
     columns: usize,
-    /// Whether white space stands behind these.
+    /// Whether white space follows these columns.
     spaced: bool,
 }
 
 impl Counted {
-    /// The rest of the text, if a column was counted before it.
+    /// Returns the text from `at` on; `None` if no column was counted before it.
     #[inline]
     fn rest_of<'a>(&self, text: &'a str) -> Option<&'a str>
         ensures some { IfSome result (λ rest. 1 ≤ self.now.columns) }
@@ -63,8 +66,8 @@ impl Counted {
     }
 }
 
-/// The lesser of a text's size and `limit`, where the bytes that are read are printable ASCII, spaces and newlines; what was
-/// counted before another byte.
+/// Returns the lesser of a text's preferred width and `limit` if all bytes that it reads are printable ASCII, spaces and
+/// newlines. Otherwise `Err` has the counts before the first other byte.
 #[inline]
 fn ascii_size_within(text: &[u8], limit: usize) -> Result<usize, Counted>
     ensures ok { IfOk result (λ size. size ≡ min (size_of (chars text.now)) limit) }
@@ -96,7 +99,7 @@ fn ascii_size_within(text: &[u8], limit: usize) -> Result<usize, Counted>
     Ok(columns.min(limit))
 }
 
-/// Where the letters end that stand in a text from a place on: printable ASCII characters other than the space.
+/// Returns the index after the letters from `start` on. A letter is a printable ASCII character other than the space.
 #[inline]
 fn letters_end(text: &[u8], start: usize) -> usize
     requires { start ≤ length text.now }
@@ -110,7 +113,7 @@ fn letters_end(text: &[u8], start: usize) -> usize
     end
 }
 
-/// Whether a byte is a printable ASCII character other than the space.
+/// Reports whether a byte is a printable ASCII character other than the space.
 #[inline]
 fn is_letter(byte: u8) -> bool
     ensures low { OnTrue result (33 ≤ byte) }
@@ -119,7 +122,7 @@ fn is_letter(byte: u8) -> bool
     matches!(byte, b'!'..=b'~')
 }
 
-/// Whether a byte is a space or a newline.
+/// Reports whether a byte is a space or a newline.
 #[inline]
 fn is_space(byte: u8) -> bool
     ensures collapsible { OnTrue result (is_collapsible byte ≡ true) }
@@ -128,7 +131,7 @@ fn is_space(byte: u8) -> bool
     matches!(byte, b' ' | b'\n')
 }
 
-/// The lesser of any text's size and `limit`.
+/// Returns the lesser of any text's preferred width and `limit`.
 fn any_size_within(text: &str, limit: usize) -> usize
     ensures { result ≡ min (size_of (chars text.now)) limit }
 {
@@ -141,7 +144,7 @@ fn any_size_within(text: &str, limit: usize) -> usize
     }
 }
 
-/// A text from its first character on that isn't collapsible white space.
+/// Returns a text from its first character on that isn't collapsible white space.
 fn without_leading_space(text: &str) -> &str
     ensures columns { columns_of false (chars result.now) ≡ inner_columns (chars text.now) }
     ensures text { IsUtf8 result.now }
@@ -156,8 +159,10 @@ fn without_leading_space(text: &str) -> &str
     rest
 }
 
-/// The lesser of the columns of a text, behind others, and `limit`, where white space behind others is one column if others
-/// follow it.
+/// Returns the lesser of `limit` and `before` plus the columns of a text that follows them.
+///
+/// Each run of collapsible white space counts 1 if another character follows it. `space_before` says whether white space
+/// precedes the text.
 fn columns_within(text: &str, before: usize, space_before: bool, limit: usize) -> usize
     ensures { result ≡ min (before + columns_of space_before (chars text.now)) limit }
 {
@@ -191,7 +196,7 @@ fn columns_within(text: &str, before: usize, space_before: bool, limit: usize) -
     columns.min(limit)
 }
 
-/// How many letters a text begins with, and what stands behind them; none where it begins with another character.
+/// Splits the letters off the start of a text. Returns their number and the rest; `None` if it doesn't start with a letter.
 #[inline]
 fn split_letters(text: &str) -> Option<(usize, &str)>
     ensures columns { IfSome result (λ r. (spaced : Bool) →
@@ -207,7 +212,7 @@ fn split_letters(text: &str) -> Option<(usize, &str)>
     Some((letters, behind))
 }
 
-/// What stands behind the space or newline that a text begins with, if it begins with one.
+/// Splits a space or newline off the start of a text. Returns the rest; `None` if it doesn't start with one.
 #[inline]
 fn split_space(text: &str) -> Option<&str>
     ensures columns { IfSome result (λ rest. (spaced : Bool) → columns_of spaced (chars text.now) ≡ columns_of true (chars rest.now)) }
@@ -222,7 +227,7 @@ fn split_space(text: &str) -> Option<&str>
     Some(behind)
 }
 
-/// The columns of a character that isn't collapsible white space.
+/// Returns the columns of a character; `None` if it is collapsible white space.
 #[inline]
 fn shown_width(c: char) -> Option<usize>
     ensures shown { IfSome result (λ width. (is_collapsible c ≡ false) × (width ≡ width_of c)) }
@@ -235,7 +240,7 @@ fn shown_width(c: char) -> Option<usize>
     }
 }
 
-/// The columns of a character that has `width`, and of white space if it stands in front.
+/// Returns `width`, plus 1 if white space precedes the character of that width; at most `usize::MAX`.
 fn spaced_width(spaced: bool, width: usize) -> usize
     ensures { result ≡ saturated ((if spaced then 1 else 0) + width) }
 {
@@ -246,7 +251,7 @@ fn spaced_width(spaced: bool, width: usize) -> usize
     }
 }
 
-/// A text's first character, and the rest.
+/// Splits a text into its first character and the rest; `None` if it is empty.
 fn first_character(text: &str) -> Option<(char, &str)>
     ensures characters { MatchOption result (chars text.now ≡ []) (λ first. chars text.now ≡ first.0 ∷ chars first.1.now) }
     ensures shorter { IfSome result (λ first. length first.1.now < length text.now) }

@@ -1,4 +1,4 @@
-//! Trees beside each other, one after the other, in a slice of nodes in pre-order.
+//! Trees beside each other in a slice of nodes in pre-order.
 
 ghost use Rattle.std.specs.Prelude.{◌≡◌, ◌<◌, length, IfSome, MatchOption};
 ghost use Rattle.html_render_dom_values.specs.Forest.{none, node};
@@ -6,18 +6,18 @@ ghost use Rattle.html_render_layout_nodes.specs.Preorder.{flatten, forest_of};
 
 use html_render_layout_nodes::tree::{Entry, RenderNode};
 
-/// The first of trees beside each other.
+/// First of the trees in a slice, split into its parts.
 #[derive(Clone, Copy)]
 pub struct FirstTree<'a> {
-    /// Its first node.
+    /// Root of the tree.
     pub node: &'a RenderNode,
-    /// The nodes below that one.
+    /// Nodes below the root, in pre-order.
     pub below: &'a [Entry<RenderNode>],
-    /// The trees beside it.
+    /// Trees that follow this one.
     pub beside: &'a [Entry<RenderNode>],
 }
 
-/// The first of trees beside each other, if there is one.
+/// Splits the first tree off a slice; `None` if the slice is empty.
 #[inline]
 pub fn first_tree(trees: &[Entry<RenderNode>]) -> Option<FirstTree<'_>>
     requires { flatten (forest_of trees.now) ≡ trees.now }

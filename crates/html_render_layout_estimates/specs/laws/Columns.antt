@@ -1,4 +1,4 @@
--- No column of a measured table needs more at least than its size.
+-- The minimum width of each column of a measured table is at most its preferred width.
 use Rattle.std.proofs.Common.{◌≡◌, ℕ, ◌+◌, ◌*◌, ◌/◌, ◌≤◌, Bool, true, false, cond, ltb, leb, ◌&&◌, List, [], ◌∷◌, ◌++◌, get_or, length, map, max, zero, suc}
 use Rattle.std.proofs.Common.{All, arith, refl}
 use Rattle.std.specs.Prelude.{if◌then◌else◌, sum_by}
@@ -56,7 +56,7 @@ columns-within columns cells h =
 abbrev HasColumnsWithin : Entry RenderNode → Type 0
 HasColumnsWithin e = AreWithinSizes (needs_of_kind e.node.kind)
 
--- the same of all nodes of trees
+-- whether the columns of all nodes of a forest are within their preferred widths
 abbrev AllColumns : Forest RenderNode → Type 0
 AllColumns none = Unit {0}
 AllColumns (node n children beside) = AreWithinSizes (needs_of_kind n.kind) × AllColumns children × AllColumns beside

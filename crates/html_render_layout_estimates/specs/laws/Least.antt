@@ -1,4 +1,5 @@
--- No node's least width passes its size, and what the code answers of sizes where no node is a table.
+-- The minimum width of each node is at most its preferred width; and the code leaves preferred widths 0 in trees without a
+-- table.
 use Rattle.std.proofs.Common.{◌≡◌, false, ◌||◌, ◌-◌, ◌^◌, ◌≤◌, List, [], ◌∷◌, ◌++◌, refl, sym, ap, ◌∙◌, subst, arith}
 use Rattle.std.specs.Prelude.{All, if◌then◌else◌}
 use Rattle.std.proofs.lemmas.List.Elements.{All-nil, All-cons, All-append}
@@ -19,15 +20,15 @@ use Rattle.html_render_layout_estimates.specs.Estimates.{trees, greatest_least, 
 use Rattle.html_render_layout_estimates.specs.Passes.{is_table, has_table, without_sizes, with_needed_sizes}
 use Rattle.html_render_layout_estimates.specs.laws.Tables.{AreWithin, table_within}
 
--- the entry's least width doesn't pass its size
+-- whether a node's minimum width is at most its preferred width
 abbrev pub IsWithin : Entry RenderNode → Type 0
 IsWithin e = e.node.estimate.least ≤ e.node.estimate.size
 
--- the entry's size is 0
+-- whether a node's preferred width is 0
 abbrev pub IsUnsized : Entry RenderNode → Type 0
 IsUnsized e = e.node.estimate.size ≡ 0
 
--- the same of all nodes of trees
+-- whether the minimum width of each node of a forest is at most its preferred width
 abbrev pub AllWithin : Forest RenderNode → Type 0
 AllWithin none = Unit {0}
 AllWithin (node n children beside) = (n.estimate.least ≤ n.estimate.size) × AllWithin children × AllWithin beside
@@ -38,7 +39,7 @@ all_within (node n children beside) h =
     All-cons IsWithin _ _ h.0
     (All-append IsWithin (flatten children) (flatten beside) (all_within children h.1) (all_within beside h.2))
 
--- and of what cells need
+-- lists of cells whose minimum widths are within their preferred widths can be joined
 AreWithin-append : (xs ys : List CellNeed) → AreWithin xs → AreWithin ys → AreWithin (xs ++ ys)
 AreWithin-append [] ys h k = k
 AreWithin-append (x ∷ xs) ys h k = (h.0, AreWithin-append xs ys h.1 k)

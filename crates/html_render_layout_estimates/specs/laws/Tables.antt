@@ -1,4 +1,4 @@
--- A table's least width doesn't pass its size.
+-- A table's minimum width is at most its preferred width.
 use Rattle.std.proofs.Common.{◌≡◌, Bool, true, false, ltb, leb, cond, ℕ, ◌+◌, ◌-◌, ◌*◌, ◌/◌, ◌≤◌, max, List, [], ◌∷◌, map, zero, suc}
 use Rattle.std.proofs.Common.{◌&&◌, refl, sym, ap, ◌∙◌, subst, arith}
 use Rattle.std.specs.List.{range_with_len}
@@ -19,7 +19,7 @@ sum_by-map : {X Y : Type 0} (f : Y → ℕ) (g : X → Y) (xs : List X) → sum_
 sum_by-map f g [] = refl
 sum_by-map f g (x ∷ xs) = sum_by-cons f (g x) (map g xs) ∙ ap (λ n. f (g x) + n) (sum_by-map f g xs) ∙ sym (sum_by-cons (λ y. f (g y)) x xs)
 
--- where each value is at most those of two others together, so is the sum
+-- if each value is at most the sum of two others, so is the sum of the values
 sum_by-parts : (f g h : ℕ → ℕ) (ks : List ℕ) → ((k : ℕ) → f k ≤ g k + h k) → sum_by f ks ≤ sum_by g ks + sum_by h ks
 sum_by-parts f g h [] each = omega arith
 sum_by-parts f g h (k ∷ ks) each =
@@ -29,9 +29,9 @@ sum_by-zero : (ks : List ℕ) → sum_by (λ k. 0) ks ≡ 0
 sum_by-zero [] = refl
 sum_by-zero (k ∷ ks) = omega (arith, sum_by-cons (λ x. 0) k ks, sum_by-zero ks)
 
--- ---- a value over columns beside each other
+-- ---- a value over neighbouring columns
 
--- how many columns of a span stand at a column or behind it
+-- the number of a span's columns from a column on
 abbrev columns_from : Span → (at : ℕ) → ℕ
 columns_from s at = s.start + s.count - max at s.start
 
@@ -58,7 +58,7 @@ sum-given s at (suc n) =
 abbrev part_of : CellNeed → ℕ
 part_of c = c.size / c.count * c.count
 
--- its columns' parts of its least width are at most those of its size, where it needs no more at least than that
+-- the parts of a minimum width add up to at most those of a preferred width that isn't less
 parts-le : (n least size : ℕ) → least ≤ size → n * (least / n) ≤ size / n * n
 parts-le zero least size h = omega arith
 parts-le (suc n) least size h =
@@ -79,7 +79,7 @@ cell-le columns c h =
 abbrev needed_by : List CellNeed → (column : ℕ) → ℕ
 needed_by cells k = greatest_at (map (λ c. part c c.least) cells) k
 
--- cells that need no more at least than their sizes
+-- whether the minimum width of each cell is at most its preferred width
 abbrev pub AreWithin : List CellNeed → Type 0
 AreWithin [] = Unit {0}
 AreWithin (c ∷ cs) = (c.least ≤ c.size) × AreWithin cs
