@@ -1,4 +1,4 @@
--- The depths of the nodes of trees: a dump along them, and how they are noted.
+-- The depths of the nodes of trees: a dump by them, and their computation node by node.
 use Rattle.std.proofs.Common.{◌≡◌, ℕ, ◌+◌, ◌-◌, ◌^◌, ◌≤◌, List, [], ◌∷◌, ◌++◌, length, refl, sym, ap, ◌∙◌, arith, min}
 use Rattle.std.proofs.Common.{append_assoc, append-nil, length-append, All, inl, inr}
 use Rattle.std.proofs.lemmas.Bool.Decides.{eqb_tells, leb_tells}
@@ -11,7 +11,7 @@ use Rattle.html_render_layout_nodes.specs.Dump.{dump, line}
 use Rattle.html_render_layout_nodes.specs.Kinds.{kind_name}
 use Rattle.html_render_layout_nodes.specs.Preorder.{flatten}
 
--- a depth for each node
+-- each node has one depth
 pub length-depths : {K : Type 0} (t : Forest K) (depth : ℕ) → length (depths_of depth t) ≡ length (flatten t)
 length-depths none depth = refl
 length-depths (node k children beside) depth =
@@ -24,7 +24,7 @@ length-depths (node k children beside) depth =
       length-depths beside depth,
     )
 
--- the lines of nodes of these depths
+-- the lines of nodes with these depths
 abbrev pub lines : List (Entry RenderNode) → List ℕ → List ℕ
 lines [] ds = []
 lines (e ∷ es) [] = []
@@ -48,24 +48,24 @@ lines-whole t =
     ∙ ap (lines (flatten t ++ [])) (sym (append-nil (depths_of 0 t)))
     ∙ lines-flatten t 0 [] [] ∙ append-nil (dump 0 t)
 
--- ---- noted node by node
+-- ---- the computation node by node
 
 abbrev AllPast : ℕ → List ℕ → Type 0
 AllPast place ends = All (λ e. place ≤ e) ends
 
--- no part is left before it ends
+-- no subtree is popped before its end
 none-left : (place : ℕ) (ends : List ℕ) → AllPast (place + 1) ends → open_at place ends ≡ ends
 none-left place [] past = refl
 none-left place (e ∷ es) past =
     let later = All-head (λ x. place + 1 ≤ x) e es past in
     elim (eqb_tells e place) [ inl t ↦ absurd (omega (arith, t.1, later)) | inr t ↦ rw t.0 refl ]
 
--- a part is left where it ends
+-- a subtree is popped at its end
 left-at-end : {K : Type 0} (place : ℕ) (ends : List ℕ) (es : List (Entry K)) → depths_from place (place ∷ ends) es ≡ depths_from place ends es
 left-at-end place ends [] = refl
 left-at-end place ends (e ∷ es) = elim (eqb_tells place place) [ inl t ↦ rw t.0 refl | inr t ↦ absurd (t.1 refl) ]
 
--- no nodes come
+-- an empty forest adds no depths
 alone : {K : Type 0} (t : Forest K) → length (flatten t) ≡ 0 → (place inner depth : ℕ) → inner ≡ place → (ends : List ℕ) → (es : List (Entry K)) →
     depths_from place ends (flatten t ++ es) ≡ depths_of depth t ++ depths_from inner ends es
 alone none h place inner depth e ends es = ap (λ n. depths_from n ends es) (sym e)
@@ -104,7 +104,7 @@ depths-flatten (node k children beside) place ends es small past =
     ∙ ap (λ l. depths_of (length ends + 1) children ++ l) (next ∙ ap (λ n. depths_of (length ends) beside ++ depths_from n ends es) whole)
     ∙ sym (append_assoc (depths_of (length ends + 1) children) (depths_of (length ends) beside) _)))
 
--- of all nodes, where they are in memory
+-- the depths of all nodes, as many as fit in memory
 pub depths-whole : {K : Type 0} (t : Forest K) (es : List (Entry K)) → es ≡ flatten t → length es ≤ 2 ^ 64 - 1 → depths_from 0 [] es ≡ depths_of 0 t
 depths-whole t es is small =
     ap (depths_from 0 []) (is ∙ sym (append-nil (flatten t)))

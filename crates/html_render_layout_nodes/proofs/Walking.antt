@@ -1,4 +1,4 @@
--- What the walk keeps true.
+-- Invariants of the walk.
 use Rattle.std.proofs.Common.{◌≡◌, ◌≢◌, ℕ, ◌+◌, ◌-◌, ◌<◌, ◌≤◌, true, List, [], ◌∷◌, ◌++◌, length, take, drop, max, Option, Some, None, Result}
 use Rattle.std.proofs.Common.{refl, sym, ap, ◌∙◌, subst, arith, append_assoc, append-nil, length-append, length-drop, get_or, drop-cons, suc, add-one}
 use Rattle.std.proofs.lemmas.List.{same_from_push, drop-drop}
@@ -21,9 +21,9 @@ use Rattle.html_render_layout_nodes.specs.laws.Counts.{failed-counted}
 use Rattle.html_render_layout_nodes.specs.laws.Preorder.{IsForest, IsForest-flatten}
 use Rattle.html_render_layout_nodes.specs.laws.Visits.{from, count_from, length-from}
 
--- ---- answers, and counts of what follows one
+-- ---- optional states, and counts from one
 
--- one step after another groups either way
+-- steps that may fail can be grouped either way
 and_then_assoc : {A B C : Type 0} (o : Option A) (f : A → Option B) (h : B → Option C) →
     option_and_then h (option_and_then f o) ≡ option_and_then (λ x. option_and_then h (f x)) o
 and_then_assoc None f h = refl
@@ -43,7 +43,7 @@ slice_get-last : {X : Type 0} (xs : List X) (x : X) → slice_get (xs ++ x ∷ [
 slice_get-last [] x = refl
 slice_get-last (y ∷ xs) x = slice_get-last xs x
 
--- what a walk does at each node
+-- the actions of a walk at each node
 pub record How (K S T : Type 0) : Type 0 where
   pub visits : Visits K S
   pub below : T → Places S
@@ -52,27 +52,27 @@ pub record How (K S T : Type 0) : Type 0 where
   pub told : (parent : Option T) (number : ℕ) (k : K) (trees : Forest K) (s : S) →
       IsOpened below closed (placed (places_in below parent number s) (visits k trees) s) (opened parent number k trees s)
 
--- the open nodes, the innermost first, each with the trees beside it
+-- the open nodes, the innermost first, each with the siblings after it
 abbrev pub Path : Type 0 → Type 0 → Type 0
 Path K T = List (Frame T × Forest K)
 
 module _ {K T : Type 0} where
-  -- the stack, the innermost last
+  -- the stack of the open nodes, the innermost last
   abbrev pub frames_of : Path K T → List (Frame T)
   frames_of [] = []
   frames_of (x ∷ path) = frames_of path ++ x.0 ∷ []
 
-  -- the nodes behind the innermost open node
+  -- the nodes after the innermost open node's subtree
   abbrev pub tails : Path K T → List (Entry K)
   tails [] = []
   tails (x ∷ path) = flatten x.1 ++ tails path
 
-  -- each open node is over where its frame says, and no more nodes stand before the one beside it
+  -- whether each open node ends where its frame says, and the number of its next sibling is at most that index
   abbrev pub Ends : ℕ → ℕ → Path K T → Type 0
   Ends n at [] = at ≡ n
   Ends n at (x ∷ path) = (x.0.end ≡ at) × ((x.0.next ≤ at) × Ends n (x.0.end + length (flatten x.1)) path)
 
-  -- what is kept of the innermost open node
+  -- what the innermost open node keeps
   abbrev pub parent : Path K T → Option T
   parent [] = None
   parent (x ∷ path) = Some x.0.kept
@@ -99,11 +99,12 @@ module _ {K S T : Type 0} (d : How K S T) where
   abbrev pub nodes_open : Forest K → S → ℕ
   nodes_open t s = most_open d.visits t s
 
-  -- the places below the innermost open node
+  -- the places of the innermost open node's children
   abbrev pub places : Path K T → Places S
   places path = places_in d.below (parent path)
 
-  -- the state behind trees there, the first of this number; how many are visited, and how many are open at once
+  -- three values for trees in these places, the first of this number: the state after them, the number of visited nodes, and
+  -- the greatest number open at once
   abbrev pub behind_trees : Path K T → ℕ → Forest K → S → Option S
   behind_trees path number t s = run_at d.visits (places path) number t s
 
@@ -113,55 +114,56 @@ module _ {K S T : Type 0} (d : How K S T) where
   abbrev pub open_in : Path K T → ℕ → Forest K → S → ℕ
   open_in path number t s = open_at d.visits (places path) number t s
 
-  -- the state once the open nodes are over
+  -- the state after all open nodes are closed
   abbrev pub after : Path K T → S → Option S
   after [] s = Some s
   after (x ∷ path) s = option_and_then (λ t. option_and_then (after path) (behind_trees path x.0.next x.1 t)) (d.closed x.0.kept s)
 
-  -- how many nodes are visited once the innermost open node's children are over
+  -- the number of nodes visited after the innermost open node is closed
   abbrev pub later : Path K T → S → ℕ
   later [] s = 0
   later (x ∷ path) s =
       count_from (λ t. visited_in path x.0.next x.1 t + count_from (later path) (behind_trees path x.0.next x.1 t)) (d.closed x.0.kept s)
 
-  -- how many in these trees, and after them
+  -- the number of nodes visited in these trees and after them
   abbrev pub onward : Path K T → ℕ → Forest K → S → ℕ
   onward path number rest s = visited_in path number rest s + count_from (later path) (behind_trees path number rest s)
 
-  -- the state behind a node that is opened so
+  -- the state after a node that is opened in this way
   abbrev pub behind : Forest K → Option (Way S T) → Option S
   behind children w = option_and_then (through d.below d.closed (λ below q. run_at d.visits below 0 children q)) w
 
-  -- and once the open nodes are over
+  -- the state after a node, its siblings and all open nodes
   abbrev pub beyond : Path K T → ℕ → Forest K → Forest K → Option (Way S T) → Option S
   beyond path number children beside w =
       option_and_then (λ t. option_and_then (after path) (behind_trees path number beside t)) (behind children w)
 
-  -- how many nodes are visited below it and after it
+  -- the number of nodes visited below a node that is opened in this way, and after it
   abbrev pub further : Path K T → ℕ → Forest K → Forest K → Option (Way S T) → ℕ
   further path number children beside w =
       length (from (λ x. nodes_at true d.visits x.0 0 children x.1) (option_and_then (λ v. into d.below v) w))
       + count_from (onward path number beside) (behind children w)
 
-  -- how many are open at once, those of the path among them, once the innermost open node's children are over
+  -- the greatest number of nodes open at once after the innermost open node is closed, those of the path included
   abbrev pub later_open : Path K T → S → ℕ
   later_open [] s = 0
   later_open (x ∷ path) s =
       count_from (λ t. max (length path + open_in path x.0.next x.1 t) (count_from (later_open path) (behind_trees path x.0.next x.1 t)))
       (d.closed x.0.kept s)
 
-  -- how many in these trees, and after them
+  -- the greatest number of nodes open at once in these trees and after them
   abbrev pub onward_open : Path K T → ℕ → Forest K → S → ℕ
   onward_open path number rest s = max (length path + open_in path number rest s) (count_from (later_open path) (behind_trees path number rest s))
 
-  -- how many below a node that is opened so, and after it
+  -- the greatest number of nodes open at once below a node that is opened in this way, and after it
   abbrev pub further_open : Path K T → ℕ → Forest K → Forest K → Option (Way S T) → ℕ
   further_open path number children beside w =
       max (count_from (λ x. length path + 1 + open_at d.visits x.0 0 children x.1) (option_and_then (λ v. into d.below v) w))
       (count_from (onward_open path number beside) (behind children w))
 
--- where the walk stands: at a place among the nodes, with these open, `entered` visited and `most` open at most, in this
--- state; the next node has this number; wanted is what comes out, all how many are visited, and peak how many are open at once, at most
+-- The state of a walk at the index `next`. So far `entered` nodes are visited and at most `most` were open at once. The next
+-- node has the number `number`, and `s` is the pass's state. The whole walk ends with `wanted`, visits `all` nodes and has
+-- `peak` open at once.
 pub record Walking {K S T : Type 0} (d : How K S T) (nodes : List (Entry K)) (wanted : Option S) (all peak : ℕ) (frames : List (Frame T))
     (entered most next number : ℕ) (s : S) : Type 0 where
   pub rest : Forest K
@@ -174,11 +176,11 @@ pub record Walking {K S T : Type 0} (d : How K S T) (nodes : List (Entry K)) (wa
   pub few : length path ≤ most
   pub peaks : max most (onward_open d path number rest s) ≡ peak
 
--- no open node is over here
+-- whether no open node ends at this index
 abbrev pub NotOver : {T : Type 0} → List (Frame T) → ℕ → Type 0
 NotOver {T} frames next = (below : List (Frame T)) (f : Frame T) → frames ≡ below ++ f ∷ [] → f.end ≢ next
 
--- what holds where a node is about to be opened
+-- the state of a walk before it opens a node
 pub record Opening {K S T : Type 0} (d : How K S T) (nodes : List (Entry K)) (wanted : Option S) (all peak : ℕ) (frames : List (Frame T))
     (entered most next number : ℕ) (s : S) (e : Entry K) : Type 0 where
   pub children : Forest K
@@ -193,7 +195,7 @@ pub record Opening {K S T : Type 0} (d : How K S T) (nodes : List (Entry K)) (wa
   pub few : length path ≤ most
   pub peaks : max most (further_open d path (number + 1) children beside (d.opened (parent path) number e.node children s)) ≡ peak
 
--- what holds where a node is about to be closed
+-- the state of a walk before it closes a node
 pub record Closing {K S T : Type 0} (d : How K S T) (nodes : List (Entry K)) (wanted : Option S) (all peak : ℕ) (frames : List (Frame T))
     (entered most next number : ℕ) (s : S) (l : T) : Type 0 where
   pub rest : Forest K
@@ -207,7 +209,7 @@ pub record Closing {K S T : Type 0} (d : How K S T) (nodes : List (Entry K)) (wa
   pub peaks : max most (count_from (onward_open d path number rest) (d.closed l s)) ≡ peak
   pub numbered : number ≤ next
 
--- what holds once all nodes are closed
+-- the state of a walk after all nodes are closed
 pub record Done {S T : Type 0} (wanted : Option S) (all peak : ℕ) (frames : List (Frame T)) (entered most : ℕ) (s : S) : Type 0 where
   pub result : wanted ≡ Some s
   pub empty : frames ≡ []
@@ -237,7 +239,7 @@ module _ {K S T : Type 0} (d : How K S T) where
       none_open None = omega arith
       none_open (Some r) = omega arith
 
-  -- the visit of a node in its place, and how it is opened there
+  -- the visit of a node in its place, and its opening there
   abbrev visit : Path K T → ℕ → K → Forest K → S → Visit S
   visit path number k children s = placed (places d path number s) (d.visits k children) s
 
@@ -248,7 +250,7 @@ module _ {K S T : Type 0} (d : How K S T) where
       through_visit (visit path number k children s) (λ below q. run_at d.visits below 0 children q) ≡ behind d children (opening path number k children s)
   behind-told path number k children s = (d.told (parent path) number k children s).told (λ below q. run_at d.visits below 0 children q)
 
-  -- a node's steps as its way
+  -- the state after a node's visit is that after its opening and closing
   regroup : (path : Path K T) (number : ℕ) (k : K) (children beside : Forest K) (s : S) →
       beyond d path (number + 1) children beside (opening path number k children s)
       ≡ option_and_then (after d path) (behind_trees d path number (node k children beside) s)
@@ -256,7 +258,7 @@ module _ {K S T : Type 0} (d : How K S T) where
       sym (and_then_assoc (behind d children (opening path number k children s)) (behind_trees d path (number + 1) beside) (after d path))
       ∙ ap (λ o. option_and_then (after d path) (option_and_then (behind_trees d path (number + 1) beside) o)) (sym (behind-told path number k children s))
 
-  -- and what is visited on it
+  -- the nodes visited by a node's visit are those of its opening and closing
   recount : (path : Path K T) (number : ℕ) (k : K) (children beside : Forest K) (s : S) →
       onward d path number (node k children beside) s ≡ 1 + further d path (number + 1) children beside (opening path number k children s)
   recount path number k children beside s =
@@ -278,7 +280,8 @@ module _ {K S T : Type 0} (d : How K S T) where
       both None = omega arith
       both (Some t) = refl
 
-  -- and how many are open at once on it, with those that have been
+  -- the greatest number of nodes open at once during a node's visit is that of its opening and closing, with those open
+  -- before
   reopen : (path : Path K T) (number most : ℕ) → length path ≤ most → (k : K) (children beside : Forest K) (s : S) →
       max most (onward_open d path number (node k children beside) s)
       ≡ max most (further_open d path (number + 1) children beside (opening path number k children s))
@@ -339,7 +342,7 @@ module _ {K S T : Type 0} (d : How K S T) where
     Walking-close frames fs f entered most next number s w e over =
         close_at fs f entered most next number s w.rest w.path (sym w.stack ∙ e) over w.ahead w.ends w.result w.counted w.few w.peaks
 
-    -- behind the node
+    -- closing a node continues the walk after it
     pub Closing-done : (fs : List (Frame T)) (l : T) (entered most next number : ℕ) (s r : S) →
         Closing d nodes wanted all peak fs entered most next number s l → d.closed l s ≡ Some r →
         Walking d nodes wanted all peak fs entered most next number r
@@ -356,7 +359,7 @@ module _ {K S T : Type 0} (d : How K S T) where
           peaks = ap (λ o. max most (count_from (onward_open d w.path number w.rest) o)) (sym step) ∙ w.peaks;
         }
 
-    -- where the node can't be closed, nothing comes out
+    -- if a node can't be closed, the walk has no result
     pub Closing-refuses : (fs : List (Frame T)) (l : T) (entered most next number : ℕ) (s : S) (why : Error) →
         Closing d nodes wanted all peak fs entered most next number s l → Refuses why (d.closed l s) → Refuses why wanted
     Closing-refuses fs l entered most next number s why w h = Refuses-same why wanted _ (sym w.result) (Refuses-then why (d.closed l s) _ h)
@@ -415,7 +418,7 @@ module _ {K S T : Type 0} (d : How K S T) where
         opening_at frames entered most next number s e w.rest w.path w.stack not_over (omega (arith, in_nodes, ap length same))
         (is ∙ ap (λ l. get_or l next e) same) w.ahead w.ends w.result w.counted w.few w.peaks
 
-    -- as the code opens it
+    -- the opening of a node by the code's arguments is that by the path
     opened_there : (frames : List (Frame T)) (p : Option T) (number : ℕ) (e : Entry K) (path : Path K T) (children trees : Forest K) (s : S) →
         frames ≡ frames_of path → p ≡ innermost frames → trees ≡ children →
         d.opened (parent path) number e.node children s ≡ d.opened p number e.node trees s
@@ -423,7 +426,7 @@ module _ {K S T : Type 0} (d : How K S T) where
         ap (λ x. d.opened x number e.node children s) (sym (kept ∙ ap (λ fs. innermost fs) stack ∙ parent-innermost path))
         ∙ ap (λ f. d.opened p number e.node f s) (sym same)
 
-    -- into the node
+    -- opening a node continues the walk with its children
     pub Opening-into : (frames : List (Frame T)) (entered most next number : ℕ) (s q : S) (l : T) (e : Entry K) →
         (w : Opening d nodes wanted all peak frames entered most next number s e) (trees : Forest K) → trees ≡ w.children → number ≤ next →
         (p : Option T) → p ≡ innermost frames → d.opened p number e.node trees s ≡ Some (Into q l) →
@@ -460,7 +463,7 @@ module _ {K S T : Type 0} (d : How K S T) where
           );
         }
 
-    -- past the node
+    -- going past a node continues the walk with its next sibling
     pub Opening-past : (frames : List (Frame T)) (entered most next number : ℕ) (s t : S) (e : Entry K) →
         (w : Opening d nodes wanted all peak frames entered most next number s e) (trees : Forest K) → trees ≡ w.children →
         (p : Option T) → p ≡ innermost frames → d.opened p number e.node trees s ≡ Some (Past t) →
@@ -484,12 +487,12 @@ module _ {K S T : Type 0} (d : How K S T) where
           peaks = omega (arith, w.peaks, top);
         }
 
-    -- the node's last is within the nodes
+    -- the end of the node's subtree is within the nodes
     pub Opening-end : (frames : List (Frame T)) (entered most next number : ℕ) (s : S) (e : Entry K) →
         Opening d nodes wanted all peak frames entered most next number s e → next + e.size ≤ length nodes
     Opening-end frames entered most next number s e w = omega (arith, Ends-le (length nodes) _ w.path w.ends)
 
-    -- its children's entries, as a part of all
+    -- the nodes below the node, as a part of all nodes, are its children
     pub Opening-part : (frames : List (Frame T)) (entered most next number : ℕ) (s : S) (e : Entry K) (here : List (Entry K)) (n : ℕ) →
         here ≡ nodes → n ≡ e.size - 1 → (w : Opening d nodes wanted all peak frames entered most next number s e) →
         IsForest (take n (drop (next + 1) here)) w.children
@@ -500,7 +503,7 @@ module _ {K S T : Type 0} (d : How K S T) where
         ∙ ap (take (length (flatten w.children))) w.ahead
         ∙ take-append_seam (flatten w.children) (flatten w.beside ++ tails w.path))
 
-    -- where the node can't be opened, nothing comes out
+    -- if a node can't be opened, the walk has no result
     pub Opening-refuses : (frames : List (Frame T)) (entered most next number : ℕ) (s : S) (e : Entry K) (why : Error) →
         (w : Opening d nodes wanted all peak frames entered most next number s e) (trees : Forest K) → trees ≡ w.children →
         (p : Option T) → p ≡ innermost frames → Refuses why (d.opened p number e.node trees s) → Refuses why wanted
@@ -509,12 +512,12 @@ module _ {K S T : Type 0} (d : How K S T) where
         (Refuses-then why _ _ (Refuses-then why _ _
         (Refuses-same why _ _ (opened_there frames p number e w.path w.children trees s w.stack kept same) h)))
 
-    -- no more were open at once, and no more entered, than there are
+    -- the counts so far are at most those of the whole walk
     pub Walking-within : (frames : List (Frame T)) (entered most next number : ℕ) (s : S) →
         Walking d nodes wanted all peak frames entered most next number s → (most ≤ peak) × (entered ≤ all)
     Walking-within frames entered most next number s w = (omega (arith, w.peaks), omega (arith, w.counted))
 
--- what is counted where the walk ends with an error
+-- the counts of a walk that ends with an error
 pub counted-refused : {K S T X : Type 0} (d : How K S T) (r : Result X Error) (Q : Error → Type 0) → IsErrAnd r Q → (f : Forest K) (s now : S)
     (nodes : List (Entry K)) (wanted : Option S) (frames : List (Frame T)) (next number : ℕ) (old new : Meter) →
     Walking d nodes wanted (length (nodes_visited d f s)) (nodes_open d f s) frames new.entered new.frames next number now →

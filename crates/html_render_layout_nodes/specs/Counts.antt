@@ -1,12 +1,13 @@
--- What a walk over a forest counts.
+-- The counts of a walk over a forest.
 use Rattle.std.specs.Prelude.{◌≡◌, ◌≤◌, length, Result, OnOk}
 use Rattle.html_render_dom_values.specs.Forest.{Forest, count, depth}
 use Rattle.html_render_parts_widths.specs.declared.Meter.{Meter}
 use Rattle.html_render_layout_nodes.specs.Pass.{Visits, visited, most_open}
 
--- what stands in the meter after a walk over a tree: entered and left are the nodes that a run visits from the state s, and
--- frames how many of them stand open at once, where there is a result; at most these where there is none, and never more than
--- the tree has nodes and levels; the meter's other field stays
+-- Whether a meter has the counts of a walk over a tree from the state `s`. After a result, `entered` and `left` are the
+-- number of nodes that a run visits, and `frames` is the greatest number of them open at once. After an error they are at
+-- most these. The number of visited nodes is at most that of the tree, and the number of open nodes is at most its depth.
+-- `probes` is unchanged.
 pub record CountsNodes {X E K S : Type 0} (result : Result X E) (visits : Visits K S) (tree : Forest K) (s : S) (old new : Meter) : Type 0 where
   pub entered : OnOk result (new.entered ≡ length (visited visits tree s))
   pub left : OnOk result (new.left ≡ length (visited visits tree s))

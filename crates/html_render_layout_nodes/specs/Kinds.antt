@@ -1,4 +1,4 @@
--- What is said of each kind of node: its name in a dump, and whether it takes what is inserted.
+-- Properties of each kind of node: its name in a dump, and whether it accepts insertions.
 use Rattle.std.specs.Prelude.{ℕ, Bool, true, false, List, codes}
 use Rattle.html_render_layout_nodes.specs.declared.tree.Emphasis.TheVariants.{Em, Strong, Code}
 use Rattle.html_render_layout_nodes.specs.declared.tree.NodeKind.{NodeKind}
@@ -6,7 +6,7 @@ use Rattle.html_render_layout_nodes.specs.declared.tree.NodeKind.TheVariants.{Te
 use Rattle.html_render_layout_nodes.specs.declared.tree.NodeKind.TheVariants.{Ol, ListItem, Dl, Dt, Dd, Strikeout, Superscript, Link, Image, Svg}
 use Rattle.html_render_layout_nodes.specs.declared.tree.NodeKind.TheVariants.{FragmentStart, Table, TableRow, TableCell}
 
--- what a dump calls a node of a kind
+-- the name of a kind in a dump
 abbrev pub kind_name : NodeKind → List ℕ
 kind_name (Text text) = codes "Text"
 kind_name Container = codes "Container"
@@ -34,7 +34,7 @@ kind_name (Table grid) = codes "Table"
 kind_name TableRow = codes "TableRow"
 kind_name TableCell = codes "TableCell"
 
--- whether a node of a kind takes what is inserted among its own children
+-- whether content that is inserted at a node of a kind goes among its children
 abbrev pub holds_insertions : NodeKind → Bool
 holds_insertions Container = true
 holds_insertions Block = true

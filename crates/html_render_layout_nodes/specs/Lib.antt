@@ -1,12 +1,12 @@
--- the tree: its nodes in one vector, and where it is parted
+-- the tree: its nodes as one list, and splits of it
 pub mod Tables
 pub mod RenderNodes
 pub mod Preorder
 pub mod Splits
--- what is said of each kind of node, and the dump of a tree
+-- properties of each kind of node, and the dump of a tree
 pub mod Kinds
 pub mod Dump
--- the walk: what a pass computes, and what the walk counts
+-- the walk: the result of a pass, and its counts
 pub mod Pass
 pub mod Counts
 pub mod Walk

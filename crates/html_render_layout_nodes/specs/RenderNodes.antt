@@ -6,11 +6,11 @@ use Rattle.html_render_layout_nodes.specs.declared.tree.NodeKind.{NodeKind}
 use Rattle.html_render_layout_nodes.specs.declared.tree.NodeStyle.{NodeStyle}
 use Rattle.html_render_layout_nodes.specs.declared.tree.RenderNode.{RenderNode}
 
--- the style that gives nothing
+-- the style that sets nothing
 abbrev pub no_style : NodeStyle
 no_style = record { colour = None; background = None; white_space = Normal; preformatted = false }
 
--- the estimate of a node that isn't measured
+-- the estimate of an unmeasured node
 abbrev pub unmeasured : Estimate
 unmeasured = record { least = 0; size = 0; prefix = 0; children = 0 }
 

@@ -1,4 +1,4 @@
-//! Render trees: their nodes in one vector in pre-order, the texts of nodes, and a walk over trees.
+//! Render trees as one vector of nodes in pre-order, texts of nodes, and a walk over trees.
 #![tactic(auto)]
 
 pub mod pass;

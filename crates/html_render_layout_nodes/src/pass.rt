@@ -1,7 +1,7 @@
-//! A walk over trees, for any pass.
+//! A walk over trees, generic in the pass that it runs.
 //!
-//! `walk::<P>(alloc, &forest, &mut state, &mut meter)` opens each node before its children and closes it after them, or
-//! goes past them, and counts what it did; `Ok(())`: the state is what the pass's visits make of the forest.
+//! `walk::<P>(alloc, &forest, &mut state, &mut meter)` visits each node before and after its children, or once without its
+//! children, and counts the visits. After `Ok(())` the state is the result of the pass's visits of the forest.
 
 ghost use Rattle.std.specs.Prelude.{◌≡◌, ◌≢◌, ℕ, List, [], ◌∷◌, ◌++◌, Option, Some, OnOk, IfOk, IfErr, IfSome, IfNone, option_copied};
 ghost use Rattle.html_render_dom_values.specs.Forest.{Forest};
@@ -17,33 +17,39 @@ use html_render_dom_values::Error;
 use html_render_parts_widths::Meter;
 use std::alloc::Global;
 
-/// What a walk does at each node.
+/// Actions of a walk at each node.
 pub trait Pass {
-    /// What a node is.
+    /// Content of a node.
     type Node;
-    /// What the walk changes.
+    /// State that the walk changes.
     type State;
-    /// What an open node keeps until it is closed.
+    /// Data that an open node keeps until it is closed.
     type Kept: Drop;
 
-    // how each node is visited
+    // the visit of each node
     ghost visits: { Visits Self.Node Self.State };
 
-    // the places of the nodes below an open one, by what it keeps
+    // the places of an open node's children, by what the node keeps
     ghost below: { Self.Kept → Places Self.State };
 
-    // how a node of this number, over these trees, is opened below another one, by what that keeps
+    // the opening of a node: by what its parent keeps, its number among its siblings, the node, its children and the state
     ghost opened: { Option Self.Kept → ℕ → Self.Node → Forest Self.Node → Self.State → Option (Way Self.State Self.Kept) };
 
-    // the state behind an open node, from what it kept and the state behind its children
+    // the state after an open node, from what it keeps and the state after its children
     ghost closed: { Self.Kept → Self.State → Option Self.State };
 
-    /// Opens a node over the trees of these entries, below another that keeps this, if it stands below one, whose child of
-    /// this number it is, from 0: the state becomes its children's, or, with nothing kept, the one behind it and them.
+    /// Opens a node.
+    ///
+    /// `children` are its subtrees. `parent` is what the node's parent keeps; `None` for a root. `number` is the node's
+    /// number among its siblings, from 0.
+    ///
+    /// Returns what the node keeps, and sets the state to that before its children. Returns `None` if the children aren't
+    /// visited, and sets the state to that after the node.
     ///
     /// # Errors
     ///
-    /// `TooNarrow`, where the pass can't be done. `OutOfMemory`.
+    /// - `TooNarrow` if the pass isn't possible at this node.
+    /// - `OutOfMemory` if an allocation is refused.
     fn open(
         alloc: Global,
         node: &Self::Node,
@@ -57,16 +63,17 @@ pub trait Pass {
             ≡ Some (way state.new kept)) }
         ensures err { IfErr result (λ e. Refuses e (opened (option_copied parent.entry) number node.now (forest_of children.now) state.old)) };
 
-    /// Closes a node: the state becomes that behind it.
+    /// Closes a node after its children: sets the state to that after the node.
     ///
     /// # Errors
     ///
-    /// `TooNarrow`, where the pass can't be done. `OutOfMemory`.
+    /// - `TooNarrow` if the pass isn't possible at this node.
+    /// - `OutOfMemory` if an allocation is refused.
     fn close(alloc: Global, kept: Self::Kept, state: &mut Self::State) -> Result<(), Error>
         ensures ok { OnOk result (closed kept state.old ≡ Some state.new) }
         ensures err { IfErr result (λ e. Refuses e (closed kept state.old)) };
 
-    // a visit: the node is opened in its place, its children come, and it is closed
+    // opening a node in its place, its children and closing it are its visit
     ghost told: { (parent : Option Self.Kept) (number : ℕ) (k : Self.Node) (trees : Forest Self.Node) (s : Self.State) →
         IsOpened below closed (placed (places_in below parent number s) (visits k trees) s) (opened parent number k trees s) };
 }
@@ -74,15 +81,15 @@ pub trait Pass {
 /// An open node.
 #[derive(Drop)]
 struct Frame<T> {
-    /// The place behind its last node.
+    /// Index after the last node of its subtree.
     end: usize,
-    /// The number of the node beside it.
+    /// Number of its next sibling.
     next: usize,
-    /// What the pass keeps of it.
+    /// Data that the pass keeps for it.
     kept: T,
 }
 
-/// What is kept of the innermost open node, if one is open.
+/// Returns what the innermost open node keeps; `None` if no node is open.
 #[inline(always)]
 fn innermost<T: Drop>(frames: &[Frame<T>]) -> Option<&T>
     ensures { option_copied result ≡ innermost frames.now }
@@ -93,7 +100,7 @@ fn innermost<T: Drop>(frames: &[Frame<T>]) -> Option<&T>
     }
 }
 
-/// Takes the innermost open node, if it is over at this place.
+/// Pops the innermost open node if its subtree ends before the index `at`; otherwise returns `None`.
 fn pop_over<T: Drop>(frames: &mut Vec<Frame<T>>, at: usize) -> Option<Frame<T>>
     ensures over { IfSome result (λ f. (frames.old.items ≡ frames.new.items ++ f ∷ []) × (f.end ≡ at)) }
     ensures same { IfNone result (frames.new.items ≡ frames.old.items) }
@@ -106,14 +113,15 @@ fn pop_over<T: Drop>(frames: &mut Vec<Frame<T>>, at: usize) -> Option<Frame<T>>
     frames.pop()
 }
 
-/// Runs a pass over a forest, with a stack of the open nodes. What is skipped is jumped over, and a node whose children
-/// are skipped takes no place on the stack.
+/// Runs a pass over a forest, from the first node to the last, with a stack of the open nodes.
 ///
-/// The meter's `entered`, `left` and `frames` count from 0, also where the pass refuses; `probes` stays.
+/// Nodes below a node whose children aren't visited are skipped, and such a node isn't pushed on the stack. The meter's
+/// `entered`, `left` and `frames` are set, counted from 0, also on an error. `probes` is unchanged.
 ///
 /// # Errors
 ///
-/// Those of the pass. `OutOfMemory`.
+/// - Those of the pass's `open` and `close`.
+/// - `OutOfMemory` if an allocation is refused.
 pub fn walk<P: Pass>(
     alloc: Global,
     forest: &Flat<P::Node>,
@@ -123,7 +131,7 @@ pub fn walk<P: Pass>(
     ensures ok { OnOk result (run P.visits forest.now state.old ≡ Some state.new) }
     ensures err { IfErr result (λ e. Refuses e (run P.visits forest.now state.old)) }
 
-    // what was counted, where the walk came to its end, and where it didn't
+    // exact counts of a finished walk, bounds after an error
     ensures counts { CountsNodes result P.visits forest.now state.old meter.old meter.new }
 {
     meter.entered = 0;

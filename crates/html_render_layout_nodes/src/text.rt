@@ -1,8 +1,8 @@
-//! The texts of nodes.
+//! Texts of nodes.
 //!
-//! A short text stands in the node itself, so that most of the texts of a document take no memory of their own.
+//! A short text is stored in its node, so that most texts of a document need no allocation.
 
 use html_render_dom_values::small_text::SmallText;
 
-/// A text of a node: 24 bytes at most stand in the node itself.
+/// Text of a node. Up to 24 bytes are stored in the node, without an allocation.
 pub type NodeText = SmallText<24>;

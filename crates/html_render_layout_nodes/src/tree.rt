@@ -1,4 +1,4 @@
-//! Render trees: trees beside each other, in one vector in pre-order.
+//! Render trees: forests as one vector of nodes in pre-order.
 
 ghost use Rattle.std.specs.Prelude.{◌≡◌, IfOk, IfErr};
 ghost use Rattle.html_render_layout_nodes.specs.Preorder.{flatten, forest_of};
@@ -13,19 +13,19 @@ use html_render_parts_widths::ColumnNeed;
 use std::alloc::Global;
 use std::marker::Model;
 
-/// A node in pre-order.
+/// A node with the size of its subtree, in a vector in pre-order.
 #[derive(Drop)]
 pub struct Entry<N> {
     /// The node.
     pub node: N,
-    /// How many nodes its tree has, itself included.
+    /// Number of nodes in its subtree, itself included.
     pub size: usize,
 }
 
-/// Trees beside each other. Dropping them goes along one vector, however deep they are.
+/// A forest: trees beside each other, as one vector of nodes in pre-order. Dropping it doesn't recurse.
 #[derive(Drop)]
 pub struct Flat<N> {
-    /// The entries in pre-order.
+    /// Nodes in pre-order.
     entries: Vec<Entry<N>>,
 }
 
@@ -47,21 +47,21 @@ impl<N> Model for Flat<N> {
 }
 
 impl<N> Flat<N> {
-    /// The nodes in pre-order, each with the size of its tree.
+    /// Returns the nodes in pre-order, each with the size of its subtree.
     pub fn entries(&self) -> &[Entry<N>]
         ensures { result.now ≡ flatten self.now }
     {
         self.entries.as_slice()
     }
 
-    /// The nodes in pre-order, to be changed in place.
+    /// Converts the forest into its nodes in pre-order.
     pub fn into_entries(self) -> Vec<Entry<N>>
         ensures { result.items ≡ flatten self }
     {
         self.entries
     }
 
-    /// The trees of nodes in pre-order.
+    /// Creates the forest of these nodes in pre-order. The caller ensures that the sizes of subtrees are those of a forest.
     pub fn from_entries(entries: Vec<Entry<N>>) -> Flat<N>
         requires { flatten (forest_of entries.items) ≡ entries.items }
         ensures { result ≡ forest_of entries.items }
@@ -70,78 +70,78 @@ impl<N> Flat<N> {
     }
 }
 
-/// How a part of a line is emphasised.
+/// Kind of emphasis of a part of a line.
 #[derive(Clone, Copy)]
 pub enum Emphasis {
-    /// Stressed: HTML's `em`, and what is shown like it.
+    /// Emphasis: HTML's `em`, `i` and `ins`.
     Em,
-    /// Important: HTML's `strong`, and what is shown like it.
+    /// Strong importance: HTML's `strong` and `b`.
     Strong,
-    /// A piece of a program: HTML's `code`.
+    /// Code: HTML's `code`.
     Code,
 }
 
-/// What a node of a render tree is.
+/// Kind of a render node, with its own data.
 #[derive(Drop)]
 pub enum NodeKind {
     /// A text.
     Text(NodeText),
-    /// Its children, one after the other.
+    /// A container: its children, without a block of its own.
     Container,
     /// A line break.
     Break,
-    /// A block, with an empty line before it.
+    /// A block, with an empty line between it and preceding lines.
     Block,
-    /// A part that begins a line and ends one.
+    /// A division: it begins a line and ends with one.
     Div,
-    /// A part of a line between what the decorator writes round it.
+    /// A part of a line between the decorator's texts for this emphasis.
     Emphasis(Emphasis),
     /// A heading of this level.
     Header(usize),
     /// A quote.
     BlockQuote,
-    /// A list without numbers: each child is an item.
+    /// A list without numbers. Each child is laid out as an item.
     Ul,
-    /// A list with numbers: each child is an item, and this is the first one's number.
+    /// A numbered list. Each child is laid out as an item; the number is the first item's.
     Ol(i64),
-    /// What stands in an item of a list.
+    /// Contents of an item of a list.
     ListItem,
     /// A list of descriptions.
     Dl,
-    /// A term of such a list.
+    /// A term of a list of descriptions.
     Dt,
-    /// What such a list says of a term.
+    /// A description of a list of descriptions.
     Dd,
-    /// A part of a line that is struck out, between what the decorator writes round it.
+    /// Struck-out text between the decorator's texts for it.
     Strikeout,
-    /// A part of a line that is raised.
+    /// A superscript.
     Superscript,
     /// A link to this target.
     Link(NodeText),
     /// An image.
     Image(Image),
-    /// A drawing, with this title.
+    /// A drawing with this title.
     Svg(NodeText),
-    /// The place that this name stands for. It is shown as nothing.
+    /// A fragment mark of this name. It shows nothing.
     FragmentStart(NodeText),
-    /// A table, over its rows: where their cells stand on its columns.
+    /// A table, whose children are its rows, with the places of its cells on its grid.
     Table(Grid),
-    /// A row of a table, over its cells.
+    /// A row of a table, whose children are its cells.
     TableRow,
     /// A cell of a row.
     TableCell,
 }
 
-/// The cells of a table on the columns of its grid, and what these columns need.
+/// Cells of a table on the columns of its grid, and the widths that these columns need.
 #[derive(Drop)]
 pub struct GridParts {
-    /// The cells.
+    /// Cells, row by row.
     pub cells: TableCells,
-    /// What each column needs for the cells over it, once the node is measured.
+    /// Widths that each column needs for its cells; empty until the node is measured.
     pub needs: Vec<ColumnNeed>,
 }
 
-/// What the node of a table holds, in few bytes so that it is moved cheaply.
+/// Data of a table's node, boxed so that moving a node is cheap.
 #[derive(Drop)]
 pub struct Grid {
     parts: Box<GridParts>,
@@ -156,11 +156,11 @@ impl Model for Grid {
 }
 
 impl Grid {
-    /// The grid of these cells, not measured.
+    /// Creates an unmeasured table of these cells.
     ///
     /// # Errors
     ///
-    /// `OutOfMemory`.
+    /// `OutOfMemory` if an allocation is refused.
     pub fn new(alloc: Global, cells: TableCells) -> Result<Grid, Error>
         ensures ok { IfOk result (λ g. g ≡ unmeasured_table cells) }
         ensures err { IfErr result (λ e. e ≡ Error.OutOfMemory) }
@@ -170,21 +170,21 @@ impl Grid {
         Ok(Grid { parts })
     }
 
-    /// The cells, row by row.
+    /// Returns the cells, row by row.
     pub fn cells(&self) -> &TableCells
         ensures { result.now ≡ self.now.cells }
     {
         &self.parts.cells
     }
 
-    /// What each column needs for the cells over it; none of a node that isn't measured.
+    /// Returns the widths that each column needs for its cells; empty until the node is measured.
     pub fn needs(&self) -> &[ColumnNeed]
         ensures { result.now ≡ self.now.needs }
     {
         self.parts.needs.as_slice()
     }
 
-    /// The columns need this.
+    /// Sets the widths that the columns need.
     pub fn set_needs(&mut self, needs: Vec<ColumnNeed>)
         ensures { self.new ≡ record self.old { needs = needs.items } }
     {
@@ -192,16 +192,16 @@ impl Grid {
     }
 }
 
-/// Where an image lies, and what is shown in its place.
+/// Source and title of an image.
 #[derive(Drop)]
 pub struct ImageParts {
-    /// Its address.
+    /// Address of the image.
     pub source: NodeText,
-    /// What it is called, which may be nothing.
+    /// Title, which may be empty.
     pub title: NodeText,
 }
 
-/// An image, held so that a node is moved in few bytes.
+/// An image, boxed so that moving a node is cheap.
 #[derive(Drop)]
 pub struct Image {
     parts: Box<ImageParts>,
@@ -216,11 +216,11 @@ impl Model for Image {
 }
 
 impl Image {
-    /// An image of these parts.
+    /// Creates an image of this source and title.
     ///
     /// # Errors
     ///
-    /// `OutOfMemory`.
+    /// `OutOfMemory` if an allocation is refused.
     pub fn new(alloc: Global, source: NodeText, title: NodeText) -> Result<Image, Error>
         ensures ok { IfOk result (λ i. i ≡ record { source = source; title = title }) }
         ensures err { IfErr result (λ e. e ≡ Error.OutOfMemory) }
@@ -229,14 +229,14 @@ impl Image {
         Ok(Image { parts })
     }
 
-    /// Its address.
+    /// Returns the address of the image.
     pub fn source(&self) -> &NodeText
         ensures { result.now ≡ self.now.source }
     {
         &self.parts.source
     }
 
-    /// What it is called.
+    /// Returns the title, which may be empty.
     pub fn title(&self) -> &NodeText
         ensures { result.now ≡ self.now.title }
     {
@@ -244,41 +244,42 @@ impl Image {
     }
 }
 
-/// What the style of an element gives the node that it becomes. [`NodeStyle::default`] is the one of texts, and of what
-/// is inserted: it gives nothing.
+/// Style of a render node, from the style of its element.
+///
+/// [`NodeStyle::default`] sets nothing. It is the style of texts of the document, inserted content and fragment marks.
 #[derive(Clone, Copy, Default, PartialEq, Eq)]
 pub struct NodeStyle {
-    /// The colour of the text.
+    /// Colour of the text; `None` if unset.
     pub colour: Option<Colour>,
-    /// The colour of the background.
+    /// Colour of the background; `None` if unset.
     pub background: Option<Colour>,
-    /// How white space is treated: under [`WhiteSpace::Normal`] as round the node.
+    /// Treatment of white space. [`WhiteSpace::Normal`] keeps that of the surrounding node.
     pub white_space: WhiteSpace,
-    /// Whether the decorator annotates the text as preformatted: that of HTML's `pre`. Where it isn't set, as round the node.
+    /// Whether texts are preformatted, as in HTML's `pre`. `false` keeps that of the surrounding node.
     pub preformatted: bool,
 }
 
-/// What the layout of a node is given room for. [`Estimate::default`] is that of a node that isn't measured.
+/// Measured widths of a node. [`Estimate::default`], with 0 throughout, is that of an unmeasured node.
 #[derive(Clone, Copy, Default)]
 pub struct Estimate {
-    /// The least width in which the node can be laid out well.
+    /// Minimum width, in columns.
     pub least: usize,
-    /// The columns that its texts and prefixes take. It is left at 0 in a tree without a table, where nothing asks for it.
+    /// Preferred width, in columns. It is left 0 in a tree without a table, which doesn't need it.
     pub size: usize,
-    /// The columns of what stands before its lines.
+    /// Columns of the prefix of its lines.
     pub prefix: usize,
-    /// How many children it has.
+    /// Number of its children.
     pub children: usize,
 }
 
 /// A node of a render tree.
 #[derive(Drop)]
 pub struct RenderNode {
-    /// What the node is.
+    /// Kind of the node, with its own data.
     pub kind: NodeKind,
-    /// What its element's style gives it.
+    /// Style from its element.
     pub style: NodeStyle,
-    /// The room that it asks for.
+    /// Measured widths.
     pub estimate: Estimate,
 }
 
@@ -287,7 +288,7 @@ impl From<NodeKind> for RenderNode {
 
     ghost from_gives = { λ k n. n ≡ without_style k };
 
-    /// A node without a style, which isn't measured.
+    /// Creates an unmeasured node without a style.
     fn from(kind: NodeKind) -> RenderNode {
         RenderNode {
             kind,
@@ -297,12 +298,12 @@ impl From<NodeKind> for RenderNode {
     }
 }
 
-/// A document that is ready to be laid out.
+/// Render tree of a document, ready for layout.
 #[derive(Drop)]
 pub struct RenderTree {
-    /// The nodes.
+    /// Nodes in pre-order.
     nodes: Flat<RenderNode>,
-    /// How deep each of them stands, in pre-order.
+    /// Depth of each node, in pre-order.
     depths: Vec<usize>,
 }
 
@@ -326,14 +327,14 @@ impl Model for RenderTree {
 }
 
 impl RenderTree {
-    /// The nodes.
+    /// Returns the nodes.
     pub fn nodes(&self) -> &Flat<RenderNode>
         ensures { result.now ≡ self.now }
     {
         &self.nodes
     }
 
-    /// The nodes, as they are kept.
+    /// Converts the tree into its nodes.
     pub fn into_nodes(self) -> Flat<RenderNode>
         ensures { result ≡ self }
     {

@@ -29,9 +29,9 @@ pub use spans::{Span, greatest_values};
 pub struct Meter {
     /// Sums taken in the search for a level.
     pub probes: usize,
-    /// Nodes that a walk entered.
+    /// Nodes that a walk opened.
     pub entered: usize,
-    /// Nodes that a walk left after their children.
+    /// Nodes that a walk finished: closed after their children, or opened without a visit of their children.
     pub left: usize,
     /// Greatest number of nodes open at once.
     pub frames: usize,

@@ -1,4 +1,4 @@
--- The counts of a walk, said of others that visit the same nodes, and where a walk failed.
+-- The counts of a walk hold of all visits that reach equal nodes. The counts of a walk that failed.
 use Rattle.std.specs.Prelude.{◌≡◌, ◌≤◌, List, length, Result, Ok, Err, OnOk}
 use Rattle.std.specs.Result.{IsErrAnd}
 use Rattle.std.proofs.Common.{arith, subst, ◌∙◌}
@@ -39,7 +39,7 @@ failed-counted (Err e) Q h visits t s old new entered left frames probes = recor
   probes = probes;
 }
 
--- where nothing was visited
+-- a walk that fails before its first visit has the counts 0
 pub none-counted : {X E K S : Type 0} (r : Result X E) (Q : E → Type 0) → IsErrAnd r Q → (visits : Visits K S)
     (t : Forest K) (s : S) (old new : Meter) → new.entered ≡ 0 → new.left ≡ 0 → new.frames ≡ 0 →
     new.probes ≡ old.probes → CountsNodes r visits t s old new

@@ -1,4 +1,4 @@
--- A forest is what its nodes in pre-order give back.
+-- A forest is restored from its nodes in pre-order.
 use Rattle.std.specs.Prelude.{ℕ, ◌+◌, ◌-◌, ◌≤◌, ◌≡◌, List, ◌∷◌, ◌++◌, length, take, drop, refl}
 use Rattle.std.proofs.Common.{suc, zero, arith, ap, ◌∙◌, sym, length-append, append_assoc}
 use Rattle.std.proofs.Math.Seq.{take-append_seam, drop-append_seam}
@@ -38,7 +38,7 @@ flatten-followed_by (node k children beside) u =
     ap (λ l. e ∷ (flatten children ++ l)) (flatten-followed_by beside u)
     ∙ ap (λ l. e ∷ l) (sym (append_assoc (flatten children) (flatten beside) (flatten u)))
 
--- nodes that are a forest's
+-- whether nodes are those of a forest in pre-order
 pub record IsForest {K : Type 0} (es : List (Entry K)) (t : Forest K) : Type 0 where
   pub is : forest_of es ≡ t
   pub kept : flatten (forest_of es) ≡ es

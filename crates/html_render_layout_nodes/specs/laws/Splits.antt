@@ -1,4 +1,4 @@
--- Where a forest can be parted, and forests that follow each other.
+-- Joined forests, and where a forest can be split.
 use Rattle.std.specs.Prelude.{◌+◌, ◌≡◌, refl}
 use Rattle.std.proofs.Common.{arith, ap, sym}
 use Rattle.html_render_dom_values.specs.Forest.{Forest, none, node, count, followed_by}
@@ -17,6 +17,6 @@ module _ {K : Type 0} where
   count-followed_by none u = omega arith
   count-followed_by (node k children beside) u = omega (arith, count-followed_by beside u)
 
-  -- everything came since there was none
+  -- at the mark 0, all trees of a forest are in the first part
   pub SplitAt-none : (t : Forest K) → SplitAt t 0
   SplitAt-none t = record { children = t; beside = none; is = sym (followed_by-none t); mark_is = refl }

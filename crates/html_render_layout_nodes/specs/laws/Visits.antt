@@ -1,15 +1,15 @@
--- Which nodes a run visits, and how many stand open.
+-- Bounds on the nodes that a run visits, and on those open at once.
 use Rattle.std.specs.Prelude.{ℕ, ◌+◌, ◌≤◌, ◌≡◌, true, List, [], length, Option, Some, None, refl}
 use Rattle.std.specs.Option.{option_map_or}
 use Rattle.std.proofs.Common.{arith, length-append}
 use Rattle.html_render_dom_values.specs.Forest.{Forest, none, node, count, depth}
 use Rattle.html_render_layout_nodes.specs.Pass.{Visit, Leaf, Visits, Places, bare, placed, through_visit, inside, run_at, nodes_at, visited, open_at, most_open}
 
--- a visit from a state that there may be
+-- a visit from an optional state; without a state the pass isn't possible
 abbrev pub from_state : {S : Type 0} → Option S → (S → Visit S) → Visit S
 from_state o visit = option_map_or visit o (Leaf None)
 
--- what is visited, and what is counted, from a state on, if there is one
+-- the nodes that are visited from an optional state, and counts from one; nothing without a state
 abbrev pub from : {K S : Type 0} → (S → List K) → Option S → List K
 from nodes o = option_map_or nodes o []
 
@@ -25,7 +25,7 @@ count_from-at_most count n None h = omega arith
 count_from-at_most count n (Some s) h = h s
 
 module _ {K S : Type 0} (visits : Visits K S) where
-  -- each node is visited once at most
+  -- each node is visited at most once
   nodes-at_most : (t : Forest K) (places : Places S) (number : ℕ) (s : S) → length (nodes_at true visits places number t s) ≤ count t
   nodes-at_most none places number s = omega arith
   nodes-at_most (node k children beside) places number s =
@@ -45,7 +45,7 @@ module _ {K S : Type 0} (visits : Visits K S) where
   pub visited-at_most : (t : Forest K) (s : S) → length (visited visits t s) ≤ count t
   visited-at_most t s = nodes-at_most t bare 0 s
 
-  -- no more nodes stand open at once than the forest has levels
+  -- at most as many nodes are open at once as the forest has levels
   open-at_most : (t : Forest K) (places : Places S) (number : ℕ) (s : S) → open_at visits places number t s ≤ depth t
   open-at_most none places number s = omega arith
   open-at_most (node k children beside) places number s =

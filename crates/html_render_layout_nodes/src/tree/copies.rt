@@ -7,11 +7,11 @@ use html_render_dom_values::Error;
 use std::alloc::Global;
 
 impl RenderNode {
-    /// An equal node.
+    /// Returns a copy of the node.
     ///
     /// # Errors
     ///
-    /// `OutOfMemory`.
+    /// `OutOfMemory` if an allocation is refused.
     pub fn try_clone(&self, alloc: Global) -> Result<RenderNode, Error>
         ensures ok { IfOk result (λ node. node ≡ self.now) }
         ensures err { IfErr result (λ e. e ≡ Error.OutOfMemory) }
@@ -24,7 +24,7 @@ impl RenderNode {
     }
 }
 
-/// An equal entry.
+/// Returns a copy of an entry.
 fn copy_of(alloc: Global, entry: &Entry<RenderNode>) -> Result<Entry<RenderNode>, Error>
     ensures ok { IfOk result (λ copy. copy ≡ entry.now) }
     ensures err { IfErr result (λ e. e ≡ Error.OutOfMemory) }
@@ -36,7 +36,7 @@ fn copy_of(alloc: Global, entry: &Entry<RenderNode>) -> Result<Entry<RenderNode>
     })
 }
 
-/// Equal nodes, in the same order.
+/// Returns copies of the entries, in order.
 fn copies_of(alloc: Global, entries: &[Entry<RenderNode>]) -> Result<Vec<Entry<RenderNode>>, Error>
     ensures ok { IfOk result (λ copies. copies.items ≡ entries.now) }
     ensures err { IfErr result (λ e. e ≡ Error.OutOfMemory) }
@@ -50,11 +50,11 @@ fn copies_of(alloc: Global, entries: &[Entry<RenderNode>]) -> Result<Vec<Entry<R
 }
 
 impl RenderTree {
-    /// An equal tree. It goes along the nodes, however deep they are.
+    /// Returns a copy of the tree. Copies node by node in pre-order, without recursion.
     ///
     /// # Errors
     ///
-    /// `OutOfMemory`.
+    /// `OutOfMemory` if an allocation is refused.
     #[tactic(auto, using(crate::proofs::Copies::copied))]
     pub fn try_clone(&self, alloc: Global) -> Result<RenderTree, Error>
         ensures ok { IfOk result (λ tree. tree ≡ self.now) }

@@ -1,4 +1,4 @@
-//! The depths of the nodes of a render tree, noted in one pass over them.
+//! Depths of the nodes of a render tree, computed in one pass over the nodes.
 
 ghost use Rattle.std.specs.Prelude.{◌≡◌, ◌↔◌, [], reverse, OnOk, IfOk, IfErr, IsTrue};
 ghost use Rattle.html_render_layout_nodes.specs.Depths.{open_at, with_part, depths_from, EndsAt};
@@ -7,7 +7,7 @@ use super::{Entry, Flat, RenderNode, RenderTree};
 use html_render_dom_values::Error;
 use std::alloc::{AllocError, Global};
 
-/// Whether the innermost of the parts that are open, the last one, ends at a place.
+/// Reports whether the innermost open subtree ends at `place`. `ends` are the ends of the open subtrees, the innermost last.
 fn ends_at(ends: &[usize], place: usize) -> bool
     ensures { IsTrue result ↔ EndsAt place (reverse ends.now) }
 {
@@ -17,7 +17,7 @@ fn ends_at(ends: &[usize], place: usize) -> bool
     }
 }
 
-/// Leaves the parts that end at a place.
+/// Pops the ends of all subtrees that end at `place`.
 fn leave(ends: &mut Vec<usize>, place: usize)
     ensures { reverse ends.new.items ≡ open_at place (reverse ends.old.items) }
 {
@@ -26,7 +26,7 @@ fn leave(ends: &mut Vec<usize>, place: usize)
     }
 }
 
-/// Begins the part of `size` nodes at a place, if it has more than one.
+/// Pushes the end of the subtree of `size` nodes at `place`, if it has more than one node.
 fn begin(ends: &mut Vec<usize>, place: usize, size: usize) -> Result<(), AllocError>
     ensures { OnOk result (reverse ends.new.items ≡ with_part place size (reverse ends.old.items)) }
 {
@@ -36,7 +36,7 @@ fn begin(ends: &mut Vec<usize>, place: usize, size: usize) -> Result<(), AllocEr
     Ok(())
 }
 
-/// How deep each of some nodes stands, in pre-order: in as many parts as are open where it comes.
+/// Returns the depth of each node, in pre-order: the number of subtrees that are open at the node.
 fn depths_of(alloc: Global, entries: &[Entry<RenderNode>]) -> Result<Vec<usize>, AllocError>
     ensures { IfOk result (λ depths. depths.items ≡ depths_from 0 [] entries.now) }
 {
@@ -51,11 +51,11 @@ fn depths_of(alloc: Global, entries: &[Entry<RenderNode>]) -> Result<Vec<usize>,
 }
 
 impl RenderTree {
-    /// The document of trees.
+    /// Creates a render tree from its nodes, and computes their depths.
     ///
     /// # Errors
     ///
-    /// `OutOfMemory`.
+    /// `OutOfMemory` if an allocation is refused.
     pub fn new(alloc: Global, nodes: Flat<RenderNode>) -> Result<RenderTree, Error>
         ensures ok { IfOk result (λ tree. tree ≡ nodes) }
         ensures err { IfErr result (λ e. e ≡ Error.OutOfMemory) }

@@ -1,4 +1,4 @@
-//! The dump of a render tree, to look at: `Container`, ` Block` and `  Text` for a paragraph with a text.
+//! Display of a render tree for debugging: `Container`, ` Block` and `  Text` for a paragraph with a text.
 
 ghost use Rattle.std.specs.Prelude.{◌≡◌, Some, replicate};
 ghost use Rattle.std.specs.Fmt.{WritesOnOk};
@@ -7,7 +7,7 @@ ghost use Rattle.html_render_layout_nodes.specs.Dump.{dump, line};
 use super::RenderTree;
 use std::fmt;
 
-/// Writes a name behind `depth` spaces, and a line feed.
+/// Writes `depth` spaces, a name and a line feed.
 fn write_line<W: fmt::Write>(f: &mut fmt::Formatter<W>, depth: usize, name: &str) -> fmt::Result
     ensures { WritesOnOk W.write_str_gives f.old result (line depth name.now) f.new }
 {
@@ -26,8 +26,8 @@ fn write_indent<W: fmt::Write>(f: &mut fmt::Formatter<W>, depth: usize) -> fmt::
     Ok(())
 }
 
-/// A render tree is displayed as a line for each node in pre-order: its depth in spaces, the name of its kind, and a line
-/// feed. It takes no memory.
+/// Displays a render tree as one line for each node in pre-order: as many spaces as its depth, the name of its kind, and a
+/// line feed. Allocates nothing.
 impl fmt::Display for RenderTree {
     ghost output = { λ tree. Some (dump 0 tree) };
 

@@ -1,4 +1,4 @@
-//! What is said of each kind of node: its name in a dump, whether it takes what is inserted, and its copy.
+//! Properties of each kind of node: its name in a dump, whether it accepts insertions, and its copy.
 
 ghost use Rattle.std.specs.Prelude.{◌≡◌, IfOk, IfErr};
 ghost use Rattle.html_render_layout_nodes.specs.Kinds.{holds_insertions, kind_name};
@@ -8,7 +8,7 @@ use html_render_dom_values::Error;
 use std::alloc::Global;
 
 impl Image {
-    /// An equal image.
+    /// Returns a copy of the image.
     fn try_clone(&self, alloc: Global) -> Result<Image, Error>
         ensures ok { IfOk result (λ image. image ≡ self.now) }
         ensures err { IfErr result (λ e. e ≡ Error.OutOfMemory) }
@@ -20,7 +20,7 @@ impl Image {
 }
 
 impl Grid {
-    /// An equal grid.
+    /// Returns a copy of the grid.
     fn try_clone(&self, alloc: Global) -> Result<Grid, Error>
         ensures ok { IfOk result (λ grid. grid ≡ self.now) }
         ensures err { IfErr result (λ e. e ≡ Error.OutOfMemory) }
@@ -34,7 +34,7 @@ impl Grid {
 }
 
 impl NodeKind {
-    /// What a dump calls a node of this kind.
+    /// Returns the name of the kind in a dump.
     pub(super) fn name(&self) -> &'static str
         ensures { result.now ≡ kind_name self.now }
     {
@@ -67,7 +67,9 @@ impl NodeKind {
         }
     }
 
-    /// Whether a node of this kind takes what is inserted among its own children.
+    /// Reports whether content that is inserted at a node of this kind goes among its children.
+    ///
+    /// Otherwise the content is put beside the node, in a new container around both.
     pub fn holds_insertions(&self) -> bool
         ensures { result ≡ holds_insertions self.now }
     {
@@ -84,11 +86,11 @@ impl NodeKind {
         )
     }
 
-    /// An equal kind.
+    /// Returns a copy of the kind.
     ///
     /// # Errors
     ///
-    /// `OutOfMemory`.
+    /// `OutOfMemory` if an allocation is refused.
     pub fn try_clone(&self, alloc: Global) -> Result<NodeKind, Error>
         ensures ok { IfOk result (λ kind. kind ≡ self.now) }
         ensures err { IfErr result (λ e. e ≡ Error.OutOfMemory) }

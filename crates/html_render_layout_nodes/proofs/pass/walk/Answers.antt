@@ -50,7 +50,7 @@ returns-in_err-close-in-Some-clause-err g c =
     let refuses = Closing-refuses (how g) _ _ _ _ _ _ _ _ _ _ _ _ closing c.in_err-close-in-Some.ensures.err in
     search rules
 
--- all nodes are closed
+-- at the end of the walk all nodes are closed
 done : (g : Over) (c : goal.After-drop-frames-then-next-entries g) →
     Done (run g.P.Pass.visits c.args.forest.now c.args.state.now) (length (nodes_visited (how g) c.args.forest.now c.args.state.now))
     (nodes_open (how g) c.args.forest.now c.args.state.now) c.walk.frames.items c.walk.meter.entered c.walk.meter.frames c.walk.state

@@ -4,7 +4,7 @@ use Rattle.html_render_layout_nodes.specs.Preorder.{flatten}
 use Rattle.html_render_layout_nodes.proofs.Walking.{Walking, How, nodes_visited, nodes_open}
 use Rattle.html_render_layout_nodes.proofs.pass.walk.Given as goal
 
--- the pass that is run
+-- the pass that the walk runs
 abbrev pub how : (g : goal.Over) → How g.row.P-Node.Denot g.row.P-State.Denot g.row.P-Kept.Denot
 how g =
     record { visits = g.P.Pass.visits; below = g.P.Pass.below; opened = g.P.Pass.opened; closed = g.P.Pass.closed; told = g.met.P.Pass.told }

@@ -2,7 +2,7 @@ use Rattle.std.proofs.Common.{◌≡◌, reverse, vec_len}
 use Rattle.html_render_layout_nodes.specs.Depths.{open_at}
 use Rattle.html_render_layout_nodes.proofs.tree.depths.leave.Given as goal
 
--- the same parts are open at the place
+-- the subtrees that stay open at the place are unchanged
 abbrev pub invariant-leaving : goal.invariant-leaving
 invariant-leaving l = open_at l.place (reverse l.ends.items) ≡ open_at l.place (reverse l.initial.ends.items)
 

@@ -4,7 +4,7 @@ use Rattle.html_render_layout_nodes.specs.Dump.{dump}
 use Rattle.html_render_layout_nodes.proofs.Depths.{lines}
 use Rattle.html_render_layout_nodes.proofs.tree.dump.RenderTreeDisplay.fmt.Given as goal
 
--- what is written, and what is left, are the whole
+-- the written lines, followed by those of the remaining nodes, are the dump
 abbrev pub invariant-loop-at : goal.invariant-loop-at
 invariant-loop-at g l =
     IsPlainFormatter l.initial.f → (written : List ℕ) × HasWritten g.W.Write.write_str_gives l.initial.f written l.f
