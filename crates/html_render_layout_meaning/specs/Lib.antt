@@ -1,4 +1,4 @@
--- what the lines of a paragraph are
+-- the meaning of a paragraph's lines
 pub mod Meaning
--- what follows from the definitions
+-- laws of the definitions
 pub mod laws

@@ -1,16 +1,16 @@
 -- words on a line
 pub mod Words
--- the parts of a text, laid one after the other
+-- the parts of a text, laid in order
 pub mod Laying
--- parts that stand on a line are laid there
+-- parts that are on a line are laid there
 pub mod Standing
--- the paragraph's lines are placed
+-- the lines of a paragraph are placed
 pub mod Placed
--- parts whose lines are those that are laid
+-- parts whose lines are the laid ones
 pub mod Behind
--- a word from the beginning of a line on
+-- a word from the start of a line on
 pub mod Cutting
--- lines that are placed are the paragraph's
+-- placed lines are the paragraph's
 pub mod Meant
--- how wide the paragraph's lines are
+-- the width of a paragraph's lines
 pub mod Widths

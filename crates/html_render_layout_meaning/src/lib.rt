@@ -1,4 +1,4 @@
-//! What the lines of a paragraph are, whoever places them.
+//! A definition of a paragraph's lines that places nothing, and laws that these are the placed lines.
 #![tactic(auto)]
 
 mod laws;

@@ -1,4 +1,4 @@
--- Parts whose lines are those that are laid.
+-- Parts whose lines are the laid ones.
 use Rattle.std.proofs.Common.{◌≡◌, Bool, List, [], ◌∷◌, ◌++◌, Option, Some, ◌⊎◌, inl, inr, refl, ◌∙◌, subst, append_assoc, option_and_then}
 use Rattle.html_render_layout_lines.specs.Line.{Line}
 use Rattle.html_render_layout_paragraphs.specs.Paragraph.{Page, Setting, all_lines}
@@ -6,20 +6,20 @@ use Rattle.html_render_layout_meaning.specs.Meaning.{Part, IsNotEmpty, StandOn, 
 use Rattle.html_render_layout_meaning.specs.laws.Words.{page_of}
 use Rattle.html_render_layout_meaning.specs.laws.Laying.{lay}
 
--- the page q has the lines of the parts, behind others
+-- whether the page `q` has the lines of the parts, after other lines
 pub record Meant {T M : Type 0} (s : Setting) (lines : List (Line T M)) (b : Bool) (before : List M) (ps : List (Part T M)) (q : Page T M) : Type 0
   where
     pub own : List (Line T M)
     pub are_lines : AreLines s b before ps own q.waiting
     pub are_all : all_lines q ≡ lines ++ own
 
--- a part that stands on the line, and what comes behind it
+-- a part on the line can be joined with the parts before it
 pub behind_part : {T M : Type 0} (s : Setting) (lines : List (Line T M)) (b : Bool) (before : List M) (front : List (Part T M)) (p : Part T M)
     (rest : List (Part T M)) (q : Page T M) → Meant s lines b before ((front ++ p ∷ []) ++ rest) q → Meant s lines b before (front ++ p ∷ rest) q
 behind_part s lines b before front p rest q m =
     subst (λ ps. Meant s lines b before ps q) (append_assoc front (p ∷ []) rest) m
 
--- a line that ends, and what comes behind it
+-- a line that ends can be added to the lines of the following parts
 pub behind_line : {T M : Type 0} (s : Setting) (lines : List (Line T M)) (line : Line T M) (b c : Bool) (before ms : List M)
     (ps qs : List (Part T M)) (q : Page T M) →
     ((ls : List (Line T M)) → AreLines s c ms qs ls q.waiting → AreLines s b before ps (line ∷ ls) q.waiting) →
@@ -30,7 +30,7 @@ behind_line s lines line b c before ms ps qs q f m = record {
   are_all = m.are_all ∙ append_assoc lines (line ∷ []) m.own;
 }
 
--- whatever stands before them on their line, these parts have the lines that are laid
+-- whether these parts have the laid lines, whichever parts precede them on their line
 abbrev pub Completes : {T M : Type 0} → Setting → List (Part T M) → Page T M → Type 0
 Completes {T} {M} s rest q =
     (lines : List (Line T M)) (b : Bool) (before : List M) (front : List (Part T M)) (line : Line T M) (ms : List M) →

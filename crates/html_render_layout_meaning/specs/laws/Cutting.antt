@@ -1,4 +1,4 @@
--- A word that begins a line, cut where it is too wide for it.
+-- A word that begins a line, and is cut if it is too wide for the line.
 use Rattle.std.proofs.Common.{◌≡◌, ◌+◌, ◌≤◌, ◌<◌, Bool, true, false, ◌||◌, leb, List, [], ◌∷◌, ◌++◌, Option, Some, None, refl, sym, ap, ◌∙◌}
 use Rattle.std.proofs.Common.{arith, subst, option_and_then, append_assoc, append-nil, ◌⊎◌, inl, inr}
 use Rattle.std.proofs.lemmas.Bool.{cases_Bool, leb-true, leb-false, lt-leb}
@@ -19,7 +19,7 @@ use Rattle.html_render_layout_meaning.specs.laws.Standing.{spaced-start}
 use Rattle.html_render_layout_meaning.specs.laws.Placed.{continued-full}
 use Rattle.html_render_layout_meaning.specs.laws.Behind.{Meant, Completes, behind_part, behind_line, then_rest, empty-or-not}
 
--- a word that doesn't pass the width alone, or only since it is a single character
+-- whether a word fits a line of its own, or is a single character with overflow on
 abbrev pub IsAlone : {T M : Type 0} → Setting → List (Item T M) → Type 0
 IsAlone s word = (word_columns word ≤ s.width) ⊎ ((character_count word ≡ 1) × (s.overflow ≡ true))
 
@@ -36,7 +36,7 @@ stands-alone {T} {M} s b before front ms space word st h =
       | inr k ↦ alone space word st k.0 k.1
     ])
 
--- a first character, if it has a place at all
+-- a first character of a line is placed there, or the paragraph is too narrow
 first-character : {T M : Type 0} (s : Setting) (lines : List (Line T M)) (b : Bool) (ms : List M) (c : Character T) →
     ((put_character s (page_of lines [] b ms) c ≡ Some (page_of lines (with_letter b [] ms c) b [])) × IsAlone {M = M} s (item.Character c ∷ []))
     ⊎ (put_character s (page_of lines [] b ms) c ≡ None)
@@ -59,7 +59,7 @@ alone-mark {T} s head m h =
     let g = count-append head (item.Mark m ∷ []) in
     elim h [ inl k ↦ inl (omega (arith, e, f, k)) | inr k ↦ inr (omega (arith, g, k.0), k.1) ]
 
--- a character behind marks alone, or behind nothing
+-- a character after marks alone, or after nothing
 alone-first : {T M : Type 0} (s : Setting) (head : List (Item T M)) (c : Character T) → character_count head ≡ 0 → word_columns head ≡ 0 →
     IsAlone {M = M} s (item.Character c ∷ []) → IsAlone s (head ++ item.Character c ∷ [])
 alone-first {T} {M} s head c none narrow h =
@@ -72,11 +72,11 @@ no-page f None y e h = cc
 no-page f (Some x) y e h = cc
 
 module _ {T M : Type 0} (s : Setting) (rest : List (Part T M)) (q : Page T M) where
-  -- a word that begins a line, and the rest, have the lines that are laid
+  -- whether the parts before a word that begins a line, the word and the rest have the laid lines
   abbrev BeginsWith : List (Line T M) → Bool → List M → List (Part T M) → Option (Character T) → List (Item T M) → Type 0
   BeginsWith lines b before front space word = Meant s lines b before (front ++ Whole space word ∷ rest) q
 
-  -- so has what is left of a word, behind what of it stands on a line alone
+  -- whether a word of a head, which is alone on a line, and this tail has the laid lines, with the parts before it and the rest
   abbrev Begins : List (Item T M) → Type 0
   Begins tail =
       (lines : List (Line T M)) (b : Bool) (before : List M) (front : List (Part T M)) (ms : List M) (space : Option (Character T))
@@ -96,7 +96,7 @@ module _ {T M : Type 0} (s : Setting) (rest : List (Part T M)) (q : Page T M) wh
       (k lines b before front ms space (head ++ item.Mark m ∷ []) st (alone-mark s head m h)
       (ap (λ p. then_rest s rest (put_items s p tail)) (page-append lines [] b ms head (item.Mark m ∷ [])) ∙ e))
 
-  -- a character behind part of a word on a line
+  -- a character after the head of a word on a line
   module _ (c : Character T) (tail : List (Item T M)) (k : Begins tail) (lines : List (Line T M)) (b : Bool) (before : List M)
       (front : List (Part T M)) (ms : List M) (space : Option (Character T)) (head : List (Item T M)) (st : StandOn s b before front [] ms)
       (h : IsAlone s head) (e : then_rest s rest (put_items s (page_with_word lines [] b ms head) (item.Character c ∷ tail)) ≡ Some q) where
@@ -112,7 +112,7 @@ module _ {T M : Type 0} (s : Setting) (rest : List (Part T M)) (q : Page T M) wh
     never : put_character s (page_of lines line b waiting) c ≡ None → ⊥
     never n = no-page (λ (p : Page T M). lay s p rest) _ q (ap (option_and_then (λ (p : Page T M). put_items s p tail)) n) e
 
-    -- it stands there too
+    -- the character is on the line of the head
     here : put_character s (page_of lines line b waiting) c ≡ Some (page_of lines (with_letter b line waiting c) b []) →
         IsAlone s (head ++ item.Character c ∷ []) → BeginsWith lines b before front space (head ++ item.Character c ∷ tail)
     here f a =
@@ -128,7 +128,7 @@ module _ {T M : Type 0} (s : Setting) (rest : List (Part T M)) (q : Page T M) wh
         let one = word_columns-one M c in
         here (if_true _ _ _ g) (inl (omega (arith, low, wide, more, one)))
 
-    -- it is the first
+    -- the character is the first of the line
     first : line ≡ [] → BeginsWith lines b before front space (head ++ item.Character c ∷ tail)
     first f =
         let wide = columns-with_word b [] ms head in
@@ -140,7 +140,7 @@ module _ {T M : Type 0} (s : Setting) (rest : List (Part T M)) (q : Page T M) wh
           | inr n ↦ absurd (never (ap (λ l. put_character s (page_of lines l b waiting) c) f ∙ n))
         ]
 
-    -- it begins the next line
+    -- the character begins the next line
     next : s.width < columns line + width_of c.code → IsNotEmpty line →
         BeginsWith lines b before front space (head ++ item.Character c ∷ tail)
     next w i =

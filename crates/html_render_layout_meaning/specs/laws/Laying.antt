@@ -1,4 +1,4 @@
--- The parts of a text, laid one after the other: the same page as that of the text's pieces.
+-- Laying the parts of a text in order gives the page that placing its pieces gives.
 use Rattle.std.proofs.Common.{◌≡◌, ℕ, ◌+◌, Bool, true, false, cond, List, [], ◌∷◌, ◌++◌, map, fold, Option, Some, None, refl, sym, ap, ◌∙◌, leb, ◌||◌, ◌<◌}
 use Rattle.std.proofs.Common.{option_and_then, arith}
 use Rattle.std.proofs.lemmas.Bool.{lt-leb, leb-false}
@@ -17,7 +17,7 @@ use Rattle.html_render_layout_lines.specs.laws.Cases.{if_cases, if_false, is_emp
 use Rattle.html_render_layout_meaning.specs.laws.Words.{page_of, word_columns-one}
 use Rattle.html_render_layout_meaning.specs.Meaning.{Part, Whole, Between, Soft, Break, Stop, SoftStop, Marked, with_single, with_between, parts}
 
--- the page with the parts
+-- a page with the parts laid on it, in order
 abbrev pub lay : {T M : Type 0} → Setting → Page T M → List (Part T M) → Option (Page T M)
 lay s page [] = Some page
 lay {T} {M} s page (Whole space word ∷ ps) = option_and_then (λ (p : Page T M). lay s p ps) (put_word s page space word)
@@ -41,7 +41,7 @@ lay-between s page None k ps = ap (λ p. lay s p ps) (sym (same (fits s page 0) 
 lay-between s page (Some c) Newline ps = refl
 lay-between s page (Some c) k ps = refl
 
--- ---- a character is put as a word of its own
+-- ---- a character is placed like a word of its own
 
 pub then-Some : {A : Type 0} (o : Option A) → option_and_then (λ (x : A). Some x) o ≡ o
 then-Some None = refl
@@ -55,7 +55,7 @@ next_by : {X : Type 0} (s : Setting) (w n : ℕ) (x : X) → n ≡ w →
     cond (leb w s.width || s.overflow) (Some x) None ≡ cond (leb n s.width) (Some x) (cond (leb w s.width || s.overflow) (Some x) None)
 next_by s w n x e = rw e (or_none x (leb w s.width) s.overflow)
 
--- a character that doesn't fit is put on the next line
+-- a character that doesn't fit is placed on the next line
 pub put_character-next : {T M : Type 0} (s : Setting) (lines : List (Line T M)) (line : Line T M) (continues : Bool) (marks : List M)
     (c : Character T) → s.width < columns line + width_of c.code →
     put_character s (page_of lines line continues marks) c ≡ put_character s (continued (page_of lines line continues marks)) c
@@ -89,7 +89,7 @@ lay-single : {T M : Type 0} (s : Setting) (page : Page T M) (k : Kind) (c : Char
 lay-single {T} {M} s page Preserved c ps = ap (option_and_then (λ (p : Page T M). lay s p ps)) (put_letter s page c)
 lay-single s page k c ps = refl
 
--- the parts make the page that the pieces make
+-- laying the parts of pieces gives the page of the placed pieces
 pub lay-parts : {T M : Type 0} (s : Setting) (page : Page T M) (space : Option (Character T)) (ps : List (Piece T M)) →
     place s page space ps ≡ lay s page (parts space ps)
 lay-parts s page space [] = refl

@@ -1,4 +1,4 @@
--- The lines that are laid are those of the parts.
+-- The laid lines are those of the parts.
 use Rattle.std.proofs.Common.{◌≡◌, ◌<◌, Bool, true, false, leb, List, [], ◌∷◌, ◌++◌, map, Option, Some, None, refl, sym, ap, ◌∙◌}
 use Rattle.std.proofs.Common.{arith, subst, append-nil, inl, inr}
 use Rattle.std.proofs.lemmas.Bool.{cases_Bool, leb-true, leb-false}
@@ -140,7 +140,7 @@ meant s (Stop c ∷ ps) q = with-stop s c ps q (meant s ps q)
 meant s (SoftStop c ∷ ps) q = with-soft_stop s c ps q (meant s ps q)
 meant s (Marked m ∷ ps) q = with-marked s m ps q (meant s ps q)
 
--- lines that are placed are the paragraph's
+-- placed lines are the paragraph's
 pub placed_paragraph : {T M : Type 0} (s : Setting) (marks : List M) (xs : List (Item T M)) (q : Page T M) →
     paragraph s marks xs ≡ Some q → IsParagraph s marks xs (all_lines q) q.waiting
 placed_paragraph s marks xs q e =

@@ -1,4 +1,4 @@
--- The lines of a text's parts are those that are laid.
+-- The lines of a text's parts are the laid ones.
 use Rattle.std.proofs.Common.{◌≡◌, ◌<◌, Bool, true, cond, List, [], ◌∷◌, ◌++◌, map, fold, Option, Some, None, refl, sym, ap, ◌∙◌}
 use Rattle.std.proofs.Common.{arith, option_and_then, option_map, append_assoc, append-nil}
 use Rattle.std.proofs.lemmas.Option.{same_Some}
@@ -31,7 +31,7 @@ put_word-full s lines line b ms space word e h =
     ap (λ p. put_items s p word) (page_for_word-full s lines line b ms space word h ∙ continued-full lines line b ms e
     ∙ sym (page_for_word-start s (lines ++ line ∷ []) true ms space word))
 
--- so does what is left of one that is cut
+-- the rest of a word that is cut begins the next line
 put_word-cut : {T M : Type 0} (s : Setting) (lines : List (Line T M)) (waiting : List M) (line : Line T M) (b : Bool) (ms : List M)
     (space : Option (Character T)) (front : List (Item T M)) (c : Character T) (back : List (Item T M)) →
     put_word s (page_of lines [] b waiting) space front ≡ Some (page_of lines line b ms) → IsNotEmpty line →
@@ -67,22 +67,22 @@ lay-soft s page (c ∷ cs) rest = lay-soft s (put_fitting s page c) cs rest
 
 -- ---- the lines
 
--- the lines of a page, and the marks that wait
+-- the lines of a page, and the waiting marks
 abbrev pub shown : {T M : Type 0} → Page T M → List (Line T M) × List M
 shown page = (all_lines page, page.waiting)
 
--- a line behind others
+-- a line is added after other lines
 begun : {T M : Type 0} (lines : List (Line T M)) (line : Line T M) (ls : List (Line T M)) (left : List M)
     (o : Option (List (Line T M) × List M)) → o ≡ Some ((lines ++ line ∷ []) ++ ls, left) → o ≡ Some (lines ++ line ∷ ls, left)
 begun lines line ls left o h = h ∙ ap (λ ks. Some (ks, left)) (append_assoc lines (line ∷ []) ls)
 
--- the last line behind others
+-- the last line, if it isn't empty, follows the other lines
 pub last-line : {T M : Type 0} (lines : List (Line T M)) (line : Line T M) → IsNotEmpty line →
     cond (is_empty line) lines (lines ++ line ∷ []) ≡ lines ++ line ∷ []
 last-line lines [] i = absurd i
 last-line lines (x ∷ xs) i = rw (is_empty-cons x xs) refl
 
--- the lines of the parts are laid behind any lines
+-- the lines of parts are laid after any other lines
 pub laid : {T M : Type 0} {s : Setting} {b : Bool} {before : List M} {ps : List (Part T M)} {ls : List (Line T M)} {left : List M} →
     AreLines s b before ps ls left → (lines : List (Line T M)) →
     option_map shown (lay s (page_of lines [] b before) ps) ≡ Some (lines ++ ls, left)
@@ -129,13 +129,13 @@ of_page {T} {M} (Some page) ls left e =
     let same : shown page ≡ (ls, left) = same_Some _ _ e in
     (page, refl, ap (λ (x : List (Line T M) × List M). x.0) same, ap (λ (x : List (Line T M) × List M). x.1) same)
 
--- lines that are the paragraph's are those that are placed
+-- the lines of a paragraph are the placed ones
 pub paragraph_placed : {T M : Type 0} (s : Setting) (marks : List M) (xs : List (Item T M)) (ls : List (Line T M)) (left : List M) →
     IsParagraph s marks xs ls left → (page : Page T M) × (paragraph s marks xs ≡ Some page) × (all_lines page ≡ ls) × (page.waiting ≡ left)
 paragraph_placed s marks xs ls left h =
     of_page (paragraph s marks xs) ls left (ap (option_map shown) (lay-parts s (blank_page marks) None (pieces xs)) ∙ laid h [])
 
--- so no others are
+-- the lines of a paragraph are unique
 pub paragraph_unique : {T M : Type 0} (s : Setting) (marks : List M) (xs : List (Item T M)) (ls ks : List (Line T M)) (left behind : List M) →
     IsParagraph s marks xs ls left → IsParagraph s marks xs ks behind → (ls ≡ ks) × (left ≡ behind)
 paragraph_unique {T} {M} s marks xs ls ks left behind h k =

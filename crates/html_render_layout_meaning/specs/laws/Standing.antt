@@ -1,4 +1,4 @@
--- Parts that stand on a line are laid there.
+-- Parts that are on a line are laid there.
 use Rattle.std.proofs.Common.{◌≡◌, ◌+◌, ◌≤◌, ◌<◌, Bool, true, cond, List, [], ◌∷◌, ◌++◌, Option, Some, None, refl, sym, ap, ◌∙◌}
 use Rattle.std.proofs.Common.{arith, option_and_then, append_assoc}
 use Rattle.std.proofs.lemmas.Bool.{le-leb, lt-leb}
@@ -23,7 +23,7 @@ spaced-page lines line b ms None = refl
 spaced-page lines [] b ms (Some c) = refl
 spaced-page lines (x ∷ xs) b ms (Some c) = rw (is_empty-cons x xs) refl
 
--- the page for a word that fits
+-- the page for a word that fits is that with the space before it
 page_for_word-fitting : {T M : Type 0} (s : Setting) (lines : List (Line T M)) (line : Line T M) (b : Bool) (ms : List M)
     (space : Option (Character T)) (word : List (Item T M)) → columns (with_whole b line ms space word) ≤ s.width →
     page_for_word s (page_of lines line b ms) space word ≡ page_of lines (spaced b line space) b ms
@@ -32,7 +32,7 @@ page_for_word-fitting {T} {M} s lines line b ms space word h =
     ap (λ (p : Page T M). cond (fits s p (word_columns word)) p (continued (page_of lines line b ms))) (spaced-page lines line b ms space)
     ∙ if_true _ _ _ (le-leb (columns (spaced b line space) + word_columns word) s.width (omega (arith, e, h)))
 
--- for one that doesn't
+-- the page for a word that doesn't fit has begun the next line
 pub page_for_word-full : {T M : Type 0} (s : Setting) (lines : List (Line T M)) (line : Line T M) (b : Bool) (ms : List M)
     (space : Option (Character T)) (word : List (Item T M)) → s.width < columns (with_whole b line ms space word) →
     page_for_word s (page_of lines line b ms) space word ≡ continued (page_of lines line b ms)
@@ -41,7 +41,7 @@ page_for_word-full {T} {M} s lines line b ms space word h =
     ap (λ (p : Page T M). cond (fits s p (word_columns word)) p (continued (page_of lines line b ms))) (spaced-page lines line b ms space)
     ∙ if_false _ _ _ (lt-leb (columns (spaced b line space) + word_columns word) s.width (omega (arith, e, h)))
 
--- and for one that begins a line
+-- the page for a word that begins a line is unchanged
 pub page_for_word-start : {T M : Type 0} (s : Setting) (lines : List (Line T M)) (b : Bool) (ms : List M)
     (space : Option (Character T)) (word : List (Item T M)) → page_for_word s (page_of lines [] b ms) space word ≡ page_of lines [] b ms
 page_for_word-start s lines b ms None word = same (fits s (page_of lines [] b ms) (word_columns word)) _
@@ -56,7 +56,7 @@ put_word-fitting s lines line b ms space word h =
     ap (λ p. put_items s p word) (page_for_word-fitting s lines line b ms space word h)
     ∙ put_items-fitting s lines (spaced b line space) b ms word h
 
--- a line that begins has no space
+-- a line doesn't begin with a space
 pub spaced-start : {T : Type 0} (M : Type 0) (b : Bool) (space : Option (Character T)) → spaced {M = M} b [] space ≡ []
 spaced-start M b None = refl
 spaced-start M b (Some c) = refl
@@ -97,12 +97,12 @@ soft-full s lines line b ms c h =
 
 -- ---- the parts of a line
 
--- one part more
+-- one more part is laid
 grown : {T M : Type 0} (s : Setting) (page next : Page T M) (ps : List (Part T M)) (p : Part T M) (rest : List (Part T M)) →
     lay s page (ps ++ p ∷ rest) ≡ lay s next rest → lay s page ((ps ++ p ∷ []) ++ rest) ≡ lay s next rest
 grown s page next ps p rest e = ap (lay s page) (append_assoc ps (p ∷ []) rest) ∙ e
 
--- what stands on a line is laid there, whatever comes behind it
+-- parts that are on a line are laid there, whichever parts follow
 pub standing : {T M : Type 0} {s : Setting} {b : Bool} {before : List M} {ps : List (Part T M)} {line : Line T M} {ms : List M} →
     StandOn s b before ps line ms → (lines : List (Line T M)) (rest : List (Part T M)) →
     lay s (page_of lines [] b before) (ps ++ rest) ≡ lay s (page_of lines line b ms) rest

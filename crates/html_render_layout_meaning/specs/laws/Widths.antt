@@ -1,4 +1,4 @@
--- The paragraph's lines keep to the width, but for single characters where overflow is on.
+-- No line of a paragraph passes the width, except for a single character with overflow on.
 use Rattle.std.proofs.Common.{Bool, List, [], inl, inr, ap, arith, All}
 use Rattle.std.proofs.lemmas.List.Elements.{All-nil, All-cons}
 use Rattle.html_render_layout_lines.specs.declared.character.Item.{Item}

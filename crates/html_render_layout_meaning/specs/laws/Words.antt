@@ -1,4 +1,4 @@
--- Words on a line: how wide it is with them, and that words that fit are put there whole.
+-- Words on a line: the columns of the line with them, and that words that fit are placed whole.
 use Rattle.std.proofs.Common.{◌≡◌, ◌+◌, ◌≤◌, Bool, true, false, cond, ◌||◌, List, [], ◌∷◌, ◌++◌, Some, None, refl, ap, ◌∙◌}
 use Rattle.std.proofs.Common.{leb, arith, option_and_then}
 use Rattle.html_render_layout_lines.specs.declared.character.Character.{Character}
@@ -13,7 +13,7 @@ use Rattle.html_render_layout_paragraphs.specs.laws.Words.{put_items-whole}
 use Rattle.html_render_layout_lines.specs.laws.Columns.{columns-push, word_columns-cons}
 use Rattle.html_render_layout_meaning.specs.Meaning.{character_count, characters_on, with_letter}
 
--- a page of lines, an open line, whether it continues another, and marks that wait
+-- a page of finished lines, an open line, whether that continues another, and waiting marks
 abbrev pub page_of : {T M : Type 0} → List (Line T M) → Line T M → Bool → List M → Page T M
 page_of lines line b ms = record { lines = lines; line = line; continues = b; waiting = ms }
 
@@ -67,12 +67,12 @@ characters_on-word {T} {M} b line ms (item.Character c ∷ word) =
     omega (arith, e, f, g, h, single)
 characters_on-word b line ms (item.Mark m ∷ word) = characters_on-word b line (ms ++ m ∷ []) word
 
--- a word that leaves a line empty has no character
+-- a word that leaves a line empty has no characters
 pub no-characters : {T M : Type 0} (b : Bool) (ms : List M) (word : List (Item T M)) → line_with_word b [] ms word ≡ [] →
     character_count word ≡ 0
 no-characters b ms word e = omega (arith, characters_on-word b [] ms word, ap characters_on e)
 
--- ---- words of more items
+-- ---- words of several items
 
 pub page-append : {T M : Type 0} (lines : List (Line T M)) (line : Line T M) (b : Bool) (ms : List M) (v w : List (Item T M)) →
     page_with_word lines line b ms (v ++ w) ≡ page_with_word lines (line_with_word b line ms v) b (marks_behind_word ms v) w
@@ -80,16 +80,16 @@ page-append lines line b ms [] w = refl
 page-append lines line b ms (item.Character c ∷ v) w = page-append lines (with_letter b line ms c) b [] v w
 page-append lines line b ms (item.Mark m ∷ v) w = page-append lines line b (ms ++ m ∷ []) v w
 
--- ---- words that are put whole
+-- ---- words that are placed whole
 
--- a word that fits
+-- a word that fits is placed whole
 pub put_items-fitting : {T M : Type 0} (s : Setting) (lines : List (Line T M)) (line : Line T M) (b : Bool) (ms : List M)
     (word : List (Item T M)) → columns (line_with_word b line ms word) ≤ s.width →
     put_items s (page_of lines line b ms) word ≡ Some (page_with_word lines line b ms word)
 put_items-fitting s lines line b ms word h =
     put_items-whole s (page_of lines line b ms) word (omega (arith, columns-with_word b line ms word, h))
 
--- marks alone
+-- marks alone are placed whole
 put_items-marks : {T M : Type 0} (s : Setting) (lines : List (Line T M)) (line : Line T M) (b : Bool) (ms : List M)
     (word : List (Item T M)) → character_count word ≡ 0 →
     put_items s (page_of lines line b ms) word ≡ Some (page_with_word lines line b ms word)
@@ -102,7 +102,7 @@ overflowing x true c = refl
 overflowing x false true = refl
 overflowing x false false = refl
 
--- a single character on an empty line
+-- a single character on an empty line is placed whole with overflow on
 pub put_items-alone : {T M : Type 0} (s : Setting) (lines : List (Line T M)) (b : Bool) (ms : List M) (word : List (Item T M)) →
     s.overflow ≡ true → character_count word ≡ 1 → put_items s (page_of lines [] b ms) word ≡ Some (page_with_word lines [] b ms word)
 put_items-alone s lines b ms [] o h = absurd (omega (arith, h))
