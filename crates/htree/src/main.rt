@@ -6,14 +6,20 @@ use std::process::ExitCode;
 use std::rt::Env;
 use std::{env, io};
 
-/// The words behind the program's name.
+/// Returns the words of the command line after the program's name.
+///
+/// # Errors
+///
+/// An error if the words can't be read, or memory has run out.
 fn words(rt: &(impl Env + AllocGlobal)) -> io::Result<Vec<String>> {
     let mut words = env::args(rt)?;
     let _name = words.next();
     Ok(words.collect(rt.alloc())?)
 }
 
-/// Runs the program over the standard streams; its exit status is that of [`run`] or [`run_without_words`].
+/// Runs the program on the standard streams.
+///
+/// The exit status is that of [`run`], or that of [`run_without_words`] if the command line can't be read.
 fn main(rt: HostRuntime) -> ExitCode {
     let mut faults = rt.stderr();
     let status = match words(&rt) {
