@@ -1,4 +1,4 @@
--- What the calls of a configuration make of its settings.
+-- The effect of a configuration's calls on its settings.
 use Rattle.std.specs.Prelude.{Some, true, false, List, [], ◌∷◌, ◌++◌, fold}
 use Rattle.html_render_dom_rules.specs.Rules.{rule_of}
 use Rattle.html_render_tree.specs.Decorations.{decorations}
@@ -8,7 +8,7 @@ use Rattle.htree_configs.specs.declared.calls.Setting.TheVariants.{AllowWidthOve
 use Rattle.htree_configs.specs.declared.calls.Setting.TheVariants.{NoLinkWrapping, UnicodeStrikeout, EmptyImgMode}
 use Rattle.htree_configs.specs.declared.calls.Setting.TheVariants.{PadBlockWidth, MaxWrapWidth, MinWrapWidth, RawMode, NoTableBorders, FenceTables}
 
--- the settings after a call
+-- the options after a call
 abbrev pub changed : {S : Type 0} → Options S → Setting → Options S
 changed options AllowWidthOverflow = record options { overflow = true }
 changed options DoDecorate = record options { rules = options.rules ++ decorations }
@@ -24,6 +24,6 @@ changed options (RawMode raw) = record options { settings = record options.setti
 changed options NoTableBorders = record options { settings = record options.settings { table_borders = false } }
 changed options FenceTables = record options { settings = record options.settings { fence_tables = true } }
 
--- the settings after calls, in order
+-- the options after calls, in order
 abbrev pub changed_by : {S : Type 0} → Options S → List Setting → Options S
 changed_by options settings = fold changed options settings

@@ -1,4 +1,4 @@
-//! The calls that make and change a configuration, as values.
+//! Calls that create and change a configuration, as values.
 
 ghost use Rattle.std.specs.Prelude.{◌≡◌, IfOk, IfErr};
 ghost use Rattle.html_render_dom_values.specs.declared.errors.Error.TheVariants.{OutOfMemory};
@@ -11,18 +11,18 @@ use html_render_tree::decorate::TextDecorator;
 use html_render_tree::style::StyleRule;
 use std::alloc::Global;
 
-/// A decorator, by its name.
+/// Name of a decorator.
 #[derive(Clone, Copy)]
 pub enum DecoratorName {
-    /// `plain`.
+    /// `plain`: plain text.
     Plain,
-    /// `rich`.
+    /// `rich`: rich text.
     Rich,
-    /// `grow:N` or `odd`.
+    /// `grow:N` or `odd`: plain text with changes.
     Own(Own),
 }
 
-/// The call that makes a configuration.
+/// Call that creates a configuration.
 #[derive(Clone, Copy)]
 pub enum Preset {
     /// `plain`.
@@ -31,11 +31,11 @@ pub enum Preset {
     PlainNoDecorate,
     /// `rich`.
     Rich,
-    /// `with_decorator`.
+    /// `with_decorator`, with the decorator of this name.
     WithDecorator(DecoratorName),
 }
 
-/// A call that changes a configuration.
+/// Call that changes a configuration, with its arguments.
 #[derive(Drop)]
 pub enum Setting {
     /// `allow_width_overflow`.
@@ -67,7 +67,8 @@ pub enum Setting {
 }
 
 impl DecoratorName {
-    /// The decorator of a name: `plain`, `rich`, `odd`, or `grow:` and a number.
+    /// Returns the decorator with a name: `plain`, `rich`, `odd`, or `grow:` and a number as Rust reads a `usize`. `None`
+    /// for any other name.
     pub fn of(name: &str) -> Option<DecoratorName> {
         match name {
             "plain" => Some(DecoratorName::Plain),
@@ -82,7 +83,11 @@ impl DecoratorName {
     }
 }
 
-/// A configuration after a call.
+/// Returns the configuration after a call.
+///
+/// # Errors
+///
+/// `OutOfMemory` if an allocation is refused.
 fn with_setting<D: TextDecorator>(
     alloc: Global,
     config: Config<D>,
@@ -108,11 +113,11 @@ fn with_setting<D: TextDecorator>(
     }
 }
 
-/// A configuration after calls.
+/// Returns the configuration after these calls, in order.
 ///
 /// # Errors
 ///
-/// `OutOfMemory`. The configuration and the calls are then gone.
+/// `OutOfMemory` if an allocation is refused. The configuration and the remaining calls are then dropped.
 pub fn with_settings<D: TextDecorator>(
     alloc: Global,
     config: Config<D>,

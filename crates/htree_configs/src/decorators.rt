@@ -1,4 +1,4 @@
-//! Decorators that cases name, each of which changes some answers of plain text.
+//! Decorators that cases name. Each changes some results of plain text's decorator.
 
 ghost use Rattle.std.specs.Prelude.{refl};
 ghost use Rattle.html_render_tree.specs.Alteration.{unchanged};
@@ -9,17 +9,17 @@ use html_render_tree::decorate::{Altered, Changes, Place, PlainDecorator};
 use html_render_tree::text::Text;
 use std::alloc::Global;
 
-/// What is changed of plain text: one part each.
+/// Change of plain text's decorator.
 #[derive(Clone, Copy)]
 pub enum Own {
-    /// `grow:N`: each line of a quote stands behind this many `>`, and those of a quote in it behind one more.
+    /// `grow:N`: the prefix of a quote is N times `>`, and in each sub-block once more.
     Grow(usize),
-    /// `odd`: an ordered list's item of number 2 stands behind `(two) `.
+    /// `odd`: the prefix of item number 2 of a numbered list is `(two) `.
     Odd,
 }
 
 impl Own {
-    /// The decorator of plain text with this change.
+    /// Returns the decorator of plain text with this change.
     pub fn decorator(self) -> Altered<PlainDecorator, Own> {
         Altered {
             below: PlainDecorator::new(),

@@ -1,6 +1,6 @@
-//! Configurations for cases: the calls that make and change one, as values, and decorators that go by names.
+//! Configurations for cases: the calls that create and change one, as values, and decorators with names.
 //!
-//! `with_settings(alloc, plain(alloc)?, settings)?` is the configuration after the calls `settings`.
+//! `with_settings(alloc, plain(alloc)?, settings)?` returns the configuration after the calls `settings`.
 #![tactic(auto)]
 
 pub mod calls;
