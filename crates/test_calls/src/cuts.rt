@@ -1,10 +1,10 @@
-//! A cut of a hundred thousand columns.
+//! A cut of 100,000 columns.
 
 use html_render_parts_widths::{Meter, check_cut, column_widths_metered, cut_fits};
 use std::alloc::{AllocError, Global};
 use std::test::Fail;
 
-/// The minimums of a hundred thousand columns.
+/// Returns the minimums of 100,000 columns.
 fn long_minimums(alloc: Global) -> Result<Vec<usize>, AllocError> {
     let mut minimums = Vec::new(alloc);
     for i in 0..100_000usize {
@@ -13,7 +13,7 @@ fn long_minimums(alloc: Global) -> Result<Vec<usize>, AllocError> {
     Ok(minimums)
 }
 
-/// The shares of a hundred thousand columns.
+/// Returns the shares of 100,000 columns.
 fn long_shares(alloc: Global) -> Result<Vec<usize>, AllocError> {
     let mut shares = Vec::new(alloc);
     for i in 0..100_000usize {

@@ -1,10 +1,10 @@
-//! Calls on documents that are deep: dumps and paths.
+//! Calls on deep documents: dumps and paths.
 
 use html_render_tree_scripts::building::built;
 use std::alloc::{AllocError, Global};
 use std::test::Fail;
 
-/// The script of `levels` elements, one in the other.
+/// Returns the script of `levels` nested elements.
 fn nested(alloc: Global, levels: usize) -> Result<String, AllocError> {
     "<div\n".repeat(alloc, levels)
 }

@@ -1,8 +1,12 @@
-//! Tests of what neither a text nor a clause shows: that deep documents and cuts of many columns take no deep stack and little
-//! work, and that 20,000 moves of nodes leave the lists that plain vectors hold.
-//! What a text shows is a case of `test_cases`.
+//! Tests of facts that neither a rendered text nor a contract states:
 //!
-//! There is nothing to call here.
+//! - Deep documents need no deep stack.
+//! - Cuts of many columns take little work.
+//! - After each of 20,000 moves of nodes, the lists of children equal those of plain vectors.
+//!
+//! Facts that a text shows are cases of `test_cases`.
+//!
+//! This crate has no public items.
 #![tactic(auto)]
 
 #[cfg(test)]

@@ -1,4 +1,4 @@
-//! Moves of 60 elements, beside the same moves in plain vectors.
+//! Moves of 60 elements in a document, compared with the same moves in plain vectors.
 
 ghost use Rattle.std.specs.Prelude.{◌<◌, IsTrue};
 ghost use Rattle.html_render_dom.specs.Dom.{IsNode};
@@ -10,10 +10,10 @@ use html_render_dom::dom::{ElementFlags, Handle, LocalName, NodeOrText, QualName
 use std::alloc::{AllocError, Global};
 use std::test::Fail;
 
-/// How many elements there are: the nodes from 1 on.
+/// Number of elements. They are the nodes from 1 on.
 const ELEMENTS: usize = 60;
 
-/// Numbers that look drawn at random: each is 48271 times the one before it, modulo 2147483647, and the first follows 1.
+/// Pseudo-random numbers: each is 48271 times the previous one, modulo 2147483647; the first follows the seed 1.
 #[derive(Drop)]
 struct Draws {
     last: u64,
@@ -21,7 +21,7 @@ struct Draws {
 }
 
 impl Draws {
-    /// The next number, modulo `count`.
+    /// Draws the next number, and returns it modulo `count`.
     fn next(&mut self, count: u64) -> usize
         requires { 0 < count }
         ensures { result < count }
@@ -31,7 +31,7 @@ impl Draws {
     }
 }
 
-/// A move of one or two nodes.
+/// A move of one or two nodes, `a` and `b`.
 #[derive(Clone, Copy)]
 enum Move {
     /// `remove_from_parent(a)`.
@@ -44,7 +44,7 @@ enum Move {
     MoveChildren,
 }
 
-/// The move of a number.
+/// Returns the move with a number from 0 to 3.
 fn move_of(number: usize) -> Move {
     match number {
         0 => Move::Remove,
@@ -54,7 +54,7 @@ fn move_of(number: usize) -> Move {
     }
 }
 
-/// A document and elements that hang nowhere.
+/// Creates a document and elements without parents.
 fn elements(alloc: Global) -> Result<RcDom, Error> {
     let mut dom = RcDom::new(alloc)?;
     for _ in 0..ELEMENTS {
@@ -64,7 +64,7 @@ fn elements(alloc: Global) -> Result<RcDom, Error> {
     Ok(dom)
 }
 
-/// Whether a node may be appended to another.
+/// Reports whether `child` may be appended to `parent`.
 fn can_append(dom: &RcDom, parent: Handle, child: Handle) -> bool
     ensures { IsTrue result → CanAppend dom.now parent (NodeOrText.AppendNode child) }
 {
@@ -74,7 +74,7 @@ fn can_append(dom: &RcDom, parent: Handle, child: Handle) -> bool
         && !dom.is_inclusive_ancestor(child, parent)
 }
 
-/// Appends a node to another, if its condition holds. Returns whether it does.
+/// Appends a node to another if that is allowed. Returns whether it is.
 fn append(alloc: Global, dom: &mut RcDom, parent: Handle, child: Handle) -> Result<bool, Error>
     requires { IsNode dom.old parent }
 {
@@ -85,7 +85,7 @@ fn append(alloc: Global, dom: &mut RcDom, parent: Handle, child: Handle) -> Resu
     Ok(true)
 }
 
-/// Puts a node before another, if its condition holds. Returns whether it does.
+/// Moves a node before another if that is allowed. Returns whether it is.
 fn put_before(
     alloc: Global,
     dom: &mut RcDom,
@@ -102,7 +102,7 @@ fn put_before(
     Ok(true)
 }
 
-/// Moves the children of a node to another, if its condition holds. Returns whether it does.
+/// Moves the children of a node to another if that is allowed. Returns whether it is.
 fn move_children(alloc: Global, dom: &mut RcDom, from: Handle, to: Handle) -> Result<bool, Error>
     requires from { IsNode dom.old from }
     requires to { IsNode dom.old to }
@@ -114,7 +114,7 @@ fn move_children(alloc: Global, dom: &mut RcDom, from: Handle, to: Handle) -> Re
     Ok(true)
 }
 
-/// Makes a move in a document, if its condition holds. Returns whether it does.
+/// Makes a move in a document if it is allowed. Returns whether it is.
 fn moved(alloc: Global, dom: &mut RcDom, kind: Move, a: usize, b: usize) -> Result<bool, Error> {
     let (a, b) = (Handle::new(a), Handle::new(b));
     if !dom.is_node(a) || !dom.is_node(b) {
@@ -131,7 +131,7 @@ fn moved(alloc: Global, dom: &mut RcDom, kind: Move, a: usize, b: usize) -> Resu
     }
 }
 
-/// Makes a move in plain vectors, if its condition holds. Returns whether it does.
+/// Makes a move in plain vectors if it is allowed. Returns whether it is.
 fn moved_plainly(
     alloc: Global,
     plain: &mut Plain,
@@ -156,7 +156,7 @@ fn moved_plainly(
     Ok(holds)
 }
 
-/// Whether a node's children are these, in order, and each names it as its parent.
+/// Reports whether a node's children are these, in order, and each has the node as its parent.
 fn has_children(dom: &RcDom, node: Handle, wanted: &[usize]) -> bool
     requires { IsNode dom.now node }
 {
@@ -173,7 +173,7 @@ fn has_children(dom: &RcDom, node: Handle, wanted: &[usize]) -> bool
     numbers.next().is_none()
 }
 
-/// The first node whose list of children isn't that of the plain vectors.
+/// Returns the first node whose children aren't those in the plain vectors; `None` if there is none.
 fn difference(dom: &RcDom, plain: &Plain) -> Option<usize> {
     for number in 0..=ELEMENTS {
         let node = Handle::new(number);
@@ -205,7 +205,7 @@ fn lists_are_those_of_plain_vectors_after_each_of_20_000_moves(
         assert_eq!(rt; difference(&dom, &plain), None, "at step {step}");
         made = made.saturating_add(is_made as usize);
     }
-    // as another program counts them
+    // the count of an independent program
     assert_eq!(rt; made, 14_608);
     Ok(())
 }

@@ -1,17 +1,17 @@
-//! Lists of children as plain vectors, edited as a document is.
+//! Lists of children as plain vectors, with the same edits as a document.
 
 ghost use Rattle.std.specs.Prelude.{◌<◌, IfSome, length};
 
 use std::alloc::{AllocError, Global};
 use std::mem;
 
-/// The children of each node, by the node's number.
+/// Children of each node, by the node's number.
 #[derive(Drop)]
 pub(super) struct Plain {
     lists: Vec<Vec<usize>>,
 }
 
-/// The place of a number in a list.
+/// Returns the index of a number in a list; `None` if the list doesn't have it.
 fn place_of(list: &[usize], wanted: usize) -> Option<usize>
     ensures { IfSome result (λ place. place < length list.now) }
 {
@@ -19,7 +19,7 @@ fn place_of(list: &[usize], wanted: usize) -> Option<usize>
 }
 
 impl Plain {
-    /// Nodes without children, as many as `count`.
+    /// Creates `count` nodes without children.
     pub(super) fn new(alloc: Global, count: usize) -> Result<Plain, AllocError> {
         let mut lists = Vec::new(alloc);
         for _ in 0..count {
@@ -28,7 +28,7 @@ impl Plain {
         Ok(Plain { lists })
     }
 
-    /// The children of a node.
+    /// Returns the children of a node; none for an unknown number.
     pub(super) fn children(&self, node: usize) -> &[usize] {
         match self.lists.get(node) {
             Some(list) => list.as_slice(),
@@ -36,7 +36,7 @@ impl Plain {
         }
     }
 
-    /// The node in whose list a node is.
+    /// Returns the node whose children include a node; `None` if there is none.
     pub(super) fn parent(&self, node: usize) -> Option<usize> {
         for (number, list) in self.lists.iter().enumerate() {
             if place_of(list.as_slice(), node).is_some() {
@@ -46,7 +46,7 @@ impl Plain {
         None
     }
 
-    /// Whether the way up from a node leads to another, or is that node.
+    /// Reports whether `ancestor` is `node` or one of its ancestors.
     pub(super) fn is_inclusive_ancestor(&self, ancestor: usize, node: usize) -> bool {
         let mut above = Some(node);
         for _ in 0..self.lists.len() {
@@ -59,14 +59,14 @@ impl Plain {
         false
     }
 
-    /// Takes a node out of all lists.
+    /// Removes a node from all lists.
     pub(super) fn remove(&mut self, node: usize) {
         for list in &mut self.lists {
             list.retain(|number| *number != node);
         }
     }
 
-    /// Makes a node the last child of another.
+    /// Appends a node to the children of another.
     pub(super) fn append(&mut self, parent: usize, child: usize) -> Result<(), AllocError> {
         if let Some(list) = self.lists.get_mut(parent) {
             list.push(child)?;
@@ -74,7 +74,7 @@ impl Plain {
         Ok(())
     }
 
-    /// Moves a node to directly before another.
+    /// Moves a node directly before another.
     pub(super) fn put_before(&mut self, sibling: usize, child: usize) -> Result<(), AllocError> {
         self.remove(child);
         for list in &mut self.lists {
