@@ -2,7 +2,7 @@
 //!
 //! `measure(alloc, &decorator, &settings, tree)?` returns the tree with an estimate in each node: its minimum width, the
 //! columns of the decorator's prefix and the number of children. If the tree has a table, each estimate has the preferred
-//! width, too.
+//! width, too. docs/BEHAVIOUR.md has the rules for each kind of node under "Minimum and preferred width of a node".
 
 ghost use Rattle.std.specs.Prelude.{◌≡◌, ◌+◌, ◌+ℤ◌, ◌-ℤ◌, pos, max, min, true, false, IfOk, IfErr, OnOk, MatchBool};
 ghost use Rattle.std.specs.Int.{saturate_signed, w64};

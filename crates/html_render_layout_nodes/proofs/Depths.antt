@@ -104,7 +104,7 @@ depths-flatten (node k children beside) place ends es small past =
     ∙ ap (λ l. depths_of (length ends + 1) children ++ l) (next ∙ ap (λ n. depths_of (length ends) beside ++ depths_from n ends es) whole)
     ∙ sym (append_assoc (depths_of (length ends + 1) children) (depths_of (length ends) beside) _)))
 
--- the depths of all nodes, as many as fit in memory
+-- the depths of all nodes, if their number fits 64 bits
 pub depths-whole : {K : Type 0} (t : Forest K) (es : List (Entry K)) → es ≡ flatten t → length es ≤ 2 ^ 64 - 1 → depths_from 0 [] es ≡ depths_of 0 t
 depths-whole t es is small =
     ap (depths_from 0 []) (is ∙ sym (append-nil (flatten t)))

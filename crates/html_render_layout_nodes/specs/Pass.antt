@@ -96,7 +96,7 @@ most_open visits trees s = open_at visits bare 0 trees s
 
 -- ---- the actions of a walk
 
--- how a node is opened: `Into` it, with the state before its children and what the node keeps; or `Past` it and its
+-- a way of opening a node: `Into` it, with the state before its children and what the node keeps; or `Past` it and its
 -- children, with the state after them
 pub data Way (S T : Type 0) : Type 0 where
   Into : S → T → Way S T

@@ -40,11 +40,11 @@ pub trait Pass {
 
     /// Opens a node.
     ///
-    /// `children` are its subtrees. `parent` is what the node's parent keeps; `None` for a root. `number` is the node's
+    /// `children` are its subtrees. `parent` is the data that its parent keeps; `None` for a root. `number` is the node's
     /// number among its siblings, from 0.
     ///
-    /// Returns what the node keeps, and sets the state to that before its children. Returns `None` if the children aren't
-    /// visited, and sets the state to that after the node.
+    /// Returns the data that the node keeps until it is closed, and sets the state to that before its children. Returns
+    /// `None` if the children aren't visited, and sets the state to that after the node.
     ///
     /// # Errors
     ///

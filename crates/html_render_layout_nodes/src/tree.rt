@@ -246,7 +246,8 @@ impl Image {
 
 /// Style of a render node, from the style of its element.
 ///
-/// [`NodeStyle::default`] sets nothing. It is the style of texts of the document, inserted content and fragment marks.
+/// [`NodeStyle::default`] sets nothing. It is the style of texts of the document, fragment marks, inserted content and the
+/// containers that are created for it.
 #[derive(Clone, Copy, Default, PartialEq, Eq)]
 pub struct NodeStyle {
     /// Colour of the text; `None` if unset.

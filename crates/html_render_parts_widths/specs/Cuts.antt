@@ -1,5 +1,5 @@
--- How the columns of a table are cut to its width. Each column has a minimum, its least possible width, and a share, its
--- preferred width at the table's width. Between neighbouring columns is a separator of width 1.
+-- Cuts of a table's columns to its width. Each column has a minimum, its least possible width, and a share, its preferred
+-- width at the table's width. Between neighbouring columns is a separator of width 1.
 use Rattle.std.specs.Prelude.{◌≡◌, ◌≢◌, ℕ, ◌+◌, ◌-◌, ◌<◌, ◌≤◌, ◌⊎◌, List, [], ◌∷◌, zero, suc, length, min, max, sum, sum_by, slice_index}
 use Rattle.std.specs.Prelude.{slice_set, nat_lt, ◌==◌, ◌||◌, ◌&&◌, if◌then◌else◌}
 

@@ -1,4 +1,4 @@
-//! Whether columns can be cut to a width, and how much of the width their minimums leave.
+//! Test whether columns can be cut to a width, and the sums that a cut needs.
 //!
 //! `cut_fits(&[3, 3], &[9, 4], 7)` is `true`: the minimums and the separator add up to 7.
 

@@ -1,7 +1,7 @@
 //! Column widths of tables, cut fairly, and counts of a call's work.
 //!
 //! `column_widths(alloc, &[3, 3], &[9, 4], 10)` returns a [`ColumnCut`] with the widths 5 and 4, level 2 and 0 lowered
-//! columns.
+//! columns. docs/BEHAVIOUR.md has the rules under "Column widths".
 //!
 //! All counts of `Meter::default()` are 0. A metered call sets the fields that its documentation names, counted from 0, also
 //! on an error. It leaves the other fields unchanged.

@@ -76,7 +76,8 @@ module _ {T M : Type 0} (s : Setting) (rest : List (Part T M)) (q : Page T M) wh
   abbrev BeginsWith : List (Line T M) → Bool → List M → List (Part T M) → Option (Character T) → List (Item T M) → Type 0
   BeginsWith lines b before front space word = Meant s lines b before (front ++ Whole space word ∷ rest) q
 
-  -- whether a word of a head, which is alone on a line, and this tail has the laid lines, with the parts before it and the rest
+  -- whether a word of a head and this tail has the laid lines, with the parts before it and the rest; the head is alone on a
+  -- line
   abbrev Begins : List (Item T M) → Type 0
   Begins tail =
       (lines : List (Line T M)) (b : Bool) (before : List M) (front : List (Part T M)) (ms : List M) (space : Option (Character T))

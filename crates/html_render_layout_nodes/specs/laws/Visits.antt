@@ -45,7 +45,7 @@ module _ {K S : Type 0} (visits : Visits K S) where
   pub visited-at_most : (t : Forest K) (s : S) → length (visited visits t s) ≤ count t
   visited-at_most t s = nodes-at_most t bare 0 s
 
-  -- at most as many nodes are open at once as the forest has levels
+  -- the number of nodes open at once is at most the forest's depth
   open-at_most : (t : Forest K) (places : Places S) (number : ℕ) (s : S) → open_at visits places number t s ≤ depth t
   open-at_most none places number s = omega arith
   open-at_most (node k children beside) places number s =

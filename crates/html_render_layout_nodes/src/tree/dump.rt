@@ -26,8 +26,8 @@ fn write_indent<W: fmt::Write>(f: &mut fmt::Formatter<W>, depth: usize) -> fmt::
     Ok(())
 }
 
-/// Displays a render tree as one line for each node in pre-order: as many spaces as its depth, the name of its kind, and a
-/// line feed. Allocates nothing.
+/// Displays a render tree as one line for each node in pre-order: its depth in spaces, the name of its kind, and a line
+/// feed. Allocates nothing.
 impl fmt::Display for RenderTree {
     ghost output = { λ tree. Some (dump 0 tree) };
 
