@@ -1,4 +1,4 @@
--- Copies, taken one by one.
+-- Copies that are taken one by one.
 use Rattle.std.proofs.Common.{◌≡◌, ℕ, ◌+◌, ◌-◌, ◌<◌, ◌∷◌, replicate, ap, arith, suc}
 
 pub copies_left : {A : Type 0} (n i : ℕ) (x : A) → i < n → replicate (n - i) x ≡ x ∷ replicate (n - (i + 1)) x

@@ -1,4 +1,4 @@
--- Fronts of a text that are put on a line as a whole.
+-- Leading parts of a text that are appended to a line as a whole.
 use Rattle.std.proofs.Common.{◌≡◌, ℕ, ◌+◌, ◌-◌, ◌<◌, true, List, [], ◌++◌, map, take, drop, length, ap, ◌∙◌, sym, subst, arith, refl, ◌≤◌}
 use Rattle.std.proofs.Common.{option_and_then, length-append}
 use Rattle.std.proofs.lemmas.List.{take-append-drop, map-append, length-drop}
@@ -28,7 +28,7 @@ no-front bs u = record {
   columns = sym (ap text_columns chars-nil);
 }
 
--- a front, and a front of the rest
+-- A leading part of a text, and a leading part of the rest.
 pub more-front : (bs : List ℕ) (n k w v : ℕ) → IsUtf8 bs → IsFront bs n w → IsFront (drop n bs) k v → IsFront bs (n + k) (w + v)
 more-front bs n k w v u front rest =
     let whole : chars (take (n + k) bs) ≡ chars (take n bs) ++ chars (take k (drop n bs)) =
@@ -45,13 +45,13 @@ more-front bs n k w v u front rest =
       );
     }
 
--- printable ASCII characters
+-- Printable ASCII characters.
 pub plain-front : (bs : List ℕ) (n : ℕ) → IsUtf8 bs → list_all is_plain (take n bs) ≡ true → n ≤ length bs → IsFront bs n n
 plain-front bs n u e within =
     let letters = plain-letters Normal bs n refl u e within in
     record { within = letters.within; boundary = letters.boundary; columns = letters.columns }
 
--- a front with the character behind it
+-- A leading part with the character after it.
 pub next-front : (bs rest : List ℕ) (n w c v : ℕ) → IsUtf8 bs → IsFront bs n w → drop n bs ≡ encode_utf8 c ++ rest → IsUtf8 rest →
     v ≡ width_of c → IsFront bs (length bs - length rest) (w + v)
 next-front bs rest n w c v u front e behind f =
@@ -65,7 +65,7 @@ next-front bs rest n w c v u front e behind f =
       columns = omega (arith, f, ap text_columns one.1);
     }))
 
--- a front that fits is put as a whole, and then the rest
+-- Placing a text whose leading part fits is appending that part and then placing the rest.
 pub put_items-front : {T M : Type 0} (s : Setting) (page : Page T M) (style : TextStyle T) (bs : List ℕ) (n w : ℕ) → IsUtf8 bs →
     IsFront bs n w → fits s page w ≡ true → 0 < length (chars (take n bs)) → put_items s page (styled style (chars bs))
     ≡ put_items s (record page {

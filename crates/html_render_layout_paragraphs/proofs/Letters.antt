@@ -1,4 +1,4 @@
--- Letters that come together, and words with the space behind them, as slices of a text.
+-- Consecutive letters, and words with the space after them, as slices of a text.
 use Rattle.std.proofs.Common.{◌≡◌, ℕ, ◌+◌, ◌<◌, ◌≤◌, Bool, true, false, cond, leb, List, [], ◌∷◌, ◌++◌, take, drop, length, Option, None, Some, is_some, refl}
 use Rattle.std.proofs.Common.{sym, ap, ◌∙◌, arith, subst, zero, length-append, option_map, option_and_then, append_assoc, append-nil, All, ◌-◌, get_or, suc, drop-cons}
 use Rattle.std.specs.Bool.{beq}
@@ -34,7 +34,7 @@ use Rattle.html_render_layout_paragraphs.specs.laws.Whole.{after-append}
 use Rattle.html_render_layout_paragraphs.specs.Stream.{State, end_word, placed_word, begin_word, joins, after, step, character_step, letter_step, letters_step}
 use Rattle.html_render_layout_paragraphs.specs.Stream.{styled, with_pending}
 
--- ---- printable ASCII characters
+-- ---- Printable ASCII characters
 
 pub plain-low : (c : ℕ) → is_plain c ≡ true → 33 ≤ c
 plain-low c e = leb-true 33 c (and_parts (leb 33 c) (leb c 126) e).0
@@ -92,7 +92,7 @@ plain_boundary bs (suc k) u e high =
     let back : n - 1 + 1 ≡ n = omega arith in
     rw (sym back) (IsCharBoundary-after_ascii bs (n - 1) u last small)
 
--- ---- letters of a text
+-- ---- Letters of a text
 
 pub no-letters : (mode : WhiteSpace) (bs : List ℕ) → IsUtf8 bs → AreLetters mode bs 0 0
 no-letters mode bs u = record {
@@ -113,7 +113,7 @@ plain-letters mode bs n w u e high =
       columns = sym (ap text_columns same ∙ plain_columns (take n bs) e ∙ simp length-take (omega arith));
     }
 
--- the first character of a text
+-- The first character of a text, in bytes.
 pub first-character : (bs rest : List ℕ) (c : ℕ) → IsUtf8 bs → IsUtf8 rest → bs ≡ encode_utf8 c ++ rest →
     IsCharBoundary bs (length (encode_utf8 c)) × (chars (take (length (encode_utf8 c)) bs) ≡ c ∷ [])
 first-character bs rest c u v e =
@@ -159,7 +159,7 @@ more-letters mode bs n k w v u front rest =
       );
     }
 
--- ---- steps
+-- ---- Steps
 
 same-refl : (k : Bool) → beq k k ≡ true
 same-refl true = refl
@@ -215,9 +215,9 @@ after-letters {T} {M} st style (c ∷ cs) e h = by (joins st.open_word (preserve
     by true j = letters_join st style (c ∷ cs) e j
     by false j = letters_begin st style c cs e j
 
--- ---- texts
+-- ---- Texts
 
--- a text of some bytes has some characters
+-- A text that isn't empty has a character.
 pub some-chars : (bs : List ℕ) → IsUtf8 bs → 0 < length bs → 0 < length (chars bs)
 some-chars bs u h = by (chars bs) refl
   where
@@ -228,7 +228,7 @@ some-chars bs u h = by (chars bs) refl
 cut : (bs : List ℕ) (n : ℕ) → IsUtf8 (take n bs) → chars bs ≡ chars (take n bs) ++ chars (drop n bs)
 cut bs n u = ap chars (sym (take-append-drop n bs)) ∙ chars-append (take n bs) (drop n bs) u
 
--- letters in front, and then the rest
+-- Feeding a text is feeding the letters at its start and then the rest.
 pub after-front : {T M : Type 0} (st : State T M) (style : TextStyle T) (bs : List ℕ) (n w : ℕ) → IsUtf8 bs →
     AreLetters style.mode bs n w → 0 < n → after st (styled style (chars bs))
     ≡ option_and_then (λ t. after t (styled style (chars (drop n bs)))) (letters_step st style (chars (take n bs)))
@@ -242,7 +242,7 @@ after-front {T} {M} st style bs n w u are low =
     ∙ ap (option_and_then (λ (t : State T M). after t (styled style (chars (drop n bs)))))
     (after-letters st style (chars (take n bs)) are.letters some)
 
--- ---- a word and the space behind it
+-- ---- A word and the space after it
 
 pub chars-ascii : (b : ℕ) (bs : List ℕ) → b < 128 → chars (b ∷ bs) ≡ b ∷ chars bs
 chars-ascii b bs h =
@@ -263,7 +263,7 @@ fresh_word {T} {M} st style cs none = by st.open_word none
     by None e = refl
     by (Some k) e = cc
 
--- letters where no word is open, and then a space
+-- Letters while no word is open, and then a space, are a placed word and a pending space.
 word_space : {T M : Type 0} (st : State T M) (style : TextStyle T) (cs : List ℕ) (b : ℕ) → st.open_word ≡ None → st.word ≡ [] →
     style.mode ≡ Normal → kind Normal b ≡ Space →
     option_and_then (λ t. step t (item.Character (character_of style b))) (letters_step st style cs) ≡ placed_text_and_space st style cs b

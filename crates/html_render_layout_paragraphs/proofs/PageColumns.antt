@@ -1,4 +1,4 @@
--- The columns of a line that grows.
+-- Columns of a line that grows.
 use Rattle.std.proofs.Common.{◌≡◌, ◌+◌, false, Some, [], ◌∷◌, ◌++◌, ap, ◌∙◌}
 use Rattle.html_render_layout_lines.specs.declared.line.Element.TheVariants as element
 use Rattle.html_render_layout_lines.specs.declared.character.Character.{Character}
@@ -11,7 +11,7 @@ use Rattle.html_render_layout_lines.specs.laws.Columns.{columns-push, width-spac
 pub columns-push_space : {T M : Type 0} (line : Line T M) (t : T) → columns (line ++ element.Character 32 t ∷ []) ≡ columns line + 1
 columns-push_space line t = columns-push line [] 32 t ∙ ap (λ n. columns line + n) width-space
 
--- the space that is due takes a column
+-- The pending space takes one column.
 pub columns-due : {T M : Type 0} (page : Page T M) (c : Character T) → is_empty page.line ≡ false →
     columns (with_due_space page (Some c)).line ≡ columns page.line + 1
 columns-due {T} {M} page c e =

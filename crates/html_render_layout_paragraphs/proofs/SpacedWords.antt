@@ -1,4 +1,4 @@
--- Words that follow each other on a line, each behind one space.
+-- Words that follow each other on a line, each after one space.
 use Rattle.std.proofs.Common.{◌≡◌, ℕ, ◌+◌, ◌<◌, ◌≤◌, Bool, true, List, [], ◌∷◌, ◌++◌, take, drop, length, Option, None, Some, refl}
 use Rattle.std.proofs.Common.{sym, ap, ◌∙◌, arith, length-append, option_map, option_and_then, append_assoc, append-nil, if◌then◌else◌, map, get_or, suc, drop-cons}
 use Rattle.std.proofs.lemmas.List.Sums.{sum_by-append}
@@ -26,9 +26,9 @@ use Rattle.html_render_layout_paragraphs.proofs.PageColumns.{columns-push_space}
 use Rattle.html_render_layout_paragraphs.proofs.WordColumns.{word_columns-styled}
 use Rattle.html_render_layout_paragraphs.proofs.Words.{put_items-text}
 
--- ---- one word behind a space
+-- ---- One word after a space
 
--- a word behind a space, where both fit on a line that isn't empty
+-- A word after a space, both of which fit on a line that isn't empty.
 put_word-here : {T M : Type 0} (s : Setting) (lines : List (Line T M)) (line : Line T M) (k : Bool) (style : TextStyle T)
     (a : ℕ) (cs : List ℕ) → 0 < length line → columns line + (1 + text_columns cs) ≤ s.width → 0 < length cs →
     put_word s (record { lines = lines; line = line; continues = k; waiting = [] }) (Some (character_of style a)) (styled style cs)
@@ -53,7 +53,7 @@ put_word-here {T} {M} s lines line k style a cs long room some =
     ∙ put_items-text s next style cs there some
     ∙ ap (λ (l : Line T M). Some (record page { line = l })) (append_assoc next.line [] text ∙ append_assoc line space text)
 
--- such a word and the space behind it
+-- A word after a space, both of which fit, and the space after the word.
 fitting_word : {T M : Type 0} (st : State T M) (style : TextStyle T) (a b : ℕ) (cs : List ℕ) → 0 < length st.page.line →
     st.page.waiting ≡ [] →
     st.pending ≡ Some (character_of style a) → columns st.page.line + (1 + text_columns cs) ≤ st.setting.width → 0 < length cs →
@@ -86,7 +86,7 @@ fitting_word {T} {M} st style a b cs some none due room low = by st.page.line st
         (option_map (λ (p : Page T M). record st { page = p; pending = None }) o))
         (put_word-here st.setting st.page.lines line st.page.continues style a cs some room low))
 
--- ---- words of a text
+-- ---- Words of a text
 
 split : (bs : List ℕ) (n k : ℕ) → IsUtf8 (take n bs) → n < length bs → get_or bs n 0 ≡ 32 →
     chars (take (n + 1 + k) bs) ≡ chars (take n bs) ++ 32 ∷ chars (take k (drop (n + 1) bs))
@@ -99,7 +99,7 @@ split bs n k u high space =
     ∙ chars-append (take n bs) (32 ∷ take k (drop (n + 1) bs)) u
     ∙ ap (λ cs. chars (take n bs) ++ cs) (chars-ascii 32 (take k (drop (n + 1) bs)) (omega arith))
 
--- a front with a space and the letters behind it
+-- A leading part of a text, with a space and the letters after it.
 pub next-words : (mode : WhiteSpace) (bs : List ℕ) (n w k v : ℕ) → IsUtf8 bs → IsFront bs n w → n < length bs → get_or bs n 0 ≡ 32 →
     AreLetters mode (drop (n + 1) bs) k v → IsFront bs (n + 1 + k) (w + 1 + v)
 next-words mode bs n w k v u front high space are =
@@ -119,7 +119,7 @@ next-words mode bs n w k v u front high space are =
       );
     }
 
--- the state with one word more on the line
+-- State with one more word on the line.
 one_more : {T M : Type 0} (st : State T M) (style : TextStyle T) (bs : List ℕ) (n k : ℕ) → IsUtf8 (take n bs) → n < length bs →
     get_or bs n 0 ≡ 32 → record (with_words st style bs n) {
       page = record (with_words st style bs n).page {
@@ -177,7 +177,7 @@ next-fed {T} {M} st style bs n w k v u mode front high space are low more byte b
     ∙ ap (λ r. after (with_words st style bs (n + 1 + k)) (styled style (chars r)))
     (drop-drop (k + 1) (n + 1) bs ∙ ap (λ m. drop m bs) end)
 
--- ---- no word, and words that were put
+-- ---- No word, and placed words
 
 pub no-words : {T M : Type 0} (st : State T M) (style : TextStyle T) (bs : List ℕ) → st.pending ≡ Some (character_of style (get_or bs 0 0)) →
     with_words st style bs 0 ≡ st
@@ -225,7 +225,7 @@ put-words {T} {M} st style bs n none = by st.page.waiting none
           pending = Some (character_of style (get_or bs n 0));
         }) (append-nil st.page.line))
 
--- what a word and the space behind it leave
+-- State after a placed word and the space after it.
 pub after-placed : {T M : Type 0} (st t : State T M) (style : TextStyle T) (cs : List ℕ) (b : ℕ) →
     placed_text_and_space st style cs b ≡ Some t →
     (t.open_word ≡ st.open_word) × (t.word ≡ st.word) × (t.pending ≡ Some (character_of style b))

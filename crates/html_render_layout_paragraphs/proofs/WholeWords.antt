@@ -1,4 +1,4 @@
--- A word whose last part is a character stands on a line as it is.
+-- A word that ends with a character is appended to a line unchanged.
 use Rattle.std.specs.Bool.{OnTrue}
 use Rattle.std.proofs.Common.{◌≡◌, ℕ, ◌<◌, ◌==◌, not, Bool, true, false, List, [], ◌∷◌, ◌++◌, Option, Some, None, map, length, refl, ap, sym, ◌∙◌}
 use Rattle.std.proofs.Common.{subst, arith, append_assoc}
@@ -53,7 +53,7 @@ line_with_word-whole {T} {M} b line ms word h =
 pub marks_behind_word-whole : {T M : Type 0} (ms : List M) (word : List (Item T M)) → EndsInCharacter word → marks_behind_word ms word ≡ []
 marks_behind_word-whole ms word h = ap (marks_behind_word ms) h.2 ∙ marks_behind_word-by ms h.0 h.1
 
--- ---- words that end in a character
+-- ---- Words that end with a character
 
 pub ends-behind : {T M : Type 0} (xs ys : List (Item T M)) → EndsInCharacter ys → EndsInCharacter (xs ++ ys)
 ends-behind xs ys h = (xs ++ h.0, h.1, ap (λ zs. xs ++ zs) h.2 ∙ sym (append_assoc xs h.0 (item.Character h.1 ∷ [])))
@@ -66,7 +66,7 @@ ends-styled {T} M style (c ∷ d ∷ ds) h =
     let one : List (Item T M) = item.Character (character_of style c) ∷ [] in
     ends-behind one (styled style (d ∷ ds)) more
 
--- a word whose text ends in an open run
+-- A word whose text ends with an open run ends with a character.
 pub ends-open : {T M : Type 0} (rs : List (Run (TextStyle T) M)) (tag : Option (TextStyle T)) (closed behind : List ℕ)
     (text : Line (TextStyle T) M) →
     HasTag tag behind → 0 < length (chars behind) → elements_of rs closed ++ open_elements tag behind ≡ text →
@@ -88,7 +88,7 @@ ends-parts word rs tag closed [] text false same none u e f = cc
 ends-parts word rs tag closed (b ∷ bs) text false same none u e f =
     subst EndsInCharacter same (ends-open rs tag closed (b ∷ bs) text none (some-chars (b ∷ bs) u (omega arith)) e)
 
--- a text that is put as a word
+-- A text placed as a word is its characters under one tag.
 placed_text : {T : Type 0} (M : Type 0) (b : Bool) (style : TextStyle T) (cs : List ℕ) →
     map (element_of {M = M} b) (styled style cs) ≡ under (style_tag b style) cs
 placed_text M b style [] = refl

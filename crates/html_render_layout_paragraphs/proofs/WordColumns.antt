@@ -1,4 +1,4 @@
--- A word that grows, and its columns.
+-- Columns of a word that grows.
 use Rattle.std.proofs.Common.{◌≡◌, ℕ, ◌+◌, List, [], ◌∷◌, ◌++◌, Option, take, drop, refl, ap, ◌∙◌, arith, append_assoc, option_and_then}
 use Rattle.std.proofs.lemmas.List.{map-append}
 use Rattle.std.proofs.lemmas.List.Sums.{sum_by-cons}
@@ -44,7 +44,7 @@ columns-item : {T M : Type 0} (e : Element (TextStyle T) M) → element_width e 
 columns-item (element.Character c style) = refl
 columns-item (element.Mark m) = refl
 
--- the items of a word take the columns of its elements
+-- The items of a word take the columns of its elements.
 pub columns-items : {T M : Type 0} (es : Line (TextStyle T) M) → columns es ≡ word_columns (items_of es)
 columns-items [] = refl
 columns-items {T} {M} (e ∷ es) =
@@ -68,7 +68,7 @@ pub ruleset word_pushes = (
 
 pub ruleset texts = (word_columns-styled)
 
--- ---- the items of a word that is placed part by part
+-- ---- Items of a word that is placed part by part
 
 put_runs-items : {T M : Type 0} (s : Setting) (page : Page T M) (rs : List (Run (TextStyle T) M)) (bs : List ℕ) →
     put_items s page (items_of (elements_of rs bs)) ≡ put_runs s page rs bs
@@ -82,7 +82,7 @@ put_runs-items {T} {M} s page (run.Text n style ∷ rs) bs =
     ap (put_items s page) whole ∙ put_items-append s page (styled style cs) (items_of (elements_of rs (drop n bs)))
     ∙ then_same _ _ (put_items s page (styled style cs)) (λ p. put_runs-items s p rs (drop n bs))
 
--- a word by its parts
+-- Placing a word is placing its closed runs and then its open run.
 pub put_items-parts : {T M : Type 0} (s : Setting) (page : Page T M) (rs : List (Run (TextStyle T) M)) (tag : Option (TextStyle T))
     (closed behind : List ℕ) → put_items s page (items_of (elements_of rs closed ++ open_elements tag behind))
     ≡ option_and_then (λ (p : Page T M). put_items s p (items_of (open_elements tag behind))) (put_runs s page rs closed)

@@ -1,4 +1,4 @@
--- A word that fits is put as a whole.
+-- Words that fit on a line are appended as a whole.
 use Rattle.std.proofs.Common.{◌≡◌, ℕ, ◌<◌, ◌≤◌, ◌||◌, nat_le, true, false, List, [], ◌∷◌, ◌++◌, Option, Some, None, option_and_then, map, length, ap, sym, ◌∙◌, arith, if◌then◌else◌}
 use Rattle.std.proofs.lemmas.Bool.{leb-true, le-leb}
 use Rattle.html_render_layout_lines.specs.Character.{width_of, character_of}
@@ -17,7 +17,7 @@ use Rattle.html_render_layout_paragraphs.specs.laws.Within.{columns-continued}
 use Rattle.html_render_layout_paragraphs.specs.Word.{with_word}
 use Rattle.html_render_layout_paragraphs.specs.laws.Words.{put_items-whole}
 
--- what fits on the line is put as a whole
+-- A word that fits on the open line is appended to it as a whole.
 pub put_items-here : {T M : Type 0} (s : Setting) (page : Page T M) (word : List (Item T M)) → fits s page (word_columns word) ≡ true →
     put_items s page word ≡ Some (with_word page word)
 put_items-here s page word e = put_items-whole s page word (leb-true _ _ e)
@@ -32,7 +32,7 @@ put_items-text {T} {M} s page style cs e some =
     let same : fits s page (word_columns {M = M} (styled style cs)) ≡ true = ap (fits s page) (word_columns-styled M style cs) ∙ e in
     put_items-here s page (styled style cs) same ∙ ap (λ (p : Page T M). Some p) (with_text page style cs some)
 
--- a character that has no room on the line stands on the next one
+-- A character that doesn't fit on the open line, but on an empty one, is placed on a continuation line.
 pub put_items-continued : {T M : Type 0} (s : Setting) (page : Page T M) (style : TextStyle T) (c : ℕ) (cs : List ℕ) →
     fits s page (width_of c) ≡ false → width_of c ≤ s.width
     → put_items s page (styled style (c ∷ cs)) ≡ put_items s (continued page) (styled style (c ∷ cs))

@@ -1,4 +1,4 @@
--- Texts that a paragraph takes as slices: letters that come together, and words with the space behind them.
+-- Parts of a text that a paragraph takes as slices: consecutive letters, and words with the white space after them.
 use Rattle.std.specs.Prelude.{◌≡◌, ℕ, ◌+◌, ◌≤◌, ◌<◌, Bool, true, false, List, [], ◌∷◌, ◌++◌, Option, Some, None, take}
 use Rattle.std.specs.Prelude.{drop, length, option_map, option_and_then}
 use Rattle.std.specs.List.{list_all, slice_index}
@@ -15,51 +15,52 @@ use Rattle.html_render_layout_paragraphs.specs.Stream.{State, styled, with_pendi
 use Rattle.html_render_layout_lines.specs.Line.{columns}
 use Rattle.html_render_layout_lines.specs.TaggedText.{text_columns, under, style_tag}
 
+-- Whether a kind is that of letters.
 abbrev pub is_letter_kind : Kind → Bool
 is_letter_kind Letter = true
 is_letter_kind k = false
 
--- the character is a part of a word
+-- Whether a character is a letter, a part of a word.
 abbrev pub is_letter : WhiteSpace → ℕ → Bool
 is_letter mode c = is_letter_kind (kind mode c)
 
--- the first `bytes` bytes of a text are letters of `width` columns
+-- Whether the first `bytes` bytes of a text are letters of `width` columns.
 pub record AreLetters (mode : WhiteSpace) (text : List ℕ) (bytes width : ℕ) : Type 0 where
   pub within : bytes ≤ length text
   pub boundary : IsCharBoundary text bytes
   pub letters : list_all (is_letter mode) (chars (take bytes text)) ≡ true
   pub columns : width ≡ text_columns (chars (take bytes text))
 
--- the first `bytes` bytes of a text are a front of it of `width` columns
+-- Whether the first `bytes` bytes of a text are whole characters of `width` columns.
 pub record IsFront (text : List ℕ) (bytes width : ℕ) : Type 0 where
   pub within : bytes ≤ length text
   pub boundary : IsCharBoundary text bytes
   pub columns : width ≡ text_columns (chars (take bytes text))
 
--- `room` columns are free behind the line, which isn't empty and before whose next character no mark waits
+-- Whether `room` columns are free on the open line, which isn't empty, and no mark waits.
 pub record HasRoom {T M : Type 0} (st : State T M) (room : ℕ) : Type 0 where
   pub some : 0 < length st.page.line
   pub no_mark : st.page.waiting ≡ []
   pub fits : columns st.page.line + room ≤ st.setting.width
 
--- the state with the first `n` bytes of a text on the line, and with the space behind them due
+-- State with the first `n` bytes of a text on the open line, and the white space after them as the pending space.
 abbrev pub with_words : {T M : Type 0} → State T M → TextStyle T → List ℕ → ℕ → State T M
 with_words st style bs n = record st {
   page = record st.page { line = st.page.line ++ under (style_tag st.page.continues style) (chars (take n bs)) };
   pending = Some (character_of style (slice_index bs n));
 }
 
--- the state with a text placed as a word, where no word is open
+-- State with a text placed as a word, while no word is open.
 abbrev pub placed_text : {T M : Type 0} → State T M → TextStyle T → List ℕ → Option (State T M)
 placed_text {T} {M} st style cs =
     option_map (λ (p : Page T M). record st { page = p; pending = None }) (put_word st.setting st.page st.pending (styled style cs))
 
--- the state with a text placed as a word and the space behind it
+-- State with a text placed as a word, and the white space after it as the pending space.
 abbrev pub placed_text_and_space : {T M : Type 0} → State T M → TextStyle T → List ℕ → ℕ → Option (State T M)
 placed_text_and_space {T} {M} st style cs space =
     option_map (λ (t : State T M). with_pending t (character_of style space)) (placed_text st style cs)
 
--- the page with a text that runs cut up, character by character
+-- Page with the characters and marks of runs over a text, placed one by one.
 abbrev pub put_runs : {T M : Type 0} → Setting → Page T M → List (Run (TextStyle T) M) → List ℕ → Option (Page T M)
 put_runs setting page [] bs = Some page
 put_runs {T} {M} setting page (run.Text n style ∷ rs) bs =

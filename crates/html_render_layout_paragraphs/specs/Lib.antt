@@ -1,14 +1,14 @@
--- THE DEFINITION of a paragraph
+-- The definition of a paragraph.
 pub mod Paragraph
--- a paragraph that is fed character by character
+-- The machine of a paragraph, which is fed character by character.
 pub mod Stream
--- whether a word is open
+-- The open word.
 pub mod OpenWord
--- a text cut into lines where a line is full
+-- The definition of a text that is cut where lines are full.
 pub mod CutText
--- a word put on a line as a whole
+-- A word that is appended to a line as a whole.
 pub mod Word
--- texts that a paragraph takes as slices
+-- Parts of a text that a paragraph takes as slices.
 pub mod Feeding
--- what follows from the definitions
+-- Laws of these definitions.
 pub mod laws

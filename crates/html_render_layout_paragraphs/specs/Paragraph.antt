@@ -1,6 +1,6 @@
--- THE DEFINITION of a paragraph. All that was fed, a list of characters and marks, is cut into pieces: words, gaps
--- between them, characters that are placed by themselves, and marks. Then the pieces are placed on a page, one after
--- the other, which gives the lines.
+-- THE DEFINITION of a paragraph. What was fed, a list of characters and marks, is cut into pieces: words, gaps between
+-- them, characters that are placed by themselves, and marks. Then the pieces are placed on a page in order, which gives
+-- the lines.
 use Rattle.std.specs.Prelude.{ℕ, ◌+◌, ◌-◌, ◌%◌, Bool, true, false, ◌||◌, nat_le, List, [], ◌∷◌, ◌++◌, Option, Some, None, map, fold, replicate}
 use Rattle.std.specs.Prelude.{if◌then◌else◌, option_and_then}
 use Rattle.std.specs.Bool.{beq}
@@ -15,22 +15,22 @@ use Rattle.html_render_layout_lines.specs.declared.line.Element.TheVariants as e
 use Rattle.html_render_layout_lines.specs.Character.{kind, width_of, tag_on}
 use Rattle.html_render_layout_lines.specs.Line.{Line, columns, word_columns, is_empty, marks_line}
 
--- ---- 1. The pieces
+-- ---- 1. Pieces
 
 pub data Piece (T M : Type 0) : Type 0 where
-  -- a run of letters with the marks in it, and whether they came with white space preserved
+  -- Consecutive letters and the marks among them, and whether white space is preserved in their text.
   Word : Bool → List (Item T M) → Piece T M
-  -- collapsible white space
+  -- Collapsible white space.
   Gap : Character T → Piece T M
-  -- a place between words that shows nothing
+  -- A place between words that shows nothing: U+200B.
   Cut : Piece T M
-  -- a character that is placed by itself, as its kind says
+  -- A character that is placed by itself, as its kind says.
   Single : Kind → Character T → Piece T M
-  -- a mark outside of words
+  -- A mark outside words.
   Loose : M → Piece T M
 
--- a character of this kind before pieces: a letter joins the word behind it, unless white space is preserved for one and
--- not for the other
+-- Pieces with a character of a kind in front of them. A letter joins the word that it precedes, unless white space is
+-- preserved in the text of only one of the two.
 abbrev pub with_kind : {T M : Type 0} → Kind → Character T → List (Piece T M) → List (Piece T M)
 with_kind Letter c (Word k w ∷ ps) =
     if beq (preserves c.mode) k then Word (preserves c.mode) (item.Character c ∷ w) ∷ ps
@@ -41,12 +41,12 @@ with_kind Divider c ps = Cut ∷ ps
 with_kind Dropped c ps = ps
 with_kind k c ps = Single k c ∷ ps
 
--- a mark before pieces: inside a word, or directly before one, it is part of it
+-- Pieces with a mark in front of them. A mark that precedes a word is a part of it.
 abbrev pub with_mark : {T M : Type 0} → M → List (Piece T M) → List (Piece T M)
 with_mark m (Word k w ∷ ps) = Word k (item.Mark m ∷ w) ∷ ps
 with_mark m ps = Loose m ∷ ps
 
--- the pieces of all that was fed
+-- Pieces of all that was fed.
 abbrev pub pieces : {T M : Type 0} → List (Item T M) → List (Piece T M)
 pieces [] = []
 pieces (item.Character c ∷ xs) = with_kind (kind c.mode c.code) c (pieces xs)
@@ -54,75 +54,78 @@ pieces (item.Mark m ∷ xs) = with_mark m (pieces xs)
 
 -- ---- 2. The page
 
--- the columns of a line, and whether a character that is wider is placed nevertheless
+-- Columns of a line, and whether a character that is wider is placed nevertheless.
 pub record Setting : Type 0 where
   pub width : ℕ
   pub overflow : Bool
 
+-- Setting of lines of a width, with overflow off.
 abbrev pub without_overflow : ℕ → Setting
 without_overflow width = record { width = width; overflow = false }
 
+-- Setting of lines of a width, with overflow on.
 abbrev pub with_overflow : ℕ → Setting
 with_overflow width = record { width = width; overflow = true }
 
--- the finished lines, the open one, whether that continues another, and the marks that wait for a character
+-- Finished lines, the open line, whether that is a continuation line, and the marks that wait for a character.
 pub record Page (T M : Type 0) : Type 0 where
   pub lines : List (Line T M)
   pub line : Line T M
   pub continues : Bool
   pub waiting : List M
 
--- an empty page, on which marks wait
+-- Empty page with waiting marks.
 abbrev pub blank_page : {T M : Type 0} → List M → Page T M
 blank_page marks = record { lines = []; line = []; continues = false; waiting = marks }
 
--- the page on which one mark more waits
+-- Page with one more waiting mark.
 abbrev pub with_waiting_mark : {T M : Type 0} → Page T M → M → Page T M
 with_waiting_mark page m = record page { waiting = page.waiting ++ m ∷ [] }
 
--- a character at the end of the open line: the marks that wait stand directly before it
+-- Page with a character at the end of the open line. The waiting marks directly precede it.
 abbrev pub with_character : {T M : Type 0} → Page T M → Character T → Page T M
 with_character page c =
     record page { line = page.line ++ (marks_line page.waiting ++ element.Character c.code (tag_on page.continues c) ∷ []); waiting = [] }
 
--- the line ends, empty or not, and the next one continues nothing
+-- Page whose open line is ended, even if it is empty. The next line isn't a continuation line.
 abbrev pub with_line_break : {T M : Type 0} → Page T M → Page T M
 with_line_break page = record page { lines = page.lines ++ page.line ∷ []; line = []; continues = false }
 
--- the line ends if it isn't empty, and the next one continues it
+-- Page whose open line is ended, unless it is empty. The next line is a continuation line.
 abbrev pub continued : {T M : Type 0} → Page T M → Page T M
 continued page = if is_empty page.line then page else record page { lines = page.lines ++ page.line ∷ []; line = []; continues = true }
 
--- the lines of a page: the open one counts if it has a character
+-- Lines of a page. The open line is one of them unless it is empty.
 abbrev pub all_lines : {T M : Type 0} → Page T M → List (Line T M)
 all_lines page = if is_empty page.line then page.lines else page.lines ++ page.line ∷ []
 
--- `more` columns fit on the open line
+-- Whether `more` columns fit on the open line.
 abbrev pub fits : {T M : Type 0} → Setting → Page T M → ℕ → Bool
 fits setting page more = nat_le (columns page.line + more) setting.width
 
 -- ---- 3. Characters on the page
 
--- a character on the line, or else on the next one; none where it is wider than any line, with overflow off
+-- Page with a character, on the open line if it fits there and otherwise on a continuation line. None, with overflow
+-- off, if the character is wider than a line.
 abbrev pub put_character : {T M : Type 0} → Setting → Page T M → Character T → Option (Page T M)
 put_character setting page c =
     if fits setting page (width_of c.code) then Some (with_character page c)
     else if nat_le (width_of c.code) setting.width || setting.overflow then Some (with_character (continued page) c)
     else None
 
--- characters and marks one by one, so that longest fronts of them stand on the lines
+-- Page with characters and marks placed one by one, so that each line has the longest leading part of them that fits.
 abbrev pub put_items : {T M : Type 0} → Setting → Page T M → List (Item T M) → Option (Page T M)
 put_items setting page [] = Some page
 put_items setting page (item.Character c ∷ xs) = option_and_then (λ p. put_items setting p xs) (put_character setting page c)
 put_items setting page (item.Mark m ∷ xs) = put_items setting (with_waiting_mark page m) xs
 
--- a character on the line, if it fits
+-- Page with a character on the open line, if it fits there.
 abbrev pub put_fitting : {T M : Type 0} → Setting → Page T M → Character T → Page T M
 put_fitting setting page c = if fits setting page (width_of c.code) then with_character page c else page
 
--- ---- 4. The space that is due
+-- ---- 4. The pending space
 
--- the page with the space that is due: none at the start of a line, and marks do not stand before it
+-- Page with the pending space on the open line, unless that is empty. Marks that wait don't precede the space.
 abbrev pub with_due_space : {T M : Type 0} → Page T M → Option (Character T) → Page T M
 with_due_space page None = page
 with_due_space page (Some c) =
@@ -130,27 +133,30 @@ with_due_space page (Some c) =
 
 -- ---- 5. Words
 
--- the page on which a word begins: behind the space that is due where both fit, else on the next line
+-- Page on which a word begins: after the pending space if both fit on the open line, and otherwise on a continuation
+-- line.
 abbrev pub page_for_word : {T M : Type 0} → Setting → Page T M → Option (Character T) → List (Item T M) → Page T M
 page_for_word setting page pending word =
     if fits setting (with_due_space page pending) (word_columns word) then with_due_space page pending else continued page
 
--- a word; one that is wider than a line is cut where lines are full
+-- Page with a word. A word that is wider than a line is cut where lines are full. None, with overflow off, if one of
+-- its characters is wider than a line.
 abbrev pub put_word : {T M : Type 0} → Setting → Page T M → Option (Character T) → List (Item T M) → Option (Page T M)
 put_word setting page pending word = put_items setting (page_for_word setting page pending word) word
 
 -- ---- 6. Characters that are placed by themselves
 
--- the page before such a character: the space that is due is placed if it fits, but is dropped before a newline
+-- Page before a character that is placed by itself. The pending space is placed if it fits. Before a newline it is
+-- dropped.
 abbrev pub page_for_single : {T M : Type 0} → Setting → Page T M → Option (Character T) → Kind → Page T M
 page_for_single setting page pending Newline = page
 page_for_single setting page pending k = if fits setting (with_due_space page pending) 0 then with_due_space page pending else page
 
--- spaces to the next multiple of 8 columns
+-- Spaces to the next multiple of 8 columns of the open line, from 1 to 8.
 abbrev pub tab_spaces : {T M : Type 0} → Page T M → Character T → List (Character T)
 tab_spaces page c = replicate (8 - columns page.line % 8) (record c { code = 32 })
 
--- the character, as its kind says
+-- Page with a character placed by itself, as its kind says.
 abbrev pub put_single : {T M : Type 0} → Setting → Page T M → Kind → Character T → Option (Page T M)
 put_single setting page Preserved c = put_character setting page c
 put_single setting page Newline c = Some (with_line_break page)
@@ -161,7 +167,8 @@ put_single setting page k c = Some page
 
 -- ---- 7. The paragraph
 
--- the page with all pieces, where a space may be due: the first character of a gap says with which tag
+-- Page with all pieces after a pending space, if there is one. Gaps that neither a word nor a single character
+-- separates are one pending space, with the tags of the first gap.
 abbrev pub place : {T M : Type 0} → Setting → Page T M → Option (Character T) → List (Piece T M) → Option (Page T M)
 place setting page pending [] = Some page
 place setting page pending (Word k w ∷ ps) = option_and_then (λ p. place setting p None ps) (put_word setting page pending w)
@@ -171,6 +178,6 @@ place setting page pending (Single k c ∷ ps) =
     option_and_then (λ p. place setting p None ps) (put_single setting (page_for_single setting page pending k) k c)
 place setting page pending (Loose m ∷ ps) = place setting (with_waiting_mark page m) pending ps
 
--- the page of all that was fed, before which marks wait; none where it is too narrow
+-- Page of all that was fed, after marks that wait. None if it is too narrow.
 abbrev pub paragraph : {T M : Type 0} → Setting → List M → List (Item T M) → Option (Page T M)
 paragraph setting marks items = place setting (blank_page marks) None (pieces items)

@@ -1,4 +1,4 @@
--- A paragraph that is fed character by character.
+-- THE MACHINE of a paragraph, which is fed character by character.
 use Rattle.std.specs.Prelude.{ℕ, Bool, false, List, [], ◌∷◌, ◌++◌, Option, Some, None, is_some, map, option_and_then, option_map, if◌then◌else◌}
 use Rattle.std.specs.Bool.{beq}
 use Rattle.std.specs.Option.{option_or}
@@ -13,7 +13,8 @@ use Rattle.html_render_layout_lines.specs.Character.{kind, character_of}
 use Rattle.html_render_layout_lines.specs.Line.{Line}
 use Rattle.html_render_layout_paragraphs.specs.Paragraph.{Page, Setting, blank_page, with_waiting_mark, put_word, put_single, page_for_single, all_lines}
 
--- the page, the space that is due, and the word that is open, with whether white space is preserved in it
+-- Page, pending space, and open word, with whether white space is preserved in its text. `open_word` is None if no word
+-- is open.
 pub record State (T M : Type 0) : Type 0 where
   pub setting : Setting
   pub page : Page T M
@@ -21,46 +22,54 @@ pub record State (T M : Type 0) : Type 0 where
   pub word : List (Item T M)
   pub open_word : Option Bool
 
+-- Empty paragraph with waiting marks.
 abbrev pub start : {T M : Type 0} → Setting → List M → State T M
 start s marks = record { setting = s; page = blank_page marks; pending = None; word = []; open_word = None }
 
+-- State with another page, if there is one.
 abbrev pub on_page : {T M : Type 0} → State T M → Option (Page T M) → Option (State T M)
 on_page {T} {M} st o = option_map (λ (p : Page T M). record st { page = p }) o
 
--- the state with a word placed
+-- State with its word placed and no word open.
 abbrev pub placed_word : {T M : Type 0} → State T M → Option (State T M)
 placed_word {T} {M} st =
     option_map (λ (p : Page T M). record { setting = st.setting; page = p; pending = None; word = []; open_word = None })
     (put_word st.setting st.page st.pending st.word)
 
--- the state with its open word placed, if there is one
+-- State with its open word placed, if there is one.
 abbrev pub end_word : {T M : Type 0} → State T M → Option (State T M)
 end_word st = if is_some st.open_word then placed_word st else Some st
 
--- a letter joins the open word
+-- Whether a letter joins the open word: if white space is preserved in both texts or in neither.
 abbrev pub joins : Option Bool → Bool → Bool
 joins None k = false
 joins (Some j) k = beq k j
 
+-- State with a new open word of one letter.
 abbrev pub begin_word : {T M : Type 0} → State T M → Character T → State T M
 begin_word st c = record st { word = item.Character c ∷ []; open_word = Some (preserves c.mode) }
 
+-- State after a letter, which joins the open word or begins another.
 abbrev pub letter_step : {T M : Type 0} → State T M → Character T → Option (State T M)
 letter_step {T} {M} st c =
     if joins st.open_word (preserves c.mode) then Some (record st { word = st.word ++ item.Character c ∷ [] })
     else option_map (λ (t : State T M). begin_word t c) (end_word st)
 
+-- State with a character placed by itself, while no word is open.
 abbrev pub single_step : {T M : Type 0} → State T M → Kind → Character T → Option (State T M)
 single_step {T} {M} st k c =
     option_map (λ (p : Page T M). record st { page = p; pending = None })
     (put_single st.setting (page_for_single st.setting st.page st.pending k) k c)
 
+-- State with its open word placed, and then a character placed by itself.
 abbrev pub then_single : {T M : Type 0} → State T M → Kind → Character T → Option (State T M)
 then_single {T} {M} st k c = option_and_then (λ (t : State T M). single_step t k c) (end_word st)
 
+-- State with a pending space. One that is pending already is kept.
 abbrev pub with_pending : {T M : Type 0} → State T M → Character T → State T M
 with_pending st c = record st { pending = option_or st.pending (Some c) }
 
+-- State after a character of a kind.
 abbrev pub character_step : {T M : Type 0} → Kind → State T M → Character T → Option (State T M)
 character_step Letter st c = letter_step st c
 character_step {T} {M} Space st c = option_map (λ (t : State T M). with_pending t c) (end_word st)
@@ -68,34 +77,35 @@ character_step Divider st c = end_word st
 character_step Dropped st c = Some st
 character_step k st c = then_single st k c
 
--- a mark joins the open word, or else waits
+-- State after a mark, which joins the open word or waits.
 abbrev pub mark_step : {T M : Type 0} → State T M → M → State T M
 mark_step st m =
     if is_some st.open_word then record st { word = st.word ++ item.Mark m ∷ [] } else record st { page = with_waiting_mark st.page m }
 
--- the state after one character or mark; none where it is too narrow
+-- State after one character or mark. None if a placed character is wider than a line, with overflow off.
 abbrev pub step : {T M : Type 0} → State T M → Item T M → Option (State T M)
 step st (item.Character c) = character_step (kind c.mode c.code) st c
 step st (item.Mark m) = Some (mark_step st m)
 
+-- State after a list of characters and marks. None if a placed character is wider than a line, with overflow off.
 abbrev pub after : {T M : Type 0} → State T M → List (Item T M) → Option (State T M)
 after st [] = Some st
 after {T} {M} st (x ∷ xs) = option_and_then (λ (t : State T M). after t xs) (step st x)
 
--- the page of all that was fed
+-- Page of all that was fed. None, with overflow off, if a character of the open word is wider than a line.
 abbrev pub finished : {T M : Type 0} → State T M → Option (Page T M)
 finished {T} {M} st = option_map (λ (t : State T M). t.page) (end_word st)
 
--- the characters of a text, each with the style's mode and tags
+-- Characters of a text, each with the mode and the tags of a style.
 abbrev pub styled : {T M : Type 0} → TextStyle T → List ℕ → List (Item T M)
 styled style cs = map (λ c. item.Character (character_of style c)) cs
 
--- letters, some, that come together: they join the open word, or begin another
+-- State after consecutive letters, at least one, which join the open word or begin another.
 abbrev pub letters_step : {T M : Type 0} → State T M → TextStyle T → List ℕ → Option (State T M)
 letters_step {T} {M} st style cs =
     if joins st.open_word (preserves style.mode) then Some (record st { word = st.word ++ styled style cs })
     else option_map (λ (t : State T M). record t { word = styled style cs; open_word = Some (preserves style.mode) }) (end_word st)
 
--- lines with those of a finished page, and a paragraph that begins with the marks that still wait
+-- Lines followed by those of a finished page, and an empty paragraph with the marks that still wait.
 abbrev pub flushed_to : {T M : Type 0} → Setting → List (Line T M) → Page T M → List (Line T M) × State T M
 flushed_to s lines page = (lines ++ all_lines page, start s page.waiting)

@@ -1,22 +1,22 @@
--- the page before a character that is placed by itself
+-- The page before a character that is placed by itself, by cases.
 pub mod Cases
--- feeding keeps the setting
+-- Feeding keeps the setting.
 pub mod Kept
--- what is fed piece by piece is the paragraph of all of it
+-- Feeding character by character gives the paragraph of all characters.
 pub mod Whole
--- words that fit
+-- Words that fit are appended as a whole.
 pub mod Words
--- two answers
+-- Relations of two partial results.
 pub mod Answers
--- what is said of a page is said of the same page beside it, where overflow may be on
+-- A paragraph beside another with other overflow: properties of pages that each placing keeps.
 pub mod Beside
--- without overflow no line passes the width
+-- With overflow off no line passes the width.
 pub mod Within
--- with overflow no paragraph is too narrow, and its lines are those without
+-- With overflow on no paragraph is too narrow, and its lines are those with overflow off.
 pub mod Overflow
--- no visible character is lost
+-- No visible character is lost.
 pub mod Visible
--- the wrapping doesn't depend on the tags
+-- Wrapping doesn't depend on tags.
 pub mod Tags
--- a text that is cut into lines
+-- Texts that are cut where lines are full.
 pub mod CutText

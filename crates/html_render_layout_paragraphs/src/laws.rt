@@ -1,4 +1,4 @@
-//! Laws of the definition of a paragraph, each the contract of a function that does nothing.
+//! Laws of the definition of a paragraph. Each is the contract of an empty function.
 
 ghost use Rattle.std.specs.Prelude.{◌≡◌, ℕ, List, true, Some, IfSome, IsSome, option_and_then};
 ghost use Rattle.html_render_layout_paragraphs.specs.CutText.{text_lines, together, AreLongest};
@@ -9,50 +9,50 @@ ghost use Rattle.html_render_layout_lines.specs.TaggedText.{under};
 ghost use Rattle.html_render_layout_lines.specs.Visible.{visible_in_items, visible_in_lines};
 ghost use Rattle.html_render_layout_lines.specs.declared.character.Item.{Item};
 
-/// The lines have the visible characters that were fed, in their order: none is lost, and none is added. This holds
-/// for each width, with overflow and without, wherever the paragraph isn't too narrow.
+/// States that the lines have exactly the visible characters that were fed, in order: none is lost, and none is added.
+/// This holds for each width, with overflow on and off, unless the paragraph is too narrow.
 #[tactic(auto, using(crate::specs::laws::Visible::paragraph_keeps))]
 fn no_visible_character_is_lost<T, M>()
     ensures { (setting : Setting) (marks : List M) (items : List (Item T M)) →
         IfSome (paragraph setting marks items) (λ page. visible_in_lines (all_lines page) ≡ visible_in_items items) }
 {}
 
-/// With overflow off no line passes the width.
+/// States that no line passes the width with overflow off.
 #[tactic(auto, using(crate::specs::laws::Within::paragraph_within))]
 fn no_line_passes_the_width<T, M>()
     ensures { (width : ℕ) (marks : List M) (items : List (Item T M)) →
         IfSome (paragraph (without_overflow width) marks items) (λ page. AllWithinWidth width (all_lines page)) }
 {}
 
-/// With overflow on a paragraph is never too narrow.
+/// States that a paragraph is never too narrow with overflow on.
 #[tactic(auto, using(crate::specs::laws::Overflow::paragraph_some))]
 fn overflow_is_never_too_narrow<T, M>()
     ensures { (width : ℕ) (marks : List M) (items : List (Item T M)) →
         IsSome (paragraph (with_overflow width) marks items) }
 {}
 
-/// Where a paragraph isn't too narrow with overflow off, it is the same with overflow on.
+/// States that a paragraph that isn't too narrow with overflow off is unchanged by overflow.
 #[tactic(auto, using(crate::specs::laws::Overflow::paragraph_same))]
 fn overflow_gives_the_same_lines<T, M>()
     ensures { (width : ℕ) (marks : List M) (items : List (Item T M)) (page : Page T M) →
         paragraph (without_overflow width) marks items ≡ Some page → paragraph (with_overflow width) marks items ≡ Some page }
 {}
 
-/// What is fed piece by piece and then finished is the paragraph of all that was fed.
+/// States that feeding items one by one and then finishing gives the paragraph of all items.
 #[tactic(auto, using(crate::specs::laws::Whole::fed))]
 fn feeding_gives_the_whole_paragraph<T, M>()
     ensures { (setting : Setting) (marks : List M) (items : List (Item T M)) →
         option_and_then finished (after (start setting marks) items) ≡ paragraph setting marks items }
 {}
 
-/// A text that is cut into lines stands on them whole: each of its characters, in order, and nothing else.
+/// States that the lines of a cut text have each of its characters, in order, and nothing else.
 #[tactic(auto, using(crate::specs::laws::CutText::cuts))]
 fn a_cut_text_is_whole<T, M>()
     ensures { (setting : Setting) (tag : T) (text : List ℕ) →
         IfSome (text_lines {M = M} setting true tag text) (λ lines. together lines ≡ under tag text) }
 {}
 
-/// It is cut where a line is full, and nowhere else.
+/// States that a text is cut only where a line is full: what the next line begins with doesn't fit on it.
 #[tactic(auto, using(crate::specs::laws::CutText::cuts))]
 fn a_text_is_cut_where_lines_are_full<T, M>()
     ensures { (setting : Setting) (tag : T) (text : List ℕ) →

@@ -1,6 +1,6 @@
-//! Paragraphs: texts and marks that are wrapped into lines.
+//! Wrapping of texts and marks into lines.
 //!
-//! A [`Paragraph`](paragraph::Paragraph) is fed texts and marks; its `flush` adds its lines to a list of lines.
+//! A [`Paragraph`](paragraph::Paragraph) is fed texts and marks. Its `flush` appends the lines to a vector.
 #![tactic(auto)]
 
 mod laws;

@@ -1,7 +1,7 @@
-//! A paragraph, which is fed characters and marks and wraps them into lines.
+//! A paragraph, which wraps texts and marks into lines.
 //!
-//! `paragraph.add_text("Hello wide world", style)?` feeds a text; `paragraph.flush(&mut lines)?` then adds the lines
-//! `Hello wide` and `world` at a width of 11.
+//! At a width of 11 and with a style of `WhiteSpace::Normal`, `paragraph.add_text("Hello wide world", style)?` and then
+//! `paragraph.flush(&mut lines)?` append the lines `Hello wide` and `world`.
 
 ghost use Rattle.std.specs.Prelude.{◌≡◌, [], ◌∷◌, ◌++◌, Some, None, OnOk, IfErr, option_map, if◌then◌else◌};
 ghost use Rattle.std.specs.Bool.{OnTrue};
@@ -27,7 +27,8 @@ mod word;
 pub use cut::push_cut_text;
 pub use page::line_fits;
 
-/// The texts of lines of so few columns are mostly short enough to take no memory of their own.
+/// Greatest width, in columns, at which no memory is reserved: texts of such lines are mostly short enough to need no
+/// allocation.
 const NARROW: usize = 12;
 
 /// Whether a word is open, and how the white space of its text is treated.
@@ -41,18 +42,30 @@ enum OpenWord {
     Preserved,
 }
 
-/// A paragraph that is fed text by text.
+/// A paragraph of lines of a given width, which is fed texts and marks in order.
+///
+/// How characters are placed is stated in docs/BEHAVIOUR.md, section "Paragraphs".
 #[derive(Drop)]
 pub struct Paragraph<T, M> {
+    /// Allocator of all lines and words.
     alloc: Global,
+    /// Columns of a line.
     width: usize,
+    /// Whether a character wider than a line is placed nevertheless.
     overflow: bool,
+    /// Finished lines.
     lines: Vec<Line<T, M>>,
+    /// Open line.
     line: Line<T, M>,
+    /// Whether the open line is a continuation line: it began because something didn't fit.
     continues: bool,
+    /// Marks that wait for the next character.
     waiting: Vec<M>,
+    /// Pending space: white space after which nothing is placed yet.
     pending: Option<Character<T>>,
+    /// The open word.
     word: Word<T, M>,
+    /// Whether a word is open.
     open_word: OpenWord,
 }
 
@@ -72,8 +85,10 @@ impl<T, M> Model for Paragraph<T, M> {
 }
 
 impl<T: Tag, M: Copy> Paragraph<T, M> {
-    /// An empty paragraph for lines of `width` columns. Where a character is wider than a line, it stands alone on
-    /// one with `overflow`; without, the paragraph is too narrow.
+    /// Returns an empty paragraph for lines of `width` columns.
+    ///
+    /// A character that is wider than a line is alone on its line with `overflow`. Without it,
+    /// [`add_text`](Paragraph::add_text) or [`flush`](Paragraph::flush) returns `TooNarrow`.
     pub fn new(alloc: Global, width: usize, overflow: bool) -> Self
         ensures { result ≡ start (record { width = width; overflow = overflow }) [] }
     {
@@ -91,7 +106,7 @@ impl<T: Tag, M: Copy> Paragraph<T, M> {
         }
     }
 
-    /// Becomes an empty paragraph, and keeps its memory.
+    /// Resets to an empty paragraph for lines of `width` columns, reusing the memory.
     pub fn renew(&mut self, width: usize, overflow: bool)
         ensures { self.new ≡ start (record { width = width; overflow = overflow }) [] }
     {
@@ -105,11 +120,14 @@ impl<T: Tag, M: Copy> Paragraph<T, M> {
         self.clear_word();
     }
 
-    /// Takes a mark.
+    /// Feeds a mark. It takes no column, and directly precedes the next character that is placed. A pending space is
+    /// placed before the mark.
+    ///
+    /// While a word is open, the mark is a part of it. Otherwise it waits.
     ///
     /// # Errors
     ///
-    /// `OutOfMemory`. What the paragraph then holds isn't told.
+    /// `OutOfMemory`. The contents of the paragraph are then unspecified.
     pub fn add_mark(&mut self, mark: M) -> Result<(), Error>
         ensures ok { OnOk result (step self.old (Item.Mark mark) ≡ Some self.new) }
         ensures err { IfErr result (λ e. e ≡ Error.OutOfMemory) }
@@ -121,12 +139,15 @@ impl<T: Tag, M: Copy> Paragraph<T, M> {
         Ok(())
     }
 
-    /// Takes the characters of a text.
+    /// Feeds the characters of a text.
     ///
     /// # Errors
     ///
-    /// `OutOfMemory`, and with overflow off `TooNarrow` where a character of a word that ended is wider than a line. What
-    /// the paragraph then holds isn't told.
+    /// - `OutOfMemory`.
+    /// - `TooNarrow`, with overflow off, if a character that is placed is wider than a line. Placed are the characters
+    ///   of a word that ends, and those that are placed by themselves.
+    ///
+    /// The contents of the paragraph are then unspecified.
     pub fn add_text(&mut self, text: &str, style: TextStyle<T>) -> Result<(), Error>
         ensures ok { OnOk result (after self.old (styled style (chars text.now)) ≡ Some self.new) }
         ensures err { IfErr result (λ e. Refuses e (after self.old (styled style (chars text.now)))) }
@@ -135,7 +156,8 @@ impl<T: Tag, M: Copy> Paragraph<T, M> {
         self.feed(text, style)
     }
 
-    /// Makes room on an empty line for a text of `bytes` bytes and a prefix in front of it; behind a short text for others.
+    /// Reserves memory on an empty line for a text of `bytes` bytes and a prefix. For a text of fewer than 16 bytes,
+    /// reserves memory for further texts too.
     #[inline]
     fn make_room(&mut self, bytes: usize) -> Result<(), AllocError>
         ensures { self.new ≡ self.old }
@@ -151,7 +173,7 @@ impl<T: Tag, M: Copy> Paragraph<T, M> {
         self.line.reserve_at_start(room)
     }
 
-    /// Moves the finished lines behind the given ones.
+    /// Moves the finished lines to the end of `lines`.
     fn move_lines(&mut self, lines: &mut Vec<Line<T, M>>) -> Result<(), AllocError>
         ensures lines { OnOk result (lines.new.items ≡ lines.old.items ++ self.old.page.lines) }
         ensures after { OnOk result (self.new ≡ record self.old { page = record self.old.page { lines = [] } }) }
@@ -164,7 +186,7 @@ impl<T: Tag, M: Copy> Paragraph<T, M> {
         Ok(())
     }
 
-    /// Moves the open line behind the given ones, unless it is empty.
+    /// Moves the open line to the end of `lines`, unless it is empty.
     fn move_line(&mut self, lines: &mut Vec<Line<T, M>>) -> Result<(), AllocError>
         ensures lines { OnOk result (lines.new.items
             ≡ (if is_empty self.old.page.line then lines.old.items else lines.old.items ++ self.old.page.line ∷ [])) }
@@ -177,7 +199,7 @@ impl<T: Tag, M: Copy> Paragraph<T, M> {
         Ok(())
     }
 
-    /// Begins anew, on an empty line, with the marks that wait.
+    /// Resets to an empty paragraph, except for the waiting marks. The lines must be empty already.
     fn restart(&mut self)
         requires lines { self.old.page.lines ≡ [] }
         requires line { self.old.page.line ≡ [] }
@@ -188,7 +210,7 @@ impl<T: Tag, M: Copy> Paragraph<T, M> {
         self.clear_word();
     }
 
-    /// Whether nothing but marks was fed since the paragraph began.
+    /// Reports whether the paragraph is empty, except for waiting marks, so that `flush` has nothing to do.
     #[inline]
     fn is_blank(&self) -> bool
         ensures { OnTrue result (self.now ≡ start self.now.setting self.now.page.waiting) }
@@ -201,12 +223,14 @@ impl<T: Tag, M: Copy> Paragraph<T, M> {
             && self.lines.is_empty()
     }
 
-    /// Adds the lines of all that was fed, and begins anew with the marks that no character followed.
+    /// Appends the lines of all that was fed to `lines`, and empties the paragraph. Marks that still wait are kept.
     ///
     /// # Errors
     ///
-    /// `OutOfMemory`, and with overflow off `TooNarrow` where a character is wider than a line. What the paragraph and the
-    /// lines then hold isn't told.
+    /// - `OutOfMemory`.
+    /// - `TooNarrow`, with overflow off, if a character of the open word is wider than a line.
+    ///
+    /// The contents of the paragraph and of `lines` are then unspecified.
     #[tactic(auto, using(crate::proofs::Flushing::flushing))]
     pub fn flush(&mut self, lines: &mut Vec<Line<T, M>>) -> Result<(), Error>
         ensures ok { OnOk result (option_map (flushed_to self.old.setting lines.old.items) (finished self.old) ≡ Some (lines.new.items, self.new)) }
@@ -222,7 +246,7 @@ impl<T: Tag, M: Copy> Paragraph<T, M> {
         Ok(())
     }
 
-    /// Takes the marks that wait out.
+    /// Removes and returns the waiting marks. Marks in an open word aren't among them.
     pub fn take_waiting(&mut self) -> Vec<M>
         ensures marks { result.items ≡ self.old.page.waiting }
         ensures after { self.new ≡ record self.old { page = record self.old.page { waiting = [] } } }

@@ -1,4 +1,4 @@
-//! A word, which a paragraph takes letter by letter or text by text, and its columns.
+//! A word that a paragraph extends by letters, texts and marks. It knows its columns.
 
 ghost use Rattle.std.specs.Prelude.{◌≡◌, [], ◌∷◌, ◌++◌, map, OnOk, OnErr};
 ghost use Rattle.std.specs.Bool.{OnTrue};
@@ -15,11 +15,11 @@ use html_render_layout_lines::tag::Tag;
 use std::alloc::{AllocError, Global};
 use std::marker::Model;
 
-/// A word of characters with their styles, and marks between them.
+/// A word: characters with their styles, and marks among them.
 #[derive(Drop)]
 pub struct Word<T, M> {
     text: TaggedText<TextStyle<T>, M>,
-    // its columns, where a machine word holds them
+    /// Columns of the word; `None` if they pass a machine word.
     count: Option<usize>,
 }
 
@@ -37,7 +37,7 @@ impl<T, M> Model for Word<T, M> {
 }
 
 impl<T: Tag, M: Copy> Word<T, M> {
-    /// An empty word.
+    /// Returns an empty word.
     #[inline]
     pub(crate) fn new(alloc: Global) -> Word<T, M>
         ensures { result ≡ [] }
@@ -48,7 +48,7 @@ impl<T: Tag, M: Copy> Word<T, M> {
         }
     }
 
-    /// Its columns, where a machine word holds them. They are not counted again.
+    /// Returns the columns, which are stored; `None` if they pass a machine word.
     #[inline]
     pub(crate) fn columns(&self) -> Option<usize>
         ensures { result ≡ counted (word_columns self.now) }
@@ -56,7 +56,7 @@ impl<T: Tag, M: Copy> Word<T, M> {
         self.count
     }
 
-    /// Whether it holds neither a character nor a mark.
+    /// Reports whether the word has neither a character nor a mark.
     #[inline]
     pub(crate) fn is_empty(&self) -> bool
         ensures { OnTrue result (self.now ≡ []) }
@@ -64,7 +64,7 @@ impl<T: Tag, M: Copy> Word<T, M> {
         self.text.is_empty()
     }
 
-    /// Leaves it empty, and keeps its memory.
+    /// Removes all characters and marks, keeping the memory.
     #[inline]
     pub(crate) fn clear(&mut self)
         ensures { self.new ≡ [] }
@@ -73,7 +73,7 @@ impl<T: Tag, M: Copy> Word<T, M> {
         self.count = Some(0);
     }
 
-    /// Puts a text of `width` columns at the end.
+    /// Appends a text of `width` columns in a style.
     #[inline]
     #[tactic(auto, using(crate::proofs::WordColumns::word_pushes))]
     pub(crate) fn push_str(
@@ -90,7 +90,7 @@ impl<T: Tag, M: Copy> Word<T, M> {
         Ok(())
     }
 
-    /// Puts a character of `width` columns at the end.
+    /// Appends a character of `width` columns in a style.
     #[inline]
     #[tactic(auto, using(crate::proofs::WordColumns::word_pushes))]
     pub(crate) fn push_char(
@@ -107,7 +107,7 @@ impl<T: Tag, M: Copy> Word<T, M> {
         Ok(())
     }
 
-    /// Puts a mark at the end.
+    /// Appends a mark.
     #[tactic(auto, using(crate::proofs::WordColumns::word_pushes))]
     pub(crate) fn push_mark(&mut self, mark: M) -> Result<(), AllocError>
         ensures { OnOk result (self.new ≡ self.old ++ Item.Mark mark ∷ []) }
@@ -116,7 +116,7 @@ impl<T: Tag, M: Copy> Word<T, M> {
         Ok(())
     }
 
-    /// Its items in order, as parts that need not be copied.
+    /// Returns the characters and marks in order, as borrowed parts: closed runs, and then an open run.
     pub(crate) fn parts(&self) -> TextParts<'_, TextStyle<T>, M>
         ensures items { items_of (elements_of result.closed.now result.closed_text.now ++ open_elements result.tag result.open_text.now) ≡ self.now }
         ensures cuts { Cuts result.closed.now result.closed_text.now }
@@ -125,7 +125,7 @@ impl<T: Tag, M: Copy> Word<T, M> {
         self.text.parts()
     }
 
-    /// Whether the last part of the word is a character.
+    /// Reports whether the word ends with a character.
     #[inline]
     pub(crate) fn ends_in_character(&self) -> bool
         ensures { OnTrue result (EndsInCharacter self.now) }
@@ -135,7 +135,8 @@ impl<T: Tag, M: Copy> Word<T, M> {
     }
 }
 
-/// Puts a word of `width` columns at the end of a line.
+/// Appends a word of `width` columns to a line. `continues` selects the tags for continuation lines. After an error the
+/// line is empty.
 #[inline]
 #[tactic(auto, using(crate::proofs::WordColumns::word_pushes))]
 pub(crate) fn push_word<T: Tag, M: Copy>(
@@ -151,7 +152,7 @@ pub(crate) fn push_word<T: Tag, M: Copy>(
     line.append_as(&word.text, width, continues)
 }
 
-/// A character's tag on a line that continues another, or on an ordinary line.
+/// Returns the tag of a character. `continues` selects its tag for continuation lines.
 #[inline]
 pub(crate) fn tag_on<T: Copy>(continues: bool, character: &Character<T>) -> T
     ensures { result ≡ tag_on continues character.now }

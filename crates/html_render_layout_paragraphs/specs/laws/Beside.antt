@@ -1,4 +1,5 @@
--- A PARAGRAPH BESIDE ANOTHER that was fed the same, where overflow may be on: what is said of its page is said as each piece is placed.
+-- A PARAGRAPH BESIDE ANOTHER that was fed the same, and whose overflow is g of the first one's. If each placing keeps a
+-- property of pages, it holds of the first one's page, and the other one has the same page.
 use Rattle.std.proofs.Common.{◌≡◌, ℕ, Bool, true, List, [], ◌∷◌, ◌++◌, map, fold, Option, Some, None, refl, sym, ap, subst, option_and_then}
 use Rattle.std.specs.Option.{option_or}
 use Rattle.html_render_layout_lines.specs.declared.character.Kind.{Kind}
@@ -17,15 +18,15 @@ use Rattle.html_render_layout_lines.specs.laws.Cases.{if_cases}
 use Rattle.html_render_layout_paragraphs.specs.laws.Cases.{page_for_single_cases}
 
 module _ {T M : Type 0} (g : Bool → Bool) (N L : Type 0) (weak : L → N) (s : Setting) (OnPage : Page T M → Type 0) where
-  -- the other setting: with g overflow is on in it
+  -- Setting of the other paragraph: its overflow is g of the first one's.
   abbrev other : Setting
   other = record s { overflow = g s.overflow }
 
-  -- the same page, of which this holds
+  -- Whether the second page is the first, and the property holds of it.
   abbrev Beside : Page T M → Page T M → Type 0
   Beside p q = (q ≡ p) × OnPage p
 
-  -- what is said of a page, as something is placed
+  -- What is required of the property: that it holds of a blank page, and that each placing keeps it.
   pub record Holds : Type 0 where
     pub blank : (marks : List M) → OnPage (blank_page marks)
     pub mark : (p : Page T M) (m : M) → OnPage p → OnPage (with_waiting_mark p m)
@@ -37,7 +38,7 @@ module _ {T M : Type 0} (g : Bool → Bool) (N L : Type 0) (weak : L → N) (s :
     pub next : (p : Page T M) → OnPage p → OnPage (continued p)
 
   module _ (h : Holds) where
-    -- one step after another
+    -- One step after another.
     then_beside : (f k : Page T M → Option (Page T M)) (a b : Option (Page T M)) → Both N L Beside a b →
         ((p : Page T M) → OnPage p → Both N L Beside (f p) (k p)) → Both N L Beside (option_and_then f a) (option_and_then k b)
     then_beside f k a b e next =
@@ -81,10 +82,12 @@ module _ {T M : Type 0} (g : Bool → Bool) (N L : Type 0) (weak : L → N) (s :
         (λ q l. place-beside q None ps l)
     place-beside p pending (Loose m ∷ ps) k = place-beside (with_waiting_mark p m) pending ps (h.mark p m k)
 
-    -- THE THEOREM, of a paragraph, and of a text that is cut
+    -- THE THEOREM of a paragraph: both have the same page, and the property holds of it.
     pub paragraph-beside : (marks : List M) (xs : List (Item T M)) → Both N L Beside (paragraph s marks xs) (paragraph other marks xs)
     paragraph-beside marks xs = place-beside (blank_page marks) None (pieces xs) (h.blank marks)
 
+    -- THE THEOREM of a text that is cut into lines: both have the same lines, and P holds of them if it follows from
+    -- the property of their page.
     pub cut-beside : (P : List (Line T M) → Type 0) → ((p : Page T M) → OnPage p → P (p.lines ++ p.line ∷ [])) → (tag : T) (cs : List ℕ) →
         Both N L (λ a b. (b ≡ a) × P a) (text_lines s true tag cs) (text_lines other true tag cs)
     cut-beside P so tag cs =

@@ -1,5 +1,5 @@
--- A text that is cut into lines: all of it stands on them, each is a longest front, none passes the width without overflow,
--- and overflow gives the same.
+-- Texts that are cut where lines are full: the lines have each character of the text, each line is full, and the cuts
+-- don't depend on the tag.
 use Rattle.std.proofs.Common.{◌≡◌, ℕ, ◌+◌, ◌<◌, Bool, true, false, leb, ◌||◌, List, [], ◌∷◌, ◌++◌, map, Option, refl, sym, ap, ◌∙◌, subst}
 use Rattle.std.proofs.Common.{append_assoc, append-nil, IfSome, option_map}
 use Rattle.std.proofs.lemmas.Bool.{leb-false}
@@ -18,13 +18,13 @@ use Rattle.html_render_layout_lines.specs.laws.Cases.{bind_some, map_if, if_case
 use Rattle.html_render_layout_lines.specs.laws.Tags.{map_with}
 use Rattle.html_render_layout_paragraphs.specs.laws.Tags.{page_with, put_items-with, styled-with}
 
--- ---- lines that grow
+-- ---- Lines that grow
 
 together-push : {T M : Type 0} (ls : List (Line T M)) (l : Line T M) → together (ls ++ l ∷ []) ≡ together ls ++ l
 together-push [] l = append-nil l
 together-push (k ∷ ls) l = ap (λ r. k ++ r) (together-push ls l) ∙ sym (append_assoc k (together ls) l)
 
--- a character more on the last line
+-- One more character on the last line: the lines before it stay full.
 grown_longest : {T M : Type 0} (w : ℕ) (ls : List (Line T M)) (l : Line T M) (e : Element T M) → (l ≡ [] → ls ≡ []) →
     AreLongest w (ls ++ l ∷ []) → AreLongest w (ls ++ (l ++ e ∷ []) ∷ [])
 grown_longest w [] l e first h = tt
@@ -37,7 +37,7 @@ grown_longest {T} {M} w (k ∷ (x ∷ xs) ∷ ls) l e first h =
     differs : {k : Line T M} {ks : List (Line T M)} → k ∷ ks ≡ [] → ⊥
     differs e = cc
 
--- a line more, for a character that doesn't fit on the last one
+-- One more line, for a character that doesn't fit on the last one: all lines before it are full.
 next_longest : {T M : Type 0} (w : ℕ) (ls : List (Line T M)) (l : Line T M) (e : Element T M) → w < columns l + element_width e →
     AreLongest w (ls ++ l ∷ []) → AreLongest w ((ls ++ l ∷ []) ++ (e ∷ []) ∷ [])
 next_longest w [] l e more h = (more, tt)
@@ -50,9 +50,10 @@ pushed-some : {A : Type 0} (xs : List A) (x : A) → xs ++ x ∷ [] ≡ [] → �
 pushed-some [] x e = cc
 pushed-some (y ∷ xs) x e = cc
 
--- ---- the page of a text that is cut
+-- ---- The page of a text that is cut
 
--- all of this stands on the page, no mark waits, and its lines are longest fronts; its open line is empty at the start alone
+-- Whether a page has exactly these elements, no mark waits, and its lines are full. Its open line is empty only if
+-- there is no other line.
 record Fills {T M : Type 0} (w : ℕ) (all : Line T M) (page : Page T M) : Type 0 where
   pub elements : together page.lines ++ page.line ≡ all
   pub longest : AreLongest w (page.lines ++ page.line ∷ [])
@@ -114,24 +115,24 @@ text_fills : {T : Type 0} (M : Type 0) (s : Setting) (tag : T) (cs : List ℕ) �
 text_fills M s tag cs =
     put_items_fill s [] (blank_page []) tag cs (record { elements = refl; longest = tt; first = λ e. refl; none_waits = refl })
 
--- THE LAW: each character of the text stands on the lines, in order, and nothing else does
+-- THE LAW: the lines have each character of the text, in order, and nothing else.
 pub cut_holds : {T : Type 0} (M : Type 0) (s : Setting) (tag : T) (cs : List ℕ) →
     IfSome (text_lines {M = M} s true tag cs) (λ ls. together ls ≡ under tag cs)
 cut_holds {T} M s tag cs =
     map_if (Fills s.width (under tag cs)) (λ ls. together ls ≡ under tag cs) (λ (p : Page T M). p.lines ++ p.line ∷ [])
     (put_items s (blank_page []) (styled (kept_style tag) cs)) (text_fills M s tag cs) (λ p h. together-push p.lines p.line ∙ h.elements)
 
--- THE LAW: a text is cut where a line is full, and nowhere else
+-- THE LAW: a text is cut only where a line is full.
 pub cut_longest : {T : Type 0} (M : Type 0) (s : Setting) (tag : T) (cs : List ℕ) →
     IfSome (text_lines {M = M} s true tag cs) (AreLongest s.width)
 cut_longest {T} M s tag cs =
     map_if (Fills s.width (under tag cs)) (AreLongest s.width) (λ (p : Page T M). p.lines ++ p.line ∷ [])
     (put_items s (blank_page []) (styled (kept_style tag) cs)) (text_fills M s tag cs) (λ p h. h.longest)
 
--- ---- tags
+-- ---- Tags
 
 module _ {T U M : Type 0} (f : T → U) where
-  -- the cuts don't depend on the tag
+  -- Cuts don't depend on the tag.
   pub cut-with : (s : Setting) (tag : T) (cs : List ℕ) →
       text_lines s true (f tag) cs ≡ option_map (lines_with {M = M} f) (text_lines s true tag cs)
   cut-with s tag cs =

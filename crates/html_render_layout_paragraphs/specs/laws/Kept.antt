@@ -1,4 +1,4 @@
--- Feeding leaves a paragraph's setting as it is.
+-- Feeding keeps the setting of a paragraph.
 use Rattle.std.proofs.Common.{◌≡◌, List, [], ◌∷◌, Option, None, Some, is_some, refl, ◌∙◌, IfSome, option_map}
 use Rattle.html_render_dom_values.specs.WhiteSpace.{preserves}
 use Rattle.html_render_layout_lines.specs.declared.character.Kind.{Kind}

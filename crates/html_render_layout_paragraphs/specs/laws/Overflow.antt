@@ -1,4 +1,5 @@
--- With overflow on a paragraph is never too narrow, and where overflow off gives lines, overflow on gives the same.
+-- With overflow on a paragraph is never too narrow. Where it has lines with overflow off, it has the same lines with
+-- overflow on.
 use Rattle.std.proofs.Common.{◌≡◌, ℕ, ◌+◌, Bool, true, false, cond, ◌||◌, List, Option, Some, None, refl, ap, ◌∙◌, leb, IsSome}
 use Rattle.html_render_layout_lines.specs.Character.{width_of}
 use Rattle.html_render_layout_lines.specs.Line.{columns}
@@ -21,7 +22,7 @@ same true false false x y = (refl, tt)
 same false false false x y = tt
 
 module _ {T M : Type 0} (w : ℕ) where
-  -- THE LAW: with overflow on it is never too narrow
+  -- THE LAW: with overflow on there is always a page.
   pub answers : Holds {T = T} {M = M} (λ o. o) ⊥ ⊥ (λ x. x) (with_overflow w) (λ p. Unit {0})
   answers = record {
     blank = λ marks. tt;
@@ -33,7 +34,7 @@ module _ {T M : Type 0} (w : ℕ) where
     next = λ p h. tt;
   }
 
-  -- THE LAW: where there is a page, it is the same with overflow on
+  -- THE LAW: where there is a page, it is the same with overflow on.
   pub refines : (o : Bool) → Holds {T = T} {M = M} (λ o. true) (Unit {0}) (Unit {0}) (λ x. x) (record { width = w; overflow = o }) (λ p. Unit {0})
   refines o = record {
     blank = λ marks. tt;
@@ -45,7 +46,7 @@ module _ {T M : Type 0} (w : ℕ) where
     next = λ p h. tt;
   }
 
--- THE LAWS, of a paragraph
+-- THE LAW of a paragraph: with overflow on it is never too narrow.
 pub paragraph_some : {T M : Type 0} (w : ℕ) (marks : List M) (xs : List (Item T M)) → IsSome (paragraph (with_overflow w) marks xs)
 paragraph_some {T} {M} w marks xs =
     by (paragraph (with_overflow w) marks xs)
@@ -55,6 +56,7 @@ paragraph_some {T} {M} w marks xs =
     by None k = absurd k
     by (Some p) k = refl
 
+-- THE LAW of a paragraph: where it has a page with overflow off, it has the same page with overflow on.
 pub paragraph_same : {T M : Type 0} (w : ℕ) (marks : List M) (xs : List (Item T M)) (q : Page T M) →
     paragraph (without_overflow w) marks xs ≡ Some q → paragraph (with_overflow w) marks xs ≡ Some q
 paragraph_same {T} {M} w marks xs q e =

@@ -1,4 +1,4 @@
--- Whatever the tags are, the wrapping is the same: it commutes with a map of them.
+-- Wrapping doesn't depend on tags: it commutes with a map of them.
 use Rattle.std.proofs.Common.{◌≡◌, ℕ, ◌+◌, ◌-◌, ◌%◌, Bool, true, false, leb, eqb, sym, List, [], ◌∷◌, ◌++◌, map, fold, replicate, refl, option_map}
 use Rattle.std.proofs.Common.{Option, None, Some, is_some, ap, ◌∙◌, suc, zero}
 use Rattle.std.proofs.lemmas.List.{map-append, length-map}
@@ -21,9 +21,11 @@ use Rattle.html_render_layout_lines.specs.laws.Tags.{if_with, then_with, map_wit
 use Rattle.html_render_layout_paragraphs.specs.Stream.{State, end_word, joins, begin_word, letter_step, single_step, then_single, with_pending}
 use Rattle.html_render_layout_paragraphs.specs.Stream.{character_step, mark_step, step, after, finished, styled}
 
+-- Character with its tags mapped.
 abbrev pub character_with : {T U : Type 0} → (T → U) → Character T → Character U
 character_with f c = record { code = c.code; mode = c.mode; tag = f c.tag; continuation_tag = f c.continuation_tag }
 
+-- Style with its tags mapped.
 abbrev pub style_with : {T U : Type 0} → (T → U) → TextStyle T → TextStyle U
 style_with f style = record { mode = style.mode; tag = f style.tag; continuation_tag = f style.continuation_tag }
 
@@ -37,13 +39,16 @@ replicate-with f zero c = refl
 replicate-with f (suc n) c = ap (λ l. character_with f c ∷ l) (replicate-with f n c)
 
 module _ {T U M : Type 0} (f : T → U) where
+  -- Character with its tags mapped, or a mark.
   abbrev pub item_with : Item T M → Item U M
   item_with (item.Character c) = item.Character (character_with f c)
   item_with (item.Mark m) = item.Mark m
 
+  -- Page with its tags mapped.
   abbrev pub page_with : Page T M → Page U M
   page_with p = record { lines = lines_with f p.lines; line = line_with f p.line; continues = p.continues; waiting = p.waiting }
 
+  -- State of a paragraph with its tags mapped.
   abbrev pub state_with : State T M → State U M
   state_with st = record {
     setting = st.setting;
@@ -211,12 +216,13 @@ module _ {T U M : Type 0} (f : T → U) where
   step-with st (item.Character c) = character_step-with (kind c.mode c.code) st c
   step-with st (item.Mark m) = ap Some (mark_step-with st m)
 
-  -- THE LAWS: feeding and finishing commute with the map
+  -- THE LAW: feeding commutes with a map of tags.
   pub after-with : (st : State T M) (xs : List (Item T M)) → after (state_with st) (map item_with xs) ≡ option_map state_with (after st xs)
   after-with st [] = refl
   after-with st (x ∷ xs) = then_with state_with state_with (λ t. after t xs) (λ t. after t (map item_with xs)) (step st x) _
       (step-with st x) (λ t. after-with t xs)
 
+  -- THE LAW: finishing commutes with a map of tags.
   pub finished-with : (st : State T M) → finished (state_with st) ≡ option_map page_with (finished st)
   finished-with st = map_with state_with page_with (λ t. t.page) (λ t. t.page) (end_word st) _ (end_word-with st) (λ t. refl)
 

@@ -27,9 +27,11 @@ use Rattle.html_render_layout_lines.specs.Visible.{is_visible, if_visible, visib
 use Rattle.html_render_layout_lines.specs.laws.Cases.{bind_some, if_cases, nil_from_is_empty}
 use Rattle.html_render_layout_paragraphs.specs.laws.Cases.{page_for_single_cases}
 
+-- Visible characters of a page, in order.
 abbrev seen : {T M : Type 0} → Page T M → List ℕ
 seen page = visible_in_lines page.lines ++ visible_in_line page.line
 
+-- Whether page p has the visible characters of `page`, followed by these.
 abbrev Adds : {T M : Type 0} → Page T M → List ℕ → Page T M → Type 0
 Adds page cs p = seen p ≡ seen page ++ cs
 
@@ -93,6 +95,7 @@ put_items_adds {T} {M} s page (item.Character c ∷ xs) =
     (λ q k. adds_then page p q (if_visible c.code) (visible_in_items xs) h k))
 put_items_adds s page (item.Mark m ∷ xs) = put_items_adds s (with_waiting_mark page m) xs
 
+-- Whether no character is visible.
 abbrev AllBlank : {T : Type 0} → List (Character T) → Type 0
 AllBlank [] = Unit {0}
 AllBlank (c ∷ cs) = (if_visible c.code ≡ []) × AllBlank cs
@@ -127,12 +130,12 @@ put_word_adds {T} {M} s page pending word =
     IfSome_then (put_items s (page_for_word s page pending word) word) (put_items_adds s (page_for_word s page pending word) word)
     (λ q k. k ∙ ap (λ r. r ++ visible_in_items word) e)
 
--- what a kept character shows
+-- Visible characters of a character that is placed by itself: the character, if it is preserved and visible.
 abbrev shown : {T : Type 0} → Kind → Character T → List ℕ
 shown Preserved c = if_visible c.code
 shown k c = []
 
--- a character of this kind shows nothing, or is a letter or a single one
+-- Whether a character of a kind is a letter, is preserved, or isn't visible.
 abbrev IsHidden : {T : Type 0} → Kind → Character T → Type 0
 IsHidden Letter c = Unit {0}
 IsHidden Preserved c = Unit {0}
@@ -155,12 +158,14 @@ put_single_adds s page SoftTab c h =
     (put_all_fitting_seen s page (tab_spaces page c) (tab_blank (8 - columns page.line % 8) c))
 put_single_adds s page k c h = adds_none page page refl
 
+-- Visible characters of pieces, in order.
 abbrev in_pieces : {T M : Type 0} → List (Piece T M) → List ℕ
 in_pieces [] = []
 in_pieces (Word k w ∷ ps) = visible_in_items w ++ in_pieces ps
 in_pieces (Single k c ∷ ps) = shown k c ++ in_pieces ps
 in_pieces (p ∷ ps) = in_pieces ps
 
+-- Whether each character that is placed by itself is preserved or isn't visible.
 abbrev AreProper : {T M : Type 0} → List (Piece T M) → Type 0
 AreProper [] = Unit {0}
 AreProper (Single k c ∷ ps) = IsHidden k c × AreProper ps
@@ -185,7 +190,7 @@ place_adds {T} {M} s page pending (Single k c ∷ ps) h =
     (λ q g. adds_then page p q (shown k c) (in_pieces ps) (f ∙ ap (λ r. r ++ shown k c) e) g))
 place_adds s page pending (Loose m ∷ ps) h = place_adds s (with_waiting_mark page m) pending ps h
 
--- ---- the pieces hold what was fed
+-- ---- Visible characters of the pieces are those that were fed
 
 dark_space : (n : ℕ) → is_collapsible n ≡ true → if_visible n ≡ []
 unfolding is_visible
@@ -276,7 +281,7 @@ page_keeps : {T M : Type 0} (s : Setting) (marks : List M) (xs : List (Item T M)
 page_keeps s marks xs = IfSome_then (paragraph s marks xs) (place_adds s (blank_page marks) None (pieces xs) (pieces_proper xs)) (λ p k. k
     ∙ pieces_keep xs)
 
--- no visible character is lost, none is added, and they keep their order
+-- THE LAW: the lines have exactly the visible characters that were fed, in order.
 pub paragraph_keeps : {T M : Type 0} (s : Setting) (marks : List M) (xs : List (Item T M)) →
     IfSome (paragraph s marks xs) (λ p. visible_in_lines (all_lines p) ≡ visible_in_items xs)
 paragraph_keeps s marks xs = IfSome_then (paragraph s marks xs) (page_keeps s marks xs) (λ p h. all_lines_seen p ∙ h)

@@ -1,4 +1,4 @@
--- What is fed character by character is the paragraph of all of them.
+-- Feeding character by character gives the paragraph of all characters.
 use Rattle.std.proofs.Common.{◌≡◌, Bool, true, false, cond, sym, List, [], ◌∷◌, ◌++◌, refl, append_assoc, option_map, Option, None, Some}
 use Rattle.std.proofs.Common.{ap, ◌∙◌, option_and_then, arith}
 use Rattle.std.specs.Bool.{beq}
@@ -18,7 +18,7 @@ use Rattle.html_render_layout_paragraphs.specs.Stream.{State, start, end_word, b
 use Rattle.html_render_layout_paragraphs.specs.Stream.{mark_step, step, after, finished}
 use Rattle.html_render_layout_lines.specs.laws.Cases.{if_cases}
 
--- ---- options
+-- ---- Options
 
 pub then_assoc : {A B C : Type 0} (f : A → Option B) (g : B → Option C) (o : Option A) →
     option_and_then g (option_and_then f o) ≡ option_and_then (λ x. option_and_then g (f x)) o
@@ -38,9 +38,9 @@ map_is_then : {A B : Type 0} (f : A → B) (o : Option A) → option_map f o ≡
 map_is_then f None = refl
 map_is_then f (Some x) = refl
 
--- ---- marks and words
+-- ---- Marks and words
 
--- a mark before a word is the same as a mark in front of it
+-- A mark at the end of a word takes no column.
 word_columns-push_mark : {T M : Type 0} (w : List (Item T M)) (m : M) → word_columns (w ++ item.Mark m ∷ []) ≡ word_columns w
 word_columns-push_mark {T} {M} w m = omega (arith, word_columns-append w (item.Mark m ∷ []))
 
@@ -63,6 +63,7 @@ page_for_word-with_waiting_mark {T} {M} s page pending m w =
     ∙ if_with_waiting_mark (fits s (with_due_space page pending) (word_columns w)) _ _ _ _ m refl
     (if_with_waiting_mark (is_empty page.line) _ _ _ _ m refl refl)
 
+-- A mark that waits before a word is placed like one at the word's start.
 put_word-with_waiting_mark : {T M : Type 0} (s : Setting) (page : Page T M) (pending : Option (Character T)) (m : M)
     (w : List (Item T M)) → put_word s (with_waiting_mark page m) pending w ≡ put_word s page pending (item.Mark m ∷ w)
 put_word-with_waiting_mark s page pending m w = ap (λ p. put_items s p w) (page_for_word-with_waiting_mark s page pending m w)
@@ -75,7 +76,7 @@ put_items-append {T} {M} s page (item.Character c ∷ v) w =
     ∙ sym (then_assoc (λ (p : Page T M). put_items s p v) (λ (q : Page T M). put_items s q w) (put_character s page c))
 put_items-append s page (item.Mark m ∷ v) w = put_items-append s (with_waiting_mark page m) v w
 
--- a mark behind a word waits
+-- A mark at the end of a word waits after it.
 put_word-push_mark : {T M : Type 0} (s : Setting) (page : Page T M) (pending : Option (Character T)) (w : List (Item T M)) (m : M) →
     put_word s page pending (w ++ item.Mark m ∷ []) ≡ option_map (λ (p : Page T M). with_waiting_mark p m) (put_word s page pending w)
 put_word-push_mark {T} {M} s page pending w m =
@@ -92,7 +93,7 @@ place-mark {T} {M} s page pending m (Word k w ∷ ps) =
     ap (λ o. option_and_then (λ (p : Page T M). place s p None ps) o) (put_word-with_waiting_mark s page pending m w)
 place-mark s page pending m ps = refl
 
--- a word and then a mark
+-- A mark at the end of a word is placed like one after the word.
 place-word_mark : {T M : Type 0} (s : Setting) (page : Page T M) (pending : Option (Character T)) (k : Bool) (w : List (Item T M)) (m : M)
     (ps : List (Piece T M)) → place s page pending (Word k (w ++ item.Mark m ∷ []) ∷ ps) ≡ place s page pending (Word k w ∷ with_mark m ps)
 place-word_mark {T} {M} s page pending k w m ps =
@@ -100,26 +101,33 @@ place-word_mark {T} {M} s page pending k w m ps =
     ∙ map_and_then (λ (p : Page T M). with_waiting_mark p m) (λ (p : Page T M). place s p None ps) (put_word s page pending w)
     ∙ then_same _ _ (put_word s page pending w) (λ p. place-mark s p None m ps)
 
--- ---- the open word before the pieces
+-- ---- The open word before the pieces
 
+-- Pieces with an open word in front of them. It is joined with a first word in whose text white space is treated the
+-- same.
 abbrev glue_word : {T M : Type 0} → Bool → List (Item T M) → List (Piece T M) → List (Piece T M)
 glue_word k w (Word j v ∷ ps) = cond (beq k j) (Word k (w ++ v) ∷ ps) (Word k w ∷ Word j v ∷ ps)
 glue_word k w ps = Word k w ∷ ps
 
+-- Pieces with the open word in front of them, if there is one.
 abbrev glue : {T M : Type 0} → Option Bool → List (Item T M) → List (Piece T M) → List (Piece T M)
 glue None w ps = ps
 glue (Some k) w ps = glue_word k w ps
 
+-- State of a paragraph by its parts.
 abbrev state : {T M : Type 0} → Setting → Page T M → Option (Character T) → List (Item T M) → Option Bool → State T M
 state s page pending w k = record { setting = s; page = page; pending = pending; word = w; open_word = k }
 
+-- Page with the pieces placed after all that a state has.
 abbrev resume : {T M : Type 0} → State T M → List (Piece T M) → Option (Page T M)
 resume st ps = place st.setting st.page st.pending (glue st.open_word st.word ps)
 
+-- Page after feeding and finishing.
 abbrev run : {T M : Type 0} → State T M → List (Item T M) → Option (Page T M)
 run st xs = option_and_then finished (after st xs)
 
--- the end of a word, and then g, which is h of a page with no open word
+-- Placing the open word and then applying g is placing the word and the pieces, if g places the pieces where no word is
+-- open.
 end_resumes : {T M : Type 0} (g : State T M → Option (Page T M)) (ps : List (Piece T M)) (s : Setting) →
     ((p : Page T M) (pending : Option (Character T)) (w : List (Item T M)) → g (state s p pending w None) ≡ place s p pending ps)
     → (page : Page T M) (pending : Option (Character T)) (w : List (Item T M)) (k : Bool) →
@@ -128,13 +136,15 @@ end_resumes {T} {M} g ps s e page pending w k =
     map_and_then (λ (p : Page T M). state s p None [] None) g (put_word s page pending w)
     ∙ then_same _ _ (put_word s page pending w) (λ p. e p None [])
 
+-- Finishing is placing the open word, and no piece after it.
 finish_resumes : {T M : Type 0} (s : Setting) (page : Page T M) (pending : Option (Character T)) (w : List (Item T M)) (k : Option Bool) →
     finished (state s page pending w k) ≡ resume (state s page pending w k) []
 finish_resumes s page pending w None = refl
 finish_resumes {T} {M} s page pending w (Some k) = map_is_then (λ (t : State T M). t.page) (end_word (state s page pending w (Some k)))
     ∙ end_resumes (λ (t : State T M). Some t.page) [] s (λ p pend v. refl) page pending w k
 
--- a piece that ends a word
+-- Ending the open word and then applying g is placing the word, if there is one, and pieces whose first one ends a
+-- word.
 after_word : {T M : Type 0} (g : State T M → Option (Page T M)) (q : Piece T M) (ps : List (Piece T M)) (s : Setting) →
     ((p : Page T M) (pending : Option (Character T)) (w : List (Item T M)) → g (state s p pending w None) ≡ place s p pending (q ∷ ps)) →
     ((k : Bool) (w : List (Item T M)) → glue_word k w (q ∷ ps) ≡ Word k w ∷ q ∷ ps)
@@ -144,13 +154,13 @@ after_word g q ps s e ends page pending w None = e page pending w
 after_word g q ps s e ends page pending w (Some k) = end_resumes g (q ∷ ps) s e page pending w k
     ∙ ap (λ x. place s page pending x) (sym (ends k w))
 
--- a letter as a word of its own
+-- A letter as a word of its own.
 glue-letter : {T M : Type 0} (c : Character T) (ps : List (Piece T M)) →
     glue_word (preserves c.mode) (item.Character c ∷ []) ps ≡ with_kind Letter c ps
 glue-letter c (Word j v ∷ ps) = refl
 glue-letter c ps = refl
 
--- a letter that joins the open word
+-- A letter that joins the open word.
 joined : {T M : Type 0} (k j : Bool) (w : List (Item T M)) (c : Character T) (ps : List (Piece T M)) → beq k j ≡ true →
     glue_word j (w ++ item.Character c ∷ []) ps ≡ glue_word j w (glue_word k (item.Character c ∷ []) ps)
 joined true false w c ps e = cc
@@ -159,6 +169,7 @@ joined true true w c (Word true v ∷ ps) e = ap (λ x. Word true x ∷ ps) (app
 joined false false w c (Word false v ∷ ps) e = ap (λ x. Word false x ∷ ps) (append_assoc w (item.Character c ∷ []) v)
 joined k j w c ps e = refl
 
+-- A letter that doesn't join the open word.
 apart : {T M : Type 0} (k j : Bool) (w : List (Item T M)) (c : Character T) (ps : List (Piece T M)) → beq k j ≡ false →
     Word j w ∷ glue_word k (item.Character c ∷ []) ps ≡ glue_word j w (glue_word k (item.Character c ∷ []) ps)
 apart true true w c ps e = cc
@@ -167,7 +178,7 @@ apart k j w c (Word true v ∷ ps) e = refl
 apart k j w c (Word false v ∷ ps) e = refl
 apart k j w c ps e = refl
 
--- a letter that begins a word
+-- A letter that begins a word.
 began : {T M : Type 0} (c : Character T) (xs : List (Item T M)) (ps : List (Piece T M)) → ((t : State T M) → run t xs ≡ resume t ps) →
     (s : Setting) (p : Page T M) (pending : Option (Character T)) (w : List (Item T M)) →
     run (begin_word (state s p pending w None) c) xs ≡ place s p pending (with_kind Letter c ps)
@@ -239,7 +250,7 @@ run_resumes {T} {M} st (item.Character c ∷ xs) =
     ∙ character_resumes (kind c.mode c.code) c xs (pieces xs) (λ t. run_resumes t xs) st.setting st.page st.pending st.word st.open_word
 run_resumes st (item.Mark m ∷ xs) = mark_resumes m xs (pieces xs) (λ t. run_resumes t xs) st.setting st.page st.pending st.word st.open_word
 
--- THE THEOREM: what was fed, then finished, is the paragraph
+-- THE THEOREM: feeding and then finishing gives the paragraph of all that was fed.
 pub finished-after : {T M : Type 0} (s : Setting) (marks : List M) (xs : List (Item T M)) →
     option_and_then finished (after (start s marks) xs) ≡ paragraph s marks xs
 finished-after s marks xs = run_resumes (start s marks) xs

@@ -15,7 +15,7 @@ use Rattle.html_render_layout_lines.specs.laws.Cases.{if_cases, nil_from_is_empt
 use Rattle.html_render_layout_paragraphs.specs.laws.Answers.{Both}
 use Rattle.html_render_layout_paragraphs.specs.laws.Beside.{Holds, paragraph-beside}
 
--- no line of the page is wider
+-- Whether no line of a page passes a width.
 pub record IsWithin {T M : Type 0} (w : ℕ) (page : Page T M) : Type 0 where
   pub lines : AllWithinWidth w page.lines
   pub line : columns page.line ≤ w
@@ -59,7 +59,7 @@ all_lines_within {T} {M} w page h =
     (λ _. All-push (λ (l : Line T M). columns l ≤ w) page.lines page.line h.lines h.line)
 
 module _ {T M : Type 0} (w : ℕ) where
-  -- no line of a page and one beside it is wider
+  -- Whether the second page is the first, and none of its lines passes the width.
   abbrev Beside : Page T M → Page T M → Type 0
   Beside p q = (q ≡ p) × IsWithin w p
 
@@ -73,7 +73,7 @@ module _ {T M : Type 0} (w : ℕ) where
       (refl, with_character_within w (continued p) c (continued_within w p h) (le-leb _ _ (omega (arith, k, columns-continued p)))))
       (λ _. tt))
 
-  -- THE LAW: with overflow off no line passes the width
+  -- THE LAW: with overflow off no placing makes a line pass the width.
   pub within : Holds {T = T} {M = M} (λ o. o) (Unit {0}) ⊥ (λ x. tt) (without_overflow w) (IsWithin w)
   within = record {
     blank = blank_within w;
@@ -91,7 +91,7 @@ module _ {T M : Type 0} (w : ℕ) where
   within_of (Some p) None k = absurd k
   within_of (Some p) (Some q) k = all_lines_within w p k.1
 
--- THE LAW, of a paragraph
+-- THE LAW of a paragraph: with overflow off no line passes the width.
 pub paragraph_within : {T M : Type 0} (w : ℕ) (marks : List M) (xs : List (Item T M)) →
     IfSome (paragraph (without_overflow w) marks xs) (λ p. AllWithinWidth w (all_lines p))
 paragraph_within w marks xs =

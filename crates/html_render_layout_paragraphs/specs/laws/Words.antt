@@ -1,4 +1,4 @@
--- A word that fits is put as a whole.
+-- Words that fit on a line are appended as a whole.
 use Rattle.std.proofs.Common.{◌≡◌, ◌+◌, ◌≤◌, leb, List, [], ◌∷◌, Some, refl, ap, ◌∙◌, option_and_then, arith}
 use Rattle.std.proofs.lemmas.Bool.{le-leb}
 use Rattle.html_render_layout_lines.specs.declared.character.Item.{Item}

@@ -1,4 +1,4 @@
-//! Texts that are cut into lines where a line is full, and nowhere else.
+//! Texts that are cut into lines exactly where a line is full.
 
 ghost use Rattle.std.specs.Prelude.{◌≡◌, [], ◌∷◌, ◌++◌, Some, true, OnOk, IfErr, option_map};
 ghost use Rattle.std.specs.Str.{chars};
@@ -15,7 +15,7 @@ use html_render_layout_lines::line::Line;
 use html_render_layout_lines::tag::Tag;
 use std::alloc::{AllocError, Global};
 
-/// The style of a text whose white space is kept, with one tag on all lines.
+/// Returns the style of a text whose white space is preserved and that has one tag on all lines.
 fn kept_style<T: Copy>(tag: T) -> TextStyle<T>
     ensures { result ≡ kept_style tag }
 {
@@ -27,7 +27,7 @@ fn kept_style<T: Copy>(tag: T) -> TextStyle<T>
 }
 
 impl<T: Tag, M: Copy> Paragraph<T, M> {
-    /// Moves all lines of the page behind the given ones, the open one too.
+    /// Ends the open line, even an empty one, and moves all lines to the end of `lines`.
     fn move_ended_lines(&mut self, lines: &mut Vec<Line<T, M>>) -> Result<(), AllocError>
         ensures { OnOk result (lines.new.items ≡ lines.old.items ++ (self.old.page.lines ++ self.old.page.line ∷ [])) }
     {
@@ -35,7 +35,7 @@ impl<T: Tag, M: Copy> Paragraph<T, M> {
         self.move_lines(lines)
     }
 
-    /// Puts a text's characters one after the other, and moves all lines of the page behind the given ones.
+    /// Places the characters of a text one by one, and moves all lines, the open one included, to the end of `lines`.
     #[tactic(auto, using(html_render_dom_values::specs::laws::Outcome::refusals))]
     fn cut_text(&mut self, lines: &mut Vec<Line<T, M>>, text: &str, tag: T) -> Result<(), Error>
         ensures ok { OnOk result (option_map (λ cut. lines.old.items ++ cut) (option_map (λ p. p.lines ++ p.line ∷ [])
@@ -50,14 +50,17 @@ impl<T: Tag, M: Copy> Paragraph<T, M> {
     }
 }
 
-/// Adds a text behind lines, as lines of `width` columns. It is cut where a line is full, and nowhere else: each of its
-/// characters is kept, white space and control characters too. An empty text is an empty line. A character that is wider
-/// than a line stands on one of its own with `overflow`.
+/// Appends a text to `lines`, as lines of `width` columns that are cut exactly where a line is full.
+///
+/// Each character is kept, also white space and control characters. An empty text is one empty line. A character that
+/// is wider than a line is alone on its line with `overflow`.
 ///
 /// # Errors
 ///
-/// `OutOfMemory`, and with overflow off `TooNarrow` where a character is wider than a line. What the lines then hold isn't
-/// told.
+/// - `OutOfMemory`.
+/// - `TooNarrow`, with overflow off, if a character is wider than a line.
+///
+/// The contents of `lines` are then unspecified.
 #[tactic(auto, using(html_render_dom_values::specs::laws::Outcome::refusals))]
 pub fn push_cut_text<T: Tag, M: Copy>(
     alloc: Global,

@@ -1,4 +1,6 @@
-//! Texts that a paragraph takes: words as slices of them where it can, else character by character.
+//! Feeding of texts: words and letters as slices if possible, other characters one by one.
+//!
+//! A letter is a character of [`Kind::Letter`], a part of a word.
 
 ghost use Rattle.std.specs.Prelude.{IfErr, IfOk, length, take, drop, ◌≡◌, ◌+◌, ◌≤◌, ◌<◌, [], ◌∷◌, ◌++◌, Some, None, OnOk, true};
 ghost use Rattle.std.specs.Bool.{OnTrue};
@@ -20,7 +22,7 @@ use html_render_layout_lines::character::{Character, Class, Item, Kind, TextStyl
 use html_render_layout_lines::tag::Tag;
 use std::alloc::AllocError;
 
-/// How many bytes of a text are letters, and their columns.
+/// Letters at the start of a text: their number of bytes, and their columns.
 #[derive(Clone, Copy)]
 struct Letters {
     bytes: usize,
@@ -28,7 +30,7 @@ struct Letters {
 }
 
 impl<T: Tag, M: Copy> Paragraph<T, M> {
-    /// Takes a character that is placed by itself: the open word ends before it.
+    /// Places the open word, if there is one, and then a character by itself.
     #[tactic(auto, using(html_render_dom_values::specs::laws::Outcome::refusals))]
     fn add_single(&mut self, class: Class, character: Character<T>) -> Result<(), Error>
         requires { class.width ≡ width_of character.code }
@@ -39,7 +41,8 @@ impl<T: Tag, M: Copy> Paragraph<T, M> {
         self.place_single(class, character)
     }
 
-    /// Whether a letter joins the open word, where white space is preserved or not.
+    /// Reports whether a letter joins the open word. `preserved` says whether white space is preserved in the letter's
+    /// text.
     #[inline]
     fn joins(&self, preserved: bool) -> bool
         ensures { result ≡ joins self.now.open_word preserved }
@@ -51,7 +54,7 @@ impl<T: Tag, M: Copy> Paragraph<T, M> {
         }
     }
 
-    /// Takes a letter, of this width: it joins the open word, or begins one.
+    /// Feeds a letter of `width` columns. It joins the open word, or that word is placed and the letter begins another.
     #[tactic(auto, using(html_render_dom_values::specs::laws::Outcome::refusals))]
     fn add_letter(&mut self, c: char, width: usize, style: TextStyle<T>) -> Result<(), Error>
         requires { width ≡ width_of c }
@@ -67,7 +70,7 @@ impl<T: Tag, M: Copy> Paragraph<T, M> {
         Ok(())
     }
 
-    /// Takes collapsible white space: the open word ends, and a space is due.
+    /// Feeds collapsible white space: places the open word, if there is one, and notes a pending space.
     #[inline(never)]
     #[tactic(auto, using(html_render_dom_values::specs::laws::Outcome::refusals))]
     fn add_space(&mut self, character: Character<T>) -> Result<(), Error>
@@ -79,7 +82,7 @@ impl<T: Tag, M: Copy> Paragraph<T, M> {
         Ok(())
     }
 
-    /// Lets a space be due, if none is.
+    /// Makes a character the pending space, unless there is one already.
     #[inline]
     fn note_space(&mut self, character: Character<T>)
         ensures { self.new ≡ with_pending self.old character }
@@ -89,7 +92,7 @@ impl<T: Tag, M: Copy> Paragraph<T, M> {
         }
     }
 
-    /// Lets this space be due.
+    /// Makes a character the pending space.
     #[inline]
     fn set_pending(&mut self, character: Character<T>)
         ensures { self.new ≡ record self.old { pending = Some character } }
@@ -97,7 +100,7 @@ impl<T: Tag, M: Copy> Paragraph<T, M> {
         self.pending = Some(character);
     }
 
-    /// Takes a character of this class.
+    /// Feeds a character of a given class.
     fn add_classed(&mut self, class: Class, c: char, style: TextStyle<T>) -> Result<(), Error>
         requires { class.width ≡ width_of c }
         ensures ok { OnOk result (character_step class.kind self.old (character_of style c) ≡ Some self.new) }
@@ -113,7 +116,7 @@ impl<T: Tag, M: Copy> Paragraph<T, M> {
         }
     }
 
-    /// Takes a character in this style.
+    /// Feeds a character in a style.
     fn add_character(&mut self, c: char, style: TextStyle<T>) -> Result<(), Error>
         ensures ok { OnOk result (step self.old (Item.Character (character_of style c)) ≡ Some self.new) }
         ensures err { IfErr result (λ e. Refuses e (step self.old (Item.Character (character_of style c)))) }
@@ -121,7 +124,8 @@ impl<T: Tag, M: Copy> Paragraph<T, M> {
         self.add_classed(class_of(style.mode, c), c, style)
     }
 
-    /// Takes letters of `width` columns that come together.
+    /// Feeds consecutive letters of `width` columns. They join the open word, or that word is placed and they begin
+    /// another.
     #[tactic(auto, using(html_render_dom_values::specs::laws::Outcome::refusals))]
     fn add_letters(&mut self, letters: &str, width: usize, style: TextStyle<T>) -> Result<(), Error>
         requires { width ≡ text_columns (chars letters.now) }
@@ -137,7 +141,7 @@ impl<T: Tag, M: Copy> Paragraph<T, M> {
         Ok(())
     }
 
-    /// Whether no word is open.
+    /// Reports whether no word is open.
     #[inline]
     fn is_between_words(&self) -> bool
         ensures closed { OnTrue result (self.now.open_word ≡ None) }
@@ -146,7 +150,8 @@ impl<T: Tag, M: Copy> Paragraph<T, M> {
         matches!(self.open_word, OpenWord::Closed) && self.word.is_empty()
     }
 
-    /// Takes a word of `width` columns and the space behind it, where no word is open.
+    /// Places a word of `width` columns, and notes the white space after it as the pending space. It is called while no
+    /// word is open.
     #[inline]
     #[tactic(auto, using(html_render_dom_values::specs::laws::Outcome::refusals))]
     fn add_word(
@@ -166,7 +171,8 @@ impl<T: Tag, M: Copy> Paragraph<T, M> {
         Ok(())
     }
 
-    /// The columns that are free on the line for a space and a word behind it; 0 where the line is empty or marks wait.
+    /// Returns the columns that are free on the line for a space and a word after it. 0 if the line is empty or passes
+    /// its width, or if marks wait.
     #[inline]
     fn room_behind_space(&self) -> usize
         ensures { 0 < result → HasRoom self.now result }
@@ -180,7 +186,8 @@ impl<T: Tag, M: Copy> Paragraph<T, M> {
         }
     }
 
-    /// The words at the front of a text that fit on the line: each has one space before it and white space behind it.
+    /// Returns the words at the start of a text that fit on the line, each with the one space before it. White space
+    /// follows each of them. The text begins with the pending space, and no word is open.
     #[inline]
     fn fitting_words(&self, text: &str, style: TextStyle<T>) -> Letters
         requires mode { style.mode ≡ Normal }
@@ -213,8 +220,8 @@ impl<T: Tag, M: Copy> Paragraph<T, M> {
         Letters { bytes, columns }
     }
 
-    /// Takes the words behind a space that is due, as many as fit on the line, and the space behind them, and gives the
-    /// rest back.
+    /// Feeds the words after the pending space that fit on the line, and the white space after them. Returns the rest
+    /// of the text. The text begins with the pending space, and no word is open.
     fn feed_fitting_words<'a>(
         &mut self,
         text: &'a str,
@@ -241,7 +248,8 @@ impl<T: Tag, M: Copy> Paragraph<T, M> {
         Ok(&text[count + 1..])
     }
 
-    /// Takes a word and the space behind it, where no word is open, and gives the rest back.
+    /// Feeds a word and the white space after it, and then the words after them that fit on the line. Returns the rest
+    /// of the text. No word is open.
     fn feed_word<'a>(
         &mut self,
         text: &'a str,
@@ -267,7 +275,7 @@ impl<T: Tag, M: Copy> Paragraph<T, M> {
         Ok(self.feed_fitting_words(&text[count..], style)?)
     }
 
-    /// Takes the letters at the front of a text, and gives the rest back.
+    /// Feeds the letters at the start of a text. Returns the rest.
     fn feed_letters<'a>(
         &mut self,
         text: &'a str,
@@ -286,8 +294,11 @@ impl<T: Tag, M: Copy> Paragraph<T, M> {
         Ok(&text[count..])
     }
 
-    /// Takes a word with the space behind it, or the letters at the front of a text, or else its first character, and
-    /// gives the rest back.
+    /// Feeds the start of a text, and returns the rest. The start is the first of these that the text has:
+    ///
+    /// - while no word is open, a word and the white space after it, and then the words that fit on the line
+    /// - letters
+    /// - a character
     fn feed_front<'a>(&mut self, text: &'a str, style: TextStyle<T>) -> Result<&'a str, Error>
         requires { 0 < length text.now }
         ensures ok { IfOk result (λ rest. after self.old (styled style (chars text.now)) ≡ after self.new (styled style (chars rest.now))) }
@@ -310,7 +321,7 @@ impl<T: Tag, M: Copy> Paragraph<T, M> {
         Ok(rest)
     }
 
-    /// Takes the characters of a text.
+    /// Feeds the characters of a text.
     pub(super) fn feed(&mut self, text: &str, style: TextStyle<T>) -> Result<(), Error>
         ensures ok { OnOk result (after self.old (styled style (chars text.now)) ≡ Some self.new) }
         ensures err { IfErr result (λ e. Refuses e (after self.old (styled style (chars text.now)))) }
@@ -323,7 +334,7 @@ impl<T: Tag, M: Copy> Paragraph<T, M> {
     }
 }
 
-/// Whether white space of one byte stands there, which is collapsed.
+/// Reports whether a space or a line feed is at byte `at`. Both are collapsible under `Normal`.
 #[inline]
 #[tactic(auto, unfolding(html_render_layout_lines::specs::Character::kind))]
 fn has_space_at(text: &[u8], at: usize) -> bool
@@ -334,7 +345,8 @@ fn has_space_at(text: &[u8], at: usize) -> bool
     at < text.len() && matches!(text[at], b' ' | b'\n')
 }
 
-/// How many letters of one byte and one column stand in front.
+/// Returns the number of printable ASCII characters, the space excluded, at the start of a text. Each has one byte and
+/// one column.
 #[inline]
 pub(super) fn plain_in_front(text: &[u8]) -> usize
     ensures within { result ≤ length text.now }
@@ -347,7 +359,8 @@ pub(super) fn plain_in_front(text: &[u8]) -> usize
     count
 }
 
-/// The printable ASCII characters at the front of a text, as letters; none where it begins with another character.
+/// Returns the printable ASCII characters, the space excluded, at the start of a text. Returns none under `Pre`, where
+/// no character is a letter.
 #[inline]
 fn plain_letters(text: &str, mode: WhiteSpace) -> Letters
     ensures { AreLetters mode text.now result.bytes result.columns }
@@ -366,7 +379,7 @@ fn plain_letters(text: &str, mode: WhiteSpace) -> Letters
     }
 }
 
-/// A text's first character, if it is a letter.
+/// Returns the first character of a text if it is a letter, and none otherwise.
 fn first_letter(text: &str, mode: WhiteSpace) -> Letters
     requires { 0 < length text.now }
     ensures { AreLetters mode text.now result.bytes result.columns }
@@ -385,7 +398,7 @@ fn first_letter(text: &str, mode: WhiteSpace) -> Letters
     }
 }
 
-/// Some of the letters at the front of a text.
+/// Returns some letters at the start of a text; none only if its first character isn't a letter.
 #[inline]
 fn next_letters(text: &str, mode: WhiteSpace) -> Letters
     requires { 0 < length text.now }
@@ -397,8 +410,8 @@ fn next_letters(text: &str, mode: WhiteSpace) -> Letters
     plain_letters(text, mode)
 }
 
-/// Letters at the front of a text: the printable ASCII characters there and, where another character follows these, all
-/// letters behind them.
+/// Returns the letters at the start of a text: the printable ASCII characters and, if a character outside ASCII follows
+/// them, the letters from there on.
 #[inline]
 fn letters_in_front(text: &str, mode: WhiteSpace) -> Letters
     ensures { AreLetters mode text.now result.bytes result.columns }
@@ -410,7 +423,8 @@ fn letters_in_front(text: &str, mode: WhiteSpace) -> Letters
     }
 }
 
-/// The letters at the front of a text, of which some are known.
+/// Returns all letters at the start of a text, of which some are known. Stops early if their columns pass a machine
+/// word.
 #[inline(never)]
 fn more_letters(text: &str, known: Letters, mode: WhiteSpace) -> Letters
     requires { AreLetters mode text.now known.bytes known.columns }

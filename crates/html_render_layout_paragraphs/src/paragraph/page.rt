@@ -1,4 +1,4 @@
-//! What is placed on a page: characters with the marks that wait for them, spaces that are due, and ends of lines.
+//! Placing on a page: characters with the marks that wait for them, pending spaces, and ends of lines.
 
 ghost use Rattle.std.specs.Prelude.{IfErr, fold, map, nat_le, replicate, ◌≡◌, ◌+◌, ◌-◌, ◌%◌, ◌||◌, [], ◌∷◌, ◌++◌, Some, None, OnOk, if◌then◌else◌};
 ghost use Rattle.html_render_dom_values.specs.Outcome.{Refuses};
@@ -19,7 +19,7 @@ use html_render_layout_lines::tag::Tag;
 use std::alloc::AllocError;
 use std::mem;
 
-/// Whether a line is within `width` columns, or may be wider with `overflow`.
+/// Reports whether a line has at most `width` columns, or `overflow` is on.
 pub fn line_fits<T: Tag, M: Copy>(line: &Line<T, M>, width: usize, overflow: bool) -> bool
     ensures { result ≡ (overflow || nat_le (columns line.now) width) }
 {
@@ -30,7 +30,7 @@ pub fn line_fits<T: Tag, M: Copy>(line: &Line<T, M>, width: usize, overflow: boo
 }
 
 impl<T: Tag, M: Copy> Paragraph<T, M> {
-    /// Whether `more` columns fit on the line.
+    /// Reports whether `more` columns fit on the open line.
     #[inline]
     pub(super) fn fits(&self, more: usize) -> bool
         ensures { result ≡ fits self.now.setting self.now.page more }
@@ -42,7 +42,7 @@ impl<T: Tag, M: Copy> Paragraph<T, M> {
         }
     }
 
-    /// Whether `more` columns fit on the line behind the space that is due.
+    /// Reports whether `more` columns fit on the open line after the pending space, if there is one.
     #[inline]
     pub(super) fn fits_behind_gap(&self, more: usize) -> bool
         ensures { result ≡ fits self.now.setting (with_due_space self.now.page self.now.pending) more }
@@ -54,7 +54,7 @@ impl<T: Tag, M: Copy> Paragraph<T, M> {
         }
     }
 
-    /// The columns of the space that is due: none at the start of a line.
+    /// Returns the columns of the pending space: 1, but 0 at the start of a line or if there is none.
     #[inline]
     #[tactic(auto, using(crate::proofs::PageColumns::widths))]
     fn gap_width(&self) -> usize
@@ -67,7 +67,7 @@ impl<T: Tag, M: Copy> Paragraph<T, M> {
         }
     }
 
-    /// Puts the marks that wait.
+    /// Appends the waiting marks to the open line.
     #[inline]
     pub(super) fn push_waiting(&mut self) -> Result<(), AllocError>
         ensures { OnOk result (self.new ≡ record self.old {
@@ -81,7 +81,7 @@ impl<T: Tag, M: Copy> Paragraph<T, M> {
         Ok(())
     }
 
-    /// Puts the marks that wait and a character, of this width, on the line.
+    /// Appends the waiting marks and a character of `width` columns to the open line.
     fn push_character(&mut self, character: Character<T>, width: usize) -> Result<(), AllocError>
         requires { width ≡ width_of character.code }
         ensures { OnOk result (self.new ≡ record self.old { page = with_character self.old.page character }) }
@@ -91,7 +91,7 @@ impl<T: Tag, M: Copy> Paragraph<T, M> {
         self.line.push_char(character.code, width, tag)
     }
 
-    /// Puts a separating space.
+    /// Appends a space to the open line, under the tag of the white space `character`.
     #[tactic(auto, using(crate::proofs::PageColumns::widths))]
     fn push_space(&mut self, character: Character<T>) -> Result<(), AllocError>
         ensures { OnOk result (self.new ≡ record self.old {
@@ -102,7 +102,7 @@ impl<T: Tag, M: Copy> Paragraph<T, M> {
         self.line.push_char(' ', 1, tag)
     }
 
-    /// Puts a space that is due.
+    /// Appends the pending space to the open line, or drops it if the line is empty.
     #[inline]
     pub(super) fn place_space(&mut self) -> Result<(), AllocError>
         ensures { OnOk result (self.new ≡ record self.old { page = with_due_space self.old.page self.old.pending; pending = None }) }
@@ -115,7 +115,8 @@ impl<T: Tag, M: Copy> Paragraph<T, M> {
         Ok(())
     }
 
-    /// Puts a space that is due before a character that is placed by itself.
+    /// Appends the pending space before a character of this kind, which is placed by itself. Drops the space instead
+    /// before a newline or if it doesn't fit.
     fn settle_for(&mut self, kind: Kind) -> Result<(), AllocError>
         ensures { OnOk result (self.new ≡ record self.old { page = page_for_single self.old.setting self.old.page self.old.pending kind; pending = None }) }
     {
@@ -127,7 +128,7 @@ impl<T: Tag, M: Copy> Paragraph<T, M> {
         }
     }
 
-    /// Ends the line, if it has a character, and begins one that continues it.
+    /// Ends the open line, unless it is empty, and begins a continuation line.
     pub(super) fn continue_line(&mut self) -> Result<(), AllocError>
         ensures { OnOk result (self.new ≡ record self.old { page = continued self.old.page }) }
     {
@@ -138,7 +139,7 @@ impl<T: Tag, M: Copy> Paragraph<T, M> {
         self.continue_with(next)
     }
 
-    /// Ends the line, if it has a character, and begins an empty one that continues it.
+    /// Ends the open line, unless it is empty, and makes `next`, which is empty, its continuation line.
     pub(super) fn continue_with(&mut self, next: Line<T, M>) -> Result<(), AllocError>
         requires { next ≡ [] }
         ensures { OnOk result (self.new ≡ record self.old { page = continued self.old.page }) }
@@ -151,7 +152,7 @@ impl<T: Tag, M: Copy> Paragraph<T, M> {
         Ok(())
     }
 
-    /// Ends the line for a word that doesn't fit, in place of the space that is due.
+    /// Drops the pending space, and begins a continuation line for a word that doesn't fit.
     fn begin_next_line(&mut self) -> Result<(), AllocError>
         ensures { OnOk result (self.new ≡ record self.old { page = continued self.old.page; pending = None }) }
     {
@@ -159,7 +160,8 @@ impl<T: Tag, M: Copy> Paragraph<T, M> {
         self.continue_line()
     }
 
-    /// Makes place for a word: behind the space that is due where it fits there, else on the next line.
+    /// Makes room for a word. If the word fits `here`, appends the pending space; otherwise drops it and begins a
+    /// continuation line.
     #[inline]
     pub(super) fn make_place(&mut self, here: bool) -> Result<(), AllocError>
         ensures { OnOk result (self.new ≡ record self.old {
@@ -174,7 +176,7 @@ impl<T: Tag, M: Copy> Paragraph<T, M> {
         }
     }
 
-    /// Ends the line.
+    /// Ends the open line, even an empty one. The next line isn't a continuation line.
     pub(super) fn break_line(&mut self) -> Result<(), AllocError>
         ensures { OnOk result (self.new ≡ record self.old { page = with_line_break self.old.page }) }
     {
@@ -184,7 +186,8 @@ impl<T: Tag, M: Copy> Paragraph<T, M> {
         Ok(())
     }
 
-    /// Puts a character on the line, or else on the next one.
+    /// Places a character of `width` columns on the open line if it fits there, and otherwise on a continuation line.
+    /// Returns `TooNarrow`, with overflow off, if it is wider than a line.
     pub(super) fn put_character(
         &mut self,
         character: Character<T>,
@@ -206,7 +209,7 @@ impl<T: Tag, M: Copy> Paragraph<T, M> {
         }
     }
 
-    /// Puts a character on the line, if it fits.
+    /// Places a character of `width` columns on the open line if it fits there, and drops it otherwise.
     fn put_fitting(&mut self, character: Character<T>, width: usize) -> Result<(), AllocError>
         requires { width ≡ width_of character.code }
         ensures { OnOk result (self.new ≡ record self.old { page = put_fitting self.old.setting self.old.page character }) }
@@ -217,7 +220,7 @@ impl<T: Tag, M: Copy> Paragraph<T, M> {
         Ok(())
     }
 
-    /// Lets a mark wait for the next character.
+    /// Adds a mark to those that wait for the next character.
     pub(super) fn hold_mark(&mut self, mark: M) -> Result<(), AllocError>
         ensures { OnOk result (self.new ≡ record self.old { page = with_waiting_mark self.old.page mark }) }
     {
@@ -225,14 +228,15 @@ impl<T: Tag, M: Copy> Paragraph<T, M> {
         Ok(())
     }
 
-    /// How many spaces a tab gives here: those to the next multiple of 8 columns.
+    /// Returns the number of spaces that a tab becomes: those to the next multiple of 8 columns, from 1 to 8.
     fn tab_count(&self) -> usize
         ensures { result ≡ 8 - columns self.now.page.line % 8 }
     {
         8 - self.line.past_tab_stop()
     }
 
-    /// Puts `count` spaces, each on the line or else on the next one.
+    /// Places a character `count` times, each time on the open line if it fits there, and otherwise on a continuation
+    /// line.
     #[tactic(auto, using(html_render_dom_values::specs::laws::Outcome::refusals, crate::proofs::Copies::copies_left))]
     fn put_copies(&mut self, character: Character<T>, count: usize) -> Result<(), Error>
         ensures ok { OnOk result (
@@ -247,7 +251,7 @@ impl<T: Tag, M: Copy> Paragraph<T, M> {
         Ok(())
     }
 
-    /// Puts as many of `count` spaces as fit on the line.
+    /// Places a character up to `count` times: on the open line, while it fits there.
     #[tactic(auto, using(crate::proofs::Copies::copies_left))]
     fn put_fitting_copies(
         &mut self,
@@ -263,7 +267,7 @@ impl<T: Tag, M: Copy> Paragraph<T, M> {
         Ok(())
     }
 
-    /// Puts a tab: spaces to the next multiple of 8 columns, on the next line what doesn't fit.
+    /// Places a tab: spaces to the next multiple of 8 columns. Those that don't fit are placed on continuation lines.
     fn put_tab(&mut self, character: Character<T>) -> Result<(), Error>
         ensures ok { OnOk result (
             on_page self.old (put_items self.old.setting self.old.page (map (λ d. Item.Character d) (tab_spaces self.old.page character))) ≡ Some self.new) }
@@ -277,7 +281,7 @@ impl<T: Tag, M: Copy> Paragraph<T, M> {
         self.put_copies(space, self.tab_count())
     }
 
-    /// Puts a tab: of the spaces to the next multiple of 8 columns those that fit.
+    /// Places a tab: those of the spaces to the next multiple of 8 columns that fit. The others are dropped.
     fn put_soft_tab(&mut self, character: Character<T>) -> Result<(), AllocError>
         ensures { OnOk result (self.new ≡ record self.old { page = fold (put_fitting self.old.setting) self.old.page (tab_spaces self.old.page character) }) }
     {
@@ -288,7 +292,7 @@ impl<T: Tag, M: Copy> Paragraph<T, M> {
         self.put_fitting_copies(space, self.tab_count())
     }
 
-    /// Puts a character that is placed by itself.
+    /// Places a character by itself, as its kind says. Does nothing for a kind that isn't placed by itself.
     fn put_single(&mut self, class: Class, character: Character<T>) -> Result<(), Error>
         requires { class.width ≡ width_of character.code }
         ensures ok { OnOk result (on_page self.old (put_single self.old.setting self.old.page class.kind character) ≡ Some self.new) }
@@ -313,7 +317,7 @@ impl<T: Tag, M: Copy> Paragraph<T, M> {
         }
     }
 
-    /// Places a character by itself, where no word is open.
+    /// Places a character by itself, after the pending space if that fits. It is called while no word is open.
     #[tactic(auto, using(html_render_dom_values::specs::laws::Outcome::refusals))]
     pub(super) fn place_single(
         &mut self,
@@ -329,7 +333,7 @@ impl<T: Tag, M: Copy> Paragraph<T, M> {
     }
 }
 
-/// Puts marks at the end of a line.
+/// Appends marks to a line.
 fn push_marks<T: Tag, M: Copy>(line: &mut Line<T, M>, marks: &[M]) -> Result<(), AllocError>
     ensures { OnOk result (line.new ≡ line.old ++ map (λ m. Element.Mark m) marks.now) }
 {

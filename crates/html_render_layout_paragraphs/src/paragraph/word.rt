@@ -1,4 +1,4 @@
-//! The open word, and words that are placed on the page: as a whole where they fit, else character by character.
+//! The open word, and placing of words: as a whole if they fit on the line, otherwise character by character.
 
 ghost use Rattle.std.specs.Prelude.{IfErr, IfOk, ◌≤◌, length, take, ◌≡◌, ◌+◌, ◌<◌, [], ◌∷◌, ◌++◌, Some, None, OnOk, option_map, IfSome, encode_utf8, map, true, false};
 ghost use Rattle.std.specs.Bool.{OnTrue};
@@ -22,7 +22,7 @@ use html_render_layout_lines::tag::Tag;
 use std::alloc::AllocError;
 use std::mem;
 
-/// How many bytes a front of a text has, and its columns.
+/// A leading part of a text: its number of bytes, and its columns.
 #[derive(Clone, Copy)]
 struct Front {
     bytes: usize,
@@ -30,7 +30,7 @@ struct Front {
 }
 
 impl<T: Tag, M: Copy> Paragraph<T, M> {
-    /// Whether the space that is due and the open word fit on the line.
+    /// Reports whether the open word fits on the line after the pending space.
     #[inline]
     fn has_room(&self) -> bool
         ensures { result ≡ fits self.now.setting (with_due_space self.now.page self.now.pending) (word_columns self.now.word) }
@@ -42,7 +42,7 @@ impl<T: Tag, M: Copy> Paragraph<T, M> {
         }
     }
 
-    /// Takes the open word out.
+    /// Removes and returns the open word.
     fn take_word(&mut self) -> Word<T, M>
         ensures word { result ≡ self.old.word }
         ensures after { self.new ≡ record self.old { word = []; open_word = None } }
@@ -51,7 +51,7 @@ impl<T: Tag, M: Copy> Paragraph<T, M> {
         mem::replace(&mut self.word, Word::new(self.alloc))
     }
 
-    /// Keeps the memory of a word that was placed for the next one.
+    /// Keeps the memory of a placed word for the next one. No word is open then.
     fn reuse_word(&mut self, word: Word<T, M>)
         ensures { self.new ≡ record self.old { word = []; open_word = None } }
     {
@@ -59,7 +59,7 @@ impl<T: Tag, M: Copy> Paragraph<T, M> {
         self.clear_word();
     }
 
-    /// Leaves no word open.
+    /// Closes the open word, if there is one, and discards its contents.
     #[inline]
     pub(super) fn clear_word(&mut self)
         ensures { self.new ≡ record self.old { word = []; open_word = None } }
@@ -68,7 +68,7 @@ impl<T: Tag, M: Copy> Paragraph<T, M> {
         self.open_word = OpenWord::Closed;
     }
 
-    /// Puts the open word, whose last part is a character, on the line, as a whole.
+    /// Appends the open word of `width` columns to the line as a whole. The word must end with a character.
     #[tactic(auto, using(crate::proofs::WholeWords::whole))]
     fn push_word(&mut self, width: usize) -> Result<(), AllocError>
         requires width { width ≡ word_columns self.old.word }
@@ -81,7 +81,8 @@ impl<T: Tag, M: Copy> Paragraph<T, M> {
         Ok(())
     }
 
-    /// The columns of the open word, if it fits on the line as a whole.
+    /// Returns the columns of the open word if it can be appended as a whole: if it fits on the line and ends with a
+    /// character.
     #[inline]
     fn whole_width(&self) -> Option<usize>
         ensures width { IfSome result (λ w. w ≡ word_columns self.now.word) }
@@ -96,7 +97,7 @@ impl<T: Tag, M: Copy> Paragraph<T, M> {
         }
     }
 
-    /// Puts the open word where there is place for it: as a whole where it fits, else character by character.
+    /// Places the open word: as a whole if it can be appended so, otherwise character by character.
     #[tactic(auto, using(crate::proofs::Words::whole_words))]
     fn put_word(&mut self) -> Result<(), Error>
         ensures ok { OnOk result (
@@ -112,7 +113,7 @@ impl<T: Tag, M: Copy> Paragraph<T, M> {
         }
     }
 
-    /// Puts the open word's characters and marks one after the other.
+    /// Places the characters and marks of the open word one by one.
     fn put_word_by_characters(&mut self) -> Result<(), Error>
         ensures ok { OnOk result (
             on_page (record self.old { word = []; open_word = None }) (put_items self.old.setting self.old.page self.old.word) ≡ Some self.new) }
@@ -124,7 +125,7 @@ impl<T: Tag, M: Copy> Paragraph<T, M> {
         Ok(())
     }
 
-    /// Puts a word's characters and marks one after the other.
+    /// Places the characters and marks of a word one by one.
     #[tactic(auto, using(html_render_dom_values::specs::laws::Outcome::refusals, crate::proofs::WordColumns::item_parts))]
     fn put_items(&mut self, word: &Word<T, M>) -> Result<(), Error>
         ensures ok { OnOk result (on_page self.old (put_items self.old.setting self.old.page word.now) ≡ Some self.new) }
@@ -135,7 +136,7 @@ impl<T: Tag, M: Copy> Paragraph<T, M> {
         self.put_open_run(parts.tag, parts.open_text)
     }
 
-    /// Puts what an open run makes of a word's text, one character after the other.
+    /// Places the characters of a word's open run one by one. `style` is `None` if no run is open.
     #[tactic(auto, using(crate::proofs::WordColumns::open_runs))]
     fn put_open_run(&mut self, style: Option<TextStyle<T>>, text: &str) -> Result<(), Error>
         ensures ok { OnOk result (on_page self.old (put_items self.old.setting self.old.page (items_of (open_elements style text.now))) ≡ Some self.new) }
@@ -147,7 +148,7 @@ impl<T: Tag, M: Copy> Paragraph<T, M> {
         Ok(())
     }
 
-    /// Puts what runs make of a word's text, one character after the other.
+    /// Places the characters and marks of a word's closed runs one by one. `text` is the text of the runs.
     #[tactic(auto, using(html_render_dom_values::specs::laws::Outcome::refusals))]
     fn put_runs(&mut self, runs: &[Run<TextStyle<T>, M>], text: &str) -> Result<(), Error>
         requires { Cuts runs.now text.now }
@@ -168,7 +169,8 @@ impl<T: Tag, M: Copy> Paragraph<T, M> {
         Ok(())
     }
 
-    /// Puts a text's characters one after the other.
+    /// Places the characters of a text one by one: each on the open line if it fits there, and otherwise on a
+    /// continuation line.
     #[tactic(auto, using(html_render_dom_values::specs::laws::Outcome::refusals))]
     pub(super) fn put_characters(&mut self, text: &str, style: TextStyle<T>) -> Result<(), Error>
         ensures ok { OnOk result (on_page self.old (put_items self.old.setting self.old.page (styled style (chars text.now))) ≡ Some self.new) }
@@ -182,7 +184,7 @@ impl<T: Tag, M: Copy> Paragraph<T, M> {
         Ok(())
     }
 
-    /// Whether a character of `width` columns stands on the next line, since it has no room on this one.
+    /// Reports whether a character of `width` columns doesn't fit on the open line, but on an empty one.
     #[inline]
     fn is_for_next_line(&self, width: usize) -> bool
         ensures here { OnTrue result (fits self.now.setting self.now.page width ≡ false) }
@@ -191,7 +193,7 @@ impl<T: Tag, M: Copy> Paragraph<T, M> {
         !self.fits(width) && width <= self.width
     }
 
-    /// Ends the line, if the first character of a text stands on the next one.
+    /// Begins a continuation line if the first character of a text doesn't fit on the open line, but on an empty one.
     #[tactic(auto, using(crate::proofs::Words::next_lines))]
     fn make_line_for(&mut self, text: &str, style: TextStyle<T>) -> Result<(), AllocError>
         requires { 0 < length text.now }
@@ -205,7 +207,8 @@ impl<T: Tag, M: Copy> Paragraph<T, M> {
         Ok(())
     }
 
-    /// Puts the longest front of a text that fits on the line, or else its first character, and gives the rest back.
+    /// Places the longest leading part of a text that fits on the line, or else its first character. Returns the rest
+    /// of the text.
     #[tactic(auto, using(html_render_dom_values::specs::laws::Outcome::refusals))]
     fn put_front<'a>(&mut self, text: &'a str, style: TextStyle<T>) -> Result<&'a str, Error>
         requires { 0 < length text.now }
@@ -225,7 +228,7 @@ impl<T: Tag, M: Copy> Paragraph<T, M> {
         Ok(behind)
     }
 
-    /// The longest front of a text that fits on the line; an empty one where the line passes its width.
+    /// Returns the longest leading part of a text that fits on the line. It is empty if the line passes its width.
     fn fitting_front(&self, text: &str) -> Front
         ensures front { IsFront text.now result.bytes result.columns }
         ensures fits { 0 < result.bytes → fits self.now.setting self.now.page result.columns ≡ true }
@@ -240,7 +243,7 @@ impl<T: Tag, M: Copy> Paragraph<T, M> {
         }
     }
 
-    /// Places the open word.
+    /// Places the open word, after the pending space or on a continuation line.
     #[tactic(auto, using(html_render_dom_values::specs::laws::Outcome::refusals))]
     fn place_word(&mut self) -> Result<(), Error>
         ensures ok { OnOk result (placed_word self.old ≡ Some self.new) }
@@ -261,7 +264,7 @@ impl<T: Tag, M: Copy> Paragraph<T, M> {
         }
     }
 
-    /// Begins an empty word, which has white space preserved or not.
+    /// Begins an empty word. `preserved` says whether white space is preserved in its text.
     pub(super) fn begin_word(&mut self, preserved: bool)
         ensures { self.new ≡ record self.old { word = []; open_word = Some preserved } }
     {
@@ -273,7 +276,7 @@ impl<T: Tag, M: Copy> Paragraph<T, M> {
         };
     }
 
-    /// Puts a text of `width` columns on the line, behind the marks that wait.
+    /// Appends the waiting marks and a text of `width` columns to the open line.
     #[inline]
     pub(super) fn push_text(
         &mut self,
@@ -295,7 +298,8 @@ impl<T: Tag, M: Copy> Paragraph<T, M> {
             .push_str(text, width, style_tag(style, self.continues))
     }
 
-    /// Puts a text of `width` columns, one character or more, where there is place for it.
+    /// Places a text of `width` columns and at least one character: as a whole if it fits on the line, otherwise
+    /// character by character.
     #[tactic(auto, using(html_render_dom_values::specs::laws::Outcome::refusals, crate::proofs::Words::text_words))]
     fn put_text(&mut self, text: &str, width: usize, style: TextStyle<T>) -> Result<(), Error>
         requires width { width ≡ text_columns (chars text.now) }
@@ -311,7 +315,8 @@ impl<T: Tag, M: Copy> Paragraph<T, M> {
         }
     }
 
-    /// Places a word of `width` columns, where none is open.
+    /// Places a text of `width` columns and at least one character as a word, after the pending space or on a
+    /// continuation line. It is called while no word is open.
     #[tactic(auto, using(html_render_dom_values::specs::laws::Outcome::refusals, crate::proofs::WordColumns::texts))]
     pub(super) fn place_text(
         &mut self,
@@ -329,7 +334,7 @@ impl<T: Tag, M: Copy> Paragraph<T, M> {
     }
 }
 
-/// A character in this style.
+/// Returns a character with the mode and the tags of a style.
 #[inline]
 pub(super) fn character_of<T: Copy>(c: char, style: TextStyle<T>) -> Character<T>
     ensures { result ≡ character_of style c }
@@ -342,7 +347,7 @@ pub(super) fn character_of<T: Copy>(c: char, style: TextStyle<T>) -> Character<T
     }
 }
 
-/// The printable ASCII characters at the front of a text, at most `room`.
+/// Returns the number of printable ASCII characters, the space excluded, at the start of a text, at most `room`.
 #[inline]
 fn plain_front(text: &str, room: usize) -> usize
     ensures front { IsFront text.now result result }
@@ -352,7 +357,8 @@ fn plain_front(text: &str, room: usize) -> usize
     plain_in_front(&bytes[..room.min(bytes.len())])
 }
 
-/// The first character of a text, if it has at most `room` columns.
+/// Returns the first character of a text as a leading part. The part is empty if the character has more than `room`
+/// columns.
 fn first_front(text: &str, room: usize) -> Front
     requires { 0 < length text.now }
     ensures front { IsFront text.now result.bytes result.columns }
@@ -372,7 +378,8 @@ fn first_front(text: &str, room: usize) -> Front
     }
 }
 
-/// A front of a text that has at most `room` columns: its printable ASCII characters, or else its first character.
+/// Returns a leading part of a text of at most `room` columns: its printable ASCII characters, the space excluded, or
+/// else its first character. The part is empty if that is wider.
 fn next_front(text: &str, room: usize) -> Front
     requires { 0 < length text.now }
     ensures front { IsFront text.now result.bytes result.columns }
@@ -388,7 +395,7 @@ fn next_front(text: &str, room: usize) -> Front
     }
 }
 
-/// The longest front of a text that has at most `room` columns.
+/// Returns the longest leading part of a text that has at most `room` columns.
 fn longest_front(text: &str, room: usize) -> Front
     ensures front { IsFront text.now result.bytes result.columns }
     ensures fits { result.columns ≤ room }
@@ -406,7 +413,7 @@ fn longest_front(text: &str, room: usize) -> Front
     Front { bytes, columns }
 }
 
-/// A text's first character, and the rest.
+/// Returns the first character of a text, and the rest. The text must not be empty.
 pub(super) fn split_first_character(text: &str) -> (char, &str)
     requires { 0 < length text.now }
     ensures characters { chars text.now ≡ result.0 ∷ chars result.1.now }

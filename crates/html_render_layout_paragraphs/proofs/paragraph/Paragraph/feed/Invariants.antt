@@ -3,7 +3,7 @@ use Rattle.std.specs.Str.{chars, IsUtf8}
 use Rattle.html_render_layout_paragraphs.specs.Stream.{after, styled}
 use Rattle.html_render_layout_paragraphs.proofs.paragraph.Paragraph.feed.Given as goal
 
--- what is wanted is what the rest gives from here
+-- The result is that of feeding the rest of the text to the present state.
 abbrev pub invariant-loop-rest : goal.invariant-loop-rest
 invariant-loop-rest g l = (after l.initial.self (styled l.style (chars l.text)) ≡ after l.self (styled l.style (chars l.rest))) ×
     IsUtf8 l.rest

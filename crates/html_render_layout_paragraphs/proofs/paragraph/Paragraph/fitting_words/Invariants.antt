@@ -4,7 +4,7 @@ use Rattle.html_render_layout_paragraphs.specs.Feeding.{IsFront, with_words}
 use Rattle.html_render_layout_paragraphs.specs.Stream.{after, styled}
 use Rattle.html_render_layout_paragraphs.proofs.paragraph.Paragraph.fitting_words.Given as goal
 
--- what is wanted is what the text behind these words gives from there
+-- The result is that of feeding the text after these words to the state with them.
 abbrev pub invariant-loop-bytes : goal.invariant-loop-bytes
 invariant-loop-bytes g l = record {
   front : IsFront l.text l.bytes l.columns;

@@ -4,7 +4,7 @@ use Rattle.html_render_layout_paragraphs.specs.Paragraph.{put_items}
 use Rattle.html_render_layout_paragraphs.specs.Stream.{on_page, styled}
 use Rattle.html_render_layout_paragraphs.proofs.paragraph.Paragraph.put_characters.Given as goal
 
--- what is wanted is what the rest gives from here
+-- The result is that of placing the rest of the text on the present page.
 abbrev pub invariant-loop-rest : goal.invariant-loop-rest
 invariant-loop-rest g l = record {
   utf8 : IsUtf8 l.rest;
