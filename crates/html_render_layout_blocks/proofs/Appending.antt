@@ -1,4 +1,5 @@
--- Lines of another block, as the code puts them behind those of a block: with the marks at their ends, each is put behind its prefix.
+-- Lines of a block as the code appends them to those of another one: with the marks at their ends, and each after its
+-- prefix.
 use Rattle.std.proofs.Common.{◌≡◌, ℕ, ◌<◌, Bool, true, false, cond, leb, ◌||◌, ◌&&◌, List, [], ◌∷◌, ◌++◌, map, length, Option, Some, None, option_map, option_and_then, refl}
 use Rattle.std.proofs.Common.{sym, ap, ◌∙◌, arith, append_assoc}
 use Rattle.std.specs.List.{list_all}
@@ -16,12 +17,12 @@ use Rattle.html_render_layout_blocks.specs.Joined.{prefixed, fitting, moved}
 use Rattle.html_render_layout_blocks.specs.Block.{flush, feed, put_lines, end_table, mark_items, append}
 use Rattle.html_render_layout_blocks.specs.Machine.{machine, MachineBlock}
 
--- where the outer one can't be flushed
+-- Appending to a block that can't be flushed refuses.
 pub append_unflushed : {T M : Type 0} (e : Error) (b c : MachineBlock T M) (tag : T) (first later : List ℕ) →
     Refuses e (flush machine b) → Refuses e (append machine b c tag first later)
 append_unflushed e b c tag first later h = Refuses-then e (flush machine b) _ h
 
--- what follows refuses where the definition does
+-- A mapped result refuses if the result does.
 pub refused-mapped : {X Y : Type 0} (e : Error) (f : X → Y) (o : Option X) (p : Option Y) → p ≡ option_map f o → Refuses e o → Refuses e p
 refused-mapped TooNarrow f o p same h = same ∙ ap (option_map f) h
 refused-mapped Fail f o p same h = h
@@ -45,7 +46,7 @@ module _ {T M : Type 0} where
   abbrev are_within : ℕ → List (Line T M) → Bool
   are_within w ls = list_all (λ (l : Line T M). leb (columns l) w) ls
 
-  -- marks take no columns
+  -- Marks take no column.
   before-within : (w : ℕ) (ms : List M) (ls : List (Line T M)) → are_within w (marked_before ms ls) ≡ are_within w ls
   before-within w ms [] = refl
   before-within w ms (l ∷ ls) = ap (λ n. leb n w && are_within w ls) (omega (arith, columns-append (marks_line ms) l, columns-marks T ms))
@@ -61,7 +62,7 @@ module _ {T M : Type 0} where
       if_with (option_map (λ all. marked_before ns (marked_behind ms all))) _ _ _ _ _ _
       (ap (λ b. o || b) (before-within w ns (marked_behind ms ls) ∙ behind-within w ms ls)) refl refl
 
-  -- lines that are moved with their marks
+  -- Lines that are moved with their marks.
   some-put : (b : MachineBlock T M) (p q : Line T M) (ls : List (Line T M)) (ms : List M) → 0 < length ls →
       option_map (λ all. put_lines machine b all ms) (fitting b.setting.width b.setting.overflow (prefixed p q ls))
       ≡ option_map (λ all. record b { lines = all; paragraph = machine.without_waiting b.paragraph })
@@ -82,7 +83,7 @@ module _ {T M : Type 0} where
       by true = refl
       by false = refl
 
-  -- and where there are none
+  -- Without lines, the marks are fed.
   pub none_put : (b : MachineBlock T M) (p q : Line T M) (ls : List (Line T M)) (ms : List M) → length ls ≡ 0 →
       option_map (λ all. put_lines machine b all ms) (fitting b.setting.width b.setting.overflow (prefixed p q ls)) ≡ Some (feed machine b (mark_items ms))
   none_put b p q ls ms h =
@@ -93,7 +94,8 @@ module _ {T M : Type 0} where
       by true = refl
       by false = refl
 
-  -- as the code has them: the block d is b without the marks that wait, which are ws, and ks are the lines with their marks
+  -- The step in the code's terms: the block d is b without its waiting marks, which are ws, and ks are the lines with
+  -- their marks.
   pub moved_put : (b d : MachineBlock T M) (p q r k : Line T M) (ls ks : List (Line T M)) (ms ws : List M) → 0 < length ls →
       ks ≡ marked_behind ms ls → ws ≡ machine.waiting b.paragraph → d ≡ record b { paragraph = machine.without_waiting b.paragraph } →
       r ≡ p → k ≡ q → option_map (λ all. put_lines machine b all ms) (fitting b.setting.width b.setting.overflow (prefixed p q ls))
@@ -106,7 +108,7 @@ module _ {T M : Type 0} where
       ∙ sym (ap (λ x. Moved x ws r k ks) block ∙ ap (λ ns. Moved without ns r k ks) marks ∙ ap (λ i. Moved without (machine.waiting b.paragraph) i k ks) first
       ∙ ap (λ j. Moved without (machine.waiting b.paragraph) p j ks) later ∙ ap (Moved without (machine.waiting b.paragraph) p q) lines)
 
-  -- ---- a block behind a block, once both are flushed
+  -- ---- A block appended to another, once both are flushed
 
   abbrev put_behind : MachineBlock T M → T → List ℕ → List ℕ → List (Line T M) → List M → Option (MachineBlock T M)
   put_behind b tag first later ls ms =

@@ -1,4 +1,4 @@
--- Lines that are added behind others are added behind what stands before these.
+-- Lines that are appended to others, with the lines before these.
 use Rattle.std.proofs.Common.{◌≡◌, ℕ, ◌+◌, Bool, List, ◌++◌, Option, Some, None, option_map, length, ap, sym, refl, ◌∙◌, append_assoc, length-append}
 use Rattle.html_render_layout_lines.specs.Line.{Line, marks_line}
 use Rattle.html_render_layout_blocks.specs.Joined.{prefixed, fitting, moved}
@@ -8,7 +8,7 @@ use Rattle.html_render_layout_pictures.specs.Padding.{filled}
 use Rattle.html_render_layout_blocks.specs.Block.{flush}
 use Rattle.html_render_layout_blocks.specs.Machine.{machine, MachineBlock}
 
--- the number of lines of two lists, one behind the other
+-- The number of lines of two lists that are joined.
 pub length_append : {X : Type 0} (xs ys : List X) → length (xs ++ ys) ≡ length xs + length ys
 length_append xs ys = length-append xs ys
 
@@ -24,7 +24,7 @@ pub moved_behind : {T M : Type 0} (width : ℕ) (overflow : Bool) (waiting : Lis
 moved_behind width overflow waiting first later front done lines =
     all_behind front done (fitting width overflow (prefixed (marks_line waiting ++ first) later lines))
 
--- a paragraph's lines behind others, with what stands before these
+-- The lines of a paragraph appended to the last lines of a block, with the lines before these.
 pub padded_flush : {T M : Type 0} (b c : MachineBlock T M) (p : Option (State T M)) (q r : State T M) (front last new : List (Line T M)) →
     record c { lines = front ++ last; paragraph = p } ≡ b → p ≡ Some q → option_map {U = List (Line T M) × State T M}
     (λ (g : Page T M). (last ++ filled c.padding c.setting.width (all_lines g), start q.setting g.waiting)) (finished q) ≡ Some (new, r) →

@@ -1,4 +1,4 @@
--- What is done with the next cell, and at a row's end, by where the next cell goes.
+-- Adding a cell, and ending a row, by the place of the next cell.
 use Rattle.std.proofs.Common.{◌≡◌, true, false, not, Option, Some, None, option_map, refl, sym, ap, ◌∙◌}
 use Rattle.html_render_layout_blocks.specs.declared.block.cells.CellPlace.{CellPlace}
 use Rattle.html_render_layout_blocks.specs.declared.block.cells.CellPlace.TheVariants.{InRow, InStack, Below}
@@ -11,7 +11,7 @@ use Rattle.html_render_layout_lines.specs.Line.{is_empty}
 use Rattle.html_render_layout_blocks.specs.Machine.{machine, MachineBlock}
 
 module _ {T M : Type 0} where
-  -- a cell that goes there
+  -- Block with a cell at a place.
   abbrev added_at : MachineBlock T M → MachineBlock T M → Option (OpenTable (Drawing T M) T M) → CellPlace T → Option (MachineBlock T M)
   added_at b c o InRow =
       Some (record b { table = option_map (with_next (record { width = c.setting.width; lines = c.lines; marks = machine.waiting c.paragraph })) o })
@@ -29,7 +29,7 @@ module _ {T M : Type 0} where
       by (Some (Across p ws ahead (Some row))) = refl
       by (Some (Stacked border has_lines)) = refl
 
-  -- the end of a row whose next cell would go there
+  -- Block after the end of a row, by the place where its next cell would be.
   abbrev ended_at : MachineBlock T M → Option (OpenTable (Drawing T M) T M) → CellPlace T → Option (MachineBlock T M)
   ended_at b o InRow = Some (record b { table = option_map (with_row_over machine) o })
   ended_at b o Below = Some b

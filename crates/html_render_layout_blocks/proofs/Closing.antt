@@ -1,4 +1,4 @@
--- Closing lines as the code makes them: a text with a space for each newline, and text by text.
+-- Closing lines as the code builds them: a space for each newline, and text by text.
 use Rattle.std.proofs.Common.{◌≡◌, ℕ, Bool, true, cond, eqb, ◌&&◌, List, [], ◌∷◌, ◌++◌, Option, Some, None, refl, sym, ap, ◌∙◌}
 use Rattle.std.proofs.Common.{append-nil, append_assoc, option_map, option_and_then}
 use Rattle.std.proofs.lemmas.Bool.{and_parts}
@@ -15,7 +15,7 @@ use Rattle.html_render_layout_blocks.specs.laws.Related.{line_setting}
 
 pub ruleset ends = (append-nil)
 
--- ---- newlines
+-- ---- Newlines
 
 pub encodes-unbroken : (cs : List ℕ) (c : ℕ) → encodes (on_one_line (cs ++ c ∷ [])) ≡ encodes (on_one_line cs) ++ encode (cond (eqb c 10) 32 c)
 encodes-unbroken cs c =
@@ -31,13 +31,13 @@ scalars-unbroken (c ∷ cs) e =
     ap (λ b. b && scalars (on_one_line cs)) (if_cases (λ d. scalar d ≡ true) (eqb c 10) 32 c (λ _. refl) (λ _. h.0))
     ∙ scalars-unbroken cs h.1
 
--- the characters of a text that was written so
+-- Characters of a text that was written with a space for each newline.
 pub chars-unbroken : (bs : List ℕ) → IsUtf8 bs → chars (encodes (on_one_line (chars bs))) ≡ on_one_line (chars bs)
 chars-unbroken bs u =
     let same : chars bs ≡ u.0 = ap chars (sym u.1.1) ∙ chars-encodes u.0 u.1.0 in
     chars-encodes (on_one_line (chars bs)) (scalars-unbroken (chars bs) (ap scalars same ∙ u.1.0))
 
--- ---- text by text
+-- ---- Text by text
 
 pub closing-step : {T M : Type 0} (s : BlockSetting) (cut : Bool) (tag : T) (t : List ℕ) (ts : List (List ℕ)) (old new : List (Line T M)) →
     option_map (λ more. old ++ more) (text_lines (line_setting s) cut tag (on_one_line t)) ≡ Some new →

@@ -5,7 +5,7 @@ use Rattle.std.specs.List.{list_all}
 use Rattle.html_render_layout_lines.specs.Line.{Line, columns}
 use Rattle.html_render_layout_blocks.specs.Joined.{prefixed, fitting}
 
--- the lines done, and more behind prefixes, one by one
+-- Lines `done`, followed by others after prefixes, added one by one. None, with overflow off, if one passes the width.
 abbrev pub added : {T M : Type 0} → ℕ → Bool → Line T M → Line T M → List (Line T M) → List (Line T M) → Option (List (Line T M))
 added width overflow first later [] done = Some done
 added width overflow first later (l ∷ ls) done =
@@ -28,7 +28,7 @@ added-behind {T} {M} width overflow later (l ∷ ls) done =
     (map (◌++◌ later) ls) _
     (added-behind width overflow later ls (done ++ (later ++ l) ∷ []))
 
--- one by one they are the definition's
+-- Lines that are added one by one are the definition's.
 pub moved-is : {T M : Type 0} (width : ℕ) (overflow : Bool) (first later : Line T M) (ls done : List (Line T M)) →
     option_map (λ all. done ++ all) (fitting width overflow (prefixed first later ls)) ≡ added width overflow first later ls done
 moved-is width true first later [] done = ap Some (append-nil done)

@@ -1,4 +1,4 @@
--- The places of a row as the code passes them, and columns that are parted.
+-- Places of a row as the code passes them, and columns that are split.
 use Rattle.std.proofs.Common.{◌≡◌, ℕ, suc, ◌+◌, ◌-◌, ◌<◌, Bool, List, [], ◌∷◌, ◌++◌, length, sum, take, drop, reverse, ap, ◌∙◌}
 use Rattle.std.proofs.Common.{arith, cond, get_or, sym, append_assoc, Option, length-append}
 use Rattle.std.proofs.lemmas.List.{take-append-drop, take_min, drop_min, reverse-append, at_drop_more}
@@ -9,7 +9,7 @@ use Rattle.html_render_layout_blocks.specs.OpenRows.{is_cell, cell_width, places
 
 pub ruleset columns_at = (take_min, drop_min)
 
--- ---- a part of columns is no wider
+-- ---- A part of the columns is no wider
 
 parts_fit : (n b : ℕ) (ws : List ℕ) → sum ws + (length ws - 1) < b →
     (sum (take n ws) + (length (take n ws) - 1) < b) × (sum (drop n ws) + (length (drop n ws) - 1) < b)
@@ -30,7 +30,7 @@ own_fits n b ws h = (parts_fit n b ws h).0
 pub behind_fits : (n b : ℕ) (ws : List ℕ) → sum ws + (length ws - 1) < b → sum (drop n ws) + (length (drop n ws) - 1) < b
 behind_fits n b ws h = (parts_fit n b ws h).1
 
--- ---- places that stand in reverse: the last one comes next
+-- ---- Places in reverse: the last one is next
 
 last-first : {X : Type 0} (xs before : List X) (x : X) → xs ≡ before ++ x ∷ [] → reverse xs ≡ x ∷ reverse before
 last-first xs before x e = ap reverse e ∙ reverse-append before (x ∷ [])
@@ -50,14 +50,14 @@ pub before-reversed : {T M : Type 0} (xs before : List RowPlace) (p : RowPlace) 
 before-reversed xs before p stands e is =
     ap (λ ps. empty_cells (before_cell ps)) (last-first xs before p e) ∙ ap (λ b. empty_cells (cond b [] (p ∷ before_cell (reverse before)))) is
 
--- ---- the places of cells
+-- ---- Places of cells
 
 pub places-more : (widths : List ℕ) (cells : List PlacedCell) (i : ℕ) (d : PlacedCell) → i < length cells → places widths (drop i cells)
     ≡ record { is_cell = is_cell (get_or cells i d).kind; width = cell_width (take (get_or cells i d).columns widths) }
     ∷ places (drop (get_or cells i d).columns widths) (drop (i + 1) cells)
 places-more widths cells i d h = at_drop_more (places widths) cells i d h
 
--- a place more
+-- One more place.
 pub places-step : (all : List RowPlace) (rest own behind : List ℕ) (cells : List PlacedCell) (i : ℕ) (d : PlacedCell) (row more : List RowPlace) (is : Bool)
     (width : Option ℕ) → all ≡ row ++ places rest (drop i cells) → i < length cells → own ≡ take (get_or cells i d).columns rest →
     behind ≡ drop (get_or cells i d).columns rest → is ≡ is_cell (get_or cells i d).kind → width ≡ cell_width own →

@@ -1,4 +1,4 @@
--- What is done to a block, one operation after another, with the blocks inside it.
+-- Operations on a block, one after another, with those on the blocks in it.
 use Rattle.std.specs.Prelude.{ℕ, Bool, true, List, Option, Some}
 use Rattle.std.specs.Option.{option_map_or}
 use Rattle.html_render_dom_values.specs.Outcome.{◌>>=◌}
@@ -7,7 +7,8 @@ use Rattle.html_render_parts.specs.TableCells.{CellGrid}
 use Rattle.html_render_layout_lines.specs.declared.character.TextStyle.{TextStyle}
 use Rattle.html_render_layout_blocks.specs.Operations.{Operations, DocumentEnd}
 
--- T are the tags, and marks are numbers. Each ends with what is done next
+-- A sequence of operations. T are the tags, and marks are numbers. `least` is the minimum width of a sub-block. The
+-- last argument of each operation is the rest of the sequence.
 pub data Edits (T : Type 0) : Type 0 where
   Done : Edits T
   AddText : TextStyle T → (text : List ℕ) → Edits T → Edits T
@@ -16,16 +17,16 @@ pub data Edits (T : Type 0) : Type 0 where
   NewLineHard : Edits T → Edits T
   StartBlock : Edits T → Edits T
   EndBlock : Edits T → Edits T
-  Nest : (prefix least : ℕ) → (inside : Edits T) → T → (first later : List ℕ) → Edits T → Edits T  -- a sub-block, and how it is appended
+  Nest : (prefix least : ℕ) → (inside : Edits T) → T → (first later : List ℕ) → Edits T → Edits T  -- a sub-block with its operations, appended
   BeginTable : T → (borders stacked : Bool) → CellGrid → List ColumnNeed → Edits T → Edits T
   BeginRow : Edits T → Edits T
-  AddCell : (inside : Edits T) → Edits T → Edits T  -- the next cell of the row, unless it is skipped
+  AddCell : (inside : Edits T) → Edits T → Edits T  -- the next cell, with its operations, unless it is skipped
   EndRow : Edits T → Edits T
   EndTable : Edits T → Edits T
   Finish : Edits T → Edits T
-  Close : T → (texts : List (List ℕ)) → Edits T → Edits T  -- closing lines, which are wrapped
+  Close : T → (texts : List (List ℕ)) → Edits T → Edits T  -- closing lines, which are cut
 
--- the block that comes of it; none where it is too narrow
+-- Block after a sequence of operations. None if one of them is too narrow.
 abbrev pub edited : {B T : Type 0} → Operations B T ℕ → DocumentEnd B T → Edits T → B → Option B
 edited o end Done b = Some b
 edited o end (AddText style text next) b = o.add_inline_text b style text >>= λ c. edited o end next c

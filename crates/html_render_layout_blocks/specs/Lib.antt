@@ -1,4 +1,4 @@
--- the block, over what a paragraph and a picture offer
+-- Blocks over any paragraphs and pictures, and their parts.
 pub mod Operations
 pub mod Joined
 pub mod Closing
@@ -6,12 +6,12 @@ pub mod OpenRows
 pub mod Parts
 pub mod Tables
 pub mod Block
--- its definition on whole lists, and the machine that is fed character by character
+-- The definition on whole lists, and the machine that is fed character by character.
 pub mod Definition
 pub mod Machine
--- what is done to a block, one operation after another
+-- Sequences of operations on a block.
 pub mod Edits
--- its visible characters
+-- Visible characters.
 pub mod Visible
--- laws of the definitions
+-- Laws of the definitions.
 pub mod laws

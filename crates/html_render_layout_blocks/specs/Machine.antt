@@ -1,4 +1,5 @@
--- THE MACHINE: a block whose open paragraph is fed character by character, and whose table is drawn row by row, as the code keeps it.
+-- THE MACHINE: a block whose open paragraph is fed character by character and whose table is drawn row by row, as in
+-- the code.
 use Rattle.std.specs.Prelude.{List, [], Option, Some, None, option_map, option_and_then}
 use Rattle.html_render_layout_paragraphs.specs.Stream.{State, start, after, finished}
 use Rattle.html_render_layout_pictures.specs.Drawing as drawing
@@ -8,15 +9,16 @@ use Rattle.html_render_layout_blocks.specs.Block.{Block}
 use Rattle.html_render_layout_blocks.specs.Operations.{Operations, DocumentEnd}
 use Rattle.html_render_layout_blocks.specs.Parts.{Parts}
 
--- the marks that wait in a paragraph; it is none once a character was too wide for it
+-- Waiting marks of a paragraph, which is None once a character was too wide for it.
 abbrev pub waiting : {T M : Type 0} → Option (State T M) → List M
 waiting None = []
 waiting (Some q) = q.page.waiting
 
--- a paragraph without them
+-- Paragraph without its waiting marks.
 abbrev pub without_waiting : {T M : Type 0} → Option (State T M) → Option (State T M)
 without_waiting {T} {M} o = option_map (λ (q : State T M). record q { page = record q.page { waiting = [] } }) o
 
+-- Paragraphs and pictures of the machine.
 abbrev pub machine : {T M : Type 0} → Parts (Option (State T M)) (Drawing T M) T M
 machine {T} {M} = record {
   start = λ s ms. Some (start s ms);
@@ -30,12 +32,14 @@ machine {T} {M} = record {
   drawn = drawing.finished;
 }
 
+-- A block of the machine.
 abbrev pub MachineBlock : Type 0 → Type 0 → Type 0
 MachineBlock T M = Block (Option (State T M)) (Drawing T M) T M
 
--- what a layout is made of, and what a document ends with. They don't unfold in the crates above, which only call them
+-- Operations of a layout on the machine's blocks. They don't unfold in the crates above, which only call them.
 unfoldable pub operations : {T M : Type 0} → Operations (MachineBlock T M) T M
 operations = block.operations machine
 
+-- Operations at the end of a document, on the machine's blocks. They don't unfold in the crates above.
 unfoldable pub ending : {T M : Type 0} → DocumentEnd (MachineBlock T M) T
 ending = block.ending machine

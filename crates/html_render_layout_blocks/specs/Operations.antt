@@ -1,10 +1,11 @@
--- The operations on blocks that a layout is made of, and those that a document ends with.
+-- Operations on blocks of which a layout consists, and those at the end of a document.
 use Rattle.std.specs.Prelude.{ℕ, Bool, List, Option}
 use Rattle.html_render_parts_widths.specs.declared.shares.ColumnNeed.{ColumnNeed}
 use Rattle.html_render_parts.specs.TableCells.{CellGrid}
 use Rattle.html_render_layout_lines.specs.declared.character.TextStyle.{TextStyle}
 
--- B are the blocks, T the tags and M the marks; none is "too narrow"
+-- Operations of a layout. B are the blocks, T the tags and M the marks. `None` means "too narrow", and of `cell_block`
+-- "skipped".
 pub record Operations (B T M : Type 0) : Type 0 where
   pub add_inline_text : B → TextStyle T → List ℕ → Option B
   pub add_mark : B → M → B
@@ -12,17 +13,17 @@ pub record Operations (B T M : Type 0) : Type 0 where
   pub new_line_hard : B → Option B
   pub start_block : B → Option B
   pub end_block : B → B
-  pub sub_block : B → ℕ → ℕ → Option B  -- by the width of its prefix, and its own least width
-  pub append : B → B → T → List ℕ → List ℕ → Option B  -- a tag, and what the first line and the later ones stand behind
-  pub begin_table : B → T → (borders stacked : Bool) → CellGrid → List ColumnNeed → Option B  -- with the tag of its borders
+  pub sub_block : B → ℕ → ℕ → Option B  -- by the columns of the prefix and the minimum width
+  pub append : B → B → T → List ℕ → List ℕ → Option B  -- a tag, and the prefixes of the first line and of the others
+  pub begin_table : B → T → (borders stacked : Bool) → CellGrid → List ColumnNeed → Option B  -- with the tag of the borders
   pub begin_row : B → B
-  pub cell_block : B → Option B  -- for the next cell of the row; none where that is skipped
+  pub cell_block : B → Option B  -- for the next cell of the row; `None` if that is skipped
   pub add_cell : B → B → Option B
   pub skip_cell : B → B
   pub end_row : B → Option B
   pub end_table : B → B
 
--- none is "too narrow"
+-- Operations at the end of a document. `None` means "too narrow".
 pub record DocumentEnd (B T : Type 0) : Type 0 where
   pub finish : B → Option B
   pub add_closing_lines : B → (cut : Bool) → T → List (List ℕ) → Option B

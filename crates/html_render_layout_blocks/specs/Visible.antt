@@ -1,7 +1,7 @@
--- The visible characters of a text.
+-- Visible characters of a text.
 use Rattle.std.specs.Prelude.{ℕ, List, flat_map}
 use Rattle.html_render_layout_lines.specs.Visible.{if_visible}
 
--- the visible characters of a text, in order
+-- Visible characters of a text, in order.
 abbrev pub visible_in_text : List ℕ → List ℕ
 visible_in_text cs = flat_map if_visible cs

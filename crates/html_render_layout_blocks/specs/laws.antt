@@ -1,18 +1,18 @@
--- THE THEOREM: two blocks whose paragraphs, pictures and lines are related stay so under each operation
+-- THE THEOREM: each operation keeps two blocks related whose paragraphs, pictures and lines are related.
 pub mod Related
--- so what is seen of a machine's block is what is seen of the definition's
+-- A machine's block shows what the definition's block shows.
 pub mod BlockSeen
--- and what is said of a block's lines is said of the same block beside it: with overflow off none passes the width; with overflow on no operation
--- refuses, and the lines are the same
+-- A block beside one with other overflow. With overflow off no line passes the width. With overflow on no operation
+-- refuses, and the lines are the same.
 pub mod Beside
 pub mod TableWithin
 pub mod BlockHolds
--- whatever is done to a block
+-- No line passes the width, after any sequence of operations with overflow off.
 pub mod EditsWithin
--- no visible character is lost
+-- No visible character is lost.
 pub mod Operations
 pub mod BlockVisible
--- a block's end, and closing lines
+-- The end of a block, and closing lines.
 pub mod Closing
--- marks that are fed first wait
+-- Marks that are fed first wait.
 pub mod BlockMarks

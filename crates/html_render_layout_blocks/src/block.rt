@@ -1,7 +1,7 @@
-//! A block: finished lines, and an open paragraph that texts are added to.
+//! A block: finished lines, and an open paragraph that receives texts.
 //!
-//! `block.add_inline_text("a", style)?`, `block.new_line_hard()?` and `block.add_inline_text("b", style)?` make the
-//! lines `a` and `b`, once the block is flushed.
+//! `block.add_inline_text("a", style)?`, `block.new_line_hard()?` and `block.add_inline_text("b", style)?` give the
+//! lines `a` and `b` once the block is flushed.
 
 ghost use Rattle.std.specs.Prelude.{◌≡◌, ◌==◌, ◌||◌, cond, not, length, nat_le, [], ◌++◌, ◌∷◌, Some, None, map, min, option_map, unwrap_or};
 ghost use Rattle.std.specs.Prelude.{OnOk, IfOk, IfErr, IsTrue};
@@ -41,34 +41,37 @@ mod padding;
 mod rows;
 mod tables;
 
-/// How wide a block is, and whether what is wider is laid out nevertheless.
+/// Widths of a block, and whether lines may pass them.
 #[derive(Clone, Copy)]
 pub struct BlockSetting {
-    /// The columns of a line.
+    /// Columns of a line.
     pub width: usize,
-    /// The columns of a paragraph's lines, where they are fewer.
+    /// Maximum columns of a paragraph's lines, prefixes excluded; `None` if only `width` limits them.
     pub max_wrap_width: Option<usize>,
-    /// Whether a character that is wider than a line stands alone on one, and whether a line may be wider behind its
-    /// prefix.
+    /// Whether a character wider than a line is placed nevertheless, alone on its line, and whether a line may pass the
+    /// width with its prefix.
     pub overflow: bool,
 }
 
-/// A block: its finished lines, and the paragraph that is open, unless a character was too wide for it.
+/// A block: finished lines, an open paragraph, and an open table if there is one.
+///
+/// A character that is too wide closes the paragraph, with overflow off. From then on texts and marks are ignored, and
+/// each flush returns `TooNarrow`.
 #[derive(Drop)]
 pub struct Block<T, M> {
-    /// Where its memory comes from.
+    /// Allocator of lines, paragraphs and tables.
     alloc: Global,
-    /// How wide it is.
+    /// Widths and overflow.
     setting: BlockSetting,
-    /// The tag of the spaces that lines of paragraphs are filled with, if they are.
+    /// Tag of the spaces that pad lines of paragraphs; `None` without padding.
     padding: Option<T>,
-    /// The finished lines.
+    /// Finished lines.
     lines: Lines<T, M>,
-    /// The open paragraph, unless a character was too wide for it.
+    /// Open paragraph; `None` once a character was too wide for it.
     paragraph: Option<Paragraph<T, M>>,
-    /// Whether a block ended here.
+    /// Whether a block has ended here.
     at_block_end: bool,
-    /// The table that is open, if one is.
+    /// Open table; `None` if no table is open.
     table: Option<Box<OpenTable<Picture<T, M>, T, M>>>,
 }
 
@@ -88,14 +91,15 @@ impl<T, M> Model for Block<T, M> {
     } };
 }
 
-/// Whether a text is empty.
+/// Reports whether a text is empty.
 fn has_no_character(text: &str) -> bool
     ensures { result ≡ (length (chars text.now) == 0) }
 {
     text.is_empty()
 }
 
-/// Whether a text shows nothing where a block ended: collapsible white space alone.
+/// Reports whether a text is dropped at the end of a block: whether it is collapsible white space alone, under
+/// `Normal`.
 fn is_blank(mode: WhiteSpace, text: &str) -> bool
     ensures { result ≡ is_blank mode (chars text.now) }
 {
@@ -105,7 +109,7 @@ fn is_blank(mode: WhiteSpace, text: &str) -> bool
     }
 }
 
-/// Whether a text is collapsible white space alone.
+/// Reports whether a text has no character but collapsible white space.
 fn is_collapsible_alone(text: &str) -> bool
     ensures { result ≡ list_all is_collapsible (chars text.now) }
 {
@@ -117,7 +121,7 @@ fn is_collapsible_alone(text: &str) -> bool
     true
 }
 
-/// The columns of a paragraph's lines: those of its block, or fewer.
+/// Returns the columns of a paragraph's lines in a block of `width` columns: at most `most`, if that is given.
 fn wrap_width(width: usize, most: Option<usize>) -> usize
     ensures { result ≡ unwrap_or (option_map (min width) most) width }
 {
@@ -127,7 +131,8 @@ fn wrap_width(width: usize, most: Option<usize>) -> usize
     }
 }
 
-/// The columns behind a prefix of `prefix` columns, at least `inner`; none where they aren't there, with overflow off.
+/// Returns the columns of a sub-block after a prefix of `prefix` columns, at least `inner`. Returns `None`, with
+/// overflow off, if fewer than `inner` columns are free.
 fn inner_width(setting: BlockSetting, prefix: usize, inner: usize) -> Option<usize>
     ensures { result ≡ inner_width setting prefix inner }
 {
@@ -139,18 +144,20 @@ fn inner_width(setting: BlockSetting, prefix: usize, inner: usize) -> Option<usi
     }
 }
 
-/// A text under one tag that stands at the front of lines, and its columns.
+/// A prefix of lines: a text under one tag.
 #[derive(Drop)]
 struct Prefix<'a, T> {
+    /// Characters of the prefix.
     text: &'a str,
-    /// The columns of the text, where a machine word holds them.
+    /// Columns of the text; `None` if they pass a machine word.
     columns: Option<usize>,
+    /// Tag of all characters.
     tag: T,
     ghost columns_of_text: { columns ≡ counted (text_columns (chars text.now)) },
 }
 
 impl<'a, T: Copy> Prefix<'a, T> {
-    /// A text under a tag.
+    /// Returns a prefix, and counts its columns.
     fn new(text: &'a str, tag: T) -> Prefix<'a, T>
         ensures text { result.text.now ≡ text.now }
         ensures tag { result.tag ≡ tag }
@@ -164,8 +171,9 @@ impl<'a, T: Copy> Prefix<'a, T> {
 }
 
 impl<T: Tag, M: Copy> Block<T, M> {
-    /// An empty block. Where a character is wider than a line, it stands alone on one with overflow; without, the block is
-    /// too narrow. With padding the lines of its paragraphs are filled up to its width with spaces under this tag.
+    /// Returns an empty block.
+    ///
+    /// With `padding`, lines of its paragraphs are padded to the width of the block with spaces under that tag.
     pub fn new(alloc: Global, setting: BlockSetting, padding: Option<T>) -> Block<T, M>
         ensures { result ≡ block.empty_block machine setting padding }
     {
@@ -182,12 +190,12 @@ impl<T: Tag, M: Copy> Block<T, M> {
         }
     }
 
-    /// Where its memory comes from.
+    /// Returns the allocator.
     pub(crate) fn alloc(&self) -> Global {
         self.alloc
     }
 
-    /// The setting of a block of this width inside this one.
+    /// Returns the setting of a block of `width` columns in this one.
     fn inner_setting(&self, width: usize) -> BlockSetting
         ensures { result ≡ record self.now.setting { width = width } }
     {
@@ -198,21 +206,21 @@ impl<T: Tag, M: Copy> Block<T, M> {
         }
     }
 
-    /// An empty block of this width inside this one.
+    /// Returns an empty block of `width` columns, with the other settings and the padding of this one.
     pub(crate) fn inner_block(&self, width: usize) -> Block<T, M>
         ensures { result ≡ block.inner_block machine self.now width }
     {
         Block::new(self.alloc, self.inner_setting(width), self.padding)
     }
 
-    /// Opens this paragraph.
+    /// Replaces the open paragraph.
     fn open_paragraph(&mut self, paragraph: Paragraph<T, M>)
         ensures { self.new ≡ record self.old { paragraph = Some paragraph } }
     {
         self.paragraph = Some(paragraph);
     }
 
-    /// The paragraph becomes an empty one for a block of this setting, and keeps its memory.
+    /// Resets the paragraph to an empty one for a block with a setting, reusing its memory.
     fn renew_paragraph(&mut self, setting: BlockSetting)
         ensures { self.new ≡ record self.old { paragraph = (machine).start (block.paragraph_setting setting) [] } }
     {
@@ -224,7 +232,7 @@ impl<T: Tag, M: Copy> Block<T, M> {
         self.open_paragraph(Paragraph::new(self.alloc, width, setting.overflow));
     }
 
-    /// Becomes an empty block of this width inside another one, and keeps its memory.
+    /// Resets to an empty block of `width` columns in `outer`, reusing the memory.
     pub(crate) fn become_inner(&mut self, outer: &Block<T, M>, width: usize)
         ensures { self.new ≡ block.inner_block machine outer.now width }
     {
@@ -237,14 +245,15 @@ impl<T: Tag, M: Copy> Block<T, M> {
         self.table = None;
     }
 
-    /// The columns behind a prefix of `prefix` columns, at least `inner`; none where they aren't there, with overflow off.
+    /// Returns the columns of a sub-block after a prefix of `prefix` columns, at least `inner`. Returns `None`, with
+    /// overflow off, if fewer than `inner` columns are free.
     pub(crate) fn width_behind(&self, prefix: usize, inner: usize) -> Option<usize>
         ensures { result ≡ block.inner_width self.now.setting prefix inner }
     {
         inner_width(self.setting, prefix, inner)
     }
 
-    /// Leaves no paragraph open.
+    /// Closes the paragraph for good, since a character was too wide.
     #[inline(never)]
     fn close_paragraph(&mut self)
         ensures { self.new ≡ record self.old { paragraph = None } }
@@ -252,7 +261,8 @@ impl<T: Tag, M: Copy> Block<T, M> {
         self.paragraph = None;
     }
 
-    /// Takes a text. Where a character is too wide, the next flush says so.
+    /// Feeds a text to the open paragraph. If a character is too wide, closes the paragraph, so that the next flush
+    /// returns `TooNarrow`.
     fn feed(&mut self, text: &str, style: TextStyle<T>) -> Result<(), Error>
         ensures ok { OnOk result (self.new ≡ block.feed machine self.old (styled style (chars text.now))) }
         ensures err { IfErr result (λ e. e ≡ Error.OutOfMemory) }
@@ -270,7 +280,7 @@ impl<T: Tag, M: Copy> Block<T, M> {
         }
     }
 
-    /// Flushes the open paragraph, and says whether it had no line.
+    /// Flushes the open paragraph. Returns whether it had no line.
     #[tactic(auto, using(html_render_dom_values::specs::laws::Outcome::refusals, crate::proofs::Behind::flushed))]
     fn flush_paragraph(&mut self) -> Result<bool, Error>
         ensures ok { OnOk result (block.flush machine self.old ≡ Some self.new) }
@@ -287,12 +297,13 @@ impl<T: Tag, M: Copy> Block<T, M> {
         Ok(self.lines.last.len() == before)
     }
 
-    /// Adds the lines of the open paragraph, filled up to the width with spaces where there is padding, and opens another for
-    /// the marks that wait.
+    /// Appends the lines of the open paragraph, padded to the width of the block if there is padding, and empties the
+    /// paragraph. Its waiting marks are kept.
     ///
     /// # Errors
     ///
-    /// `TooNarrow`, where a character of the paragraph is wider than a line, with overflow off. `OutOfMemory`.
+    /// - `OutOfMemory`.
+    /// - `TooNarrow`, with overflow off, if a character of the paragraph is wider than a line.
     pub fn flush(&mut self) -> Result<(), Error>
         ensures ok { OnOk result (block.flush machine self.old ≡ Some self.new) }
         ensures err { IfErr result (λ e. Refuses e (block.flush machine self.old)) }
@@ -301,7 +312,7 @@ impl<T: Tag, M: Copy> Block<T, M> {
         Ok(())
     }
 
-    /// Takes out the marks that wait.
+    /// Removes and returns the waiting marks.
     fn take_waiting(&mut self) -> Vec<M>
         ensures marks { result.items ≡ machine.waiting self.old.paragraph }
         ensures after { self.new ≡ record self.old { paragraph = machine.without_waiting self.old.paragraph } }
@@ -312,7 +323,7 @@ impl<T: Tag, M: Copy> Block<T, M> {
         }
     }
 
-    /// Takes the finished lines out.
+    /// Removes and returns the finished lines.
     pub(crate) fn take_lines(&mut self) -> Lines<T, M>
         ensures lines { result ≡ self.old.lines }
         ensures after { self.new ≡ record self.old { lines = [] } }
@@ -320,7 +331,7 @@ impl<T: Tag, M: Copy> Block<T, M> {
         mem::replace(&mut self.lines, Lines::new(self.alloc))
     }
 
-    /// Adds a finished line.
+    /// Appends a finished line.
     fn push_line(&mut self, line: Line<T, M>) -> Result<(), AllocError>
         ensures { OnOk result (self.new ≡ record self.old { lines = self.old.lines ++ line ∷ [] }) }
     {
@@ -328,7 +339,7 @@ impl<T: Tag, M: Copy> Block<T, M> {
         Ok(())
     }
 
-    /// Adds a line that is empty but for the marks that wait.
+    /// Appends a line that is empty except for the waiting marks.
     fn add_empty_line(&mut self) -> Result<(), AllocError>
         ensures { OnOk result (self.new ≡ block.add_lines machine self.old ([] ∷ [])) }
     {
@@ -337,7 +348,7 @@ impl<T: Tag, M: Copy> Block<T, M> {
         self.push_line(line)
     }
 
-    /// Adds an empty line behind the lines, if there are any.
+    /// Appends an empty line with the waiting marks, unless the block has no line.
     fn separate(&mut self) -> Result<(), AllocError>
         ensures { OnOk result (self.new ≡ cond (not (is_empty self.old.lines)) (block.add_lines machine self.old ([] ∷ [])) self.old) }
     {
@@ -347,19 +358,19 @@ impl<T: Tag, M: Copy> Block<T, M> {
         self.add_empty_line()
     }
 
-    /// Says whether a block ended here.
+    /// Sets whether a block has ended here.
     fn set_at_block_end(&mut self, at_block_end: bool)
         ensures { self.new ≡ record self.old { at_block_end = at_block_end } }
     {
         self.at_block_end = at_block_end;
     }
 
-    /// Starts a block: adds the lines of the open paragraph, and an empty line behind the lines, if there are any,
-    /// with the marks that wait.
+    /// Starts a block: flushes, and appends an empty line with the waiting marks, unless there is no line yet.
     ///
     /// # Errors
     ///
-    /// `TooNarrow`, as in [`flush`](Block::flush). `OutOfMemory`.
+    /// - `OutOfMemory`.
+    /// - `TooNarrow`, as in [`flush`](Block::flush).
     #[tactic(auto, using(html_render_dom_values::specs::laws::Outcome::refusals), unfolding(crate::specs::Machine::operations))]
     pub fn start_block(&mut self) -> Result<(), Error>
         ensures ok { OnOk result (machine.operations.start_block self.old ≡ Some self.new) }
@@ -371,7 +382,8 @@ impl<T: Tag, M: Copy> Block<T, M> {
         Ok(())
     }
 
-    /// Ends a block: what is added next starts another.
+    /// Ends a block: the next text that isn't blank starts another one. See
+    /// [`add_inline_text`](Block::add_inline_text).
     #[tactic(auto, unfolding(crate::specs::Machine::operations))]
     pub fn end_block(&mut self)
         ensures { self.new ≡ machine.operations.end_block self.old }
@@ -379,11 +391,12 @@ impl<T: Tag, M: Copy> Block<T, M> {
         self.at_block_end = true;
     }
 
-    /// Begins a new line, as [`flush`](Block::flush) does.
+    /// Begins a new line: flushes.
     ///
     /// # Errors
     ///
-    /// `TooNarrow`, as in [`flush`](Block::flush). `OutOfMemory`.
+    /// - `OutOfMemory`.
+    /// - `TooNarrow`, as in [`flush`](Block::flush).
     #[tactic(auto, unfolding(crate::specs::Machine::operations))]
     pub fn new_line(&mut self) -> Result<(), Error>
         ensures ok { OnOk result (machine.operations.new_line self.old ≡ Some self.new) }
@@ -392,11 +405,13 @@ impl<T: Tag, M: Copy> Block<T, M> {
         self.flush()
     }
 
-    /// Begins a new line, and adds an empty one with the marks that wait if the open paragraph had no line.
+    /// Begins a new line: flushes, and appends an empty line with the waiting marks if the paragraph had no line. The
+    /// next text starts no block then, even if a block had ended here.
     ///
     /// # Errors
     ///
-    /// `TooNarrow`, as in [`flush`](Block::flush). `OutOfMemory`.
+    /// - `OutOfMemory`.
+    /// - `TooNarrow`, as in [`flush`](Block::flush).
     #[tactic(auto, using(html_render_dom_values::specs::laws::Outcome::refusals), unfolding(crate::specs::Machine::operations))]
     pub fn new_line_hard(&mut self) -> Result<(), Error>
         ensures ok { OnOk result (machine.operations.new_line_hard self.old ≡ Some self.new) }
@@ -409,12 +424,15 @@ impl<T: Tag, M: Copy> Block<T, M> {
         Ok(())
     }
 
-    /// Adds a text to the open paragraph. At a block's end a text of collapsible white space alone does nothing under
-    /// [`WhiteSpace::Normal`], and another text starts a block first.
+    /// Adds a text to the open paragraph.
+    ///
+    /// At the end of a block, a text of collapsible white space alone is dropped under [`WhiteSpace::Normal`], and any
+    /// other text starts a block first. An empty text does nothing.
     ///
     /// # Errors
     ///
-    /// `TooNarrow`, as in [`flush`](Block::flush), where the text starts a block. `OutOfMemory`.
+    /// - `OutOfMemory`.
+    /// - `TooNarrow`, as in [`flush`](Block::flush), if the text starts a block.
     #[tactic(auto, using(html_render_dom_values::specs::laws::Outcome::refusals), unfolding(crate::specs::Machine::operations))]
     pub fn add_inline_text(&mut self, text: &str, style: TextStyle<T>) -> Result<(), Error>
         ensures ok { OnOk result (machine.operations.add_inline_text self.old style (chars text.now) ≡ Some self.new) }
@@ -433,8 +451,8 @@ impl<T: Tag, M: Copy> Block<T, M> {
         self.feed(text, style)
     }
 
-    /// Adds a mark to the open paragraph. It stands directly before the next character that is placed; where none follows,
-    /// it waits for the next paragraph, or for the next line that is added otherwise.
+    /// Adds a mark to the open paragraph. It directly precedes the next character that is placed there. If none
+    /// follows, the mark waits for the next paragraph, or for a line that is added otherwise.
     ///
     /// # Errors
     ///
@@ -461,7 +479,8 @@ impl<T: Tag, M: Copy> Block<T, M> {
         add_each_mark(paragraph, marks)
     }
 
-    /// Moves lines behind its own, each behind its prefix. With overflow off none may pass the width.
+    /// Moves lines to the end of this block's, each after its prefix, and the first one also after the waiting marks.
+    /// Returns `TooNarrow`, with overflow off, if a line passes the width then.
     #[tactic(auto, using(html_render_dom_values::specs::laws::Outcome::refusals, crate::proofs::Behind::moved_behind))]
     fn move_lines(
         &mut self,
@@ -486,7 +505,8 @@ impl<T: Tag, M: Copy> Block<T, M> {
         )
     }
 
-    /// Adds the lines of a block that is flushed, as this one is, and the marks that wait behind them.
+    /// Appends the lines of a flushed block to this flushed block, each after its prefix. The marks `end` follow the
+    /// last line. Without lines they are fed to this block.
     #[tactic(auto, using(html_render_dom_values::specs::laws::Outcome::refusals, crate::proofs::Appending::none_put))]
     fn append_lines(
         &mut self,
@@ -516,15 +536,18 @@ impl<T: Tag, M: Copy> Block<T, M> {
         )
     }
 
-    /// Adds the lines of a block inside this one, each behind a prefix under a tag; both blocks are flushed first, and a table
-    /// that is open in the other is over. Marks
-    /// that wait in this block stand before the first prefix, and those that wait in the other at the end of its last
-    /// line; where it has no line, they wait on here.
+    /// Appends the lines of a sub-block, each after a prefix under a tag: the first line after `first`, the others
+    /// after `later`.
+    ///
+    /// Both blocks are flushed first, and a table that is open in the sub-block is ended. Waiting marks of this block
+    /// precede the first prefix. Those of the sub-block are put at the end of its last line. If the sub-block has no
+    /// line, its marks wait in this block.
     ///
     /// # Errors
     ///
-    /// `TooNarrow`, as in [`flush`](Block::flush) of either block, and where a line behind its prefix passes the width,
-    /// with overflow off. `OutOfMemory`.
+    /// - `OutOfMemory`.
+    /// - `TooNarrow`, as in [`flush`](Block::flush) of either block, and, with overflow off, if a line passes the width
+    ///   with its prefix.
     #[tactic(auto, using(html_render_dom_values::specs::laws::Outcome::refusals, crate::proofs::Appending::append_unflushed), unfolding(crate::specs::Machine::operations))]
     pub fn append(
         &mut self,
@@ -555,7 +578,7 @@ fn add_each_mark<T: Tag, M: Copy>(paragraph: &mut Paragraph<T, M>, marks: &[M]) 
     Ok(())
 }
 
-/// Puts a prefix at the front of a line, and marks before it.
+/// Puts a prefix at the front of a line, and marks in front of the prefix.
 fn put_prefix<T: Tag, M: Copy>(
     line: &mut Line<T, M>,
     marks: &[M],
@@ -567,7 +590,8 @@ fn put_prefix<T: Tag, M: Copy>(
     put_marks_front(line, marks)
 }
 
-/// Puts the first line's marks and prefix at the front of a line, or those of a later line.
+/// Puts a prefix at the front of a line: `first` with marks in front of it if the line is the first one, otherwise
+/// `later`.
 fn put_front<T: Tag, M: Copy>(
     line: &mut Line<T, M>,
     is_first: bool,
@@ -585,8 +609,8 @@ fn put_front<T: Tag, M: Copy>(
     }
 }
 
-/// Moves lines behind others, each behind its prefix, and the first one behind marks too. With overflow off none may
-/// pass the width.
+/// Moves lines to the end of `to`, each after its prefix, and the first one also after marks. Returns `TooNarrow`, with
+/// overflow off, if a line passes the width then.
 #[tactic(auto, using(html_render_dom_values::specs::laws::Outcome::refusals))]
 fn move_lines<T: Tag, M: Copy>(
     to: &mut Vec<Line<T, M>>,
@@ -613,7 +637,7 @@ fn move_lines<T: Tag, M: Copy>(
     Ok(())
 }
 
-/// A line of marks alone.
+/// Returns a line of marks alone.
 fn marks_line<T: Tag, M: Copy>(alloc: Global, marks: &[M]) -> Result<Line<T, M>, AllocError>
     ensures { IfOk result (λ line. line ≡ marks_line marks.now) }
 {

@@ -1,4 +1,4 @@
-//! Blocks that are held so that they are moved in few bytes, and the one of them that is laid out into.
+//! Boxed blocks, so that moving one is cheap, and the current block with a pool of finished ones.
 
 ghost use Rattle.std.specs.Prelude.{◌≡◌, Some, OnOk, IfOk, IfErr, map, string_bytes};
 ghost use Rattle.std.specs.Str.{chars};
@@ -15,7 +15,7 @@ use std::alloc::{AllocError, Global};
 use std::marker::Model;
 use std::mem;
 
-/// A block, held so that it is moved in few bytes.
+/// A boxed block. Moving it moves one pointer.
 #[derive(Drop)]
 pub struct HeldBlock<T, M> {
     block: Box<Block<T, M>>,
@@ -30,7 +30,7 @@ impl<T, M> Model for HeldBlock<T, M> {
 }
 
 impl<T: Tag, M: Copy> HeldBlock<T, M> {
-    /// Holds a block.
+    /// Boxes a block.
     fn new(alloc: Global, block: Block<T, M>) -> Result<HeldBlock<T, M>, Error>
         ensures ok { IfOk result (λ held. held ≡ block) }
         ensures err { IfErr result (λ e. e ≡ Error.OutOfMemory) }
@@ -40,15 +40,15 @@ impl<T: Tag, M: Copy> HeldBlock<T, M> {
     }
 }
 
-/// What so many blocks left that are over is kept, at most, for those that come.
+/// Maximum number of finished blocks pooled for reuse.
 const KEPT: usize = 16;
 
-/// The block that is laid out into, and the memory that blocks left which are over.
+/// The current block, which receives contents, and a pool of finished blocks.
 #[derive(Drop)]
 pub struct OpenBlock<T, M> {
-    /// The block.
+    /// Current block.
     pub held: Box<Block<T, M>>,
-    /// What blocks that are over left, for those that come.
+    /// Finished blocks, pooled for reuse.
     spare: Vec<Box<Block<T, M>>>,
 }
 
@@ -61,7 +61,7 @@ impl<T, M> Model for OpenBlock<T, M> {
 }
 
 impl<T: Tag, M: Copy> OpenBlock<T, M> {
-    /// Opens a block.
+    /// Makes a block the current one, with an empty pool.
     ///
     /// # Errors
     ///
@@ -77,7 +77,7 @@ impl<T: Tag, M: Copy> OpenBlock<T, M> {
         })
     }
 
-    /// Goes on with this block, and answers the one before.
+    /// Makes `block` the current one. Returns the previous one.
     pub fn replace(&mut self, block: HeldBlock<T, M>) -> HeldBlock<T, M>
         ensures before { result ≡ self.old }
         ensures after { self.new ≡ block }
@@ -87,14 +87,14 @@ impl<T: Tag, M: Copy> OpenBlock<T, M> {
         }
     }
 
-    /// Takes out what a block left that is over.
+    /// Takes a block from the pool, if there is one.
     fn take_spare(&mut self) -> Option<Box<Block<T, M>>>
         ensures { self.new ≡ self.old }
     {
         self.spare.pop()
     }
 
-    /// Keeps what a block left that is over, where not many are kept.
+    /// Returns a finished block to the pool, or drops it if the pool is full.
     fn keep(&mut self, over: Box<Block<T, M>>) -> Result<(), AllocError>
         ensures { OnOk result (self.new ≡ self.old) }
     {
@@ -104,7 +104,7 @@ impl<T: Tag, M: Copy> OpenBlock<T, M> {
         Ok(())
     }
 
-    /// An empty block of this width inside this one, in the memory of another.
+    /// Resets a pooled block to an empty block of `width` columns in the current one.
     fn renewed(&self, spare: Box<Block<T, M>>, width: usize) -> HeldBlock<T, M>
         ensures { result ≡ block.inner_block machine self.now width }
     {
@@ -113,7 +113,7 @@ impl<T: Tag, M: Copy> OpenBlock<T, M> {
         HeldBlock { block }
     }
 
-    /// An empty block of this width inside this one, in the memory that a block left which is over.
+    /// Returns an empty block of `width` columns in the current one, from the pool if possible.
     fn inner_block(&mut self, width: usize) -> Result<HeldBlock<T, M>, Error>
         ensures same { OnOk result (self.new ≡ self.old) }
         ensures ok { IfOk result (λ inner. inner ≡ block.inner_block machine self.old width) }
@@ -125,11 +125,12 @@ impl<T: Tag, M: Copy> OpenBlock<T, M> {
         HeldBlock::new(self.held.alloc(), self.held.inner_block(width))
     }
 
-    /// An empty block inside this one, behind a prefix of `prefix` columns, with at least `inner` columns of its own.
+    /// Returns an empty sub-block for the columns after a prefix of `prefix` columns. It has at least `inner` columns.
     ///
     /// # Errors
     ///
-    /// `TooNarrow`, where these columns aren't there, with overflow off. `OutOfMemory`.
+    /// - `OutOfMemory`.
+    /// - `TooNarrow`, with overflow off, if fewer than `inner` columns are free.
     #[tactic(auto, using(html_render_dom_values::specs::laws::Outcome::refusals), unfolding(crate::specs::Machine::operations))]
     pub fn sub_block(&mut self, prefix: usize, inner: usize) -> Result<HeldBlock<T, M>, Error>
         ensures same { OnOk result (self.new ≡ self.old) }
@@ -142,8 +143,9 @@ impl<T: Tag, M: Copy> OpenBlock<T, M> {
         }
     }
 
-    /// An empty block for the next cell of the row that is open, as wide as the cell's place; none where the cell is skipped,
-    /// since it has no columns. Where no row is open and where cells stand one below another, it is as wide as this block.
+    /// Returns an empty block for the next cell of the open row, as wide as the cell. `None` if the cell is skipped,
+    /// since its columns have no width. In a stacked table, and where no row is open, the block is as wide as the
+    /// current one.
     ///
     /// # Errors
     ///
@@ -160,11 +162,11 @@ impl<T: Tag, M: Copy> OpenBlock<T, M> {
         }
     }
 
-    /// As [`Block::add_cell`]; the cell's memory is kept for the next block.
+    /// Adds a block as the next cell, as [`Block::add_cell`] does, and returns it to the pool.
     ///
     /// # Errors
     ///
-    /// As [`Block::add_cell`].
+    /// As for [`Block::add_cell`].
     #[tactic(auto, using(html_render_dom_values::specs::laws::Outcome::refusals))]
     pub fn add_cell(&mut self, cell: HeldBlock<T, M>) -> Result<(), Error>
         ensures ok { OnOk result (machine.operations.add_cell self.old cell ≡ Some self.new) }
@@ -176,11 +178,11 @@ impl<T: Tag, M: Copy> OpenBlock<T, M> {
         Ok(())
     }
 
-    /// As [`Block::append`]; the memory of the block inside is kept for the next one.
+    /// Appends the lines of a sub-block, as [`Block::append`] does, and returns it to the pool.
     ///
     /// # Errors
     ///
-    /// As [`Block::append`].
+    /// As for [`Block::append`].
     #[tactic(auto, using(html_render_dom_values::specs::laws::Outcome::refusals))]
     pub fn append(
         &mut self,
@@ -198,11 +200,11 @@ impl<T: Tag, M: Copy> OpenBlock<T, M> {
         Ok(())
     }
 
-    /// As [`Block::finish`].
+    /// Finishes the current block, as [`Block::finish`] does.
     ///
     /// # Errors
     ///
-    /// As [`Block::finish`].
+    /// As for [`Block::finish`].
     pub fn finish(&mut self) -> Result<(), Error>
         ensures ok { OnOk result (machine.ending.finish self.old ≡ Some self.new) }
         ensures err { IfErr result (λ e. Refuses e (machine.ending.finish self.old)) }
@@ -210,11 +212,11 @@ impl<T: Tag, M: Copy> OpenBlock<T, M> {
         self.held.finish()
     }
 
-    /// As [`Block::add_closing_lines`].
+    /// Appends closing lines to the current block, as [`Block::add_closing_lines`] does.
     ///
     /// # Errors
     ///
-    /// As [`Block::add_closing_lines`].
+    /// As for [`Block::add_closing_lines`].
     pub fn add_closing_lines(&mut self, texts: &[String], tag: T, cut: bool) -> Result<(), Error>
         ensures ok { OnOk result (machine.ending.add_closing_lines self.old cut tag (map (λ t. chars (string_bytes t)) texts.now) ≡ Some self.new) }
         ensures err { IfErr result (λ e. Refuses e (machine.ending.add_closing_lines self.old cut tag (map (λ t. chars (string_bytes t)) texts.now))) }
@@ -222,11 +224,11 @@ impl<T: Tag, M: Copy> OpenBlock<T, M> {
         self.held.add_closing_lines(texts, tag, cut)
     }
 
-    /// Takes the finished lines out.
+    /// Removes and returns the finished lines of the current block.
     ///
     /// # Errors
     ///
-    /// Memory ran out.
+    /// `AllocError`, if out of memory.
     pub fn take_lines(&mut self) -> Result<Vec<Line<T, M>>, AllocError>
         ensures { IfOk result (λ lines. lines.items ≡ self.old.lines) }
     {

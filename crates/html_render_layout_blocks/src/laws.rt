@@ -1,4 +1,4 @@
-//! Laws of the definition of blocks, each the contract of a function that does nothing.
+//! Laws of the definition of blocks. Each is the contract of an empty function.
 
 ghost use Rattle.std.specs.Prelude.{◌≡◌, false, List, Option, ◌++◌, IfSome};
 ghost use Rattle.html_render_layout_paragraphs.specs.Paragraph.{Setting, paragraph};
@@ -9,16 +9,16 @@ ghost use Rattle.html_render_layout_blocks.specs.Definition.{definition, ending,
 ghost use Rattle.html_render_layout_blocks.specs.Edits.{Edits, edited};
 ghost use Rattle.html_render_layout_blocks.specs.declared.block.BlockSetting.{BlockSetting};
 
-/// Marks that are fed to an empty paragraph are marks that wait before it. So those of a block without lines, which are fed
-/// to the block round it, wait there as its own do.
+/// States that marks fed to an empty paragraph wait before it, after those that wait there already. So the marks of a
+/// sub-block without lines, which are fed to the outer block, wait there like its own.
 #[tactic(auto, using(crate::specs::laws::BlockMarks::marks_first))]
 fn marks_that_are_fed_first_wait<T, M>()
     ensures { (setting : Setting) (waiting marks : List M) (items : List (Item T M)) →
         paragraph setting waiting (mark_items marks ++ items) ≡ paragraph setting (waiting ++ marks) items }
 {}
 
-/// With overflow off no line of a block passes the block's width, whatever is done to the block and to the blocks inside it.
-/// Closing lines are wrapped.
+/// States that with overflow off no line of a block passes the block's width, after any operations on the block and on
+/// the blocks in it. Closing lines are cut in these operations.
 #[tactic(auto, using(crate::specs::laws::EditsWithin::edits_within))]
 fn no_line_passes_the_width_of_its_block<T>()
     ensures { (edits : Edits T) (setting : BlockSetting) (padding : Option T) → setting.overflow ≡ false →

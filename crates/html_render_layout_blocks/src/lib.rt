@@ -1,4 +1,4 @@
-//! Blocks: finished lines, and an open paragraph that texts are added to.
+//! Blocks: finished lines, and an open paragraph that receives texts.
 #![tactic(auto)]
 
 pub mod block;

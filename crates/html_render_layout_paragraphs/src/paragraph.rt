@@ -44,7 +44,7 @@ enum OpenWord {
 
 /// A paragraph of lines of a given width, which is fed texts and marks in order.
 ///
-/// How characters are placed is stated in docs/BEHAVIOUR.md, section "Paragraphs".
+/// The section "Paragraphs" of docs/BEHAVIOUR.md states where characters are placed.
 #[derive(Drop)]
 pub struct Paragraph<T, M> {
     /// Allocator of all lines and words.

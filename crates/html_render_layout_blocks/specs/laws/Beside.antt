@@ -1,4 +1,5 @@
--- A BLOCK BESIDE ANOTHER that was fed the same, where overflow may be on: what is said of its lines is said under each operation.
+-- A BLOCK BESIDE ANOTHER that was fed the same, and whose overflow is g of the first one's: a property of the first
+-- one's lines, which each operation keeps.
 use Rattle.std.proofs.Common.{◌≡◌, ℕ, Bool, cond, ◌||◌, List, [], ◌∷◌, ◌++◌, length, Option, Some, None, refl, sym, ap, ◌∙◌, subst}
 use Rattle.html_render_layout_lines.specs.declared.character.Item.{Item}
 use Rattle.html_render_layout_lines.specs.Line.{Line}
@@ -23,8 +24,9 @@ use Rattle.html_render_layout_paragraphs.specs.laws.Answers.{Both, Both-weaken}
 use Rattle.html_render_layout_blocks.specs.laws.Related.{line_setting, OptionTags, Relates, RelatesEnds, RelatesParts, Related, operations-related, ends-related}
 use Rattle.html_render_layout_blocks.specs.laws.Related.{empty-related, later-related}
 
--- what is said of whether overflow is on, of a paragraph's setting, of lines, of a picture on columns of these widths, and of a row that is
--- open, in a block of v columns. With g overflow is on in the other block
+-- Properties that each operation keeps in a block of v columns: of whether overflow is on, of a paragraph's setting, of
+-- lines, of a picture on columns of these widths, and of an open row. The overflow of the other block is g of this
+-- one's.
 pub record Holds {T : Type 0} (g : Bool → Bool) (N M : Type 0) (Cut : Bool → Type 0) (OnOverflow : Bool → Type 0) (OnOwn : ℕ → Setting → Type 0)
     (OnLines : ℕ → List (Line T ℕ) → Type 0) (OnPicture : ℕ → List ℕ → Rows T ℕ → Type 0) (OnRow : ℕ → OpenRow T ℕ → Type 0) : Type 0 where
   pub chosen : (o b : Bool) (x : ℕ) → OnOverflow o → Both N M (λ x y. x ≡ y) (cond (o || b) (Some x) None) (cond (g o || b) (Some x) None)
@@ -181,13 +183,13 @@ module _ {T W : Type 0} (g : Bool → Bool) (N M : Type 0) (Tags : W → T → T
       (subst (λ n. Both N M (Lines v w) (text_lines (record { width = n; overflow = s.overflow }) cut t cs)
       (text_lines (record { width = n; overflow = g s.overflow }) cut t cs)) (sym k.0) (h.text v s.overflow cut t cs x k.1.0)))
 
-  -- ---- blocks
+  -- ---- Blocks
 
   module _ (weak : M → N) (Later : W → W → Type 0) (tags_later : (w z : W) (t u : T) → Tags w t u → Later w z → Tags z t u) where
     abbrev pub Blocks : ℕ → W → DefinedBlock T ℕ → DefinedBlock T ℕ → Type 0
     Blocks v w b c = Related definition definition N M weak Later Tags Settings Lines Paragraphs Clear Pictures RowsBeside parts-beside v w b c
 
-    -- THE THEOREM
+    -- THE THEOREM: each operation keeps the properties, and the other block has the same contents.
     pub operations-beside : Relates operations operations N M Later Tags Blocks
     unfolding operations
     operations-beside =
@@ -208,6 +210,6 @@ module _ {T W : Type 0} (g : Bool → Bool) (N M : Type 0) (Tags : W → T → T
         later-related definition definition N M weak Later Tags Settings Lines Paragraphs Clear Pictures RowsBeside parts-beside tags_later
         (λ v w z a b x l. x) (λ v w z p q x l. x) (λ v w z widths p q x l. x) (λ v w z r k x l. x) v w z b c k l
 
-    -- both have the same lines, of which this holds
+    -- Both blocks have the same lines, and the property holds of them.
     pub lines-beside : (v : ℕ) (w : W) (b c : DefinedBlock T ℕ) → Blocks v w b c → (c.lines ≡ b.lines) × OnLines v b.lines
     lines-beside v w b c k = k.lines

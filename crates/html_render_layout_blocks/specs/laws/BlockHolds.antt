@@ -1,4 +1,5 @@
--- What is said of a block's lines: with overflow off none passes its width; with overflow on no operation refuses, and the lines are the same.
+-- Properties of a block's lines. With overflow off none passes the width. With overflow on no operation refuses, and
+-- the lines are the same.
 use Rattle.std.proofs.Common.{◌≡◌, ℕ, ◌-◌, ◌≤◌, ◌+◌, sum, Bool, true, false, cond, leb, ◌||◌, List, [], ◌∷◌, length, Option, Some, None}
 use Rattle.std.proofs.Common.{refl, sym, ap, subst, arith, IfSome, All, min, option_map}
 use Rattle.std.specs.List.{list_all}
@@ -27,13 +28,13 @@ use Rattle.html_render_layout_blocks.specs.laws.Beside.{Holds}
 use Rattle.html_render_layout_blocks.specs.laws.TableWithin.{OpenWithin, columns_room, place_room, open-within, cell-within, whole-within}
 use Rattle.html_render_layout_blocks.specs.laws.TableWithin.{frame_width_within, columns_room-within}
 
--- ---- lines within a width
+-- ---- Lines within a width
 
 wrap-within : (w : ℕ) (most : Option ℕ) → unwrap_or (option_map (min w) most) w ≤ w
 wrap-within w None = omega arith
 wrap-within w (Some most) = omega arith
 
--- no line is wider, as a test
+-- No line passes the width if the test of `fitting` says so.
 within-test : {T M : Type 0} (w : ℕ) (ls : List (Line T M)) → list_all (λ (l : Line T M). leb (columns l) w) ls ≡ true → AllWithinWidth w ls
 within-test {T} {M} w [] e = All-nil (λ (l : Line T M). columns l ≤ w)
 within-test {T} {M} w (l ∷ ls) e =
@@ -41,7 +42,7 @@ within-test {T} {M} w (l ∷ ls) e =
     All-cons (λ (l : Line T M). columns l ≤ w) l ls (leb-true _ _ h.0) (within-test w ls h.1)
 
 module _ (T : Type 0) where
-  -- ---- with overflow off no line passes the width
+  -- ---- With overflow off no line passes the width
 
   abbrev pub OwnWithin : ℕ → Setting → Type 0
   OwnWithin v s = (s.width ≤ v) × (s.overflow ≡ false)
@@ -49,7 +50,7 @@ module _ (T : Type 0) where
   abbrev pub PictureWithin : ℕ → List ℕ → Rows T ℕ → Type 0
   PictureWithin v widths p = ((p.frame.width ≤ v) × All (RowWithin v) p.rows) × (columns_room widths ≤ v + 1)
 
-  -- THE LAW
+  -- THE LAW: with overflow off each operation keeps all lines within the width.
   pub within : Holds {T = T} (λ o. o) (Unit {0}) ⊥ (λ cut. cut ≡ true) (λ o. o ≡ false) OwnWithin (λ v ls. AllWithinWidth v ls) PictureWithin
       (λ v r. OpenWithin v r)
   within = record {
@@ -115,9 +116,9 @@ module _ (T : Type 0) where
                 (all_lines_within s.width p m.1)),
           )))
 
-  -- ---- with overflow on no operation refuses
+  -- ---- With overflow on no operation refuses
 
-  -- THE LAW
+  -- THE LAW: with overflow on each operation gives a block.
   pub answers : Holds {T = T} (λ o. o) ⊥ ⊥ (λ cut. Unit {0}) (λ o. o ≡ true) (λ v s. s.overflow ≡ true) (λ v ls. Unit {0}) (λ v ws p. Unit {0})
       (λ v r. Unit {0})
   answers = record {
@@ -157,9 +158,9 @@ module _ (T : Type 0) where
           cut-beside (λ o. o) ⊥ ⊥ (λ x. x) (with_overflow v) (λ p. Unit {0}) (page_answers v) (λ ls. Unit {0}) (λ p k. tt) t cs
       texts v false t cs = (refl, tt)
 
-  -- ---- where there are lines with overflow off, they are the same with overflow on
+  -- ---- Lines that exist with overflow off are the same with overflow on
 
-  -- THE LAW
+  -- THE LAW: where an operation gives a block, it gives the same lines with overflow on.
   pub refines : Holds {T = T} (λ o. true) (Unit {0}) (Unit {0}) (λ cut. Unit {0}) (λ o. Unit {0}) (λ v s. Unit {0}) (λ v ls. Unit {0})
       (λ v ws p. Unit {0}) (λ v r. Unit {0})
   refines = record {

@@ -1,4 +1,4 @@
--- Marks that are fed to an empty paragraph wait before all that comes.
+-- Marks that are fed to an empty paragraph wait before all that is fed later.
 use Rattle.std.proofs.Common.{◌≡◌, List, [], ◌∷◌, ◌++◌, Some, sym, ap, ◌∙◌, append_assoc, append-nil, option_and_then}
 use Rattle.html_render_layout_lines.specs.declared.character.Item.{Item}
 use Rattle.html_render_layout_paragraphs.specs.Paragraph.{Setting, paragraph}
@@ -10,7 +10,7 @@ fed-marks : {T M : Type 0} (s : Setting) (marks ms : List M) → after (start {T
 fed-marks s marks [] = ap (λ ns. Some (start s ns)) (sym (append-nil marks))
 fed-marks s marks (m ∷ ms) = fed-marks s (marks ++ m ∷ []) ms ∙ ap (λ ns. Some (start s ns)) (append_assoc marks (m ∷ []) ms)
 
--- a paragraph that is fed marks first is that before which they wait
+-- A paragraph that is fed marks first is the paragraph with these among its waiting marks.
 pub first-marks-wait : {T M : Type 0} (s : Setting) (marks ms : List M) (xs : List (Item T M)) →
     paragraph s marks (mark_items ms ++ xs) ≡ paragraph s (marks ++ ms) xs
 first-marks-wait {T} {M} s marks ms xs =

@@ -1,4 +1,5 @@
--- What is seen of the tags of a block that is fed character by character is what is seen of the definition's, under each operation.
+-- Each operation keeps what is seen of a machine's block, which is fed character by character, equal to what is seen of
+-- the definition's block.
 use Rattle.std.proofs.Common.{◌≡◌, ℕ, Bool, true, false, leb, ◌||◌, ◌&&◌, List, [], ◌∷◌, ◌++◌, map, length, Option, Some, None}
 use Rattle.std.proofs.Common.{refl, sym, ap, ◌∙◌, subst, option_map, IfSome}
 use Rattle.std.specs.List.{list_all}
@@ -43,7 +44,7 @@ use Rattle.html_render_layout_paragraphs.specs.laws.Answers.{Both}
 use Rattle.html_render_layout_blocks.specs.laws.Related.{line_setting, OptionTags, Relates, RelatesEnds, RelatesParts, Related, operations-related, ends-related}
 use Rattle.html_render_layout_blocks.specs.laws.Related.{empty-related, later-related}
 
--- ---- lines under other tags
+-- ---- Lines under other tags
 
 module _ {T U M : Type 0} (f : T → U) where
   under-with : (t : T) (cs : List ℕ) → under (f t) cs ≡ line_with f (under {M = M} t cs)
@@ -79,7 +80,7 @@ module _ {T U M : Type 0} (f : T → U) where
   text-with s true tag cs = cut-with f s tag cs
   text-with s false tag cs = ap (λ l. Some (l ∷ [])) (under-with tag cs)
 
--- ---- rows under other tags
+-- ---- Rows under other tags
 
 module _ {T U M : Type 0} (f : T → U) where
   abbrev pub open_row_with : OpenRow T M → OpenRow U M
@@ -107,13 +108,13 @@ module _ {T U M : Type 0} (f : T → U) where
   whole_row-with r = ap (λ cs. record (row_with f (whole_row r)) { cells = cs })
       (ap (λ cs. map (cell_with f) r.cells ++ cs) (sym (empty_cells-with r.ahead)) ∙ sym (map-append (cell_with f) r.cells (empty_cells r.ahead)))
 
--- ---- without tags
+-- ---- The machine and the definition under the same tags
 
--- the paragraph to which the list was fed
+-- The machine's paragraph that was fed this list.
 abbrev paragraph_of : {T M : Type 0} → Fed T M → Option (State T M)
 paragraph_of p = after (start p.setting p.waiting) p.items
 
--- all rows, drawn
+-- The machine's drawing of all these rows.
 abbrev drawing_of : {T M : Type 0} → Rows T M → Drawing T M
 drawing_of p = with_rows (begun p.frame p.waiting) p.rows
 
@@ -131,7 +132,7 @@ module _ {T M : Type 0} where
       by None (Some g) e s = cc
       by (Some q) (Some g) e s = ap (λ t. Some (start t g.waiting)) s
 
--- ---- under other tags
+-- ---- The machine under other tags
 
 module _ {T U M : Type 0} (f : T → U) where
   feed-with : (o : Option (State T M)) (xs : List (Item T M)) →
@@ -155,12 +156,13 @@ module _ {T U M : Type 0} (f : T → U) where
   without-with None = refl
   without-with (Some q) = refl
 
--- ---- what is seen of tags
+-- ---- Views of tags
 
--- shown is what is seen of a tag, whatever it stands for from now on, and seen what is seen of one of the definition's
+-- `shown` is what is seen of a machine's tag, by what tags stand for; `seen` is what is seen of a definition's tag.
+-- `Later` relates what tags stand for to what they stand for from then on.
 module _ {W T A V : Type 0} (shown : W → T → V) (seen : A → V) (Later : W → W → Type 0) (stays : (w : W) → Later w w)
     (goes : (w v u : W) → Later w v → Later v u → Later w u) where
-  -- the same is seen of both from now on
+  -- Whether the same is seen of both from now on.
   abbrev Seen : {X Y Z : Type 0} → (W → X → Z) → (Y → Z) → W → X → Y → Type 0
   Seen f g w x y = (l : W) → Later w l → f l x ≡ g y
 
@@ -185,7 +187,7 @@ module _ {W T A V : Type 0} (shown : W → T → V) (seen : A → V) (Later : W 
   abbrev pub OpenRows : ℕ → W → OpenRow T ℕ → OpenRow A ℕ → Type 0
   OpenRows v w r k = Seen (λ l. open_row_with (shown l)) (open_row_with seen) w r k
 
-  -- of two answers
+  -- Whether the same is seen of two partial results.
   alike : {X Y Z : Type 0} (f : W → X → Z) (g : Y → Z) (w : W) (x : Option X) (y : Option Y) →
       ((l : W) → Later w l → option_map (f l) x ≡ option_map g y) → Both (Unit {0}) ⊥ (Seen f g w) x y
   alike f g w None None e = tt
@@ -193,7 +195,7 @@ module _ {W T A V : Type 0} (shown : W → T → V) (seen : A → V) (Later : W 
   alike f g w (Some x) None e = let z = e w (stays w) in cc
   alike f g w (Some x) (Some y) e = λ l a. same_Some _ _ (e l a)
 
-  -- a text under a tag, and a style
+  -- A text under a tag.
   under-seen : (w : W) (t : T) (u : A) (cs : List ℕ) → Tags w t u → (l : W) → Later w l →
       line_with (shown l) (under {M = ℕ} t cs) ≡ line_with seen (under u cs)
   under-seen w t u cs x l a = sym (under-with (shown l) t cs) ∙ ap (λ z. under z cs) (x l a) ∙ under-with seen u cs
@@ -220,7 +222,7 @@ module _ {W T A V : Type 0} (shown : W → T → V) (seen : A → V) (Later : W 
       ∙ feed-with seen (paragraph_of q) ys
       ∙ ap (option_map (state_with seen)) (sym (after-append (start q.setting q.waiting) q.items ys))
 
-  -- pages of which the same is seen
+  -- Pages of which the same is seen.
   page-seen : (v : ℕ) (w : W) (s r : BlockSetting) (padding : Option T) (other : Option A) (p : Option (State T ℕ)) (q : Fed A ℕ) →
       Settings v s r → OptionTags Tags w padding other → Paragraphs v w p q →
       Both (Unit {0}) ⊥ (λ g k. Lines v w (filled padding s.width (all_lines g)) (filled other r.width (all_lines k))
@@ -358,13 +360,13 @@ module _ {W T A V : Type 0} (shown : W → T → V) (seen : A → V) (Later : W 
       sym (text-with (shown l) (line_setting s) cut t cs) ∙ ap (λ z. text_lines (line_setting s) cut z cs) (y l a)
       ∙ text-with seen (line_setting s) cut u cs))
 
-  -- ---- blocks
+  -- ---- Blocks
 
   abbrev pub Blocks : ℕ → W → MachineBlock T ℕ → DefinedBlock A ℕ → Type 0
   Blocks v w b c =
       Related machine definition (Unit {0}) ⊥ (λ x. tt) Later Tags Settings Lines Paragraphs Clear Pictures OpenRows parts-seen v w b c
 
-  -- THE THEOREM
+  -- THE THEOREM: each operation keeps what is seen of both blocks equal.
   pub operations-seen : Relates worked.operations defined.operations (Unit {0}) ⊥ Later Tags Blocks
   unfolding worked.operations defined.operations
   operations-seen =
@@ -388,6 +390,6 @@ module _ {W T A V : Type 0} (shown : W → T → V) (seen : A → V) (Later : W 
       (λ w z t u x l i a. x i (goes w z i l a)) (λ v w z a b x l i y. x i (goes w z i l y)) (λ v w z p q x l i a. x i (goes w z i l a))
       (λ v w z widths p q x l i a. x i (goes w z i l a)) (λ v w z r k x l i a. x i (goes w z i l a)) v w z b c k l
 
-  -- what is seen of the lines
+  -- Lines of both blocks, of which the same is seen.
   pub lines-seen : (v : ℕ) (w : W) (b : MachineBlock T ℕ) (c : DefinedBlock A ℕ) → Blocks v w b c → lines_with (shown w) b.lines ≡ lines_with seen c.lines
   lines-seen v w b c k = k.lines w (stays w)

@@ -49,28 +49,32 @@ pub any : {A : Type 0} (o : Option A) → IfSome o (λ a. Unit {0})
 any None = tt
 any (Some a) = tt
 
--- the visible characters of a block, its open table aside: of its lines, and of all that was fed to its open paragraph
+-- Visible characters of a block's lines, and of all that was fed to its paragraph. Those of an open table aren't among
+-- them.
 abbrev pub visible_in_block : {T M : Type 0} → DefinedBlock T M → List ℕ
 visible_in_block d = visible_in_lines d.lines ++ visible_in_items d.paragraph.items
 
--- how often a visible character stands in a text; in the cells of the row that is open, and of the other rows of the table that is open;
--- and in a block
+-- Number of times that a character is visible in a text.
 abbrev pub text_count : ℕ → List ℕ → ℕ
 text_count c cs = count c (visible_in_text cs)
 
+-- Number of times that a character is visible in the kept cells of an open row, if there is one.
 abbrev pub row_count : {T M : Type 0} → ℕ → Option (OpenRow T M) → ℕ
 row_count c None = 0
 row_count c (Some row) = count c (visible_in_cells row.cells)
 
+-- Number of times that a character is visible in an open table: in its rows so far and in its open row. The cells of a
+-- stacked table are in the block.
 abbrev pub table_count : {T M : Type 0} → ℕ → Option (OpenTable (Rows T M) T M) → ℕ
 table_count c None = 0
 table_count c (Some (Across p widths ahead row)) = count c (visible_in_rows p.rows) + row_count c row
 table_count c (Some (Stacked border has_lines)) = 0
 
+-- Number of times that a character is visible in a block and in its open table.
 abbrev pub visible_count : {T M : Type 0} → ℕ → DefinedBlock T M → ℕ
 visible_count c d = count c (visible_in_block d) + table_count c d.table
 
--- ---- in order
+-- ---- Visible characters in order
 
 items-append : {T M : Type 0} (xs ys : List (Item T M)) → visible_in_items (xs ++ ys) ≡ visible_in_items xs ++ visible_in_items ys
 items-append [] ys = refl
@@ -86,11 +90,11 @@ items-marks : (T : Type 0) {M : Type 0} (ms : List M) → visible_in_items (mark
 items-marks T [] = refl
 items-marks T (m ∷ ms) = items-marks T ms
 
--- the block e has what the block d has, and the same table
+-- Whether the block e has the visible characters of the block d, and the same table.
 abbrev pub Same : {T M : Type 0} → DefinedBlock T M → DefinedBlock T M → Type 0
 Same d e = (visible_in_block e ≡ visible_in_block d) × (e.table ≡ d.table)
 
--- and nothing is fed to it
+-- Whether the block e has the visible characters of the block d, the same table, and an empty paragraph.
 abbrev pub Keeps : {T M : Type 0} → DefinedBlock T M → DefinedBlock T M → Type 0
 Keeps d e = Same d e × (e.paragraph.items ≡ [])
 
@@ -108,7 +112,7 @@ flush_keeps {T} {M} d =
       refl,
     ))
 
--- marks that are fed to a block are nothing
+-- Marks that are fed to a block add no visible character.
 marks_same : {T M : Type 0} (d : DefinedBlock T M) (ms : List M) → Same d (feed definition d (mark_items ms))
 marks_same {T} d ms = (
   ap (λ r. visible_in_lines d.lines ++ r) (items-append d.paragraph.items (mark_items ms)
@@ -116,7 +120,7 @@ marks_same {T} d ms = (
   refl,
 )
 
--- flushed, with a gap or without one
+-- A flush keeps all visible characters, with an empty line after it and without.
 unended_keeps : {T M : Type 0} (d : DefinedBlock T M) (gap : DefinedBlock T M → Bool) →
     IfSome (option_map (λ (e : DefinedBlock T M). unended definition (gap e) e) (flush definition d)) (Keeps d)
 unended_keeps {T} {M} d gap = map_if (Keeps d) (Keeps d) _ (flush definition d) (flush_keeps d) (λ e h. by (gap e) e h)
@@ -137,7 +141,7 @@ unended_keeps {T} {M} d gap = map_if (Keeps d) (Keeps d) _ (flush definition d) 
 pub start_keeps : {T M : Type 0} (d : DefinedBlock T M) → IfSome (start_block definition d) (Keeps d)
 start_keeps d = unended_keeps d (λ e. not (is_empty e.lines))
 
--- the block e has what the block d has, and these behind it, and the same table
+-- Whether the block e has the visible characters of the block d, followed by these, and the same table.
 abbrev pub Adds : {T M : Type 0} → List ℕ → DefinedBlock T M → DefinedBlock T M → Type 0
 Adds cs d e = (visible_in_block e ≡ visible_in_block d ++ cs) × (e.table ≡ d.table)
 
@@ -186,7 +190,7 @@ add_inline_text_adds {T} {M} d style cs =
     (start_keeps d)
     (λ e h. let k = feed_adds e style cs in (k.0 ∙ ap (λ r. r ++ visible_in_text cs) h.0.0, k.1 ∙ h.0.1)))))
 
--- ---- how often
+-- ---- Numbers of visible characters
 
 line_count : {T M : Type 0} (c : ℕ) (p l : Line T M) → count c (visible_in_line l) ≤ count c (visible_in_line (p ++ l))
 line_count c p l =
@@ -223,7 +227,7 @@ fitting_count {T} {M} c w o p q ls =
     if_cases (λ (r : Option (List (Line T M))). IfSome r (λ all. count c (visible_in_lines ls) ≤ count c (visible_in_lines all)))
     (o || list_all (λ (l : Line T M). leb (columns l) w) (prefixed p q ls)) _ _ (λ _. prefixed_count c p q ls) (λ _. tt)
 
--- lines behind those of a block
+-- Lines that are added to those of a block.
 lines_added : {T M : Type 0} (c : ℕ) (d : DefinedBlock T M) (ls : List (Line T M)) →
     count c (visible_in_block (record d { lines = d.lines ++ ls })) ≡ count c (visible_in_block d) + count c (visible_in_lines ls)
 lines_added c d ls =
@@ -243,7 +247,7 @@ add_lines_gains c d ls =
     let added = lines_added c d more in
     omega (arith, same, added)
 
--- the block e has what the block d has, and as many more
+-- Whether the character c is visible in the block e at least n more times than in the block d.
 abbrev Gains : {T M : Type 0} → (c n : ℕ) → DefinedBlock T M → DefinedBlock T M → Type 0
 Gains c n d e = visible_count c d + n ≤ visible_count c e
 
@@ -255,7 +259,7 @@ put_lines_count c d (l ∷ ls) ms =
     let gains = add_lines_gains c d (marked_behind ms (l ∷ ls)) in
     omega (arith, same, gains)
 
--- where nothing is fed and no table is open, the lines have all
+-- With an empty paragraph and no open table, all visible characters are in the lines.
 pub lines_count : {T M : Type 0} (c : ℕ) (d : DefinedBlock T M) → d.paragraph.items ≡ [] → d.table ≡ None →
     visible_count c d ≡ count c (visible_in_lines d.lines)
 lines_count {T} {M} c d h k =
@@ -264,7 +268,7 @@ lines_count {T} {M} c d h k =
     let table = ap (table_count c) k in
     omega (arith, fed, lines, table)
 
--- ---- tables
+-- ---- Tables
 
 rows-append : {T M : Type 0} (rs qs : List (TableRow T M)) → visible_in_rows (rs ++ qs) ≡ visible_in_rows rs ++ visible_in_rows qs
 rows-append {T} {M} rs qs = flat_map-append (λ (r : TableRow T M). visible_in_cells r.cells) rs qs
@@ -280,7 +284,7 @@ empties-visible T M (p ∷ ps) = by p.width (empties-visible T M ps)
     by None h = h
     by (Some width) h = h
 
--- a row has what its cells have
+-- A row has the visible characters of its cells.
 past_cell_count : {T M : Type 0} (c : ℕ) (r : OpenRow T M) (cell : List (KeptCell T M)) →
     count c (visible_in_cells (past_cell r cell).cells) ≡ count c (visible_in_cells r.cells) + count c (visible_in_cells cell)
 past_cell_count {T} {M} c r cell =
@@ -316,7 +320,7 @@ with_open_count {T} {M} c p (Some row) =
       whole_row_count c row,
     )
 
--- the rows below have nothing
+-- Rows ahead, whose cells are empty, have no visible character.
 with_ahead_count : {T M : Type 0} (c : ℕ) (p : Rows T M) (widths : List ℕ) (ahead : List (List PlacedCell)) →
     count c (visible_in_rows (with_ahead definition widths ahead p).rows) ≡ count c (visible_in_rows p.rows)
 with_ahead_count c p widths [] = refl
@@ -356,7 +360,7 @@ ended_none {T} {M} d = by d.table refl
     by (Some (Across p widths ahead row)) e = refl
     by (Some (Stacked border has_lines)) e = refl
 
--- a flushed block, without its table: the lines have all
+-- Once the table is ended and the block is flushed, all visible characters are in the lines.
 pub flushed_count : {T M : Type 0} (c : ℕ) (d : DefinedBlock T M) →
     IfSome (flush definition (end_table definition d)) (λ e. visible_count c d ≤ count c (visible_in_lines e.lines))
 flushed_count c d = IfSome_then (flush definition (end_table definition d)) (flush_keeps (end_table definition d))
@@ -384,7 +388,7 @@ append_count {T} {M} c d e t first later =
     let gains = put_lines_count c b ls g.paragraph.waiting in
     omega (arith, n, k, same, table, gains))))
 
--- the same in counts
+-- A step that keeps all visible characters keeps their numbers.
 same_count : {T M : Type 0} (c : ℕ) (d : DefinedBlock T M) (o : Option (DefinedBlock T M)) → IfSome o (Keeps d) →
     IfSome o (λ e. visible_count c e ≡ visible_count c d)
 same_count c d o h =
@@ -456,7 +460,7 @@ cell_block_count {T} {M} c d =
     map_if (λ v. Unit {0}) (λ e. visible_count c e ≡ 0) (λ (w : ℕ). inner_block definition d w)
     (next_cell_width d.setting.width d.table) (any (next_cell_width d.setting.width d.table)) (λ w _. refl)
 
--- the open table of a block whose cells stand one below another has nothing
+-- Lines that are added to a block leave its table unchanged.
 put_lines_table : {T M : Type 0} (d : DefinedBlock T M) (ls : List (Line T M)) (ms : List M) → (put_lines definition d ls ms).table ≡ d.table
 put_lines_table d [] ms = refl
 put_lines_table d (l ∷ ls) ms = refl
@@ -481,7 +485,7 @@ put_stacked_count {T} {M} c d cell border has_lines more none = by (has_lines &&
         (ap (table_count c) (border_table d border BORDERS.slash) ∙ none)
     by false = put d (omega arith) none
 
--- what a flush is followed by
+-- A flush followed by a step that gains a number of characters.
 flushed_gains : {T M : Type 0} (c n : ℕ) (d : DefinedBlock T M) (f : DefinedBlock T M → DefinedBlock T M) →
     ((e : DefinedBlock T M) → e.table ≡ d.table → Gains c n e (f e)) → IfSome (option_map f (flush definition d)) (Gains c n d)
 flushed_gains {T} {M} c n d f next =
@@ -533,7 +537,7 @@ row_ended_count {T} {M} c d (Some (Stacked border true)) e =
     omega (arith, block, table, own, after, add_border_count c f border BORDERS.line))
 row_ended_count c d (Some (Stacked border false)) e = omega arith
 
--- THE LAW: a visible character stands in a block as often as it was fed, or more often
+-- THE LAW: a character is visible in a block at least as often as it was visible in what was fed.
 pub operations_keep_visible : {T : Type 0} (c : ℕ) → Counts (visible_count c) (text_count c) (operations {T = T})
 unfolding operations
 operations_keep_visible c = record {

@@ -1,4 +1,4 @@
--- A block's end and closing lines lose no visible character.
+-- The end of a block and closing lines lose no visible character.
 use Rattle.std.proofs.Common.{◌≡◌, ℕ, ◌≤◌, Bool, true, false, cond, List, [], ◌∷◌, ◌++◌, Some, None, ap, ◌∙◌, arith, IfSome, option_and_then}
 use Rattle.std.proofs.lemmas.Option.{IfSome_then}
 use Rattle.html_render_layout_lines.specs.Line.{Line, is_empty}
@@ -13,7 +13,7 @@ use Rattle.html_render_layout_blocks.specs.laws.BlockVisible.{table_count, visib
 use Rattle.html_render_layout_blocks.specs.laws.BlockVisible.{any, end_table_count, ended_none}
 use Rattle.html_render_layout_lines.specs.laws.Cases.{bind_some, map_if}
 
--- a block's end loses nothing but the table that is open, which is over
+-- Finishing a block keeps what it shows once its open table is ended.
 finish_keeps : {T M : Type 0} (d : DefinedBlock T M) → IfSome (finish definition d) (Keeps (end_table definition d))
 finish_keeps {T} {M} d = map_if (Keeps (end_table definition d)) (Keeps (end_table definition d)) _ (flush definition (end_table definition d))
     (flush_keeps (end_table definition d)) (λ e h. by (is_empty e.lines) e h)
@@ -26,11 +26,11 @@ finish_keeps {T} {M} d = map_if (Keeps (end_table definition d)) (Keeps (end_tab
       h.1,
     )
 
--- nothing is fed to a block, and no table is open in it
+-- Whether a block's paragraph is empty and no table is open.
 abbrev pub IsClear : {T M : Type 0} → DefinedBlock T M → Type 0
 IsClear d = (d.paragraph.items ≡ []) × (d.table ≡ None)
 
--- behind a block's end nothing is fed and no table is open, and it shows what it showed
+-- A finished block has an empty paragraph and no open table, and shows at least what it showed before.
 pub finish_count : {T M : Type 0} (c : ℕ) (d : DefinedBlock T M) →
     IfSome (finish definition d) (λ e. IsClear e × (visible_count c d ≤ visible_count c e))
 finish_count c d = IfSome_then (finish definition d) (finish_keeps d)
@@ -39,7 +39,7 @@ finish_count c d = IfSome_then (finish definition d) (finish_keeps d)
     let table = ap (table_count c) h.0.1 in
     ((h.1, h.0.1 ∙ ended_none d), omega (arith, end_table_count c d, same, table)))
 
--- closing lines lose no visible character of the block, and leave it clear
+-- Closing lines lose no visible character of the block, and leave it clear.
 closing_keeps : {T M : Type 0} (c : ℕ) (d : DefinedBlock T M) (cut : Bool) (tag : T) (ts : List (List ℕ)) →
     IfSome (add_closing_lines definition d cut tag ts) (λ e. (visible_count c d ≤ visible_count c e) × (IsClear d → IsClear e))
 closing_keeps c d cut tag [] = (omega arith, λ h. h)
@@ -56,7 +56,8 @@ closing_keeps {T} {M} c d cut tag (t ∷ ts) =
     let table = ap (table_count c) h.0.1 in
     (omega (arith, add_lines_count c e ls, same, table), λ k. (h.1, h.0.1 ∙ k.1))))
 
--- where nothing is fed, the lines of a block that is closed keep what it showed
+-- With an empty paragraph and no open table, the lines of a block show at least what the block showed before closing
+-- lines.
 pub closed_count : {T M : Type 0} (c : ℕ) (d : DefinedBlock T M) (cut : Bool) (tag : T) (ts : List (List ℕ)) → IsClear d →
     IfSome (add_closing_lines definition d cut tag ts) (λ e. visible_count c d ≤ count c (visible_in_lines e.lines))
 closed_count c d cut tag ts h = IfSome_then (add_closing_lines definition d cut tag ts) (closing_keeps c d cut tag ts)

@@ -1,4 +1,4 @@
--- With overflow off no line passes the width of its block, whatever is done to it.
+-- With overflow off no line passes the width of its block, after any sequence of operations.
 use Rattle.std.proofs.Common.{◌≡◌, ℕ, Bool, true, false, Option, Some, None, refl, IfSome, option_and_then}
 use Rattle.std.specs.Option.{option_map_or}
 use Rattle.html_render_dom_values.specs.Outcome.{◌>>=◌}
@@ -16,7 +16,7 @@ use Rattle.html_render_layout_blocks.specs.laws.BlockHolds.{OwnWithin, PictureWi
 use Rattle.html_render_layout_blocks.specs.laws.Related.{OptionTags, Relates, RelatesEnds}
 use Rattle.html_render_layout_blocks.specs.laws.TableWithin.{OpenWithin}
 
--- what is said of an answer beside itself
+-- A result beside itself: its value is related to itself.
 itself : {X : Type 0} (R : X → X → Type 0) (o : Option X) → Both (Unit {0}) ⊥ R o o → IfSome o (λ x. R x x)
 itself R None k = tt
 itself R (Some x) k = k
@@ -31,7 +31,7 @@ module _ (T : Type 0) where
   abbrev Cut : Bool → Type 0
   Cut cut = cut ≡ true
 
-  -- a block of v columns, none of whose lines passes them, beside itself
+  -- A block of v columns, none of whose lines passes them, beside itself.
   abbrev Beside : ℕ → Unit {0} → DefinedBlock T ℕ → DefinedBlock T ℕ → Type 0
   Beside = Blocks (λ o. o) (Unit {0}) ⊥ Tags (λ w t u e. e) Cut (λ o. o ≡ false) (OwnWithin T) (λ v ls. AllWithinWidth v ls) (PictureWithin T)
       (λ v r. OpenWithin v r) (within T) (λ x. tt) Later (λ w z t u e l. e)
@@ -47,12 +47,12 @@ module _ (T : Type 0) where
   ends = ends-beside (λ o. o) (Unit {0}) ⊥ Tags (λ w t u e. e) Cut (λ o. o ≡ false) (OwnWithin T) (λ v ls. AllWithinWidth v ls)
       (PictureWithin T) (λ v r. OpenWithin v r) (within T) (λ x. tt) Later (λ w z t u e l. e)
 
-  -- after one operation, and those after it
+  -- One operation, and the rest of the sequence.
   then : (v : ℕ) (o : Option (DefinedBlock T ℕ)) (f : DefinedBlock T ℕ → Option (DefinedBlock T ℕ)) → Both (Unit {0}) ⊥ (Beside v tt) o o →
       ((c : DefinedBlock T ℕ) → Keeps v c → IfSome (f c) (Keeps v)) → IfSome (option_and_then f o) (Keeps v)
   then v o f k next = bind_some (Keeps v) (Keeps v) f o (itself (Beside v tt) o k) next
 
-  -- what is done keeps the block's lines within its width
+  -- A sequence of operations keeps the lines of a block within its width.
   edits-keep : (edits : Edits T) (v : ℕ) (b : DefinedBlock T ℕ) → Keeps v b → IfSome (edited operations ending edits b) (Keeps v)
   edits-keep Done v b k = k
   edits-keep (AddText style text next) v b k =
@@ -112,7 +112,7 @@ module _ (T : Type 0) where
   padded None = tt
   padded (Some tag) = refl
 
-  -- THE LAW
+  -- THE LAW: with overflow off no line passes the width of a block that was empty, after any sequence of operations.
   pub edits_within : (edits : Edits T) (setting : BlockSetting) (padding : Option T) → setting.overflow ≡ false →
       IfSome (edited operations ending edits (empty_block definition setting padding)) (λ block. AllWithinWidth setting.width block.lines)
   edits_within edits setting padding off =

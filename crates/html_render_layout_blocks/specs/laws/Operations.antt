@@ -1,11 +1,12 @@
--- What is counted in blocks.
+-- Counts in blocks.
 use Rattle.std.specs.Prelude.{◌≡◌, ℕ, ◌+◌, ◌≤◌, Bool, List, IfSome}
 use Rattle.html_render_parts_widths.specs.declared.shares.ColumnNeed.{ColumnNeed}
 use Rattle.html_render_layout_lines.specs.declared.character.TextStyle.{TextStyle}
 use Rattle.html_render_parts.specs.TableCells.{CellGrid}
 use Rattle.html_render_layout_blocks.specs.Operations.{Operations}
 
--- what v counts in a block grows by what w counts in a text, and isn't less once blocks are joined
+-- Whether a text adds to what v counts in a block what w counts in the text, and no other operation lessens the count.
+-- A block that is appended or added as a cell adds at least its own count. A new block has none.
 pub record Counts {B T : Type 0} (v : B → ℕ) (w : List ℕ → ℕ) (o : Operations B T ℕ) : Type 0 where
   pub add_inline_text : (b : B) (s : TextStyle T) (cs : List ℕ) → IfSome (o.add_inline_text b s cs) (λ c. v c ≡ v b + w cs)
   pub add_mark : (b : B) (m : ℕ) → v (o.add_mark b m) ≡ v b

@@ -1,4 +1,4 @@
--- THE THEOREM: two blocks whose paragraphs, pictures and lines are related stay so under each operation.
+-- THE THEOREM: each operation keeps two blocks related whose paragraphs, pictures and lines are related.
 use Rattle.std.proofs.Common.{◌≡◌, ℕ, Bool, true, false, not, cond, eqb, ◌==◌, ◌&&◌, List, [], ◌∷◌, ◌++◌, length, Option, Some, None}
 use Rattle.std.proofs.Common.{refl, sym, ap, ◌∙◌, subst, option_map, slice_index_or, arith}
 use Rattle.std.proofs.lemmas.Option.{same_Some}
@@ -33,7 +33,8 @@ use Rattle.html_render_layout_blocks.specs.Operations.{Operations, DocumentEnd}
 use Rattle.html_render_layout_blocks.specs.Tables.{frame_of, with_row_open, next_cell_width, skipped, with_open, with_ahead}
 use Rattle.html_render_layout_paragraphs.specs.laws.Answers.{Both, Both-then, Both-map, Both-weaken}
 
--- each operation keeps blocks related; a block inside another has an i of its own. W is what tags stand for, and Later how that may go on
+-- Whether each operation keeps blocks related. Each block has an index i, as its width. W is what tags stand for, and
+-- `Later` relates it to what they may stand for later.
 pub record Relates {I W B C T U : Type 0} (o : Operations B T ℕ) (p : Operations C U ℕ) (N M : Type 0) (Later : W → W → Type 0)
     (Tags : W → T → U → Type 0) (Blocks : I → W → B → C → Type 0) : Type 0 where
   pub add_inline_text : (i : I) (w : W) (mode : WhiteSpace) (t t' : T) (u u' : U) (cs : List ℕ) → Tags w t u → Tags w t' u' →
@@ -60,36 +61,37 @@ pub record Relates {I W B C T U : Type 0} (o : Operations B T ℕ) (p : Operatio
   pub end_row : (i : I) (w : W) (b : B) (c : C) → Blocks i w b c → Both N M (Blocks i w) (o.end_row b) (p.end_row c)
   pub end_table : (i : I) (w : W) (b : B) (c : C) → Blocks i w b c → Blocks i w (o.end_table b) (p.end_table c)
 
--- and so do those that a document ends with; closing lines are cut or left whole as Cut says
+-- Whether the operations at the end of a document keep blocks related. `Cut` says whether closing lines may be cut and
+-- whether they may be left whole.
 pub record RelatesEnds {I W B C T U : Type 0} (o : DocumentEnd B T) (p : DocumentEnd C U) (N M : Type 0) (Cut : Bool → Type 0)
     (Tags : W → T → U → Type 0) (Blocks : I → W → B → C → Type 0) : Type 0 where
   pub finish : (i : I) (w : W) (b : B) (c : C) → Blocks i w b c → Both N M (Blocks i w) (o.finish b) (p.finish c)
   pub add_closing_lines : (i : I) (w : W) (cut : Bool) (t : T) (u : U) (texts : List (List ℕ)) → Cut cut → Tags w t u → (b : B) (c : C) →
       Blocks i w b c → Both N M (Blocks i w) (o.add_closing_lines b cut t texts) (p.add_closing_lines c cut u texts)
 
--- the tags of two borders, or of two paddings, if there are any
+-- Whether two optional tags, of borders or of padding, are related: both exist and are related, or neither exists.
 abbrev pub OptionTags : {W T U : Type 0} → (W → T → U → Type 0) → W → Option T → Option U → Type 0
 OptionTags Tags w None None = Unit {0}
 OptionTags Tags w None (Some u) = ⊥
 OptionTags Tags w (Some t) None = ⊥
 OptionTags Tags w (Some t) (Some u) = Tags w t u
 
--- the setting of lines that aren't a paragraph's: the block's own width
+-- Setting of lines that aren't a paragraph's: the width of the block.
 abbrev pub line_setting : BlockSetting → Setting
 line_setting s = record { width = s.width; overflow = s.overflow }
 
--- what is asked of how settings, lines, paragraphs, pictures and rows are related, in a block of v columns. Clear are paragraphs to which
--- nothing is fed
+-- Requirements on relations of settings, lines, paragraphs, pictures and open rows, in blocks of v columns. `Clear`
+-- relates paragraphs to which nothing is fed.
 pub record RelatesParts {P R Q S T U W : Type 0} (from : Parts P R T ℕ) (to : Parts Q S U ℕ) (N M : Type 0) (Tags : W → T → U → Type 0)
     (Settings : ℕ → BlockSetting → BlockSetting → Type 0) (Lines : ℕ → W → List (Line T ℕ) → List (Line U ℕ) → Type 0)
     (Paragraphs Clear : ℕ → W → P → Q → Type 0) (Pictures : ℕ → W → List ℕ → R → S → Type 0)
     (Rows : ℕ → W → OpenRow T ℕ → OpenRow U ℕ → Type 0) : Type 0 where
-  -- settings
+  -- Settings.
   pub width : (v : ℕ) (s r : BlockSetting) → Settings v s r → (s.width ≡ v) × (r.width ≡ v)
   pub inner_width : (v : ℕ) (s r : BlockSetting) (prefix inner : ℕ) → Settings v s r →
       Both N M (λ x y. x ≡ y) (inner_width s prefix inner) (inner_width r prefix inner)
   pub inner : (v x : ℕ) (s r : BlockSetting) → Settings v s r → Settings x (record s { width = x }) (record r { width = x })
-  -- lines
+  -- Lines.
   pub none : (v : ℕ) (w : W) → Lines v w [] []
   pub gap : (v : ℕ) (w : W) → Lines v w ([] ∷ []) ([] ∷ [])
   pub behind : (v : ℕ) (w : W) (a e : List (Line T ℕ)) (b f : List (Line U ℕ)) → Lines v w a b → Lines v w e f → Lines v w (a ++ e) (b ++ f)
@@ -103,7 +105,7 @@ pub record RelatesParts {P R Q S T U W : Type 0} (from : Parts P R T ℕ) (to : 
   pub joined : (v x : ℕ) (w : W) (s r : BlockSetting) (t : T) (u : U) (first later : List ℕ) (a : List (Line T ℕ)) (b : List (Line U ℕ)) →
       Settings v s r → Tags w t u → Lines x w a b → Both N M (Lines v w) (fitting s.width s.overflow (prefixed (under t first) (under t later) a))
       (fitting r.width r.overflow (prefixed (under u first) (under u later) b))
-  -- paragraphs
+  -- Paragraphs.
   pub start : (v : ℕ) (w : W) (s r : BlockSetting) → Settings v s r →
       Clear v w (from.start (paragraph_setting s) []) (to.start (paragraph_setting r) [])
   pub feed_text : (v : ℕ) (w : W) (p : P) (q : Q) (mode : WhiteSpace) (t t' : T) (u u' : U) (cs : List ℕ) → Tags w t u → Tags w t' u' →
@@ -118,7 +120,7 @@ pub record RelatesParts {P R Q S T U W : Type 0} (from : Parts P R T ℕ) (to : 
   pub clear : (v : ℕ) (w : W) (p : P) (q : Q) → Clear v w p q → Paragraphs v w p q
   pub waiting : (v : ℕ) (w : W) (p : P) (q : Q) → Clear v w p q → to.waiting q ≡ from.waiting p
   pub without : (v : ℕ) (w : W) (p : P) (q : Q) → Clear v w p q → Clear v w (from.without_waiting p) (to.without_waiting q)
-  -- pictures, and rows that are open
+  -- Pictures, and open rows.
   pub begun : (v : ℕ) (w : W) (needs : List ColumnNeed) (widths : List ℕ) (borders : Bool) (t : T) (u : U) (ms : List ℕ) → Tags w t u →
       widths_across v needs ≡ Some widths →
       Pictures v w widths (from.begun (frame_of t borders widths) ms) (to.begun (frame_of u borders widths) ms)
@@ -145,12 +147,12 @@ module _ {P R Q S T U W : Type 0} (from : Parts P R T ℕ) (to : Parts Q S U ℕ
   abbrev Second : Type 0
   Second = Block Q S U ℕ
 
-  -- the row that is open, if one is
+  -- Whether two optional open rows are related.
   abbrev OpenRows : ℕ → W → Option (OpenRow T ℕ) → Option (OpenRow U ℕ) → Type 0
   OpenRows v w None o = o ≡ None
   OpenRows v w (Some r) o = (k : OpenRow U ℕ) × ((o ≡ Some k) × Rows v w r k)
 
-  -- a table whose cells stand side by side
+  -- Whether the second table is side by side and related to the first one, which has these parts.
   pub record IsAcross (v : ℕ) (w : W) (picture : R) (widths : List ℕ) (ahead : List (List PlacedCell)) (row : Option (OpenRow T ℕ))
       (o : Option (OpenTable S U ℕ)) : Type 0 where
     pub other : S
@@ -159,7 +161,7 @@ module _ {P R Q S T U W : Type 0} (from : Parts P R T ℕ) (to : Parts Q S U ℕ
     pub pictures : Pictures v w widths picture other
     pub rows : OpenRows v w row other_row
 
-  -- and one whose cells stand one below another
+  -- Whether the second table is stacked and related to the first one, which has these parts.
   pub record IsStacked (w : W) (border : Option T) (has_lines : Bool) (o : Option (OpenTable S U ℕ)) : Type 0 where
     pub other : Option U
     pub is : o ≡ Some (Stacked other has_lines)
@@ -170,7 +172,7 @@ module _ {P R Q S T U W : Type 0} (from : Parts P R T ℕ) (to : Parts Q S U ℕ
   Tables v w (Some (Across picture widths ahead row)) o = IsAcross v w picture widths ahead row o
   Tables v w (Some (Stacked border has_lines)) o = IsStacked w border has_lines o
 
-  -- blocks of v columns
+  -- Whether two blocks of v columns are related.
   pub record Related (v : ℕ) (w : W) (b : First) (c : Second) : Type 0 where
     pub settings : Settings v b.setting c.setting
     pub padding : OptionTags Tags w b.padding c.padding
@@ -179,17 +181,17 @@ module _ {P R Q S T U W : Type 0} (from : Parts P R T ℕ) (to : Parts Q S U ℕ
     pub at_block_end : c.at_block_end ≡ b.at_block_end
     pub table : Tables v w b.table c.table
 
-  -- to whose paragraphs nothing is fed
+  -- Whether two blocks of v columns are related, and nothing is fed to their paragraphs.
   abbrev Flushed : ℕ → W → First → Second → Type 0
   Flushed v w b c = Related v w b c × Clear v w b.paragraph c.paragraph
 
-  -- the same choice on both sides
+  -- A choice by one condition on both sides.
   either : {X Y : Type 0} (E : X → Y → Type 0) (z : Bool) (a b : Option X) (c d : Option Y) → Both N M E a c → Both N M E b d →
       Both N M E (cond z a b) (cond z c d)
   either E true a b c d k l = k
   either E false a b c d k l = l
 
-  -- blocks with other lines, another paragraph and another table
+  -- Related blocks with other lines, another paragraph, another end and another table.
   rebuilt : (v : ℕ) (w : W) (b : First) (c : Second) (a : List (Line T ℕ)) (e : List (Line U ℕ)) (p : P) (q : Q) (z y : Bool)
       (o : Option (OpenTable R T ℕ)) (n : Option (OpenTable S U ℕ)) → Related v w b c → Lines v w a e → Paragraphs v w p q → y ≡ z → Tables v w o n →
       Related v w (record b { lines = a; paragraph = p; at_block_end = z; table = o }) (record c { lines = e; paragraph = q; at_block_end = y; table = n })
@@ -208,12 +210,12 @@ module _ {P R Q S T U W : Type 0} (from : Parts P R T ℕ) (to : Parts Q S U ℕ
       Related v w (record b { paragraph = p }) (record c { paragraph = q })
   with_paragraph v w b c p q k x = rebuilt v w b c _ _ _ _ _ _ _ _ k k.lines x k.at_block_end k.table
 
-  -- other lines, and a paragraph to which nothing is fed
+  -- Related blocks with other lines, and with paragraphs to which nothing is fed.
   with_lines : (v : ℕ) (w : W) (b : First) (c : Second) (a : List (Line T ℕ)) (e : List (Line U ℕ)) (p : P) (q : Q) → Related v w b c →
       Lines v w a e → Clear v w p q → Flushed v w (record b { lines = a; paragraph = p }) (record c { lines = e; paragraph = q })
   with_lines v w b c a e p q k l x = (rebuilt v w b c _ _ _ _ _ _ _ _ k l (h.clear v w p q x) k.at_block_end k.table, x)
 
-  -- ---- flushed blocks
+  -- ---- Flushed blocks
 
   pub flush-related : (v : ℕ) (w : W) (b : First) (c : Second) → Related v w b c → Both N M (Flushed v w) (flush from b) (flush to c)
   flush-related v w b c k =
@@ -240,7 +242,7 @@ module _ {P R Q S T U W : Type 0} (from : Parts P R T ℕ) (to : Parts Q S U ℕ
           (with_end v w (add_lines from b ([] ∷ [])) (add_lines to c ([] ∷ [])) false m.0, m.1)
       by false = (with_end v w b c false k.0, k.1)
 
-  -- how many lines there are
+  -- Related blocks have equally many lines.
   counted : (v : ℕ) (w : W) (b : First) (c : Second) → Related v w b c → length c.lines ≡ length b.lines
   counted v w b c k = sym (h.count v w b.lines c.lines k.lines)
 
@@ -256,7 +258,7 @@ module _ {P R Q S T U W : Type 0} (from : Parts P R T ℕ) (to : Parts Q S U ℕ
       unended-related v w (length e.lines == length b.lines) (length f.lines == length c.lines) e f
       (ap (λ n. n == length c.lines) (counted v w e f m.0) ∙ ap (λ n. length e.lines == n) (counted v w b c k)) m)
 
-  -- the same without what is said of the paragraph
+  -- Flushed blocks are related.
   flushed : (v : ℕ) (w : W) (a : Option First) (e : Option Second) → Both N M (Flushed v w) a e → Both N M (Related v w) a e
   flushed v w a e k = Both-weaken N M (Flushed v w) (Related v w) a e k (λ b c m. m.0)
 
@@ -295,7 +297,7 @@ module _ {P R Q S T U W : Type 0} (from : Parts P R T ℕ) (to : Parts Q S U ℕ
       other_ended : Second → Option Second
       other_ended e = cond (is_blank mode cs) (Some e) (option_map other_fed (start_block to e))
 
-  -- ---- blocks in blocks
+  -- ---- Blocks in blocks
 
   pub empty-related : (v : ℕ) (w : W) (s r : BlockSetting) (padding : Option T) (other : Option U) → Settings v s r → OptionTags Tags w padding other →
       Related v w (empty_block from s padding) (empty_block to r other)
@@ -328,9 +330,9 @@ module _ {P R Q S T U W : Type 0} (from : Parts P R T ℕ) (to : Parts Q S U ℕ
       by (a ∷ rest) [] l = absurd (let n = h.count v w (a ∷ rest) [] l in omega arith)
       by (a ∷ rest) (e ∷ others) l = (add_lines-related v w b c _ _ k (h.behind_marks v w ms (a ∷ rest) (e ∷ others) l)).0
 
-  -- ---- tables
+  -- ---- Tables
 
-  -- rows in which no cell begins
+  -- Pictures with rows ahead.
   with_ahead-related : (v : ℕ) (w : W) (widths : List ℕ) (ahead : List (List PlacedCell)) (p : R) (q : S) → Pictures v w widths p q →
       Pictures v w widths (with_ahead from widths ahead p) (with_ahead to widths ahead q)
   with_ahead-related v w widths [] p q k = k
@@ -365,7 +367,7 @@ module _ {P R Q S T U W : Type 0} (from : Parts P R T ℕ) (to : Parts Q S U ℕ
   pub end_table-related : (v : ℕ) (w : W) (b : First) (c : Second) → Related v w b c → Related v w (end_table from b) (end_table to c)
   end_table-related v w b c k = end_open-related v w b c b.table c.table k k.table
 
-  -- what comes behind a flush, once the table is over
+  -- Flushed blocks, once their open tables are ended.
   ended_flush : (v : ℕ) (w : W) (b : First) (c : Second) → Related v w b c →
       Both N M (Flushed v w) (flush from (end_table from b)) (flush to (end_table to c))
   ended_flush v w b c k = flush-related v w (end_table from b) (end_table to c) (end_table-related v w b c k)
@@ -383,7 +385,7 @@ module _ {P R Q S T U W : Type 0} (from : Parts P R T ℕ) (to : Parts Q S U ℕ
       Both-map N M (Lines v w) (Related v w) _ _ _ _ (h.joined v x w d.setting g.setting t u first later a.lines i.lines m.0.settings y n.0.lines)
       (λ p q o. put_lines-related v w p q _ _ (h.waiting x w a.paragraph i.paragraph n.1) o d g m)))
 
-  -- a border of one character
+  -- Blocks with a border of one character.
   add_border-related : (v : ℕ) (w : W) (character : ℕ) → width_of character ≡ 1 →
       (border : Option T) (other : Option U) → OptionTags Tags w border other → (b : First) (c : Second) → Flushed v w b c →
       Flushed v w (add_border from b border character) (add_border to c other character)
@@ -507,7 +509,7 @@ module _ {P R Q S T U W : Type 0} (from : Parts P R T ℕ) (to : Parts Q S U ℕ
       by true = put _ _ (add_border-related v w BORDERS.slash slash_width border other x b c k)
       by false = put b c k
 
-  -- a cell of x columns that stands below the block's lines
+  -- A cell of x columns whose lines are added below those of the block.
   below : (v x : ℕ) (w : W) (b : First) (c : Second) → Related v w b c → (e : First) (f : Second) → Flushed x w e f → Some v ≡ Some x →
       Both N M (Related v w) (option_map (λ d. put_lines from d e.lines (from.waiting e.paragraph)) (flush from b))
       (option_map (λ d. put_lines to d f.lines (to.waiting f.paragraph)) (flush to c))
@@ -516,7 +518,7 @@ module _ {P R Q S T U W : Type 0} (from : Parts P R T ℕ) (to : Parts Q S U ℕ
       Both-map N M (Flushed v w) (Related v w) _ _ (flush from b) (flush to c) (flush-related v w b c k)
       (put_lines-related v w e.lines f.lines _ _ (h.waiting v w e.paragraph f.paragraph m.1) m.0.lines)
 
-  -- a cell of x columns, in its place
+  -- A cell of x columns at its place.
   cell_added-related : (v x : ℕ) (w : W) (b : First) (c : Second) → Related v w b c → (e : First) (f : Second) → Flushed x w e f →
       (o : Option (OpenTable R T ℕ)) (p : Option (OpenTable S U ℕ)) → Tables v w o p → next_cell_width v o ≡ Some x →
       Both N M (Related v w) (cell_added from b o e) (cell_added to c p f)
@@ -616,7 +618,7 @@ module _ {P R Q S T U W : Type 0} (from : Parts P R T ℕ) (to : Parts Q S U ℕ
   row_ended-related v w b c k (Some (Stacked border false)) p t =
       subst (λ z. Both N M (Related v w) (Some b) (row_ended to c z)) (sym t.is) k
 
-  -- THE THEOREM
+  -- THE THEOREM: each operation keeps blocks related.
   pub operations-related : Relates (operations from) (operations to) N M Later Tags (λ v w b c. Related v w b c)
   operations-related = record {
     add_inline_text = add_inline_text-related;
@@ -635,7 +637,7 @@ module _ {P R Q S T U W : Type 0} (from : Parts P R T ℕ) (to : Parts Q S U ℕ
     end_table = end_table-related;
   }
 
-  -- ---- a document's end
+  -- ---- The end of a document
 
   ended-related : (v : ℕ) (w : W) (b : First) (c : Second) → Flushed v w b c → Related v w
       (cond (is_empty b.lines) b (record b { lines = marked_behind (from.waiting b.paragraph) b.lines; paragraph = from.without_waiting b.paragraph }))
@@ -662,7 +664,7 @@ module _ {P R Q S T U W : Type 0} (from : Parts P R T ℕ) (to : Parts Q S U ℕ
       Both-map N M (Flushed v w) (Related v w) _ _ (flush from (end_table from b)) (flush to (end_table to c)) (ended_flush v w b c k)
       (ended-related v w)
 
-  -- closing lines, where the lines of each text are related
+  -- Closing lines, if the lines of each text are related.
   module _ (Cut : Bool → Type 0) (text : (v : ℕ) (w : W) (cut : Bool) (s r : BlockSetting) (t : T) (u : U) (cs : List ℕ) → Cut cut → Settings v s r →
       Tags w t u → Both N M (Lines v w) (text_lines (line_setting s) cut t cs) (text_lines (line_setting r) cut u cs)) where
     texts-related : (v : ℕ) (w : W) (cut : Bool) (s r : BlockSetting) (t : T) (u : U) → Cut cut → Settings v s r → Tags w t u →
@@ -683,11 +685,11 @@ module _ {P R Q S T U W : Type 0} (from : Parts P R T ℕ) (to : Parts Q S U ℕ
         Both-then N M weak (Lines v w) (Related v w) (λ ls. Some (add_lines from e ls)) (λ ls. Some (add_lines to f ls)) _ _
         (texts-related v w cut e.setting f.setting t u x m.0.settings y (cs ∷ rest)) (λ a i l. (add_lines-related v w e f a i m l).0))
 
-    -- THE THEOREM, of a document's end
+    -- THE THEOREM: the operations at the end of a document keep blocks related.
     pub ends-related : RelatesEnds (ending from) (ending to) N M Cut Tags (λ v w b c. Related v w b c)
     ends-related = record { finish = finish-related; add_closing_lines = closing-related }
 
-  -- ---- what tags stand for later
+  -- ---- Later meanings of tags
 
   module _ (tags_later : (w z : W) (t : T) (u : U) → Tags w t u → Later w z → Tags z t u)
       (lines_later : (v : ℕ) (w z : W) (a : List (Line T ℕ)) (b : List (Line U ℕ)) → Lines v w a b → Later w z → Lines v z a b)

@@ -1,4 +1,4 @@
--- The rows of a table whose cells stand side by side keep to its block's width.
+-- Rows of a table whose cells are side by side keep to the width of the block.
 use Rattle.std.proofs.Common.{◌≡◌, ℕ, suc, ◌+◌, ◌-◌, ◌≤◌, ◌==◌, Bool, true, false, not, cond, List, [], ◌∷◌, ◌++◌, length, sum, take, drop, Option, Some, None}
 use Rattle.std.proofs.Common.{refl, ap, arith, All, sum_by, count_by, length-append}
 use Rattle.std.proofs.lemmas.List.{take-append-drop}
@@ -12,27 +12,29 @@ use Rattle.html_render_layout_blocks.specs.declared.block.rows.RowPlace.{RowPlac
 use Rattle.html_render_layout_blocks.specs.OpenRows.{OpenRow, cell_width, places, next_width, empty_cell, empty_cells, before_cell}
 use Rattle.html_render_layout_blocks.specs.OpenRows.{open_row, past_cell, whole_row}
 
--- the columns of cells, each with a separator
+-- Columns of cells, each with a separator.
 abbrev pub cells_room : {T M : Type 0} → List (KeptCell T M) → ℕ
 cells_room {T} {M} cells = sum_by (λ (c : KeptCell T M). 1 + c.width) cells
 
+-- Columns of a place with a separator. 0 if the place is skipped.
 abbrev pub place_room : Option ℕ → ℕ
 place_room None = 0
 place_room (Some width) = 1 + width
 
+-- Columns of places, each with a separator, except for skipped ones.
 abbrev pub places_room : List RowPlace → ℕ
 places_room [] = 0
 places_room (p ∷ ps) = place_room p.width + places_room ps
 
--- those of a table's columns
+-- Widths of a table's columns, each with a separator.
 abbrev pub columns_room : List ℕ → ℕ
 columns_room widths = sum widths + length widths
 
--- what a row has, and what is ahead in it, is within the width
+-- Whether the lines of a row's cells keep to their cells, and the cells and the places ahead keep to a width.
 abbrev pub OpenWithin : {T M : Type 0} → ℕ → OpenRow T M → Type 0
 OpenWithin w r = All KeepsToWidth r.cells × (cells_room r.cells + places_room r.ahead ≤ w + 1)
 
--- ---- the places of a row
+-- ---- Places of a row
 
 columns-parted : (n : ℕ) (ws : List ℕ) → columns_room (take n ws) + columns_room (drop n ws) ≡ columns_room ws
 columns-parted n ws =
@@ -61,7 +63,7 @@ places-within ws (s ∷ ss) =
     let all = columns-parted s.columns ws in
     omega (arith, front, rest, all)
 
--- the places before the next cell, that cell's, and those behind it
+-- The columns of a row's places are those before the next cell, that cell's, and those after it.
 places-parted : (ps : List RowPlace) →
     places_room ps ≡ places_room (before_cell ps) + place_room (next_width ps) + places_room (drop (suc (length (before_cell ps))) ps)
 places-parted [] = refl
@@ -93,17 +95,17 @@ module _ {T M : Type 0} where
       by (Some width) h =
           All-cons KeepsToWidth (record { width = width; lines = []; marks = [] }) (empty_cells ps) (All-nil (λ (l : Line T M). columns l ≤ width)) h
 
-  -- ---- rows
+  -- ---- Rows
 
   row-within : (w : ℕ) (cells : List (KeptCell T M)) → cells_room cells ≤ w + 1 → row_width cells ≤ w
   row-within w [] h = omega arith
   row-within w (c ∷ cs) h = omega (arith, h, sum_by-cons (λ (c : KeptCell T M). 1 + c.width) c cs)
 
-  -- a row that begins
+  -- A row that begins keeps to the width.
   pub open-within : (w : ℕ) (ws : List ℕ) (cells : List PlacedCell) → columns_room ws ≤ w + 1 → OpenWithin w (open_row {T = T} {M = M} ws cells)
   open-within w ws cells h = (All-nil KeepsToWidth, omega (arith, h, places-within ws cells))
 
-  -- a row with a cell that keeps to its place
+  -- A row keeps to the width with a cell that keeps to its place.
   pub cell-within : (w : ℕ) (r : OpenRow T M) (cell : List (KeptCell T M)) → OpenWithin w r → All KeepsToWidth cell →
       cells_room cell ≤ place_room (next_width r.ahead) → OpenWithin w (past_cell r cell)
   cell-within w r cell h keeps room =
@@ -129,7 +131,7 @@ module _ {T M : Type 0} where
             (omega (arith, n, empties-room T M r.ahead, sum_by-append (λ (c : KeptCell T M). 1 + c.width) r.cells (empty_cells r.ahead))),
       )
 
--- a table is no wider than its columns and the separators between them
+-- The width of a table is at most that of its columns and all separators between them.
 pub frame_width_within : (ws : List ℕ) → sum ws + (count_by (λ w. not (w == 0)) ws - 1) ≤ sum ws + (length ws - 1)
 frame_width_within ws = omega (arith, count_by-le-length (λ w. not (w == 0)) ws)
 

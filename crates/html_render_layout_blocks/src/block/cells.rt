@@ -1,4 +1,4 @@
-//! The rows and the cells of the table that is open in a block.
+//! Rows and cells of a block's open table.
 
 ghost use Rattle.std.specs.Prelude.{◌≡◌, ◌==◌, [], Some, OnOk, IfOk, IfErr, drop, not, option_map, slice_index_or};
 ghost use Rattle.html_render_dom_values.specs.Outcome.{Refuses};
@@ -20,23 +20,23 @@ use html_render_layout_pictures::picture::{Cell, Picture};
 use html_render_parts::table::cells::RowsAhead;
 use std::alloc::{AllocError, Global};
 
-/// Where the next cell goes.
+/// Place of the next cell.
 #[derive(Clone, Copy)]
 pub enum CellPlace<T> {
-    /// Into the row that is open.
+    /// In the open row of a table whose cells are side by side.
     InRow,
-    /// Below the lines of the block.
+    /// Below the lines of the block, since no row is open.
     Below,
-    /// Below the other cells of a table whose cells stand one below another.
+    /// Below the other cells of a stacked table.
     InStack {
-        /// The tag of the table's borders, if they are drawn.
+        /// Tag of the table's borders; `None` without borders.
         border: Option<T>,
         /// Whether a cell of the row has lines.
         has_lines: bool,
     },
 }
 
-/// Opens the next of the rows that are ahead.
+/// Opens the next of the rows ahead, or an empty row if there is none.
 fn next_row<T: Tag, M: Copy>(
     alloc: Global,
     widths: &Widths,
@@ -54,7 +54,7 @@ fn next_row<T: Tag, M: Copy>(
 }
 
 impl<T: Tag, M: Copy> OpenTable<Picture<T, M>, T, M> {
-    /// Begins the next row; a row that is open goes on.
+    /// Begins the next row. Side by side, a row that is open already stays open.
     fn begin_row(&mut self, alloc: Global) -> Result<(), Error>
         ensures ok { OnOk result (self.new ≡ with_row_open self.old) }
         ensures err { IfErr result (λ e. e ≡ Error.OutOfMemory) }
@@ -75,7 +75,7 @@ impl<T: Tag, M: Copy> OpenTable<Picture<T, M>, T, M> {
         Ok(())
     }
 
-    /// No lines, in the memory of those of a cell that is drawn, if any is left.
+    /// Takes a recycled, empty line buffer of a drawn cell. `None` if there is none or the table is stacked.
     fn take_spare(&mut self) -> Option<Lines<T, M>>
         ensures { self.new ≡ self.old }
     {
@@ -85,7 +85,8 @@ impl<T: Tag, M: Copy> OpenTable<Picture<T, M>, T, M> {
         }
     }
 
-    /// The columns of the next cell's block, unless it is skipped; in a block of this width.
+    /// Returns the columns of the next cell's block; `None` if the cell is skipped. Where no row is open, and in a
+    /// stacked table, they are `width`, those of the table's block.
     fn next_cell_width(&self, width: usize) -> Option<usize>
         ensures { result ≡ next_cell_width width (Some self.now) }
     {
@@ -95,7 +96,7 @@ impl<T: Tag, M: Copy> OpenTable<Picture<T, M>, T, M> {
         }
     }
 
-    /// Where the next cell goes.
+    /// Returns the place of the next cell.
     fn cell_place(&self) -> CellPlace<T>
         ensures { result ≡ cell_place (Some self.now) }
     {
@@ -109,7 +110,7 @@ impl<T: Tag, M: Copy> OpenTable<Picture<T, M>, T, M> {
         }
     }
 
-    /// Skips the next cell.
+    /// Skips the next cell of the open row, if there is one.
     fn skip_cell(&mut self, alloc: Global) -> Result<(), AllocError>
         ensures { OnOk result (self.new ≡ skipped self.old) }
     {
@@ -119,7 +120,7 @@ impl<T: Tag, M: Copy> OpenTable<Picture<T, M>, T, M> {
         }
     }
 
-    /// Puts a cell in its place in the row that is open, if one is.
+    /// Adds a cell to the open row, if there is one.
     fn add_cell(&mut self, alloc: Global, cell: Cell<T, M>) -> Result<(), AllocError>
         ensures { OnOk result (self.new ≡ with_next cell self.old) }
     {
@@ -129,7 +130,7 @@ impl<T: Tag, M: Copy> OpenTable<Picture<T, M>, T, M> {
         }
     }
 
-    /// Draws the row that is open, if one is: it is over.
+    /// Draws the open row, if there is one, and closes it.
     fn end_row(&mut self, alloc: Global) -> Result<(), Error>
         ensures ok { OnOk result (self.new ≡ with_row_over machine self.old) }
         ensures err { IfErr result (λ e. e ≡ Error.OutOfMemory) }
@@ -148,7 +149,8 @@ impl<T: Tag, M: Copy> OpenTable<Picture<T, M>, T, M> {
 }
 
 impl<T: Tag, M: Copy> Block<T, M> {
-    /// Begins the next row of the table that is open. A row that is open goes on. Without a table nothing is done.
+    /// Begins the next row of the open table. Side by side, a row that is open already stays open. Without a table,
+    /// does nothing.
     ///
     /// # Errors
     ///
@@ -165,7 +167,7 @@ impl<T: Tag, M: Copy> Block<T, M> {
         Ok(())
     }
 
-    /// The columns of the next cell's block, unless it is skipped.
+    /// Returns the columns of the next cell's block; `None` if the cell is skipped.
     pub(crate) fn next_cell_width(&self) -> Option<usize>
         ensures { result ≡ next_cell_width self.now.setting.width self.now.table }
     {
@@ -175,7 +177,7 @@ impl<T: Tag, M: Copy> Block<T, M> {
         }
     }
 
-    /// Skips the next cell of the row that is open, if one is.
+    /// Skips the next cell of the open row, if there is one.
     ///
     /// # Errors
     ///
@@ -192,7 +194,7 @@ impl<T: Tag, M: Copy> Block<T, M> {
         Ok(())
     }
 
-    /// Where the next cell goes.
+    /// Returns the place of the next cell.
     fn cell_place(&self) -> CellPlace<T>
         ensures { result ≡ cell_place self.now.table }
     {
@@ -202,7 +204,7 @@ impl<T: Tag, M: Copy> Block<T, M> {
         }
     }
 
-    /// Takes out what a flushed block holds as a cell.
+    /// Removes the contents of a flushed block and returns them as a cell.
     #[inline(always)]
     fn take_cell(&mut self) -> Cell<T, M>
         ensures { result ≡ record { width = self.old.setting.width; lines = self.old.lines; marks = machine.waiting self.old.paragraph } }
@@ -215,7 +217,7 @@ impl<T: Tag, M: Copy> Block<T, M> {
         }
     }
 
-    /// Puts a cell in its place in the row that is open, if one is.
+    /// Adds a cell to the open row, if there is one.
     fn add_to_row(&mut self, cell: Cell<T, M>) -> Result<(), AllocError>
         ensures { OnOk result (self.new ≡ record self.old { table = option_map (with_next cell) self.old.table }) }
     {
@@ -226,7 +228,7 @@ impl<T: Tag, M: Copy> Block<T, M> {
         }
     }
 
-    /// Gives a block the memory of a cell's lines that are drawn, if any is left.
+    /// Gives `cell` a recycled line buffer of a drawn cell, if there is one.
     fn give_spare(&mut self, cell: &mut Block<T, M>)
         ensures { self.new ≡ self.old }
     {
@@ -237,7 +239,7 @@ impl<T: Tag, M: Copy> Block<T, M> {
         }
     }
 
-    /// Draws the row that is open, if one is: it is over.
+    /// Draws the open row, if there is one, and closes it.
     fn draw_row(&mut self) -> Result<(), Error>
         ensures ok { OnOk result (self.new ≡ record self.old { table = option_map (with_row_over machine) self.old.table }) }
         ensures err { IfErr result (λ e. e ≡ Error.OutOfMemory) }
@@ -249,7 +251,8 @@ impl<T: Tag, M: Copy> Block<T, M> {
         }
     }
 
-    /// Adds lines and the marks that wait behind them. Where there are no lines, all marks wait.
+    /// Appends lines, with the waiting marks at the front of the first one and `marks` at the end of the last one.
+    /// Without lines, `marks` wait too.
     fn put_lines(&mut self, mut lines: Lines<T, M>, marks: &[M]) -> Result<(), Error>
         ensures ok { OnOk result (self.new ≡ block.put_lines machine self.old lines marks.now) }
         ensures err { IfErr result (λ e. e ≡ Error.OutOfMemory) }
@@ -263,7 +266,7 @@ impl<T: Tag, M: Copy> Block<T, M> {
         Ok(())
     }
 
-    /// Adds the lines of a flushed block, as this one is.
+    /// Appends the lines of a flushed block to this flushed block.
     fn put_below(&mut self, cell: &mut Block<T, M>) -> Result<(), Error>
         ensures ok { OnOk result (self.new ≡ block.put_lines machine self.old cell.old.lines (machine.waiting cell.old.paragraph)) }
         ensures err { IfErr result (λ e. e ≡ Error.OutOfMemory) }
@@ -272,7 +275,8 @@ impl<T: Tag, M: Copy> Block<T, M> {
         self.put_lines(lines, marks.as_slice())
     }
 
-    /// Adds a cell below others of its row, to a flushed block.
+    /// Appends a flushed cell of a stacked table to this flushed block. A line of `/` separates the cell from the
+    /// earlier cells of its row, if both have lines and borders are drawn.
     fn put_stacked(
         &mut self,
         border: Option<T>,
@@ -291,7 +295,7 @@ impl<T: Tag, M: Copy> Block<T, M> {
         Ok(())
     }
 
-    /// Adds a cell that is flushed below the lines of this block.
+    /// Flushes this block, and appends the lines of a flushed cell.
     #[tactic(auto, using(html_render_dom_values::specs::laws::Outcome::refusals))]
     fn flush_and_put_below(&mut self, cell: &mut Block<T, M>) -> Result<(), Error>
         ensures ok { OnOk result (option_map (λ e. block.put_lines machine e cell.old.lines (machine.waiting cell.old.paragraph)) (block.flush machine self.old) ≡ Some self.new) }
@@ -301,7 +305,8 @@ impl<T: Tag, M: Copy> Block<T, M> {
         self.put_below(cell)
     }
 
-    /// Adds a cell that is flushed below others of its row.
+    /// Flushes this block, and appends a flushed cell of a stacked table. A line of `/` separates the cell from the
+    /// earlier cells of its row, if both have lines and borders are drawn.
     #[tactic(auto, using(html_render_dom_values::specs::laws::Outcome::refusals))]
     fn flush_and_put_stacked(
         &mut self,
@@ -318,7 +323,7 @@ impl<T: Tag, M: Copy> Block<T, M> {
         self.put_stacked(border, has_lines, cell)
     }
 
-    /// Adds a cell that is flushed.
+    /// Adds a flushed cell at its place.
     #[inline(always)]
     #[tactic(auto, using(html_render_dom_values::specs::laws::Outcome::refusals, crate::proofs::Cells::cells_added))]
     fn add_flushed(&mut self, cell: &mut Block<T, M>) -> Result<(), Error>
@@ -338,14 +343,16 @@ impl<T: Tag, M: Copy> Block<T, M> {
         }
     }
 
-    /// Adds the next cell of the row that is open: this block, flushed, and a table that is open in it is over. In a table
-    /// whose cells stand side by side it is kept until the row is over; where cells stand one below another, and where no row is
-    /// open, its lines come below those of this block, which is flushed. Above the lines of a cell below others of its row,
-    /// there is a line of `/`, where borders are drawn.
+    /// Adds a block as the next cell of the open row. The cell is flushed, and a table that is open in it is ended.
+    ///
+    /// - Side by side, the cell is kept until the row ends.
+    /// - In a stacked table, and where no row is open, this block is flushed and the lines of the cell are appended.
+    /// - In a stacked table with borders, a line of `/` separates two cells of a row that have lines.
     ///
     /// # Errors
     ///
-    /// `TooNarrow`, as in [`flush`](Block::flush) of either block. `OutOfMemory`.
+    /// - `OutOfMemory`.
+    /// - `TooNarrow`, as in [`flush`](Block::flush) of either block.
     #[inline(always)]
     #[tactic(auto, using(html_render_dom_values::specs::laws::Outcome::refusals), unfolding(crate::specs::Machine::operations))]
     pub fn add_cell(&mut self, cell: &mut Block<T, M>) -> Result<(), Error>
@@ -356,7 +363,7 @@ impl<T: Tag, M: Copy> Block<T, M> {
         self.add_flushed(cell)
     }
 
-    /// Draws a border below a row of cells one below another.
+    /// Flushes, and begins another row of a stacked table, below a border if borders are drawn.
     #[tactic(auto, using(html_render_dom_values::specs::laws::Outcome::refusals))]
     fn end_stacked_row(&mut self, border: Option<T>) -> Result<(), Error>
         ensures ok { OnOk result (option_map (λ e. block.stacked_begun machine e border) (block.flush machine self.old) ≡ Some self.new) }
@@ -367,12 +374,16 @@ impl<T: Tag, M: Copy> Block<T, M> {
         Ok(())
     }
 
-    /// Ends the row that is open. Where its cells stand side by side, it is drawn; below a row of cells one below another that
-    /// have lines there is a border, where borders are drawn, and the block is flushed.
+    /// Ends the open row.
+    ///
+    /// - Side by side, it is drawn.
+    /// - In a stacked table, if a cell of the row has lines, the block is flushed, and a border is drawn below the row
+    ///   if borders are drawn.
     ///
     /// # Errors
     ///
-    /// `TooNarrow`, as in [`flush`](Block::flush). `OutOfMemory`.
+    /// - `OutOfMemory`.
+    /// - `TooNarrow`, as in [`flush`](Block::flush).
     #[tactic(auto, using(html_render_dom_values::specs::laws::Outcome::refusals, crate::proofs::Cells::rows_ended), unfolding(crate::specs::Machine::operations))]
     pub fn end_row(&mut self) -> Result<(), Error>
         ensures ok { OnOk result (machine.operations.end_row self.old ≡ Some self.new) }

@@ -1,4 +1,4 @@
-//! The end of a document's block: the marks that wait behind its last line, and the lines that close it.
+//! The end of a document's block: the marks that wait after its last line, and closing lines.
 
 ghost use Rattle.std.specs.Prelude.{◌≡◌, ◌==◌, ◌++◌, Some, cond, map, option_map, string_bytes};
 ghost use Rattle.std.specs.Prelude.{OnOk, IfOk, IfErr};
@@ -30,7 +30,7 @@ impl<T: Tag, M: Copy> Block<T, M> {
         self.lines.mark_last(marks)
     }
 
-    /// Puts the marks that wait at the end of the last line. Where there is no line, they wait on.
+    /// Puts the waiting marks at the end of the last line. Without lines they keep waiting.
     fn mark_end(&mut self) -> Result<(), AllocError>
         ensures { OnOk result (self.new ≡ cond (is_empty self.old.lines) self.old (record self.old {
           lines = marked_behind (machine.waiting self.old.paragraph) self.old.lines;
@@ -44,12 +44,13 @@ impl<T: Tag, M: Copy> Block<T, M> {
         self.mark_last_line(marks.as_slice())
     }
 
-    /// Ends the table that is open, if one is, adds the lines of the open paragraph, and puts the marks that wait then at the
-    /// end of the last line. Where the block has no line, they wait on.
+    /// Finishes the block: ends the open table, if there is one, flushes, and puts the marks that wait then at the end
+    /// of the last line. Without lines they keep waiting.
     ///
     /// # Errors
     ///
-    /// `TooNarrow`, as in [`flush`](Block::flush). `OutOfMemory`.
+    /// - `OutOfMemory`.
+    /// - `TooNarrow`, as in [`flush`](Block::flush).
     #[tactic(auto, using(html_render_dom_values::specs::laws::Outcome::refusals), unfolding(crate::specs::Machine::ending))]
     pub fn finish(&mut self) -> Result<(), Error>
         ensures ok { OnOk result (machine.ending.finish self.old ≡ Some self.new) }
@@ -60,7 +61,7 @@ impl<T: Tag, M: Copy> Block<T, M> {
         Ok(())
     }
 
-    /// Adds finished lines.
+    /// Appends finished lines.
     pub(super) fn push_lines(&mut self, lines: Lines<T, M>) -> Result<(), AllocError>
         ensures { OnOk result (self.new ≡ record self.old { lines = self.old.lines ++ lines }) }
     {
@@ -68,7 +69,7 @@ impl<T: Tag, M: Copy> Block<T, M> {
         Ok(())
     }
 
-    /// Adds lines as they are, the first one behind the marks that wait.
+    /// Appends finished lines, with the waiting marks at the front of the first one.
     pub(super) fn add_lines(&mut self, mut lines: Lines<T, M>) -> Result<(), AllocError>
         ensures { OnOk result (self.new ≡ block.add_lines machine self.old lines) }
     {
@@ -77,15 +78,21 @@ impl<T: Tag, M: Copy> Block<T, M> {
         self.push_lines(lines)
     }
 
-    /// Closes the document with texts under a tag, if there are any. They are a block of lines: each begins a line of its
-    /// own, an empty one as an empty line. A newline becomes a space, and every other character is kept. With `cut` a text
-    /// is cut into the longest fronts that fit the block's own width, and without it is left whole. The marks that wait
-    /// stand at the front of the first line where the block has none; else on the empty line before it.
+    /// Appends closing lines, one or more for each text, all under one tag. Starts a block for them, if there is a
+    /// text.
+    ///
+    /// - Each text begins a line. An empty text is an empty line.
+    /// - A newline becomes a space. Every other character is kept.
+    /// - With `cut`, a text is cut into the longest parts that fit the width of the block. Otherwise it is one line,
+    ///   which may pass the width.
+    /// - The waiting marks are on the empty line that separates the blocks or, if the block has no line yet, at the
+    ///   front of the first closing line.
     ///
     /// # Errors
     ///
-    /// `TooNarrow`, as in [`flush`](Block::flush), and where a text that is cut has a character wider than the block, with
-    /// overflow off. `OutOfMemory`.
+    /// - `OutOfMemory`.
+    /// - `TooNarrow`, as in [`flush`](Block::flush), and, with `cut` and overflow off, if a character is wider than the
+    ///   block.
     #[tactic(auto, using(html_render_dom_values::specs::laws::Outcome::refusals), unfolding(crate::specs::Machine::operations, crate::specs::Machine::ending))]
     pub fn add_closing_lines(&mut self, texts: &[String], tag: T, cut: bool) -> Result<(), Error>
         ensures ok { OnOk result (machine.ending.add_closing_lines self.old cut tag (map (λ t. chars (string_bytes t)) texts.now) ≡ Some self.new) }
@@ -101,7 +108,7 @@ impl<T: Tag, M: Copy> Block<T, M> {
     }
 }
 
-/// Whether a text is on one line.
+/// Reports whether a text has no newline.
 fn is_on_one_line(text: &str) -> bool
     ensures { OnTrue result (on_one_line (chars text.now) ≡ chars text.now) }
 {
@@ -113,14 +120,14 @@ fn is_on_one_line(text: &str) -> bool
     true
 }
 
-/// A space for a newline.
+/// Returns a space for a newline, and any other character as it is.
 fn unbroken(c: char) -> char
     ensures { result ≡ cond (c == 10) 32 c }
 {
     if c == '\n' { ' ' } else { c }
 }
 
-/// A text with a space for each newline.
+/// Returns a copy of a text with a space for each newline.
 #[tactic(auto, using(crate::proofs::Closing::unbroken_text))]
 fn on_one_line(alloc: Global, text: &str) -> Result<String, AllocError>
     ensures { IfOk result (λ line. chars (string_bytes line) ≡ on_one_line (chars text.now)) }
@@ -132,7 +139,7 @@ fn on_one_line(alloc: Global, text: &str) -> Result<String, AllocError>
     Ok(line)
 }
 
-/// A line of a text under a tag.
+/// Returns a line with a text under a tag.
 #[tactic(auto, using(crate::proofs::Closing::ends))]
 fn whole_line<T: Tag, M: Copy>(alloc: Global, text: &str, tag: T) -> Result<Line<T, M>, AllocError>
     ensures { IfOk result (λ line. line ≡ under tag (chars text.now)) }
@@ -142,7 +149,7 @@ fn whole_line<T: Tag, M: Copy>(alloc: Global, text: &str, tag: T) -> Result<Line
     Ok(line)
 }
 
-/// Adds the lines of a text, cut where they are full or left whole.
+/// Appends the lines of a text without newlines: cut where they are full, or one line.
 fn push_text<T: Tag, M: Copy>(
     alloc: Global,
     lines: &mut Vec<Line<T, M>>,
@@ -164,7 +171,7 @@ fn push_text<T: Tag, M: Copy>(
     Ok(())
 }
 
-/// Adds the lines of a text, with a space for each newline.
+/// Appends the lines of a text, with a space for each newline: cut where they are full, or one line.
 fn push_closing_text<T: Tag, M: Copy>(
     alloc: Global,
     lines: &mut Vec<Line<T, M>>,
@@ -185,7 +192,7 @@ fn push_closing_text<T: Tag, M: Copy>(
     push_text(alloc, lines, setting, line.as_str(), tag, cut)
 }
 
-/// The lines of texts, cut where they are full or left whole.
+/// Returns the lines of texts, with a space for each newline: cut where they are full, or one line for each text.
 #[tactic(auto, using(html_render_dom_values::specs::laws::Outcome::refusals))]
 fn closing_lines<T: Tag, M: Copy>(
     alloc: Global,

@@ -1,5 +1,4 @@
-//! How a table begins in a block: whether its cells stand side by side, and the borders of one whose cells stand one below
-//! another.
+//! The beginning of a table in a block: whether its cells are side by side, and the borders of a stacked table.
 
 ghost use Rattle.std.specs.Prelude.{◌≡◌, ◌==◌, ◌&&◌, not, cond, Some, None, OnOk, IfOk, IfErr};
 ghost use Rattle.html_render_dom_values.specs.Outcome.{Refuses};
@@ -25,7 +24,8 @@ use html_render_parts::table::cells::{RowsAhead, TableCells};
 use html_render_parts_widths::{ColumnNeed, widths_across};
 use std::alloc::{AllocError, Global};
 
-/// The widths of a table's columns side by side in `width` columns; none where they can't stand so, or aren't to.
+/// Returns the widths of a table's columns side by side in `width` columns. `None` if they don't fit or the table is to
+/// be stacked.
 #[tactic(auto, using(html_render_parts_widths::specs::laws::Needs::across_within))]
 fn column_widths(
     alloc: Global,
@@ -45,7 +45,7 @@ fn column_widths(
     }
 }
 
-/// What stands in the rows of a table, to be asked for row by row.
+/// Returns an iterator over the rows of a table, with their cells, placeholders and gaps.
 fn rows_of(alloc: Global, grid: &TableCells) -> Result<RowsAhead, Error>
     ensures ok { IfOk result (λ rows. rows ≡ rows_on grid.now) }
     ensures err { IfErr result (λ e. e ≡ Error.OutOfMemory) }
@@ -54,7 +54,7 @@ fn rows_of(alloc: Global, grid: &TableCells) -> Result<RowsAhead, Error>
     cells.into_rows(alloc)
 }
 
-/// How a table is framed.
+/// Returns the frame of a table: its borders, its width, and their tag.
 fn frame_of<T: Tag>(tag: T, borders: bool, widths: &Widths) -> Frame<T>
     ensures { result ≡ frame_of tag borders widths.now }
 {
@@ -65,7 +65,7 @@ fn frame_of<T: Tag>(tag: T, borders: bool, widths: &Widths) -> Frame<T>
     }
 }
 
-/// The tag of the borders of a table whose cells stand one below another, if they are drawn.
+/// Returns the tag of a stacked table's borders. `None` without borders, or in a block of width 0.
 fn stacked_border<T: Tag>(tag: T, borders: bool, width: usize) -> Option<T>
     ensures { result ≡ cond (borders && not (width == 0)) (Some tag) None }
 {
@@ -76,7 +76,7 @@ fn stacked_border<T: Tag>(tag: T, borders: bool, width: usize) -> Option<T>
     }
 }
 
-/// A line of one character, under a tag.
+/// Returns a line of one character, `width` times, under a tag.
 fn rule<T: Tag, M: Copy>(
     alloc: Global,
     tag: T,
@@ -91,7 +91,8 @@ fn rule<T: Tag, M: Copy>(
 }
 
 impl<T: Tag, M: Copy> Block<T, M> {
-    /// Draws a border, if borders are drawn, of one character. The marks that wait stand at its front.
+    /// Appends a border of one character, as wide as the block and with the waiting marks at its front. Does nothing
+    /// without borders.
     pub(super) fn add_border(&mut self, border: Option<T>, filler: Filler) -> Result<(), AllocError>
         ensures { OnOk result (self.new ≡ block.add_border machine self.old border (character_of filler)) }
     {
@@ -104,7 +105,7 @@ impl<T: Tag, M: Copy> Block<T, M> {
         self.push_line(line)
     }
 
-    /// Has a table whose cells stand one below another, in the place of one that was open.
+    /// Makes a stacked table the open one.
     pub(super) fn set_stacked(
         &mut self,
         border: Option<T>,
@@ -120,7 +121,7 @@ impl<T: Tag, M: Copy> Block<T, M> {
         Ok(())
     }
 
-    /// Begins a table, or another row of one, whose cells stand one below another: below a border, if borders are drawn.
+    /// Begins a stacked table, or another row of it, below a border if borders are drawn.
     pub(super) fn begin_stacked(&mut self, border: Option<T>) -> Result<(), AllocError>
         ensures { OnOk result (self.new ≡ block.stacked_begun machine self.old border) }
     {
@@ -128,7 +129,7 @@ impl<T: Tag, M: Copy> Block<T, M> {
         self.set_stacked(border, false)
     }
 
-    /// Begins a table whose cells stand side by side, in a block that is flushed.
+    /// Begins a table whose cells are side by side. The block is flushed, and its waiting marks wait in the table.
     fn begin_across(
         &mut self,
         tag: T,
@@ -153,7 +154,7 @@ impl<T: Tag, M: Copy> Block<T, M> {
         Ok(())
     }
 
-    /// Begins a table in a block that is flushed: side by side in columns of these widths, or else one below another.
+    /// Begins a table in a flushed block: side by side in columns of these widths, or stacked if there are none.
     fn open_table(
         &mut self,
         tag: T,
@@ -173,13 +174,18 @@ impl<T: Tag, M: Copy> Block<T, M> {
         }
     }
 
-    /// Begins a table, whose borders stand under this tag, if there are any; a table that is open is over, and the block is
-    /// flushed. Its columns need so much. Its cells stand side by side where the columns have room in
-    /// this block, and one below another where they haven't, or where they are to stand so (`stacked`).
+    /// Begins a table. A table that is open is ended, and the block is flushed.
+    ///
+    /// - `tag` is that of the table's borders and of other characters drawn around cells.
+    /// - `borders` says whether borders are drawn.
+    /// - `stacked` says whether the cells are stacked even if they fit side by side.
+    /// - `needs` are the minimum and preferred widths of the columns. If the columns don't fit the width of the block,
+    ///   the cells are stacked too.
     ///
     /// # Errors
     ///
-    /// `TooNarrow`, as in [`flush`](Block::flush). `OutOfMemory`.
+    /// - `OutOfMemory`.
+    /// - `TooNarrow`, as in [`flush`](Block::flush).
     #[tactic(auto, using(html_render_dom_values::specs::laws::Outcome::refusals), unfolding(crate::specs::Machine::operations))]
     pub fn begin_table(
         &mut self,

@@ -1,4 +1,4 @@
-//! Paragraphs whose lines are filled with spaces.
+//! Paragraphs whose lines are padded with spaces.
 
 ghost use Rattle.std.specs.Prelude.{◌≡◌, List, ◌++◌, Some, option_map, OnOk, IfErr};
 ghost use Rattle.html_render_dom_values.specs.Outcome.{Refuses};
@@ -14,8 +14,8 @@ use html_render_layout_paragraphs::paragraph::Paragraph;
 use html_render_layout_pictures::line_ends::fill_all;
 use std::alloc::Global;
 
-/// Adds the lines of a paragraph, each filled with spaces up to `width` columns, under a tag. The paragraph begins anew with the
-/// marks that wait.
+/// Appends the lines of a paragraph, each padded to `width` columns with spaces under a tag, and empties the paragraph.
+/// Its waiting marks are kept.
 #[inline(never)]
 #[tactic(auto, using(html_render_dom_values::specs::laws::Outcome::refusals))]
 fn flush_filled<T: Tag, M: Copy>(
@@ -37,12 +37,13 @@ fn flush_filled<T: Tag, M: Copy>(
     Ok(())
 }
 
-/// Adds the lines of a paragraph, each filled with spaces up to `width` columns, if there is padding. The paragraph begins anew
-/// with the marks that wait.
+/// Appends the lines of a paragraph and empties it, except for its waiting marks. With padding, pads each line to
+/// `width` columns with spaces.
 ///
 /// # Errors
 ///
-/// `TooNarrow`, where a character of the paragraph is wider than a line, with overflow off. `OutOfMemory`.
+/// - `OutOfMemory`.
+/// - `TooNarrow`, with overflow off, if a character of the paragraph is wider than a line.
 pub fn flush_padded<T: Tag, M: Copy>(
     alloc: Global,
     paragraph: &mut Paragraph<T, M>,

@@ -1,4 +1,4 @@
-//! A row that is open in a table whose cells stand side by side: its places, and the cells before them.
+//! The open row of a table whose cells are side by side: its places, and the cells before them.
 
 ghost use Rattle.std.specs.Prelude.{◌≡◌, suc, ◌+◌, ◌-◌, ◌^◌, ◌<◌, ◌++◌, ◌∷◌, [], length, reverse, sum, take, drop, count_by, not, ◌==◌, OnOk, IfOk};
 ghost use Rattle.std.specs.List.{list_any};
@@ -11,19 +11,23 @@ use html_render_parts::table::{CellKind, PlacedCell};
 use std::alloc::{AllocError, Global};
 use std::marker::Model;
 
-/// A place in a row: whether a cell of the row itself stands there, and its columns, unless it is skipped.
+/// A place in a row, of a cell, a placeholder or a gap.
 #[derive(Clone, Copy)]
 struct RowPlace {
+    /// Whether a cell of the row itself begins here.
     is_cell: bool,
+    /// Columns of text; `None` if the place is skipped, since its columns have no width.
     width: Option<usize>,
 }
 
-/// A row that is open: the places ahead, in reverse, the kept cells before them, and whether a placeholder is among all of its
-/// cells.
+/// An open row.
 #[derive(Drop)]
 pub struct OpenRow<T, M> {
+    /// Places ahead, the next one last.
     ahead: Vec<RowPlace>,
+    /// Kept cells before these places, also empty ones.
     cells: Vec<Cell<T, M>>,
+    /// Whether the whole row has a placeholder.
     placeholder: bool,
 }
 
@@ -36,7 +40,7 @@ impl<T, M> Model for OpenRow<T, M> {
     ghost view = { λ r. record { ahead = reverse r.ahead.items; cells = r.cells.items; placeholder = r.placeholder } };
 }
 
-/// The widths of a table's columns. With the separators between them a machine word holds their sum.
+/// Widths of a table's columns, in columns of text. Their sum, with the separators between them, fits a machine word.
 #[derive(Drop)]
 pub struct Widths {
     widths: Vec<usize>,
@@ -51,28 +55,28 @@ impl Model for Widths {
     ghost view = { λ w. w.widths.items };
 }
 
-/// Whether it is a cell of the row itself that stands in a place.
+/// Reports whether a place has a cell of the row itself.
 fn is_cell(kind: CellKind) -> bool
     ensures { result ≡ rows.is_cell kind }
 {
     matches!(kind, CellKind::Cell)
 }
 
-/// Whether it is a cell of a row above.
+/// Reports whether a place has a cell of an earlier row, which hangs into the row.
 fn is_placeholder(kind: CellKind) -> bool
     ensures { result ≡ rows.is_placeholder kind }
 {
     matches!(kind, CellKind::Placeholder)
 }
 
-/// Whether a cell of a row above is among those of a row.
+/// Reports whether a cell of an earlier row hangs into a row.
 fn has_placeholder(cells: &[PlacedCell]) -> bool
     ensures { result ≡ list_any (λ s. rows.is_placeholder s.kind) cells.now }
 {
     cells.iter().any(|cell| is_placeholder(cell.kind))
 }
 
-/// The sum of widths.
+/// Returns the sum of widths.
 fn total(widths: &[usize]) -> usize
     requires { sum widths.now < 2 ^ 64 }
     ensures { result ≡ sum widths.now }
@@ -84,7 +88,8 @@ fn total(widths: &[usize]) -> usize
     total
 }
 
-/// The columns of a cell over these columns, and of the separators that it covers; none where all of its columns are empty.
+/// Returns the columns of text of a cell over these columns, with the separators that it covers. `None` if none of its
+/// columns has a width.
 fn cell_width(columns: &[usize]) -> Option<usize>
     requires { sum columns.now + (length columns.now - 1) < 2 ^ 64 }
     ensures { result ≡ rows.cell_width columns.now }
@@ -97,7 +102,7 @@ fn cell_width(columns: &[usize]) -> Option<usize>
     }
 }
 
-/// The first `columns` columns, or all there are, and those behind them.
+/// Splits off the first `columns` widths, or all if there are fewer. Returns them and the rest.
 #[tactic(auto, using(crate::proofs::Places::columns_at))]
 fn columns_at(widths: &[usize], columns: usize) -> (&[usize], &[usize])
     ensures own { result.0.now ≡ take columns widths.now }
@@ -106,7 +111,7 @@ fn columns_at(widths: &[usize], columns: usize) -> (&[usize], &[usize])
     widths.split_at(columns.min(widths.len()))
 }
 
-/// The places of a row over columns of these widths.
+/// Returns the places of a row over columns of these widths.
 #[tactic(auto, using(crate::proofs::Places::own_fits, crate::proofs::Places::behind_fits))]
 fn places_of(
     alloc: Global,
@@ -129,7 +134,8 @@ fn places_of(
     Ok(row)
 }
 
-/// The columns of the next cell, unless it is skipped; the places stand in reverse.
+/// Returns the columns of the next cell; `None` if it is skipped or there is none. The next place is the last one in
+/// `ahead`.
 fn next_width(ahead: &[RowPlace]) -> Option<usize>
     ensures { result ≡ rows.next_width (reverse ahead.now) }
 {
@@ -143,7 +149,7 @@ fn next_width(ahead: &[RowPlace]) -> Option<usize>
     None
 }
 
-/// Adds a cell in which nothing stands, unless it is skipped.
+/// Appends an empty cell, unless it is skipped.
 fn push_empty<T: Tag, M: Copy>(
     alloc: Global,
     cells: &mut Vec<Cell<T, M>>,
@@ -161,7 +167,8 @@ fn push_empty<T: Tag, M: Copy>(
     Ok(())
 }
 
-/// Passes the next cell, and adds the places before it; the places stand in reverse.
+/// Removes the next cell's place and those before it. Appends empty cells for the latter. The next place is the last
+/// one in `ahead`.
 fn pass_cell<T: Tag, M: Copy>(
     alloc: Global,
     ahead: &mut Vec<RowPlace>,
@@ -180,7 +187,7 @@ fn pass_cell<T: Tag, M: Copy>(
     Ok(())
 }
 
-/// Adds the places that are ahead; they stand in reverse.
+/// Appends empty cells for the places ahead. The next place is the last one in `ahead`.
 fn push_rest<T: Tag, M: Copy>(
     alloc: Global,
     ahead: &[RowPlace],
@@ -194,7 +201,7 @@ fn push_rest<T: Tag, M: Copy>(
     Ok(())
 }
 
-/// How many columns aren't empty.
+/// Returns the number of columns that have a width.
 fn count_filled(widths: &[usize]) -> usize
     ensures { result ≡ count_by (λ w. not (w == 0)) widths.now }
 {
@@ -202,7 +209,7 @@ fn count_filled(widths: &[usize]) -> usize
 }
 
 impl Widths {
-    /// Widths that with the separators between them a machine word holds.
+    /// Returns the widths of a table's columns. With the separators between them, their sum must fit a machine word.
     pub fn new(widths: Vec<usize>) -> Widths
         requires { sum widths.items + (length widths.items - 1) < 2 ^ 64 }
         ensures { result ≡ widths.items }
@@ -210,7 +217,7 @@ impl Widths {
         Widths { widths }
     }
 
-    /// The columns of the table: those of its columns, and the separators between the ones that aren't empty.
+    /// Returns the width of the table: that of its columns, and of the separators between those that have a width.
     #[tactic(auto, using(crate::specs::laws::TableWithin::frame_width_within))]
     pub fn frame_width(&self) -> usize
         ensures { result ≡ sum self.now + (count_by (λ w. not (w == 0)) self.now - 1) }
@@ -221,7 +228,7 @@ impl Widths {
 }
 
 impl<T: Tag, M: Copy> OpenRow<T, M> {
-    /// A row that begins, in which this stands, over columns of these widths.
+    /// Returns an open row with these cells, placeholders and gaps ahead, over columns of these widths.
     pub fn new(
         alloc: Global,
         widths: &Widths,
@@ -238,21 +245,21 @@ impl<T: Tag, M: Copy> OpenRow<T, M> {
         })
     }
 
-    /// The columns of the next cell, unless it is skipped.
+    /// Returns the columns of the next cell; `None` if it is skipped or there is none.
     pub fn next_width(&self) -> Option<usize>
         ensures { result ≡ rows.next_width self.now.ahead }
     {
         next_width(self.ahead.as_slice())
     }
 
-    /// Skips the next cell.
+    /// Skips the next cell. Places before it are empty cells.
     pub fn skip_cell(&mut self, alloc: Global) -> Result<(), AllocError>
         ensures { OnOk result (self.new ≡ rows.past_cell self.old []) }
     {
         pass_cell(alloc, &mut self.ahead, &mut self.cells)
     }
 
-    /// Puts a cell in its place.
+    /// Adds the next cell. Places before it are empty cells.
     pub fn add_cell(&mut self, alloc: Global, cell: Cell<T, M>) -> Result<(), AllocError>
         ensures { OnOk result (self.new ≡ rows.past_cell self.old (cell ∷ [])) }
     {
@@ -261,7 +268,7 @@ impl<T: Tag, M: Copy> OpenRow<T, M> {
         Ok(())
     }
 
-    /// The whole row.
+    /// Returns the whole row. Places ahead are empty cells.
     pub fn finish(mut self, alloc: Global) -> Result<Row<T, M>, AllocError>
         ensures { IfOk result (λ row. row ≡ rows.whole_row self) }
     {

@@ -1,4 +1,4 @@
-//! The table that is open in a block.
+//! The open table of a block.
 
 ghost use Rattle.std.specs.Prelude.{◌≡◌, ◌++◌, Some, None, OnOk, IfOk, IfErr, option_map};
 ghost use Rattle.html_render_dom_values.specs.Outcome.{Refuses};
@@ -21,27 +21,27 @@ use std::marker::Model;
 /// An open table.
 #[derive(Drop)]
 pub enum OpenTable<P, T, M> {
-    /// Its cells stand side by side.
+    /// A table whose cells are side by side.
     Across {
-        /// Its rows so far.
+        /// Rows so far.
         picture: P,
-        /// The widths of its columns.
+        /// Widths of the columns.
         widths: Widths,
-        /// What stands in the rows ahead, its own and those below.
+        /// Rows ahead: the table's own, and those below its last row that spans reach.
         ahead: RowsAhead,
-        /// The row that is open, if one is.
+        /// Open row; `None` if no row is open.
         row: Option<OpenRow<T, M>>,
     },
-    /// Its cells stand one below another.
+    /// A stacked table.
     Stacked {
-        /// The tag of its borders, if they are drawn.
+        /// Tag of the borders; `None` without borders.
         border: Option<T>,
         /// Whether a cell of the row has lines.
         has_lines: bool,
     },
 }
 
-/// A picture with the row that is open, if one is.
+/// Adds the open row to a picture, if there is one.
 fn with_open<T: Tag, M: Copy>(
     alloc: Global,
     picture: Picture<T, M>,
@@ -58,7 +58,8 @@ fn with_open<T: Tag, M: Copy>(
     Ok(picture)
 }
 
-/// A picture with the rows that are ahead, in which no cell begins: those below the table's own.
+/// Adds the rows ahead to a picture, with empty cells. After all of the table's own rows, these are the rows below
+/// them, in which no cell begins.
 fn with_ahead<T: Tag, M: Copy>(
     alloc: Global,
     picture: Picture<T, M>,
@@ -78,7 +79,7 @@ fn with_ahead<T: Tag, M: Copy>(
     Ok(picture)
 }
 
-/// The lines of a table's picture, once its rows are over, and the marks that wait behind them.
+/// Draws the remaining rows. Returns the lines of the table, and the marks that wait after them.
 fn picture_of<T: Tag, M: Copy>(
     alloc: Global,
     picture: Picture<T, M>,
@@ -95,7 +96,7 @@ fn picture_of<T: Tag, M: Copy>(
 }
 
 impl<T: Tag, M: Copy> Block<T, M> {
-    /// Adds a picture's lines; the marks that wait behind it wait on.
+    /// Appends the lines of a drawn table, and closes the table. The marks that wait after it keep waiting.
     fn add_drawn(&mut self, drawn: Drawn<T, M>) -> Result<(), Error>
         ensures ok { OnOk result (self.new ≡ block.feed machine (record self.old { lines = self.old.lines ++ drawn.lines; table = None })
             (mark_items drawn.waiting.items)) }
@@ -107,7 +108,8 @@ impl<T: Tag, M: Copy> Block<T, M> {
         self.add_marks(waiting.as_slice())
     }
 
-    /// Ends the table that is open, if one is.
+    /// Ends the open table, if there is one: draws its remaining rows and appends its lines. Those of a stacked table
+    /// are in the block already.
     ///
     /// # Errors
     ///
@@ -134,11 +136,12 @@ impl<T: Tag, M: Copy> Block<T, M> {
         }
     }
 
-    /// Ends the table that is open, if one is, and adds the lines of the open paragraph.
+    /// Ends the open table, if there is one, and flushes.
     ///
     /// # Errors
     ///
-    /// `TooNarrow`, as in [`flush`](Block::flush). `OutOfMemory`.
+    /// - `OutOfMemory`.
+    /// - `TooNarrow`, as in [`flush`](Block::flush).
     #[tactic(auto, using(html_render_dom_values::specs::laws::Outcome::refusals), unfolding(crate::specs::Machine::operations))]
     pub fn flush_whole(&mut self) -> Result<(), Error>
         ensures ok { OnOk result (block.flush machine (block.end_table machine self.old) ≡ Some self.new) }

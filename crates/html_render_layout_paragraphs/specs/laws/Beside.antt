@@ -26,7 +26,7 @@ module _ {T M : Type 0} (g : Bool → Bool) (N L : Type 0) (weak : L → N) (s :
   abbrev Beside : Page T M → Page T M → Type 0
   Beside p q = (q ≡ p) × OnPage p
 
-  -- What is required of the property: that it holds of a blank page, and that each placing keeps it.
+  -- Requirements on the property: it holds of a blank page, and each placing keeps it.
   pub record Holds : Type 0 where
     pub blank : (marks : List M) → OnPage (blank_page marks)
     pub mark : (p : Page T M) (m : M) → OnPage p → OnPage (with_waiting_mark p m)

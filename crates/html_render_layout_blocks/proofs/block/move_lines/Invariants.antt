@@ -7,7 +7,7 @@ use Rattle.html_render_layout_blocks.specs.Joined.{moved}
 use Rattle.html_render_layout_blocks.proofs.Moving.{added}
 use Rattle.html_render_layout_blocks.proofs.block.move_lines.Given as goal
 
--- what is wanted is what the lines that are left give from here
+-- The result is that of moving the remaining lines to the end of the present ones.
 abbrev pub invariant-loop-line : goal.invariant-loop-line
 invariant-loop-line g l =
     moved l.setting.width l.setting.overflow l.marks (under l.first.tag (chars l.first.text.now)) (under l.later.tag (chars l.later.text.now))

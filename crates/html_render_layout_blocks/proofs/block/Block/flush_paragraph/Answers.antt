@@ -5,7 +5,7 @@ use Rattle.html_render_layout_blocks.specs.declared.block.Block.TheInside.{Insid
 use Rattle.html_render_layout_blocks.proofs.Behind.{padded_flush}
 use Rattle.html_render_layout_blocks.proofs.block.Block.flush_paragraph.Goals as goal
 
--- a block as it is seen
+-- Block as its value.
 abbrev seen : {T M : Type 0} → Inside T M → MachineBlock T M
 seen i = record {
   setting = i.setting;

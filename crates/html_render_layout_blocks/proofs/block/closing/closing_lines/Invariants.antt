@@ -4,7 +4,7 @@ use Rattle.std.specs.Str.{chars}
 use Rattle.html_render_layout_blocks.specs.Closing.{closing_lines}
 use Rattle.html_render_layout_blocks.proofs.block.closing.closing_lines.Given as goal
 
--- what is wanted is what the texts that are left give from here
+-- The result is the present lines, followed by those of the remaining texts.
 abbrev pub invariant-loop-text : goal.invariant-loop-text
 invariant-loop-text g l =
     closing_lines l.setting l.cut l.tag (map (λ t. chars (string_bytes t)) l.texts)

@@ -2,7 +2,7 @@ use Rattle.std.proofs.Common.{◌≡◌, ◌++◌, suc, drop, length, reverse}
 use Rattle.html_render_layout_blocks.specs.OpenRows.{before_cell, empty_cells}
 use Rattle.html_render_layout_blocks.proofs.block.rows.pass_cell.Given as goal
 
--- what is wanted is what the places that are left give from here
+-- The result is that of passing the next cell in the remaining places.
 abbrev pub invariant-loop-place : goal.invariant-loop-place
 invariant-loop-place g l = record {
   ahead : drop (suc (length (before_cell (reverse l.initial.ahead.items)))) (reverse l.initial.ahead.items)

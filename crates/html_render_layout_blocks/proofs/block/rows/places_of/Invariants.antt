@@ -2,7 +2,7 @@ use Rattle.std.proofs.Common.{◌≡◌, ◌+◌, ◌-◌, ◌<◌, ◌++◌, le
 use Rattle.html_render_layout_blocks.specs.OpenRows.{places}
 use Rattle.html_render_layout_blocks.proofs.block.rows.places_of.Given as goal
 
--- the places so far, before those of the cells that are left over the columns that are left
+-- All places are those so far, followed by those of the remaining cells over the remaining columns.
 abbrev pub invariant-loop-cell : goal.invariant-loop-cell
 invariant-loop-cell l = record {
   all : places l.initial.rest l.cells ≡ l.row.items ++ places l.rest (drop l.cell-index l.cells);

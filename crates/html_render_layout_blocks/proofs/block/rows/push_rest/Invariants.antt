@@ -2,6 +2,6 @@ use Rattle.std.proofs.Common.{◌≡◌, ◌++◌, map}
 use Rattle.html_render_layout_blocks.specs.OpenRows.{empty_cells}
 use Rattle.html_render_layout_blocks.proofs.block.rows.push_rest.Given as goal
 
--- the places so far
+-- The cells end with the empty cells of the places so far.
 abbrev pub invariant-loop-place : goal.invariant-loop-place
 invariant-loop-place g l = l.cells.items ≡ l.fn.cells.items ++ empty_cells (map (λ p. p.now) l.yielded)
