@@ -1,12 +1,12 @@
--- How a colour is written.
+-- The text of a colour: `#` and two hexadecimal digits for each part.
 use Rattle.std.specs.Prelude.{ℕ, ◌+◌, ◌/◌, ◌%◌, nat_lt, if◌then◌else◌, List, [], ◌∷◌, ◌++◌, codes}
 use Rattle.html_render_dom_values.specs.declared.colours.Colour.{Colour}
 
--- the character of a hexadecimal digit: 48 is that of 0, and 97 that of a
+-- code point of a lower-case hexadecimal digit: 48 is `0`, 97 is `a`
 abbrev pub hex_digit : ℕ → ℕ
 hex_digit d = if nat_lt d 10 then 48 + d else 87 + d
 
--- the two digits of a byte
+-- two hexadecimal digits of a byte
 abbrev pub hex_byte : ℕ → List ℕ
 hex_byte n = hex_digit (n / 16) ∷ hex_digit (n % 16) ∷ []
 

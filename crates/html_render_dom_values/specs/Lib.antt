@@ -1,11 +1,11 @@
--- finite trees beside each other
+-- finite ordered forests
 pub mod Forest
--- how text is coloured, and how white space is treated
+-- colours as texts, and the treatment of white space
 pub mod Colours
 pub mod WhiteSpace
--- texts of which short ones take no memory of their own
+-- texts that need no allocation while they are short
 pub mod SmallText
--- what errors say
+-- errors: messages, numbers, and their relation to definitions
 pub mod Outcome
--- what follows from the definitions
+-- laws of these definitions
 pub mod laws

@@ -1,26 +1,27 @@
--- What an error says and its number, and what it says of a definition that answers a value or none.
+-- Errors: their messages and numbers, and their relation to a definition that may refuse, an `Option`.
 use Rattle.std.specs.Prelude.{◌≡◌, ℕ, List, Option, None, codes, option_and_then}
 use Rattle.html_render_dom_values.specs.declared.errors.Error.{Error}
 use Rattle.html_render_dom_values.specs.declared.errors.Error.TheVariants.{TooNarrow, Fail, OutOfMemory}
 
--- what an error is displayed as
+-- text that an error is displayed as
 abbrev pub message_of : Error → List ℕ
 message_of TooNarrow = codes "Output width not wide enough."
 message_of Fail = codes "Unknown failure"
 message_of OutOfMemory = codes "Out of memory"
 
--- the number of an error
+-- number of an error, its discriminant
 abbrev pub number_of : Error → ℕ
 number_of TooNarrow = 1
 number_of Fail = 2
 number_of OutOfMemory = 3
 
--- a definition that answers none is too narrow; want of memory says nothing of it; and it never fails otherwise
+-- relation of an error to the definition `wanted`: `TooNarrow` only if that is `None`, `Fail` never, `OutOfMemory` always
 abbrev pub Refuses : {X : Type 0} → Error → Option X → Type 0
 Refuses TooNarrow wanted = wanted ≡ None
 Refuses Fail wanted = ⊥
 Refuses OutOfMemory wanted = Unit {0}
 
+-- `f` of the value of `o`; `None` if `o` is
 infixl 10 ◌>>=◌
 abbrev pub ◌>>=◌ : {A B : Type 0} → Option A → (A → Option B) → Option B
 o >>= f = option_and_then f o

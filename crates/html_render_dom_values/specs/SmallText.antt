@@ -1,4 +1,4 @@
--- The bytes of a text, in the value itself or in memory of its own.
+-- The bytes of a text, inline or in an allocation.
 use Rattle.std.specs.Prelude.{ℕ, List, string_bytes}
 use Rattle.html_render_dom_values.specs.declared.small_text.Bytes.{Bytes}
 use Rattle.html_render_dom_values.specs.declared.small_text.Bytes.TheVariants.{Short, Long}

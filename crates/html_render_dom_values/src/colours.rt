@@ -1,22 +1,22 @@
-//! Colours: `Colour { r: 1, g: 171, b: 255 }` displays `#01abff`.
+//! Colours: `Colour { r: 1, g: 171, b: 255 }` is displayed as `#01abff`.
 
 ghost use Rattle.std.specs.Prelude.{Some};
 ghost use Rattle.html_render_dom_values.specs.Colours.{written_colour};
 
 use std::fmt;
 
-/// A colour of red, green and blue parts.
+/// Colour with a red, a green and a blue part, each from 0 to 255.
 #[derive(Clone, Copy, Debug, PartialEq, Eq)]
 pub struct Colour {
-    /// The red part.
+    /// Red part.
     pub r: u8,
-    /// The green part.
+    /// Green part.
     pub g: u8,
-    /// The blue part.
+    /// Blue part.
     pub b: u8,
 }
 
-/// A colour is displayed as `#` and two lower hexadecimal digits for each part.
+/// Displays `#` and two lower-case hexadecimal digits for each part: red, green, blue.
 impl fmt::Display for Colour {
     ghost output = { λ c. Some (written_colour c) };
 

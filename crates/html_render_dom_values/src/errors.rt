@@ -5,19 +5,26 @@ ghost use Rattle.html_render_dom_values.specs.Outcome.{message_of, number_of};
 use std::alloc::{AllocError, AllocFailed};
 use std::fmt;
 
-/// Why a document could not be built, converted or rendered.
+/// Reason why a document couldn't be built, converted or rendered.
 #[derive(Clone, Copy, Debug, PartialEq, Eq)]
 pub enum Error {
-    /// The output width is too small for the document: 0, or less than a character that has to be placed.
+    /// The output width is too small for the document. Either it is 0 or, with overflow off, one of these holds:
+    ///
+    /// - A character is wider than a line of its block.
+    /// - A prefix leaves a sub-block fewer columns than its minimum width.
+    /// - A line of a sub-block, with its prefix, passes the width of the outer block.
     TooNarrow = 1,
-    /// The document can't be converted: a part of a table stands where none may stand.
+    /// The document can't be converted, or a table has no grid:
+    ///
+    /// - A body, foot, row or cell is outside of the part of a table that may hold it.
+    /// - A cell of a table would end past position `u128::MAX` of its row.
     Fail = 2,
     /// An allocation was refused.
     OutOfMemory = 3,
 }
 
 impl Error {
-    /// The number of the error.
+    /// Returns the number of the error, its discriminant: 1, 2 or 3.
     fn number(self) -> u8
         ensures { result ≡ number_of self }
     {

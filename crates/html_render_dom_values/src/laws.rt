@@ -1,10 +1,10 @@
-//! Laws of the values' defaults, each the contract of a function that does nothing.
+//! Laws of default values. Each is the contract of an empty function.
 
 ghost use Rattle.std.specs.Prelude.{◌≡◌, ◌↔◌};
 
 use crate::white_space::WhiteSpace;
 
-/// By default white space is collapsed, and lines are wrapped.
+/// States that the default is `Normal`: white space is collapsed, and lines are wrapped.
 fn white_space_is_normal_by_default(white_space: WhiteSpace)
     ensures { ⟦<WhiteSpace as Default>⟧.is_default white_space ↔ (white_space ≡ WhiteSpace.Normal) }
 {}

@@ -1,6 +1,7 @@
-//! Values that every crate above shares: the errors, texts that are compared by what they say, colours, how white space is
-//! treated, and whether columns have room in a width. Its `specs/` have the finite trees that documents and render trees are
-//! seen as, and what an error says of a definition.
+//! Values that all crates above share: errors, texts that are compared by their bytes, colours, the treatment of white
+//! space, and the test whether columns fit a width.
+//!
+//! The `specs/` define finite forests, the values of documents and render trees, and how an error relates to a definition.
 #![tactic(auto)]
 
 pub mod colours;

@@ -1,6 +1,7 @@
-//! Texts of which short ones take no memory of their own.
+//! Texts that need no allocation while they are short.
 //!
-//! `SmallText::<16>::from_str(alloc, "div")?.as_str()` is `div`. A clone is the same value as its source.
+//! `SmallText::<16>::from_str(alloc, "div")?` is the text `div`, without an allocation. A clone is the same value as its
+//! source.
 
 ghost use Rattle.std.specs.Prelude.{◌≡◌, ◌++◌, [], List, ℕ, IfOk, OnOk, OnErr, encode_utf8, length, string_bytes};
 ghost use Rattle.std.specs.Str.{bytes_eq};
@@ -13,19 +14,21 @@ use std::alloc::{AllocError, Global};
 use std::fmt;
 use std::marker::Model;
 
-/// How many bytes more a text has room for once it grows into memory of its own.
+/// Room for further bytes, in bytes, of a text that moves to an allocation because it grows.
 const MORE: usize = 32;
 
-/// The bytes of a text.
+/// Storage of a text's bytes.
 #[derive(Drop)]
 enum Bytes<const SHORT: usize> {
-    /// At most so many of them, in the value itself.
+    /// At most `SHORT` bytes, inline.
     Short(ArrayString<SHORT>),
-    /// More.
+    /// Bytes of any number, in an allocation.
     Long(String),
 }
 
-/// A text, which a clause sees as its bytes: at most `SHORT` of them stand in the value itself.
+/// Text with room for `SHORT` bytes inline. It moves to an allocation when it needs more room, and stays there.
+///
+/// In contracts, a text is its bytes.
 #[derive(Drop)]
 pub struct SmallText<const SHORT: usize> {
     bytes: Bytes<SHORT>,
@@ -72,7 +75,7 @@ impl<const SHORT: usize> fmt::Debug for SmallText<SHORT> {
 impl<const SHORT: usize> From<String> for SmallText<SHORT> {
     ghost from_gives = { λ string text. text ≡ string_bytes string };
 
-    /// The text of a string. It takes no memory.
+    /// Converts a string without an allocation: up to `SHORT` bytes are copied inline, a longer string is taken as it is.
     fn from(string: String) -> SmallText<SHORT> {
         if let Ok(short) = ArrayString::from(string.as_str()) {
             return SmallText {
@@ -86,11 +89,11 @@ impl<const SHORT: usize> From<String> for SmallText<SHORT> {
 }
 
 impl<const SHORT: usize> SmallText<SHORT> {
-    /// A copy of a text.
+    /// Returns a copy of `text`. Up to `SHORT` bytes need no allocation.
     ///
     /// # Errors
     ///
-    /// Memory ran out.
+    /// `AllocError`, if an allocation is refused.
     pub fn from_str(alloc: Global, text: &str) -> Result<SmallText<SHORT>, AllocError>
         ensures { IfOk result (λ t. t ≡ text.now) }
     {
@@ -105,7 +108,7 @@ impl<const SHORT: usize> SmallText<SHORT> {
         })
     }
 
-    /// The text, borrowed.
+    /// Borrows the text.
     pub fn as_str(&self) -> &str
         ensures { result.now ≡ self.now }
     {
@@ -117,7 +120,7 @@ impl<const SHORT: usize> SmallText<SHORT> {
 }
 
 impl<const SHORT: usize> SmallText<SHORT> {
-    /// An empty text.
+    /// Returns an empty text, without an allocation.
     #[inline]
     pub fn new() -> SmallText<SHORT>
         ensures { result ≡ [] }
@@ -127,11 +130,11 @@ impl<const SHORT: usize> SmallText<SHORT> {
         }
     }
 
-    /// An empty text with room for `bytes` bytes.
+    /// Returns an empty text with room for `bytes` bytes. Room for up to `SHORT` bytes needs no allocation.
     ///
     /// # Errors
     ///
-    /// Memory ran out.
+    /// `AllocError`, if an allocation is refused.
     #[inline]
     pub fn with_capacity(alloc: Global, bytes: usize) -> Result<SmallText<SHORT>, AllocError>
         ensures { IfOk result (λ t. t ≡ []) }
@@ -145,7 +148,7 @@ impl<const SHORT: usize> SmallText<SHORT> {
         })
     }
 
-    /// How many bytes it has.
+    /// Returns the length of the text in bytes.
     #[inline]
     pub fn len(&self) -> usize
         ensures { result ≡ length self.now }
@@ -153,7 +156,7 @@ impl<const SHORT: usize> SmallText<SHORT> {
         self.as_str().len()
     }
 
-    /// Leaves it empty, and keeps its memory.
+    /// Empties the text. Its allocation, if it has one, is kept.
     #[inline]
     pub fn clear(&mut self)
         ensures { self.new ≡ [] }
@@ -164,7 +167,7 @@ impl<const SHORT: usize> SmallText<SHORT> {
         }
     }
 
-    /// This text in memory of its own, behind one text and before another, with room for `room` bytes more.
+    /// Returns a string of `front`, this text and `back`, with room for `room` more bytes.
     fn between(
         &self,
         alloc: Global,
@@ -186,14 +189,14 @@ impl<const SHORT: usize> SmallText<SHORT> {
         Ok(text)
     }
 
-    /// Becomes a text in memory of its own.
+    /// Replaces this text by `text`, in the allocation of `text`.
     fn hold(&mut self, text: String)
         ensures { self.new ≡ string_bytes text }
     {
         self.bytes = Bytes::Long(text);
     }
 
-    /// Makes room for `bytes` more bytes, in memory of its own.
+    /// Moves the text to a new allocation with room for `bytes` more bytes.
     #[inline(never)]
     fn move_out(&mut self, alloc: Global, bytes: usize) -> Result<(), AllocError>
         ensures { self.new ≡ self.old }
@@ -203,11 +206,11 @@ impl<const SHORT: usize> SmallText<SHORT> {
         Ok(())
     }
 
-    /// Makes room for `bytes` more bytes.
+    /// Reserves room for `bytes` more bytes.
     ///
     /// # Errors
     ///
-    /// Memory ran out. The text is then as it was.
+    /// `AllocError`, if an allocation is refused. The text is unchanged then.
     #[inline]
     pub fn reserve(&mut self, alloc: Global, bytes: usize) -> Result<(), AllocError>
         ensures { self.new ≡ self.old }
@@ -223,7 +226,7 @@ impl<const SHORT: usize> SmallText<SHORT> {
         self.move_out(alloc, bytes)
     }
 
-    /// Puts a text that isn't short any more.
+    /// Appends a text and moves the whole to a new allocation.
     #[inline(never)]
     fn push_long(&mut self, alloc: Global, more: &str) -> Result<(), AllocError>
         ensures ok { OnOk result (self.new ≡ self.old ++ more.now) }
@@ -234,11 +237,11 @@ impl<const SHORT: usize> SmallText<SHORT> {
         Ok(())
     }
 
-    /// Puts a text at the end.
+    /// Appends a text.
     ///
     /// # Errors
     ///
-    /// Memory ran out. The text is then as it was.
+    /// `AllocError`, if an allocation is refused. The text is unchanged then.
     #[inline]
     pub fn push_str(&mut self, alloc: Global, more: &str) -> Result<(), AllocError>
         ensures ok { OnOk result (self.new ≡ self.old ++ more.now) }
@@ -256,11 +259,11 @@ impl<const SHORT: usize> SmallText<SHORT> {
         self.push_long(alloc, more)
     }
 
-    /// Puts a character at the end.
+    /// Appends a character, in UTF-8.
     ///
     /// # Errors
     ///
-    /// Memory ran out. The text is then as it was.
+    /// `AllocError`, if an allocation is refused. The text is unchanged then.
     #[inline]
     pub fn push(&mut self, alloc: Global, c: char) -> Result<(), AllocError>
         ensures ok { OnOk result (self.new ≡ self.old ++ encode_utf8 c) }
@@ -273,11 +276,11 @@ impl<const SHORT: usize> SmallText<SHORT> {
         self.push_str(alloc, c.encode_utf8(&mut buffer))
     }
 
-    /// Puts a text at the front.
+    /// Inserts a text at the start.
     ///
     /// # Errors
     ///
-    /// Memory ran out. The text is then as it was.
+    /// `AllocError`, if an allocation is refused. The text is unchanged then.
     #[inline]
     pub fn put_front(&mut self, alloc: Global, front: &str) -> Result<(), AllocError>
         ensures ok { OnOk result (self.new ≡ front.now ++ self.old) }

@@ -1,7 +1,7 @@
 //! A text that is cloned and compared by its bytes.
 //!
-//! To a proof a `String` is also its place in memory and its capacity. A [`Text`] is its bytes alone, so that a
-//! clone is the same value as its source: `Text::from(string)` holds the string, which `into_string` gives back.
+//! In proofs, a `String` is also its address and its capacity. A [`Text`] is its bytes alone, so a clone is the same value
+//! as its source. `Text::from(string)` wraps a string, and `into_string` returns it.
 
 ghost use Rattle.std.specs.Prelude.{◌≡◌, List, ℕ, IfOk, string_bytes};
 ghost use Rattle.std.specs.Str.{bytes_eq};
@@ -11,7 +11,7 @@ ghost use Rattle.std.specs.Cmp.Lexicographic.{nat_list_eq_equiv};
 use std::alloc::{AllocError, Global};
 use std::marker::Model;
 
-/// A text, which a clause sees as its bytes.
+/// Text that is its bytes in contracts.
 #[derive(Debug, Drop)]
 pub struct Text {
     string: String,
@@ -49,18 +49,18 @@ impl Eq for Text {
 impl From<String> for Text {
     ghost from_gives = { λ string text. text ≡ string_bytes string };
 
-    /// The text of a string, which it holds. It takes no memory.
+    /// Wraps a string, without an allocation.
     fn from(string: String) -> Text {
         Text { string }
     }
 }
 
 impl Text {
-    /// A copy of a text.
+    /// Returns a copy of `text`.
     ///
     /// # Errors
     ///
-    /// Memory ran out.
+    /// `AllocError`, if an allocation is refused.
     pub fn from_str(alloc: Global, text: &str) -> Result<Text, AllocError>
         ensures { IfOk result (λ t. t ≡ text.now) }
     {
@@ -68,14 +68,14 @@ impl Text {
         Ok(Text { string })
     }
 
-    /// The text, borrowed.
+    /// Borrows the text.
     pub fn as_str(&self) -> &str
         ensures { result.now ≡ self.now }
     {
         self.string.as_str()
     }
 
-    /// The string that it holds. It takes no memory.
+    /// Returns the wrapped string, without an allocation.
     pub fn into_string(self) -> String
         ensures { string_bytes result ≡ self }
     {

@@ -1,23 +1,22 @@
-//! How white space is treated: `WhiteSpace::PreWrap.preserve_whitespace()` is true, and so is
-//! `WhiteSpace::PreWrap.do_wrap()`.
+//! Treatment of white space: `WhiteSpace::PreWrap.preserve_whitespace()` and `WhiteSpace::PreWrap.do_wrap()` are true.
 
 ghost use Rattle.std.specs.Prelude.{◌≡◌};
 ghost use Rattle.html_render_dom_values.specs.WhiteSpace.{preserves, wraps};
 
-/// How white space is treated: the CSS property `white-space`.
+/// Treatment of white space: a value of the CSS property `white-space`.
 #[derive(Clone, Copy, Debug, Default, PartialEq, Eq)]
 pub enum WhiteSpace {
-    /// White space is collapsed, and lines are wrapped.
+    /// Collapses white space, and wraps lines between words. The default.
     #[default]
     Normal,
-    /// White space is kept, and lines end at newlines.
+    /// Preserves white space, and ends lines at newlines. A character that doesn't fit begins the next line.
     Pre,
-    /// White space is kept, and lines are wrapped.
+    /// Preserves white space, ends lines at newlines, and wraps them between words.
     PreWrap,
 }
 
 impl WhiteSpace {
-    /// Whether white space is kept.
+    /// Whether white space is preserved.
     pub fn preserve_whitespace(self) -> bool
         ensures { result ≡ preserves self }
     {

@@ -1,4 +1,4 @@
--- Each part is written as two lower hexadecimal digits.
+-- Each part of a colour is written as two lower-case hexadecimal digits.
 use Rattle.std.proofs.Common.{◌≡◌, ℕ, ◌<◌, false, Some, ap, arith}
 use Rattle.std.proofs.lemmas.Fmt.{hex_byte}
 use Rattle.std.specs.Fmt.{digits, digits_output, format_spec, styled_digits_output}
