@@ -1,4 +1,4 @@
--- the characters that tables are drawn with
+-- characters that draw tables
 pub mod Glyphs
--- what the tables of Unicode say of them
+-- their widths, by the tables of Unicode
 pub mod laws

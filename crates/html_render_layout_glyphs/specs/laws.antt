@@ -1,2 +1,2 @@
--- the widths of the characters
+-- widths of the characters that draw tables
 pub mod Widths

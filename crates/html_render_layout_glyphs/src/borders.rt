@@ -1,24 +1,26 @@
-//! The characters that the borders of tables are drawn with: nothing else names them. With these, two rows of the cells `a`
-//! and `b`, and `cd`, make `─┬─`, `a│b`, `─┴─`, `cd ` and `───`, where the cell of the second row is three columns wide.
+//! Characters of table borders: one value, for code and definitions.
+//!
+//! A row of the cells `a` and `b` above a row of one cell `cd`, three columns wide, is drawn as the lines `─┬─`, `a│b`,
+//! `─┴─`, `cd ` and `───`.
 
-/// The characters of borders. Each takes one column.
+/// Characters that draw the borders of tables. Each takes one column.
 #[derive(Clone, Copy)]
 pub struct Borders {
-    /// Where a separator stands above and below.
+    /// Border character with a separator above and below it.
     pub cross: char,
-    /// Where one stands above alone.
+    /// Border character with a separator above it only.
     pub above: char,
-    /// Where one stands below alone.
+    /// Border character with a separator below it only.
     pub below: char,
-    /// Where none stands, and above and below rows whose cells stand one below another.
+    /// Border character with no separator above or below it. The borders of a stacked table consist of it.
     pub line: char,
-    /// What stands between cells side by side.
+    /// Separator between cells side by side.
     pub separator: char,
-    /// What the line is made of that stands between cells one below another.
+    /// Character of the line between two stacked cells of a row.
     pub slash: char,
 }
 
-/// The borders of all tables.
+/// Border characters of all tables.
 pub const BORDERS: Borders = Borders {
     cross: '┼',
     above: '┴',
@@ -28,11 +30,11 @@ pub const BORDERS: Borders = Borders {
     slash: '/',
 };
 
-/// How many of a character are written at once.
+/// Maximum number of equal characters that are written at once.
 pub const FEW: usize = 64;
 
-/// As many of the line.
+/// `FEW` horizontal border characters.
 pub const LINES: &str = "────────────────────────────────────────────────────────────────";
 
-/// As many slashes.
+/// `FEW` slashes.
 pub const SLASHES: &str = "////////////////////////////////////////////////////////////////";

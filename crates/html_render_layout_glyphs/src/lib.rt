@@ -1,4 +1,4 @@
-//! The characters that tables are drawn with, and how many columns they take.
+//! Characters that draw tables, and their widths in columns.
 #![tactic(auto)]
 
 pub mod borders;

@@ -1,4 +1,5 @@
--- The characters that tables are drawn with take one column each. Their widths are read off the tables of Unicode.
+-- Each character that draws tables takes one column. Widths are computed from the tables of Unicode, outside of East Asian
+-- contexts.
 use Rattle.std.proofs.Common.{◌≡◌, ℕ, false, Some, None, map, replicate, get_or, refl, ap}
 use Rattle.std.specs.Prelude.{unwrap_or}
 use Rattle.unicode_width.specs.Width.{char_width, alone}
@@ -38,6 +39,6 @@ unfolding char_width alone kind named_kind named_rows unnamed_kind letter_kind w
     east_asian_width_rows hangul_syllable_type hangul_syllable_type_rows decomposition decomposition_rows
 glyph_widths = refl
 
--- that of the character at a place of the list
+-- width of the character at an index of `glyphs`: 1, and 0 past its end
 pub width_at : (place : ℕ) → unwrap_or (get_or (map (char_width false) glyphs) place None) 0 ≡ unwrap_or (get_or (replicate 7 (Some 1)) place None) 0
 width_at place = ap (λ ws. unwrap_or (get_or ws place None) 0) glyph_widths
