@@ -1,5 +1,5 @@
--- WHAT A DECORATOR ANSWERS that changes some answers of another one, and leaves the others as they are. S are the values of
--- what changes them, B the annotations of the decorator below, and A those above. Texts are in UTF-8.
+-- Decorators that change some results of another decorator, the one below. S is the type of the changes, B that of the
+-- annotations below, A that of the changed annotations, D that of the decorator below. Texts are in UTF-8.
 use Rattle.std.specs.Prelude.{ℕ, List, Option, Some, None}
 use Rattle.html_render_parts_decorators.specs.Decoration.{Decoration, Start, Round}
 use Rattle.html_render_parts_decorators.specs.declared.decorate.place.Place.{Place}
@@ -9,19 +9,20 @@ use Rattle.html_render_parts_decorators.specs.declared.decorate.place.Place.TheV
 use Rattle.html_render_parts_decorators.specs.declared.decorate.place.Place.TheVariants.{UnorderedItemPrefix, OrderedItemPrefix, Colour, Background}
 use Rattle.html_render_parts_decorators.specs.declared.decorate.altered.Altered.{Altered}
 
+-- changes to the results of a decorator
 pub record Alteration (S B A : Type 0) : Type 0 where
-  -- what takes the place of a text
+  -- the text at a place, for the one below
   pub text : S → Place → (below : List ℕ) → List ℕ
-  -- what takes the place of an annotation
+  -- the annotation at a place, for the one below
   pub annotation : S → Place → (below : B) → A
-  -- what characters of a colour, or on a background, are annotated with where they are annotated with nothing below
+  -- the annotation of a colour or a background for which there is none below
   pub colour : S → Place → Option A
-  -- what takes the place of the lines behind the document
+  -- the closing lines, for the targets of all links and the closing lines below
   pub lines : S → (targets below : List (List ℕ)) → List (List ℕ)
-  -- what changes the answers in a block inside
+  -- the changes in a sub-block
   pub subblock : S → S
 
--- nothing is changed
+-- no changes
 abbrev pub unchanged : {S A : Type 0} → Alteration S A A
 unchanged = record {
   text = λ s place below. below;
@@ -31,23 +32,23 @@ unchanged = record {
   subblock = λ s. s;
 }
 
--- a text and an annotation, changed
+-- changed text and annotation at the start of a part
 abbrev pub changed : {S B A : Type 0} → Alteration S B A → S → Place → Start B → Start A
 changed c s place start = record { text = c.text s place start.text; annotation = c.annotation s place start.annotation }
 
--- an annotation of a colour, or nothing, changed
+-- changed annotation of a colour or a background
 abbrev pub coloured : {S B A : Type 0} → Alteration S B A → S → Place → Option B → Option A
 coloured c s place (Some below) = Some (c.annotation s place below)
 coloured c s place None = c.colour s place
 
--- the decoration of a part, changed at its start and its end
+-- changed decoration of a part, whose start and end are these places
 abbrev pub around : {D S B A : Type 0} → Alteration S B A → (start end : Place) → Round D B → Round (Altered D S) A
 around c start end part = record {
   start = λ s. changed c s.changes start (part.start s.below);
   end = λ s. c.text s.changes end (part.end s.below);
 }
 
--- THE ANSWERS of a decorator, changed
+-- changed results of a decorator: the definition of `Altered`
 abbrev pub altered : {D S B A : Type 0} → Decoration D B → Alteration S B A → Decoration (Altered D S) A
 altered d c = record {
   link_start = λ s target. changed c s.changes (LinkStart target) (d.link_start s.below target);

@@ -1,4 +1,4 @@
--- THE DECORATORS of plain text and of rich text, whatever their values S are.
+-- The decorators of plain text and of rich text, for any type S of their values.
 use Rattle.std.specs.Prelude.{ℕ, ℤ, true, false, List, [], ◌++◌, Some, None, codes}
 use Rattle.std.specs.Fmt.{signed_decimal}
 use Rattle.std.specs.List.{repeat}
@@ -7,23 +7,23 @@ use Rattle.html_render_parts_decorators.specs.declared.decorate.rich.RichAnnotat
 use Rattle.html_render_parts_decorators.specs.declared.decorate.rich.RichAnnotation.TheVariants.{Default, Link, Image, Emphasis, Strong, Strikeout, Code, Preformat}
 use Rattle.html_render_parts_decorators.specs.declared.decorate.rich.RichAnnotation.TheVariants.{Colour, BgColour}
 
--- a text before a part and one behind it, with an annotation
+-- decoration of a part by a text before it, a text after it and an annotation
 abbrev pub between : {S A : Type 0} → (start end : List ℕ) → A → Round S A
 between start end a = record { start = λ s. record { text = start; annotation = a }; end = λ s. end }
 
--- an annotation, and no text
+-- decoration of a part by an annotation alone
 abbrev pub annotated : {S A : Type 0} → A → Round S A
 annotated a = between [] [] a
 
--- a heading's prefix
+-- prefix of a heading: one `#` for each level, and a space
 abbrev pub hashes : (level : ℕ) → List ℕ
 hashes level = repeat level (codes "#") ++ codes " "
 
--- the prefix of an ordered list's item
+-- prefix of an ordered list's item: its number in decimal, a full stop and a space
 abbrev pub number_and_dot : (number : ℤ) → List ℕ
 number_and_dot number = signed_decimal number ++ codes ". "
 
--- plain text: all characters have one annotation
+-- decorator of plain text, with the annotation `a` for all parts
 abbrev pub plain : {S A : Type 0} → A → Decoration S A
 plain a = record {
   link_start = λ s target. record { text = codes "["; annotation = a };
@@ -46,7 +46,7 @@ plain a = record {
   subblock = λ s. s;
 }
 
--- rich text: annotations in the place of signs; superscripts, prefixes and what is not told here as in plain text
+-- decorator of rich text: annotations instead of texts; results that aren't stated here are those of plain text
 abbrev pub rich : {S : Type 0} → Decoration S RichAnnotation
 rich = record (plain Default) {
   link_start = λ s target. record { text = []; annotation = Link target };

@@ -1,5 +1,5 @@
--- what a decorator answers, and what those of plain and of rich text do
+-- the results of a decorator, and those of plain and of rich text
 pub mod Decoration
 pub mod Decorators
--- what one answers that changes some answers of another
+-- changes to the results of another decorator
 pub mod Alteration

@@ -1,12 +1,13 @@
-//! Decorators: what is written round the parts of a document, and what its characters are annotated with.
+//! Decorators: texts written around the parts of a document, and annotations of its characters.
 //!
-//! `PlainDecorator::new()` is the decorator of plain text. Its annotations say nothing: before an ordered list's item
-//! of number 3 it writes `3. `, and round a link `[` and `]`. `RichDecorator::new()` is the decorator of text that a
-//! viewer styles: it writes nothing round a link, whose characters have the annotation `RichAnnotation::Link` of its
-//! target. A sub-block has the same decorator for both.
+//! - [`PlainDecorator`] is the decorator of plain text. It writes `3. ` before the item of number 3 of an ordered list, and
+//!   `[` and `]` around a link. Its annotations are `()`.
+//! - [`RichDecorator`] is the decorator of text that a viewer styles. It writes nothing around a link, and annotates its
+//!   characters with `RichAnnotation::Link` of its target.
+//! - [`Altered`] changes some results of another decorator. `Altered { below: PlainDecorator::new(), changes }` is the
+//!   decorator of plain text, except for what `changes`, a value of a type that implements [`Changes`], changes.
 //!
-//! `Altered { below: PlainDecorator::new(), changes }` answers what plain text's decorator does, but for what `changes`, a value
-//! of a type that implements `Changes`, says otherwise.
+//! With the first two, a sub-block has the same decorator as its block.
 
 ghost use Rattle.std.specs.Prelude.{◌≡◌, IfOk, IfErr, map, string_bytes};
 ghost use Rattle.html_render_parts_decorators.specs.Decoration.{Decoration};
@@ -27,17 +28,19 @@ pub use plain::PlainDecorator;
 pub use rich::{RichAnnotation, RichDecorator};
 use std::alloc::Global;
 
-/// What is written round the parts of a document.
+/// Texts written around the parts of a document, and annotations of its characters.
 ///
-/// Each answer is a function of the decorator and of the arguments.
+/// Each result is a function of the decorator's value and of the arguments, which `decoration` states. A text that isn't
+/// written is an empty string. A part's annotation is that of all its characters, also of the texts written before and after
+/// its contents.
 pub trait TextDecorator: Drop {
-    /// What a character can be annotated with.
+    /// Annotation of a character.
     type Annotation: Eq + Clone + Default + Drop;
 
-    // what the decorator answers
+    // the decorator's results, as functions
     ghost decoration: { Decoration Self Self.Annotation };
 
-    /// The text before a link to this target, and what the characters in it are annotated with.
+    /// Returns the text before a link to the target `url`, and the annotation of the link's characters.
     ///
     /// # Errors
     ///
@@ -51,7 +54,7 @@ pub trait TextDecorator: Drop {
         ensures annotation { IfOk result (λ r. r.1 ≡ (decoration.link_start self.now url.now).annotation) }
         ensures err { IfErr result (λ e. e ≡ Error.OutOfMemory) };
 
-    /// The text behind a link.
+    /// Returns the text after a link.
     ///
     /// # Errors
     ///
@@ -60,7 +63,7 @@ pub trait TextDecorator: Drop {
         ensures ok { IfOk result (λ text. string_bytes text ≡ decoration.link_end self.now) }
         ensures err { IfErr result (λ e. e ≡ Error.OutOfMemory) };
 
-    /// The text before emphasised text, and what the characters in it are annotated with.
+    /// Returns the text before emphasised text, and the annotation of its characters.
     ///
     /// # Errors
     ///
@@ -70,7 +73,7 @@ pub trait TextDecorator: Drop {
         ensures annotation { IfOk result (λ r. r.1 ≡ (decoration.em.start self.now).annotation) }
         ensures err { IfErr result (λ e. e ≡ Error.OutOfMemory) };
 
-    /// The text behind emphasised text.
+    /// Returns the text after emphasised text.
     ///
     /// # Errors
     ///
@@ -79,7 +82,7 @@ pub trait TextDecorator: Drop {
         ensures ok { IfOk result (λ text. string_bytes text ≡ decoration.em.end self.now) }
         ensures err { IfErr result (λ e. e ≡ Error.OutOfMemory) };
 
-    /// The text before strong text, and what the characters in it are annotated with.
+    /// Returns the text before strong text, and the annotation of its characters.
     ///
     /// # Errors
     ///
@@ -89,7 +92,7 @@ pub trait TextDecorator: Drop {
         ensures annotation { IfOk result (λ r. r.1 ≡ (decoration.strong.start self.now).annotation) }
         ensures err { IfErr result (λ e. e ≡ Error.OutOfMemory) };
 
-    /// The text behind strong text.
+    /// Returns the text after strong text.
     ///
     /// # Errors
     ///
@@ -98,7 +101,7 @@ pub trait TextDecorator: Drop {
         ensures ok { IfOk result (λ text. string_bytes text ≡ decoration.strong.end self.now) }
         ensures err { IfErr result (λ e. e ≡ Error.OutOfMemory) };
 
-    /// The text before text that is struck out, and what the characters in it are annotated with.
+    /// Returns the text before struck-out text, and the annotation of its characters.
     ///
     /// # Errors
     ///
@@ -108,7 +111,7 @@ pub trait TextDecorator: Drop {
         ensures annotation { IfOk result (λ r. r.1 ≡ (decoration.strikeout.start self.now).annotation) }
         ensures err { IfErr result (λ e. e ≡ Error.OutOfMemory) };
 
-    /// The text behind text that is struck out.
+    /// Returns the text after struck-out text.
     ///
     /// # Errors
     ///
@@ -117,7 +120,7 @@ pub trait TextDecorator: Drop {
         ensures ok { IfOk result (λ text. string_bytes text ≡ decoration.strikeout.end self.now) }
         ensures err { IfErr result (λ e. e ≡ Error.OutOfMemory) };
 
-    /// The text before code, and what the characters in it are annotated with.
+    /// Returns the text before code, and the annotation of its characters.
     ///
     /// # Errors
     ///
@@ -127,7 +130,7 @@ pub trait TextDecorator: Drop {
         ensures annotation { IfOk result (λ r. r.1 ≡ (decoration.code.start self.now).annotation) }
         ensures err { IfErr result (λ e. e ≡ Error.OutOfMemory) };
 
-    /// The text behind code.
+    /// Returns the text after code.
     ///
     /// # Errors
     ///
@@ -136,7 +139,10 @@ pub trait TextDecorator: Drop {
         ensures ok { IfOk result (λ text. string_bytes text ≡ decoration.code.end self.now) }
         ensures err { IfErr result (λ e. e ≡ Error.OutOfMemory) };
 
-    /// The text before a superscript, and what the characters in it are annotated with.
+    /// Returns the text before a superscript, and the annotation of its characters.
+    ///
+    /// It isn't called for a superscript of a single text that is empty or of ASCII digits alone: this is written in
+    /// superscript digits.
     ///
     /// # Errors
     ///
@@ -146,7 +152,7 @@ pub trait TextDecorator: Drop {
         ensures annotation { IfOk result (λ r. r.1 ≡ (decoration.superscript.start self.now).annotation) }
         ensures err { IfErr result (λ e. e ≡ Error.OutOfMemory) };
 
-    /// The text behind a superscript.
+    /// Returns the text after a superscript.
     ///
     /// # Errors
     ///
@@ -155,7 +161,8 @@ pub trait TextDecorator: Drop {
         ensures ok { IfOk result (λ text. string_bytes text ≡ decoration.superscript.end self.now) }
         ensures err { IfErr result (λ e. e ≡ Error.OutOfMemory) };
 
-    /// The text in the place of an image of this source and title, and what its characters are annotated with.
+    /// Returns the text for an image with the source `src` and this title, and the annotation of its characters. The source
+    /// of a drawing is empty.
     ///
     /// # Errors
     ///
@@ -170,7 +177,7 @@ pub trait TextDecorator: Drop {
         ensures annotation { IfOk result (λ r. r.1 ≡ (decoration.image self.now src.now title.now).annotation) }
         ensures err { IfErr result (λ e. e ≡ Error.OutOfMemory) };
 
-    /// What preformatted characters are annotated with, but for those on continuation lines.
+    /// Returns the innermost annotation of preformatted characters, except on continuation lines.
     ///
     /// # Errors
     ///
@@ -179,8 +186,8 @@ pub trait TextDecorator: Drop {
         ensures ok { IfOk result (λ annotation. annotation ≡ decoration.preformat_first self.now) }
         ensures err { IfErr result (λ e. e ≡ Error.OutOfMemory) };
 
-    /// What preformatted characters are annotated with on a continuation line: one that was begun because something didn't
-    /// fit on the line before it.
+    /// Returns the innermost annotation of preformatted characters on a continuation line: one that begins because something
+    /// didn't fit on the line before.
     ///
     /// # Errors
     ///
@@ -189,7 +196,7 @@ pub trait TextDecorator: Drop {
         ensures ok { IfOk result (λ annotation. annotation ≡ decoration.preformat_continuing self.now) }
         ensures err { IfErr result (λ e. e ≡ Error.OutOfMemory) };
 
-    /// What stands before each line of a heading of this level.
+    /// Returns the prefix of each line of a heading of this level.
     ///
     /// # Errors
     ///
@@ -198,7 +205,7 @@ pub trait TextDecorator: Drop {
         ensures ok { IfOk result (λ prefix. string_bytes prefix ≡ decoration.header_prefix self.now level) }
         ensures err { IfErr result (λ e. e ≡ Error.OutOfMemory) };
 
-    /// What stands before each line of a quote.
+    /// Returns the prefix of each line of a quote.
     ///
     /// # Errors
     ///
@@ -207,7 +214,8 @@ pub trait TextDecorator: Drop {
         ensures ok { IfOk result (λ prefix. string_bytes prefix ≡ decoration.quote_prefix self.now) }
         ensures err { IfErr result (λ e. e ≡ Error.OutOfMemory) };
 
-    /// What stands before the first line of an item of an unordered list.
+    /// Returns the prefix of the first line of an item of an unordered list. Its other lines are indented by the same
+    /// columns.
     ///
     /// # Errors
     ///
@@ -216,7 +224,8 @@ pub trait TextDecorator: Drop {
         ensures ok { IfOk result (λ prefix. string_bytes prefix ≡ decoration.unordered_item_prefix self.now) }
         ensures err { IfErr result (λ e. e ≡ Error.OutOfMemory) };
 
-    /// What stands before the first line of an ordered list's item of this number.
+    /// Returns the prefix of the first line of the item with this number of an ordered list. The layout pads it to the
+    /// columns of the wider prefix of the list's first and last number, and indents the item's other lines by these.
     ///
     /// # Errors
     ///
@@ -225,7 +234,7 @@ pub trait TextDecorator: Drop {
         ensures ok { IfOk result (λ prefix. string_bytes prefix ≡ decoration.ordered_item_prefix self.now number) }
         ensures err { IfErr result (λ e. e ≡ Error.OutOfMemory) };
 
-    /// What characters of this colour are annotated with, or nothing.
+    /// Returns the annotation of characters of this colour; `None` for no annotation.
     ///
     /// # Errors
     ///
@@ -234,7 +243,7 @@ pub trait TextDecorator: Drop {
         ensures ok { IfOk result (λ annotation. annotation ≡ decoration.push_colour self.now colour) }
         ensures err { IfErr result (λ e. e ≡ Error.OutOfMemory) };
 
-    /// What characters on this background are annotated with, or nothing.
+    /// Returns the annotation of characters on a background of this colour; `None` for no annotation.
     ///
     /// # Errors
     ///
@@ -247,7 +256,8 @@ pub trait TextDecorator: Drop {
         ensures ok { IfOk result (λ annotation. annotation ≡ decoration.push_background self.now colour) }
         ensures err { IfErr result (λ e. e ≡ Error.OutOfMemory) };
 
-    /// The lines behind the document, where these are the targets of all its links, in order.
+    /// Returns the closing lines of a document, where `links` are the targets of all its links, in order. They follow the
+    /// footnotes, if there are any.
     ///
     /// # Errors
     ///
@@ -256,7 +266,7 @@ pub trait TextDecorator: Drop {
         ensures ok { IfOk result (λ lines. map string_bytes lines.items ≡ decoration.finalise self.now links.now) }
         ensures err { IfErr result (λ e. e ≡ Error.OutOfMemory) };
 
-    /// The decorator of a block inside the decorator's own.
+    /// Returns the decorator of a sub-block. The document's own block has the decorator that the given one returns here.
     ///
     /// # Errors
     ///
@@ -265,6 +275,6 @@ pub trait TextDecorator: Drop {
         ensures ok { IfOk result (λ inner. inner ≡ decoration.subblock self.now) }
         ensures err { IfErr result (λ e. e ≡ Error.OutOfMemory) };
 
-    // a clone of an annotation is the same value
+    // a clone of an annotation is the same value as its original
     ghost clone_is_same: { (a b : Self.Annotation) → Self.Annotation.is_clone a b → b ≡ a };
 }

@@ -1,4 +1,4 @@
-//! What is written round the parts of a document, and what its characters are annotated with.
+//! Texts written around the parts of a document, and annotations of its characters.
 #![tactic(auto)]
 
 pub mod decorate;

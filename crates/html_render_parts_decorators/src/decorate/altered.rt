@@ -1,4 +1,4 @@
-//! A decorator that changes some answers of another one.
+//! A decorator that changes some results of another one.
 
 ghost use Rattle.std.specs.Prelude.{◌≡◌, IfErr, IfOk, string_bytes};
 ghost use Rattle.html_render_parts_decorators.specs.Alteration.{altered, coloured};
@@ -11,17 +11,17 @@ use html_render_dom_values::colours::Colour;
 use html_render_dom_values::text::Text;
 use std::alloc::Global;
 
-/// A decorator with changes to its answers.
+/// Decorator with the results of another one, some of them changed.
 #[derive(Drop)]
 pub struct Altered<D, C> {
-    /// The decorator whose answers are changed.
+    /// Decorator whose results are changed.
     pub below: D,
-    /// What changes them.
+    /// Changes to its results.
     pub changes: C,
 }
 
 impl<D: TextDecorator, C: Changes<D::Annotation>> Altered<D, C> {
-    /// What stands at a place before which a text is written, where this stands there below.
+    /// Returns the changed text and annotation of `place`, the start of a part, where `below` are the other decorator's.
     fn start(
         &self,
         alloc: Global,
@@ -38,7 +38,9 @@ impl<D: TextDecorator, C: Changes<D::Annotation>> Altered<D, C> {
         Ok((text, annotation))
     }
 
-    /// What characters of a colour, or on a background, are annotated with, where this is what they are below.
+    /// Returns the changed annotation of a colour or a background, where `below` is the other decorator's.
+    ///
+    /// `annotation` of the changes gives it if there is one below, and `colour` otherwise.
     fn coloured(
         &self,
         alloc: Global,

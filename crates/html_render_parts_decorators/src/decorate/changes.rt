@@ -1,4 +1,4 @@
-//! What changes the answers of a decorator.
+//! Changes to the results of a decorator.
 
 ghost use Rattle.std.specs.Prelude.{◌≡◌, IfErr, IfOk, map, string_bytes};
 ghost use Rattle.html_render_parts_decorators.specs.Alteration.{Alteration};
@@ -8,18 +8,18 @@ use html_render_dom_values::Error;
 use html_render_dom_values::text::Text;
 use std::alloc::Global;
 
-/// What changes the answers of a decorator whose annotations are `B`.
+/// Changes to the results of a decorator, whose annotations are of type `B`.
 ///
-/// Most functions are given what that decorator answers, as `below`, and answer what takes its place: where nothing is
-/// changed, the same.
+/// `text`, `annotation` and `lines` take that decorator's result as `below`, and return the result that replaces it: `below`
+/// for no change.
 pub trait Changes<B>: Drop {
-    /// What a character can be annotated with.
+    /// Annotation of a character in the changed results.
     type Annotation: Eq + Clone + Default + Drop;
 
-    // what the changes are
+    // the changes, as functions
     ghost alteration: { Alteration Self B Self.Annotation };
 
-    /// The text at a place.
+    /// Returns the text written at `place`, where `below` is the other decorator's.
     ///
     /// # Errors
     ///
@@ -28,7 +28,7 @@ pub trait Changes<B>: Drop {
         ensures ok { IfOk result (λ text. string_bytes text ≡ alteration.text self.now place.now (string_bytes below)) }
         ensures err { IfErr result (λ e. e ≡ Error.OutOfMemory) };
 
-    /// What characters at a place are annotated with.
+    /// Returns the annotation of characters at `place`, where `below` is the other decorator's.
     ///
     /// # Errors
     ///
@@ -42,8 +42,8 @@ pub trait Changes<B>: Drop {
         ensures ok { IfOk result (λ annotation. annotation ≡ alteration.annotation self.now place.now below) }
         ensures err { IfErr result (λ e. e ≡ Error.OutOfMemory) };
 
-    /// What characters of a colour, or on a background, are annotated with, or nothing, where the other decorator annotates
-    /// them with nothing. Where it does annotate them, `annotation` is asked.
+    /// Returns the annotation of characters of a colour or on a background for which the other decorator has none; `None`
+    /// for no annotation. If the other decorator has one, `annotation` is called instead.
     ///
     /// # Errors
     ///
@@ -52,7 +52,8 @@ pub trait Changes<B>: Drop {
         ensures ok { IfOk result (λ annotation. annotation ≡ alteration.colour self.now place.now) }
         ensures err { IfErr result (λ e. e ≡ Error.OutOfMemory) };
 
-    /// The lines behind the document, where these are the targets of all its links, in order.
+    /// Returns the closing lines of a document, where `links` are the targets of all its links, in order, and `below` the
+    /// closing lines of the other decorator.
     ///
     /// # Errors
     ///
@@ -61,7 +62,7 @@ pub trait Changes<B>: Drop {
         ensures ok { IfOk result (λ lines. map string_bytes lines.items ≡ alteration.lines self.now links.now (map string_bytes below.items)) }
         ensures err { IfErr result (λ e. e ≡ Error.OutOfMemory) };
 
-    /// What changes the answers in a block inside.
+    /// Returns the changes in a sub-block.
     ///
     /// # Errors
     ///
@@ -70,6 +71,6 @@ pub trait Changes<B>: Drop {
         ensures ok { IfOk result (λ inner. inner ≡ alteration.subblock self.now) }
         ensures err { IfErr result (λ e. e ≡ Error.OutOfMemory) };
 
-    // a clone of an annotation is the same value
+    // a clone of an annotation is the same value as its original
     ghost clone_is_same: { (a b : Self.Annotation) → Self.Annotation.is_clone a b → b ≡ a };
 }

@@ -1,11 +1,13 @@
-//! The places at which a decorator writes a text, or annotates characters.
+//! Places at which a decorator writes a text or annotates characters.
 
 ghost use Rattle.std.specs.Prelude.{◌≡◌};
 
 use html_render_dom_values::colours::Colour;
 use std::marker::Model;
 
-/// A text of the document that stands at a place: the target of a link, or the source or the title of an image.
+/// Text of the document that belongs to a place: the target of a link, or the source or title of an image.
+///
+/// In contracts, it is the bytes of the text.
 #[derive(Drop)]
 pub struct Given<'a> {
     text: &'a str,
@@ -20,14 +22,14 @@ impl<'a> Model for Given<'a> {
 }
 
 impl<'a> Given<'a> {
-    /// A text.
+    /// Wraps a text of the document.
     pub(crate) fn new(text: &'a str) -> Given<'a>
         ensures { result ≡ text.entry.now }
     {
         Given { text }
     }
 
-    /// The text.
+    /// Returns the text.
     pub fn as_str(&self) -> &str
         ensures { result.now ≡ self.now }
     {
@@ -35,49 +37,49 @@ impl<'a> Given<'a> {
     }
 }
 
-/// A place at which a decorator writes a text, or annotates characters.
+/// Place at which a decorator writes a text or annotates characters.
 #[derive(Drop)]
 pub enum Place<'a> {
-    /// Before a link to this target, and in it.
+    /// Start of a link to this target: the text before it, and the annotation of its characters.
     LinkStart(Given<'a>),
-    /// Behind a link.
+    /// End of a link: the text after it.
     LinkEnd,
-    /// Before emphasised text, and in it.
+    /// Start of emphasised text: the text before it, and the annotation of its characters.
     EmStart,
-    /// Behind emphasised text.
+    /// End of emphasised text: the text after it.
     EmEnd,
-    /// Before strong text, and in it.
+    /// Start of strong text: the text before it, and the annotation of its characters.
     StrongStart,
-    /// Behind strong text.
+    /// End of strong text: the text after it.
     StrongEnd,
-    /// Before text that is struck out, and in it.
+    /// Start of struck-out text: the text before it, and the annotation of its characters.
     StrikeoutStart,
-    /// Behind text that is struck out.
+    /// End of struck-out text: the text after it.
     StrikeoutEnd,
-    /// Before code, and in it.
+    /// Start of code: the text before it, and the annotation of its characters.
     CodeStart,
-    /// Behind code.
+    /// End of code: the text after it.
     CodeEnd,
-    /// Before a superscript, and in it.
+    /// Start of a superscript: the text before it, and the annotation of its characters.
     SuperscriptStart,
-    /// Behind a superscript.
+    /// End of a superscript: the text after it.
     SuperscriptEnd,
-    /// In the place of an image of this source and title.
+    /// Image with this source and this title: the text written for it, and the annotation of its characters.
     Image(Given<'a>, Given<'a>),
-    /// In preformatted text, but for continuation lines.
+    /// Preformatted text, except on continuation lines: the annotation of its characters.
     PreformatFirst,
-    /// On a continuation line of preformatted text.
+    /// Preformatted text on a continuation line: the annotation of its characters.
     PreformatCont,
-    /// Before each line of a heading of this level.
+    /// Prefix of each line of a heading of this level.
     HeaderPrefix(usize),
-    /// Before each line of a quote.
+    /// Prefix of each line of a quote.
     QuotePrefix,
-    /// Before an item of an unordered list.
+    /// Prefix of an item of an unordered list.
     UnorderedItemPrefix,
-    /// Before an ordered list's item of this number.
+    /// Prefix of the item with this number of an ordered list.
     OrderedItemPrefix(i64),
-    /// In text of this colour.
+    /// Text of this colour: the annotation of its characters.
     Colour(Colour),
-    /// On this background.
+    /// Text on a background of this colour: the annotation of its characters.
     Background(Colour),
 }

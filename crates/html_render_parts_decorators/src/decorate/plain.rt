@@ -1,4 +1,4 @@
-//! The decorator of plain text.
+//! Decorator of plain text.
 
 ghost use Rattle.std.specs.Prelude.{refl};
 ghost use Rattle.html_render_parts_decorators.specs.Decorators.{plain};
@@ -9,12 +9,17 @@ use html_render_dom_values::colours::Colour;
 use html_render_dom_values::text::Text;
 use std::alloc::Global;
 
-/// The decorator of plain text.
+/// Decorator of plain text, without annotations.
+///
+/// - It writes `[` and `]` around a link and around the title of an image, and `^{` and `}` around a superscript.
+/// - The prefix of a heading is one `#` for each level and a space; that of a quote `> `; that of an item `* `, or its
+///   number and `. `.
+/// - It writes nothing around emphasised, strong and struck-out text and code, and no closing lines.
 #[derive(Clone, Copy, Debug, Default, PartialEq, Eq)]
 pub struct PlainDecorator;
 
 impl PlainDecorator {
-    /// The decorator of plain text. It takes no memory.
+    /// Returns the decorator of plain text, without an allocation.
     pub fn new() -> PlainDecorator {
         PlainDecorator
     }

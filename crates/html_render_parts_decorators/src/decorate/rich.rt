@@ -1,4 +1,4 @@
-//! The decorator of rich text: text with annotations that say what each part is.
+//! Decorator of rich text, whose annotations name the part that a character is in.
 
 ghost use Rattle.std.proofs.Common.{rules};
 ghost use Rattle.html_render_parts_decorators.specs.Decorators.{rich};
@@ -9,38 +9,40 @@ use html_render_dom_values::colours::Colour;
 use html_render_dom_values::text::Text;
 use std::alloc::Global;
 
-/// What a character stands in.
+/// Annotation of rich text: a part that a character is in.
 #[derive(Clone, Debug, Default, PartialEq, Eq, Drop)]
 pub enum RichAnnotation {
-    /// Nothing that has an annotation of its own.
+    /// Part without an annotation of its own: a superscript.
     #[default]
     Default,
-    /// A link to this target.
+    /// Link to this target.
     Link(Text),
-    /// The title of an image of this source.
+    /// Title of an image with this source.
     Image(Text),
     /// Emphasised text.
     Emphasis,
     /// Strong text.
     Strong,
-    /// Text that is struck out.
+    /// Struck-out text.
     Strikeout,
     /// Code.
     Code,
-    /// Text that keeps its white space; `true` on a continuation line.
+    /// Preformatted text; `true` on a continuation line.
     Preformat(bool),
     /// Text of this colour.
     Colour(Colour),
-    /// Text on this background.
+    /// Text on a background of this colour.
     BgColour(Colour),
 }
 
-/// The decorator of rich text.
+/// Decorator of rich text: [`RichAnnotation`]s instead of texts around the parts of a document.
+///
+/// Superscripts, prefixes and closing lines are those of [`PlainDecorator`]. For an image, it writes the title alone.
 #[derive(Clone, Copy, Debug, Default, PartialEq, Eq)]
 pub struct RichDecorator;
 
 impl RichDecorator {
-    /// The decorator of rich text. It takes no memory.
+    /// Returns the decorator of rich text, without an allocation.
     pub fn new() -> RichDecorator {
         RichDecorator
     }
