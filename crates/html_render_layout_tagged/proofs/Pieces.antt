@@ -1,4 +1,4 @@
--- A text in front of pieces is its characters in front of them, one by one.
+-- Putting a text before pieces is putting its characters before them, one by one.
 use Rattle.std.proofs.Common.{◌≡◌, ℕ, ◌<◌, Bool, true, List, [], ◌∷◌, ◌++◌, length, refl, sym, ap, ◌∙◌, append_assoc, arith}
 use Rattle.std.proofs.lemmas.Bool.{cond_both}
 use Rattle.std.specs.Cmp.{IsEquivalence}
@@ -9,7 +9,7 @@ use Rattle.html_render_layout_lines.specs.TaggedText.{under}
 use Rattle.html_render_layout_tagged.specs.Grouping.{Piece, Str, FragmentStart, in_front, grouped}
 
 module _ {T : Type 0} (equal : T → T → Bool) where
-  -- a text behind one under an equal tag joins it
+  -- two texts under equal tags, one after the other, are put before pieces as one text
   pub in_front-joined : IsEquivalence equal → (text next : List ℕ) (old tag : T) (ps : List (Piece T)) → equal old tag ≡ true →
       in_front equal (text ++ next) old ps ≡ in_front equal text old (in_front equal next tag ps)
   in_front-joined laws text next old tag [] e = rw e refl
@@ -20,7 +20,7 @@ module _ {T : Type 0} (equal : T → T → Bool) where
       (λ f. rw (e, same, f) (ap (λ x. Str x old ∷ ps) (append_assoc text next more)))
       (λ f. rw (e, same, f) refl)
 
-  -- the characters of a text, one after the other
+  -- grouping the characters of a text before other elements
   grouped-under : IsEquivalence equal → (names : List (List ℕ)) (tag : T) (c : ℕ) (cs : List ℕ) (more : Line T ℕ) →
       grouped equal names (under tag (c ∷ cs) ++ more) ≡ in_front equal (c ∷ cs) tag (grouped equal names more)
   grouped-under laws names tag c [] more = refl

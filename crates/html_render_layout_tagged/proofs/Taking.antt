@@ -1,4 +1,4 @@
--- What a line that is grouped from its front on takes, bit by bit.
+-- Appending to a line under construction, element by element.
 use Rattle.std.proofs.Common.{◌≡◌, ℕ, ◌<◌, Bool, true, List, [], ◌∷◌, ◌++◌, take, drop, length, reverse, Some, None, refl, sym, ap, ◌∙◌, subst}
 use Rattle.std.proofs.Common.{append_assoc, append-nil, arith, String, string_bytes}
 use Rattle.std.proofs.lemmas.Str.{chars-nil, IsUtf8-append, IsUtf8-nil, IsCharBoundary-from_drop}
@@ -27,19 +27,19 @@ line_with-under f tag [] more = refl
 line_with-under f tag (c ∷ cs) more = ap (λ es. element.Character c (f tag) ∷ es) (line_with-under f tag cs more)
 
 module _ {A : Type 0} (eq : A → A → Bool) (stacks : List (List A)) (names : List (List ℕ)) where
-  -- a text without bytes
+  -- an empty text changes nothing
   pub Takes-empty : (p : Progress A) (bs : List ℕ) (tag : ℕ) → length bs ≡ 0 → Takes eq stacks names p (under tag (chars bs)) p
   Takes-empty p [] tag e = λ more.
       ap (λ cs. pieces_with eq stacks p (grouped (pointwise eq) names (line_with (stack_at stacks) (under tag cs ++ more)))) (sym chars-nil)
   Takes-empty p (b ∷ bs) tag e = absurd (omega (arith, e))
 
-  -- first some elements, and then more
+  -- appending some elements and then others is appending both
   pub Takes-then : (p q r : Progress A) (es fs : Line ℕ ℕ) → Takes eq stacks names p es q → Takes eq stacks names q fs r →
       Takes eq stacks names p (es ++ fs) r
   Takes-then p q r es fs one two = λ more. two more ∙ one (fs ++ more)
       ∙ ap (λ es. pieces_with eq stacks p (grouped (pointwise eq) names (line_with (stack_at stacks) es))) (sym (append_assoc es fs more))
 
-  -- a character that is in front of what follows
+  -- a character that is put before all later pieces is appended
   pub Takes-char : (p q : Progress A) (c tag : ℕ) (cs : List ℕ) → cs ≡ c ∷ [] →
       ((ps : List (Piece (List A))) → pieces_with eq stacks q ps ≡ pieces_with eq stacks p (in_front (pointwise eq) cs (stack_at stacks tag) ps)) →
       Takes eq stacks names p (element.Character c tag ∷ []) q
@@ -47,7 +47,7 @@ module _ {A : Type 0} (eq : A → A → Bool) (stacks : List (List A)) (names : 
       let ps = grouped (pointwise eq) names (line_with (stack_at stacks) more) in
       h ps ∙ ap (λ x. pieces_with eq stacks p (in_front (pointwise eq) x (stack_at stacks tag) ps)) e
 
-  -- a text that is in front of what follows
+  -- a text that is put before all later pieces is appended
   pub Takes-text : IsEquivalence eq → (p q : Progress A) (bs : List ℕ) (tag : ℕ) → IsUtf8 bs → 0 < length bs →
       ((ps : List (Piece (List A))) → pieces_with eq stacks q ps ≡ pieces_with eq stacks p (in_front (pointwise eq) (chars bs) (stack_at stacks tag) ps)) →
       Takes eq stacks names p (under tag (chars bs)) q
@@ -57,7 +57,7 @@ module _ {A : Type 0} (eq : A → A → Bool) (stacks : List (List A)) (names : 
       (line_with (stack_at stacks) more) utf8 some)
       ∙ ap (grouped (pointwise eq) names) (sym (line_with-under (stack_at stacks) tag (chars bs) more)))
 
-  -- a run, and those behind it
+  -- a run and the runs after it
   pub Takes-run : {rs others : List (Run ℕ ℕ)} {r : Run ℕ ℕ} {n tag : ℕ} {this behind : List ℕ} (p q now : Progress A) (bs : List ℕ) →
       rs ≡ r ∷ others → r ≡ run.Text n tag → this ≡ take n bs → behind ≡ drop n bs →
       Takes eq stacks names p (under tag (chars this)) q → Takes eq stacks names q (elements_of others behind) now →
@@ -74,14 +74,14 @@ module _ {A : Type 0} (eq : A → A → Bool) (stacks : List (List A)) (names : 
       let first : rs ≡ run.Mark m ∷ others = e ∙ ap (λ x. x ∷ others) f in
       rw first (Takes-then p q now (element.Mark m ∷ []) (elements_of others bs) one two)
 
-  -- the last element of those that come first one last, and the others
+  -- the last element and the others, of elements that are appended in reverse order
   pub Takes-last : (p q now : Progress A) (es others : Line ℕ ℕ) (e : Element ℕ ℕ) → es ≡ others ++ e ∷ [] →
       Takes eq stacks names p (e ∷ []) q → Takes eq stacks names q (reverse others) now → Takes eq stacks names p (reverse es) now
   Takes-last p q now es others e is one two =
       subst (λ x. Takes eq stacks names p x now) (sym (ap reverse is ∙ reverse-append others (e ∷ [])))
       (Takes-then p q now (e ∷ []) (reverse others) one two)
 
-  -- a whole line
+  -- a whole line: its front, its closed runs and its open run
   pub whole-line : (p q r s : Progress A) (front closed ending line : Line ℕ ℕ) → p.done.items ≡ [] → p.last ≡ None →
       Takes eq stacks names p front q → Takes eq stacks names q closed r → Takes eq stacks names r ending s →
       front ++ (closed ++ ending) ≡ line →
@@ -90,7 +90,7 @@ module _ {A : Type 0} (eq : A → A → Bool) (stacks : List (List A)) (names : 
       let all = Takes-then p q s front (closed ++ ending) one (Takes-then q r s closed ending two three) in
       all [] ∙ rw (done, last) (ap (λ l. grouped (pointwise eq) names (line_with (stack_at stacks) l)) (append-nil (front ++ (closed ++ ending)) ∙ is))
 
--- the rest of what runs cut up
+-- the runs after a first one divide the rest of the text
 pub Cuts-run : {T M : Type 0} {rs others : List (Run T M)} {r : Run T M} {n : ℕ} {tag : T} {behind : List ℕ} (bs : List ℕ) →
     rs ≡ r ∷ others → r ≡ run.Text n tag → behind ≡ drop n bs → Cuts rs bs → Cuts others behind
 Cuts-run {T} {M} {rs} {others} {r} {n} {tag} bs e f rest cuts =
@@ -100,7 +100,7 @@ Cuts-run {T} {M} {rs} {others} {r} {n} {tag} bs e f rest cuts =
 pub Cuts-mark : {T M : Type 0} {rs others : List (Run T M)} {r : Run T M} {m : M} (bs : List ℕ) → rs ≡ r ∷ others → r ≡ run.Mark m → Cuts rs bs → Cuts others bs
 Cuts-mark {T} {M} {rs} {others} bs e f cuts = subst (λ x. Cuts x bs) (e ∙ ap (λ x. x ∷ others) f) cuts
 
--- a text that joins the last string
+-- a text under an equal tag joins the last string
 pub joined : {A : Type 0} (eq : A → A → Bool) (stacks : List (List A)) → IsEquivalence eq → (p : Progress A) (last : OpenString)
     (text : String Global) (cs : List ℕ) (tag : ℕ) → p.last ≡ Some last →
     chars (string_bytes text) ≡ chars (string_bytes last.text) ++ cs →
@@ -111,14 +111,14 @@ joined eq stacks laws p last text cs tag is joins same ps =
     rw (is, joins) (ap (λ x. pieces_of p.done.items ++ x) (in_front-joined (pointwise eq) (lists_equiv laws) (chars (string_bytes last.text)) cs
     (stack_at stacks last.tag) (stack_at stacks tag) ps same))
 
--- what runs cut up is made of whole characters
+-- a text that runs divide is UTF-8
 pub IsUtf8-runs : {T M : Type 0} (rs : List (Run T M)) (bs : List ℕ) → Cuts rs bs → IsUtf8 bs
 IsUtf8-runs [] bs cuts = subst IsUtf8 (sym cuts) IsUtf8-nil
 IsUtf8-runs (run.Mark m ∷ rs) bs cuts = IsUtf8-runs rs bs cuts
 IsUtf8-runs (run.Text n tag ∷ rs) bs cuts =
     subst IsUtf8 (take-append-drop n bs) (IsUtf8-append (take n bs) (drop n bs) cuts.1 (IsUtf8-runs rs (drop n bs) cuts.2))
 
--- a run ends between two characters
+-- a run ends at a boundary of characters
 pub run-boundary : {T M : Type 0} {rs others : List (Run T M)} {n : ℕ} {tag : T} {r : Run T M} (bs : List ℕ) → rs ≡ r ∷ others →
     r ≡ run.Text n tag → Cuts rs bs → IsCharBoundary bs n
 run-boundary {T} {M} {rs} {others} {n} {tag} bs e f cuts =

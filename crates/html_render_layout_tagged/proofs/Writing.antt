@@ -1,4 +1,4 @@
--- A line, and lines, under a colour map, from the front on.
+-- Lines under a colour map, string by string and line by line.
 use Rattle.std.proofs.Common.{◌≡◌, ℕ, List, [], ◌∷◌, ◌++◌, length, Result, String, Vec, refl, sym, ap, ◌∙◌, subst, arith, Bor}
 use Rattle.std.specs.declared.alloc.Global.{Global}
 use Rattle.html_render_dom_values.specs.declared.errors.Error.{Error}
@@ -11,7 +11,7 @@ use Rattle.std.specs.Prelude.{string_bytes}
 use Rattle.std.specs.Str.{chars}
 
 module _ {A : Type 0} (post : Bor (List A) → Bor (List ℕ) → Result (String Global) Error → Type 0) where
-  -- an answer in front of what is written behind it
+  -- the map's result for a first string, before the text of the other elements
   pub IsColouredLine-string : (es others : List (TaggedLineElement (Vec A Global))) (e : TaggedLineElement (Vec A Global))
       (s : TaggedString (Vec A Global)) (answer : String Global) (rest : List ℕ) → es ≡ e ∷ others → e ≡ made.Str s →
       MayAnswer post (chars (string_bytes s.s)) s.tag.items answer → IsColouredLine post (pieces_of others) rest →
@@ -24,7 +24,7 @@ module _ {A : Type 0} (post : Bor (List A) → Bor (List ℕ) → Result (String
   IsColouredLine-end [] h = refl
   IsColouredLine-end (e ∷ es) h = absurd (omega (arith, h))
 
-  -- a line in front of others
+  -- the text of a first line, before that of the others
   pub IsColoured-line : (lines others : List (List (TaggedLineElement (Vec A Global)))) (line : List (TaggedLineElement (Vec A Global)))
       (first rest : List ℕ) → lines ≡ line ∷ others → IsColouredLine post (pieces_of line) first → IsColoured post (lines_of others) rest →
       IsColoured post (lines_of lines) (first ++ rest)

@@ -1,11 +1,11 @@
--- The lines of what is laid out, each character under its annotations.
+-- The lines of a layout, with annotations as tags.
 use Rattle.std.specs.Prelude.{ℕ, List}
 use Rattle.html_render_layout_lines.specs.Line.{Line}
 use Rattle.html_render_layout_lines.specs.Tags.{lines_with}
 use Rattle.html_render_layout_tagged.specs.Stacks.{stack_at}
 use Rattle.html_render_layout_tagged.specs.declared.laid_out.LaidOut.{LaidOut}
 
--- lines with the stacks of their tags
+-- lines with each tag replaced by its annotation stack
 abbrev pub tagged : {A : Type 0} → List (List A) → List (Line ℕ ℕ) → List (Line (List A) ℕ)
 tagged stacks lines = lines_with (stack_at stacks) lines
 

@@ -1,13 +1,13 @@
--- what tags stand for, and what a layout gives
+-- annotation stacks of tags, and the result of a layout
 pub mod Stacks
 pub mod LaidOut
 -- lines of tagged strings
 pub mod TaggedLine
--- THE GROUPING of a line's characters into tagged strings
+-- grouping of a line's characters into tagged strings
 pub mod Grouping
--- a line that is grouped from its front on
+-- grouping from the start of a line
 pub mod Progress
 -- lines under a colour map
 pub mod Colouring
--- what follows from the definitions
+-- laws of these definitions
 pub mod laws

@@ -1,4 +1,4 @@
--- what a stack that is pushed leaves as it was
+-- pushed stacks, and the stacks that they leave unchanged
 pub mod Stacks
--- what a grouped line keeps, and how its strings stand
+-- columns and characters of a grouped line, and its strings
 pub mod Grouping

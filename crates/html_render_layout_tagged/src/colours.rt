@@ -1,7 +1,6 @@
 //! Lines as text under a colour map.
 //!
-//! Where the map answers `<` and `>` round each text, the text of a line of the strings `a` and `b` is `<a><b>` and a
-//! newline.
+//! With a map that writes `<` and `>` around each text, a line of the strings `a` and `b` becomes `<a><b>` and a newline.
 
 ghost use Rattle.std.specs.Prelude.{◌≡◌, ◌++◌, List, Err, OnOk, IfOk, IfErr, string_bytes};
 ghost use Rattle.html_render_layout_tagged.specs.Grouping.{pieces_of, lines_of};
@@ -11,7 +10,7 @@ use crate::line::{TaggedLine, TaggedLineElement};
 use html_render_dom_values::Error;
 use std::alloc::Global;
 
-/// Adds a line's text: the map's answers and a newline.
+/// Appends the text of a line: the map's results for its strings, and a newline.
 fn push_line<A: Drop, F: Fn(&[A], &str) -> Result<String, Error>>(
     text: &mut String,
     line: &TaggedLine<Vec<A>>,
@@ -35,14 +34,15 @@ fn push_line<A: Drop, F: Fn(&[A], &str) -> Result<String, Error>>(
     Ok(())
 }
 
-/// The text of lines: for each line what `colour_map` answers for each of its strings, in order, then a newline. The map
-/// is given the annotations of a string, the outermost one first, and its text; it is called once for each string.
+/// Returns the text of lines: for each line, the results of `colour_map` for its strings, in order, and a newline (U+000A).
 ///
-/// The map may be called on all annotations and all texts, and its only error is `OutOfMemory`.
+/// The map takes the annotations of a string, the outermost first, and its text. It is called once for each string, and
+/// never for a mark. The caller ensures that it can be called with any annotations and any text, and that its only error is
+/// `OutOfMemory`.
 ///
 /// # Errors
 ///
-/// `OutOfMemory`, also the map's.
+/// `OutOfMemory`, also if the map returns it.
 pub fn coloured<A: Drop, F: Fn(&[A], &str) -> Result<String, Error>>(
     alloc: Global,
     lines: &[TaggedLine<Vec<A>>],

@@ -1,7 +1,7 @@
-//! How the characters of a line become tagged strings.
+//! Grouping of a line's characters into tagged strings.
 //!
-//! Where `a` and `b` follow each other under equal annotations, and a mark or other annotations come next, they are one
-//! string `ab`, and its tag is that of `a`.
+//! The characters `a` and `b` under equal annotations, followed by a mark or by other annotations, become one string `ab`
+//! with the annotations of `a`.
 
 ghost use Rattle.std.specs.Prelude.{◌≡◌, List, [], ◌∷◌, ◌++◌, None, Some, OnOk, IfOk, IfErr, map, reverse, string_bytes};
 ghost use Rattle.std.proofs.Common.{get_or};
@@ -24,33 +24,33 @@ use html_render_dom_values::text::Text;
 use html_render_layout_lines::line::{Element, Line, Run};
 use std::alloc::{AllocError, Global};
 
-/// A string that more text may join.
+/// Last string of a line under construction, to which text under equal annotations is appended.
 #[derive(Drop)]
 struct OpenString {
     text: String,
     tag: usize,
 }
 
-/// A line that is made from its front on.
+/// Tagged line under construction, from its start.
 #[derive(Drop)]
 struct Progress<A> {
-    /// The elements that nothing joins any more.
+    /// Finished elements.
     done: Vec<TaggedLineElement<Vec<A>>>,
-    /// The string behind them, if there is one: more text may join it.
+    /// Unfinished string after these; `None` if the line is empty or ends with a mark.
     last: Option<OpenString>,
 }
 
-/// Puts a text behind another.
+/// Appends a text.
 fn append(text: &mut String, more: &str) -> Result<(), AllocError>
     ensures { OnOk result (chars (string_bytes text.new) ≡ chars (string_bytes text.old) ++ chars more.now) }
 {
-    // What is there is whole characters.
+    // the proof reads here that the old text is UTF-8
     let _text = text.as_str();
     text.push_str(more)?;
     Ok(())
 }
 
-/// The annotations of a tag, the outermost one first.
+/// Returns clones of a tag's annotations, the outermost first.
 fn annotations<A: Clone + Drop>(
     alloc: Global,
     stacks: &Stacks<A>,
@@ -71,7 +71,7 @@ fn annotations<A: Clone + Drop>(
 }
 
 impl<A: Eq + Clone + Drop> Progress<A> {
-    /// Nothing so far.
+    /// Returns an empty line.
     fn new(alloc: Global) -> Progress<A>
         ensures done { result.done.items ≡ [] }
         ensures last { result.last ≡ None }
@@ -82,7 +82,7 @@ impl<A: Eq + Clone + Drop> Progress<A> {
         }
     }
 
-    /// No text joins the last string any more.
+    /// Finishes the last string, if it is unfinished.
     fn close(&mut self, alloc: Global, stacks: &Stacks<A>) -> Result<(), Error>
         requires { ClonesAreSame A.is_clone }
         ensures done { OnOk result (pieces_of self.new.done.items ≡ pieces_of self.old.done.items ++ closed stacks.now self.old.last) }
@@ -97,7 +97,7 @@ impl<A: Eq + Clone + Drop> Progress<A> {
         Ok(())
     }
 
-    /// Puts a text at the end: into the last string where its annotations are equal.
+    /// Appends a text: to the last string if that is unfinished and has equal annotations, and otherwise as a new string.
     fn push_str(
         &mut self,
         alloc: Global,
@@ -122,7 +122,7 @@ impl<A: Eq + Clone + Drop> Progress<A> {
         Ok(())
     }
 
-    /// Puts a character at the end.
+    /// Appends a character.
     fn push_char(
         &mut self,
         alloc: Global,
@@ -138,7 +138,7 @@ impl<A: Eq + Clone + Drop> Progress<A> {
         self.push_str(alloc, stacks, c.encode_utf8(&mut bytes), tag)
     }
 
-    /// Puts the characters of a text at the end.
+    /// Appends the characters of a text; nothing if it is empty.
     fn push_text(
         &mut self,
         alloc: Global,
@@ -156,7 +156,7 @@ impl<A: Eq + Clone + Drop> Progress<A> {
         self.push_str(alloc, stacks, text, tag)
     }
 
-    /// Puts a mark at the end: its name begins there, or an empty one where it has none.
+    /// Appends a mark, as the start of the fragment with its name. The name is empty if `names` has none for the mark.
     fn push_mark(
         &mut self,
         alloc: Global,
@@ -174,7 +174,7 @@ impl<A: Eq + Clone + Drop> Progress<A> {
         Ok(())
     }
 
-    /// Puts an element at the end.
+    /// Appends a character or a mark.
     fn push_element(
         &mut self,
         alloc: Global,
@@ -192,7 +192,7 @@ impl<A: Eq + Clone + Drop> Progress<A> {
         }
     }
 
-    /// Puts elements at the end, of which the first one comes last.
+    /// Appends elements in reverse order.
     fn push_reversed(
         &mut self,
         alloc: Global,
@@ -212,7 +212,7 @@ impl<A: Eq + Clone + Drop> Progress<A> {
         Ok(())
     }
 
-    /// Puts runs at the end, with the text that they take.
+    /// Appends runs. Each takes its number of bytes from the front of `text`.
     fn push_runs(
         &mut self,
         alloc: Global,
@@ -240,7 +240,7 @@ impl<A: Eq + Clone + Drop> Progress<A> {
         Ok(())
     }
 
-    /// Puts a text at the end, where it has a tag.
+    /// Appends a text under a tag; nothing without a tag.
     fn push_open(
         &mut self,
         alloc: Global,
@@ -258,7 +258,7 @@ impl<A: Eq + Clone + Drop> Progress<A> {
         }
     }
 
-    /// The line, where nothing more follows.
+    /// Returns the finished line.
     fn finish(mut self, alloc: Global, stacks: &Stacks<A>) -> Result<TaggedLine<Vec<A>>, Error>
         requires { ClonesAreSame A.is_clone }
         ensures ok { IfOk result (λ line. pieces_of line ≡ pieces_with A.eq stacks.now self []) }
@@ -269,7 +269,7 @@ impl<A: Eq + Clone + Drop> Progress<A> {
     }
 }
 
-/// The name of a mark, by its number; an empty one where it has none.
+/// Returns a copy of the name with the number `mark`; an empty text if there is none.
 fn name_of(alloc: Global, names: &[Text], mark: usize) -> Result<String, Error>
     ensures ok { IfOk result (λ name. string_bytes name ≡ get_or names.now mark []) }
     ensures err { IfErr result (λ e. e ≡ Error.OutOfMemory) }
@@ -280,7 +280,7 @@ fn name_of(alloc: Global, names: &[Text], mark: usize) -> Result<String, Error>
     }
 }
 
-/// A line's characters as tagged strings.
+/// Returns a line as tagged strings and fragment starts.
 fn tagged_line<A: Eq + Clone + Drop>(
     alloc: Global,
     stacks: &Stacks<A>,
@@ -305,20 +305,24 @@ fn tagged_line<A: Eq + Clone + Drop>(
     progress.finish(alloc, stacks)
 }
 
-/// The lines of a layout as tagged strings. The strings of a line are the longest runs of characters with equal
-/// annotations, one by one by `Eq`, and no mark between; a string's tag is the annotations of its first character, the
-/// outermost one first. A mark stands as the beginning of a fragment of its name. Annotations are cloned once for a string.
+/// Returns the lines of a layout as tagged strings and fragment starts.
+///
+/// - The strings of a line are the longest runs of characters with equal annotations and without a mark between them.
+///   Annotations are compared one by one, by `Eq`.
+/// - The tag of a string is the annotations of its first character, the outermost first. They are cloned once for each
+///   string.
+/// - A mark becomes the start of the fragment with its name.
 ///
 /// # Errors
 ///
-/// `OutOfMemory`, also where an annotation can't be cloned.
+/// `OutOfMemory`, also if an annotation can't be cloned.
 pub fn tagged_lines<A: Eq + Clone + Drop>(
     alloc: Global,
     layout: LaidOut<A>,
 ) -> Result<Vec<TaggedLine<Vec<A>>>, Error>
     requires { ClonesAreSame A.is_clone }
     ensures ok { IfOk result (λ lines. lines_of lines.items ≡ map (grouped (pointwise A.eq) layout.names) (laid_out layout)) }
-    // each line has the columns that it was laid out in
+    // each tagged line has the columns of its laid-out line
     ensures columns { IfOk result (λ lines. map line_columns lines.items ≡ map columns (laid_out layout)) }
     ensures err { IfErr result (λ e. e ≡ Error.OutOfMemory) }
 {
@@ -330,7 +334,7 @@ pub fn tagged_lines<A: Eq + Clone + Drop>(
     )
 }
 
-/// All lines as tagged strings.
+/// Returns lines as tagged strings and fragment starts.
 fn all_tagged<A: Eq + Clone + Drop>(
     alloc: Global,
     stacks: &Stacks<A>,

@@ -1,4 +1,4 @@
-//! What a layout gives: lines whose characters have numbers for tags, what these stand for, and the names of the marks.
+//! Result of a layout: lines whose tags are indices into a table of annotation stacks, that table, and the names of marks.
 
 ghost use Rattle.std.specs.Prelude.{◌≡◌, ◌↔◌, [], ◌∷◌, ◌++◌, length, IsTrue, IfErr, OnOk};
 
@@ -9,7 +9,7 @@ use html_render_layout_lines::line::Line;
 use std::alloc::Global;
 use std::marker::Model;
 
-/// Texts, in the order in which they were met.
+/// Growing list of texts, in the order in which they were pushed.
 #[derive(Drop)]
 pub struct TextList {
     texts: Vec<Text>,
@@ -24,7 +24,7 @@ impl Model for TextList {
 }
 
 impl TextList {
-    /// No text. It takes no memory.
+    /// Returns an empty list, without an allocation.
     pub fn new(alloc: Global) -> TextList
         ensures { result ≡ [] }
     {
@@ -33,28 +33,28 @@ impl TextList {
         }
     }
 
-    /// How many there are.
+    /// Returns the number of texts.
     pub fn len(&self) -> usize
         ensures { result ≡ length self.now }
     {
         self.texts.len()
     }
 
-    /// Whether there is none.
+    /// Whether there are no texts.
     pub fn is_empty(&self) -> bool
         ensures { IsTrue result ↔ (self.now ≡ []) }
     {
         self.texts.is_empty()
     }
 
-    /// All of them.
+    /// Borrows all texts.
     pub fn as_slice(&self) -> &[Text]
         ensures { result.now ≡ self.now }
     {
         self.texts.as_slice()
     }
 
-    /// Puts a copy of a text behind them.
+    /// Appends a copy of a text.
     ///
     /// # Errors
     ///
@@ -69,13 +69,13 @@ impl TextList {
     }
 }
 
-/// Lines, the stacks of annotations that the tags of their characters stand for, and the names of their marks.
+/// Lines of a layout, with the annotation stacks of their tags and the names of their marks.
 #[derive(Drop)]
 pub struct LaidOut<A> {
-    /// The lines.
+    /// Lines. A character's tag is an index into `stacks`, a mark one into `names`.
     pub lines: Vec<Line<usize, usize>>,
-    /// What their tags stand for.
+    /// Annotation stacks, by tag.
     pub stacks: Stacks<A>,
-    /// The names of their marks: a mark is the place of its name.
+    /// Names of fragments, by mark.
     pub names: TextList,
 }

@@ -1,8 +1,9 @@
-//! What a layout gives, and lines of tagged strings: how a caller sees it.
+//! The lines of a layout, and lines of tagged strings, the caller's view of them.
 //!
-//! A layout gives lines ([`LaidOut`](laid_out::LaidOut)) whose characters have numbers for tags, and
-//! [`Stacks`](stacks::Stacks) says what these stand for. [`tagged_lines`](grouping::tagged_lines) groups the characters into
-//! [`TaggedLine`](line::TaggedLine)s, and [`coloured`](colours::coloured) writes these under a colour map.
+//! - [`LaidOut`](laid_out::LaidOut) is the result of a layout: lines whose characters have indices into
+//!   [`Stacks`](stacks::Stacks) as tags.
+//! - [`tagged_lines`](grouping::tagged_lines) groups their characters into [`TaggedLine`](line::TaggedLine)s.
+//! - [`coloured`](colours::coloured) writes tagged lines as text under a colour map.
 #![tactic(auto)]
 
 pub mod colours;

@@ -1,6 +1,6 @@
-//! A line of tagged strings, and the names of the fragments that begin in it.
+//! Lines of tagged strings and fragment starts.
 //!
-//! A line that says `a *b*` in rich text has the strings `a ` under no annotation and `b` under that of emphasis.
+//! In rich text, `"a "` and `em("b")` make a line of the strings `a ` without an annotation and `b` with that of emphasis.
 
 ghost use Rattle.std.specs.Prelude.{◌≡◌, ◌==◌, ◌-◌, ◌^◌, min, length};
 ghost use Rattle.std.specs.Iterator.{YieldsFirstRef, item_count};
@@ -9,25 +9,26 @@ ghost use Rattle.html_render_layout_tagged.specs.TaggedLine.{strings_of, element
 use html_render_layout_lines::line::text_columns;
 use std::marker::Model;
 
-/// A text under one tag.
+/// Text with one tag.
 #[derive(Drop)]
 pub struct TaggedString<T> {
     /// The text.
     pub s: String,
-    /// The tag of each of its characters.
+    /// Tag of the text. In the lines of a document, it is the annotations of the first character, the outermost first; those
+    /// of the others are equal.
     pub tag: T,
 }
 
-/// A part of a line.
+/// Element of a tagged line.
 #[derive(Drop)]
 pub enum TaggedLineElement<T> {
-    /// A text under one tag.
+    /// Text with one tag.
     Str(TaggedString<T>),
-    /// The place where a part of the document with this name begins. It takes no column.
+    /// Start of the part of the document with this name, for links into the text. It takes no column.
     FragmentStart(String),
 }
 
-/// A line: texts under tags, and the names of what begins between them.
+/// Line of tagged strings and fragment starts.
 #[derive(Drop)]
 pub struct TaggedLine<T> {
     elements: Vec<TaggedLineElement<T>>,
@@ -43,21 +44,21 @@ impl<T> Model for TaggedLine<T> {
 }
 
 impl<T: Drop> TaggedLine<T> {
-    /// The line of these elements.
+    /// Returns the line of these elements.
     pub(crate) fn new(elements: Vec<TaggedLineElement<T>>) -> TaggedLine<T>
         ensures { result ≡ elements.items }
     {
         TaggedLine { elements }
     }
 
-    /// Its elements.
+    /// Borrows the elements.
     pub(crate) fn elements(&self) -> &[TaggedLineElement<T>]
         ensures { result.now ≡ self.now }
     {
         self.elements.as_slice()
     }
 
-    /// Its elements by reference, once each, in order.
+    /// Returns an iterator over the elements, in order.
     pub fn iter(&self) -> LineElements<'_, T>
         ensures { result ≡ self.now }
     {
@@ -66,7 +67,7 @@ impl<T: Drop> TaggedLine<T> {
         }
     }
 
-    /// Its strings by reference, once each, in order.
+    /// Returns an iterator over the strings, in order, without the fragment starts.
     pub fn tagged_strings(&self) -> TaggedStrings<'_, T>
         ensures { result ≡ strings_of self.now }
     {
@@ -75,8 +76,8 @@ impl<T: Drop> TaggedLine<T> {
         }
     }
 
-    /// Its columns: those of its strings' characters together, `usize::MAX` where there are more. A character has the
-    /// columns that `unicode_width` gives, and none where it gives none.
+    /// Returns the width of the line in columns, at most `usize::MAX`: the sum over the characters of its strings. A
+    /// character takes as many columns as `unicode_width` gives, and 0 if it gives none.
     pub fn width(&self) -> usize
         ensures { result ≡ min (line_columns self.now) (2 ^ 64 - 1) }
     {
@@ -87,7 +88,7 @@ impl<T: Drop> TaggedLine<T> {
         width
     }
 
-    /// Whether it has no elements.
+    /// Whether the line has no elements. A line of a fragment start alone isn't empty.
     pub fn is_empty(&self) -> bool
         ensures { result ≡ (length self.now == 0) }
     {
@@ -95,7 +96,7 @@ impl<T: Drop> TaggedLine<T> {
     }
 }
 
-/// The elements of a line that are left.
+/// Iterator over the elements of a line.
 #[derive(Drop)]
 pub struct LineElements<'a, T> {
     rest: &'a [TaggedLineElement<T>],
@@ -117,7 +118,7 @@ impl<'a, T> Iterator for LineElements<'a, T> {
 
     ghost remaining = { item_count (λ l. l) };
 
-    /// The first element that is left.
+    /// Returns the next element; `None` after the last one.
     fn next(&mut self) -> Option<&'a TaggedLineElement<T>> {
         let (first, others) = self.rest.split_first()?;
         self.rest = others;
@@ -125,7 +126,7 @@ impl<'a, T> Iterator for LineElements<'a, T> {
     }
 }
 
-/// The strings of a line that are left.
+/// Iterator over the strings of a line.
 #[derive(Drop)]
 pub struct TaggedStrings<'a, T> {
     rest: &'a [TaggedLineElement<T>],
@@ -148,7 +149,7 @@ impl<'a, T> Iterator for TaggedStrings<'a, T> {
 
     ghost remaining = { item_count (λ l. l) };
 
-    /// The first string that is left.
+    /// Returns the next string; `None` after the last one.
     fn next(&mut self) -> Option<&'a TaggedString<T>> {
         while let Some((first, others)) = self.rest.split_first() {
             self.rest = others;
@@ -160,7 +161,7 @@ impl<'a, T> Iterator for TaggedStrings<'a, T> {
     }
 }
 
-/// The columns of an element, at most `usize::MAX`.
+/// Returns the columns of an element, at most `usize::MAX`.
 fn columns<T>(element: &TaggedLineElement<T>) -> usize
     ensures { result ≡ min (element_columns element.now) (2 ^ 64 - 1) }
 {

@@ -1,7 +1,7 @@
-//! A table of annotation stacks, so that a tag is a number.
+//! Table of annotation stacks, indexed by tags.
 //!
-//! After `stacks.push(0, "a")?` and `stacks.push(1, "b")?` the tag 0 stands for the empty stack, 1 for that of `a`, and
-//! 2 for that of `a` and `b`.
+//! After `stacks.push(0, "a")?` and `stacks.push(1, "b")?`, the stack of tag 0 is empty, that of tag 1 is `a`, and that of
+//! tag 2 is `a` and `b`.
 
 ghost use Rattle.std.specs.Prelude.{◌≡◌, ◌<◌, ◌≤◌, [], ◌∷◌, ◌++◌, ◌==◌, ◌&&◌, length, IfOk, OnOk, IfErr, MatchOption};
 ghost use Rattle.std.specs.Cmp.Lexicographic.{pointwise};
@@ -11,22 +11,23 @@ use html_render_dom_values::Error;
 use std::alloc::Global;
 use std::marker::Model;
 
-/// A stack: the one that it stands on, and one annotation more.
+/// Annotation stack: a stack below, and one annotation on top.
 #[derive(Drop)]
 pub struct Pushed<A> {
-    /// The tag of the stack that it stands on.
+    /// Tag of the stack below.
     pub below: usize,
-    /// The annotation on top.
+    /// Annotation on top, the innermost.
     pub annotation: A,
-    /// How many annotations it has.
+    /// Number of annotations, the one on top included.
     pub depth: usize,
 }
 
-/// Stacks of annotations. A tag is the place of one: 0 is that of the empty stack. A stack shares what stands below
-/// with the one that it was pushed on, so it takes no more memory where it is high.
+/// Table of annotation stacks. A tag is the index of one; tag 0 is the empty stack.
+///
+/// A stack is stored as its top and the tag of the stack below, so its memory doesn't depend on its depth.
 #[derive(Drop)]
 pub struct Stacks<A> {
-    /// The stacks but the empty one, in the order in which they were pushed.
+    /// Stacks in the order in which they were pushed, without the empty one: tag `n` is at index `n - 1`.
     pushed: Vec<Pushed<A>>,
 }
 
@@ -43,7 +44,7 @@ impl<A> Model for Stacks<A> {
 }
 
 impl<A: Drop> Stacks<A> {
-    /// The empty stack alone. It takes no memory.
+    /// Returns a table with the empty stack alone, without an allocation.
     pub fn new(alloc: Global) -> Stacks<A>
         ensures { result ≡ [] ∷ [] }
     {
@@ -52,7 +53,8 @@ impl<A: Drop> Stacks<A> {
         }
     }
 
-    /// The tag of a stack with one annotation more on top.
+    /// Adds the stack of the tag `below` with `annotation` on top, and returns its tag. If the table has no such tag, the
+    /// stack below is empty.
     ///
     /// # Errors
     ///
@@ -73,7 +75,7 @@ impl<A: Drop> Stacks<A> {
         Ok(tag)
     }
 
-    /// The tag of the same stack that is one of the table's: 0 where no stack has this one.
+    /// Returns the tag if the table has it, and otherwise 0, the tag of the empty stack.
     fn kept(&self, tag: usize) -> usize
         ensures same { stack_at self.now result ≡ stack_at self.now tag }
         ensures within { result < length self.now }
@@ -81,7 +83,7 @@ impl<A: Drop> Stacks<A> {
         if tag <= self.pushed.len() { tag } else { 0 }
     }
 
-    /// What was pushed last of a tag's stack; none where that is empty.
+    /// Returns the top of a tag's stack; `None` if that is empty or the table has no such tag.
     pub fn top(&self, tag: usize) -> Option<&Pushed<A>>
         ensures { MatchOption result (stack_at self.now tag ≡ []) (λ p. IsStack self.now tag p.now) }
     {
@@ -92,7 +94,7 @@ impl<A: Drop> Stacks<A> {
         pushed.get(tag - 1)
     }
 
-    /// How many annotations a tag's stack has.
+    /// Returns the number of annotations in a tag's stack; 0 if the table has no such tag.
     pub fn depth(&self, tag: usize) -> usize
         ensures count { result ≡ length (stack_at self.now tag) }
         ensures within { result ≤ tag }
@@ -105,8 +107,8 @@ impl<A: Drop> Stacks<A> {
 }
 
 impl<A: Eq + Drop> Stacks<A> {
-    /// Whether two tags stand for stacks of equal annotations. It takes time of the annotations above the stack that
-    /// both stand on.
+    /// Whether the stacks of two tags have equal annotations, one by one by `Eq`. Compares no more than the annotations
+    /// above the stack on which both were pushed.
     pub fn are_equal(&self, left: usize, right: usize) -> bool
         ensures { result ≡ pointwise A.eq (stack_at self.now left) (stack_at self.now right) }
     {
@@ -128,7 +130,7 @@ impl<A: Eq + Drop> Stacks<A> {
     }
 }
 
-/// Whether two stacks have as many annotations, and equal ones on top.
+/// Whether two stacks have the same depth and equal annotations on top.
 fn is_like<A: Eq>(above: &Pushed<A>, other: &Pushed<A>) -> bool
     ensures { result ≡ ((above.now.depth == other.now.depth) && A.eq above.now.annotation other.now.annotation) }
 {

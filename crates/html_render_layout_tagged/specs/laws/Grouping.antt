@@ -1,4 +1,4 @@
--- A grouped line keeps the columns and the characters, and its strings are the longest.
+-- A grouped line has the columns and the characters of the line, and its strings are the longest.
 use Rattle.std.proofs.Common.{◌≡◌, ℕ, ◌+◌, ◌≤◌, Bool, true, List, [], ◌∷◌, ◌++◌, map, Vec, refl, sym, ap, ◌∙◌, subst, append_assoc, get_or, arith}
 use Rattle.std.proofs.lemmas.Bool.{cond_both}
 use Rattle.std.proofs.lemmas.List.Elements.{All-nil, All-cons, All-head, All-tail}
@@ -42,7 +42,7 @@ module _ {T : Type 0} (equal : T → T → Bool) where
 
   -- ---- the longest strings
 
-  -- what comes behind a tag comes behind an equal one
+  -- pieces that don't begin with a string under a tag don't begin with one under an equal tag
   other-equal : IsEquivalence equal → (tag other : T) (ps : List (Piece T)) → equal tag other ≡ true → ComesOther equal other ps → ComesOther equal tag ps
   other-equal laws tag other [] e h = tt
   other-equal laws tag other (FragmentStart name ∷ ps) e h = tt
@@ -74,7 +74,7 @@ module _ {T : Type 0} (equal : T → T → Bool) where
       (λ e. append_assoc text next (strings_characters ps))
       (λ e. refl)
 
-  -- a line's strings hold its characters, in order
+  -- the strings of a grouped line hold its characters, in order
   pub characters-grouped : (names : List (List ℕ)) (line : Line T ℕ) → strings_characters (grouped equal names line) ≡ line_characters line
   characters-grouped names [] = refl
   characters-grouped names (element.Mark m ∷ es) = characters-grouped names es
@@ -101,13 +101,13 @@ all-grouped : {T : Type 0} (equal : T → T → Bool) (names : List (List ℕ)) 
 all-grouped equal names [] = refl
 all-grouped equal names (l ∷ ls) = rw (columns-grouped equal names l, all-grouped equal names ls) refl
 
--- tagged lines that are grouped from lines have their columns
+-- tagged lines have the columns of the lines that they are grouped from
 pub columns-lines : {A : Type 0} (equal : List A → List A → Bool) (names : List (List ℕ))
     (made : List (List (TaggedLineElement (Vec A Global)))) (lines : List (Line (List A) ℕ)) →
     lines_of made ≡ map (grouped equal names) lines → map line_columns made ≡ map columns lines
 columns-lines equal names made lines e = all-pieces made ∙ ap (map pieces_columns) e ∙ all-grouped equal names lines
 
--- tagged lines are as wide as the lines
+-- tagged lines with the columns of lines that are within a width are within it too
 pub within-lines : {T U : Type 0} (width : ℕ) (made : List (List (TaggedLineElement T))) (lines : List (Line U ℕ)) →
     map line_columns made ≡ map columns lines → AllWithinWidth width lines → AllTaggedWithinWidth width made
 within-lines {T} width [] lines e h = All-nil (λ (l : List (TaggedLineElement T)). line_columns l ≤ width)

@@ -1,4 +1,4 @@
--- A stack that is pushed is the last of the table, and stays where it is.
+-- A pushed stack is the last of its table, and keeps its tag.
 use Rattle.std.proofs.lemmas.Bool.{eqb-true, eq-eqb}
 use Rattle.std.specs.Prelude.{◌≡◌, ℕ, zero, suc, ◌+◌, ◌<◌, Bool, true, false, ◌&&◌, ◌==◌, List, [], ◌∷◌, ◌++◌, length, refl}
 use Rattle.std.specs.Prelude.{Option, Some, None, MatchOption}
@@ -28,7 +28,7 @@ ArePushed-push stacks [] p known new = (new, tt)
 ArePushed-push stacks (q ∷ ps) p known new =
     (known.0, ArePushed-push (stacks ++ (stack_at stacks q.below ++ q.annotation ∷ []) ∷ []) ps p known.1 new)
 
--- what is pushed leaves the stacks before it
+-- a stack of the table is unchanged by later ones
 pub stack_at-after : {A : Type 0} (stacks : List (List A)) (ps : List (Pushed A)) (tag : ℕ) → tag < length stacks →
     stack_at (stacks_after stacks ps) tag ≡ stack_at stacks tag
 stack_at-after stacks [] tag h = refl
@@ -36,7 +36,7 @@ stack_at-after stacks (p ∷ ps) tag h =
     let one = (stack_at stacks p.below ++ p.annotation ∷ []) ∷ [] in
     stack_at-after (stacks ++ one) ps tag (omega (arith, h, length-append stacks one)) ∙ get_or_append_left stacks one [] tag h
 
--- the stack that is pushed first
+-- the first of the pushed stacks is the stack of the first new tag
 first : {A : Type 0} (stacks : List (List A)) (p : Pushed A) (ps : List (Pushed A)) → IsPushed stacks (length stacks) p →
     IsStack (stacks_after stacks (p ∷ ps)) (length stacks + 0) p
 first stacks p ps known =
@@ -55,7 +55,7 @@ first stacks p ps known =
       };
     }
 
--- the stack of a tag is the one that was pushed there
+-- each pushed stack is the stack of its tag
 pub IsStack-at : {A : Type 0} (stacks : List (List A)) (ps : List (Pushed A)) (i : ℕ) (p : Pushed A) → ArePushed stacks ps →
     i < length ps → p ≡ get_or ps i p → IsStack (stacks_after stacks ps) (length stacks + i) p
 IsStack-at stacks [] i p known h e = absurd (omega (arith, h))
@@ -66,11 +66,11 @@ IsStack-at stacks (q ∷ ps) (suc i) p known h e =
     subst (λ n. IsStack (stacks_after (stacks ++ one) ps) n p) place
     (IsStack-at (stacks ++ one) ps i p known.1 (omega (arith, h)) e)
 
--- the tag 0 is that of the empty stack
+-- the stack of tag 0 is empty
 pub stack_at-zero : {A : Type 0} (ps : List (Pushed A)) → stack_at (stacks_of ps) 0 ≡ []
 stack_at-zero {A} ps = stack_at-after {A = A} ([] ∷ []) ps 0 (omega arith)
 
--- what is read at the place of a tag's stack
+-- reading at the index of a tag gives the top of its stack, or none if the stack is empty
 pub read-at : {A : Type 0} (ps : List (Pushed A)) (tag i : ℕ) (r : Option (Bor (Pushed A))) → ArePushed ([] ∷ []) ps → i + 1 ≡ tag →
     IsItemAt ps i r → MatchOption r (stack_at (stacks_of ps) tag ≡ []) (λ p. IsStack (stacks_of ps) tag p.now)
 read-at {A} ps tag i None known e item = get_or_past (stacks_of ps) tag [] (omega (arith, e, item.3, length-stacks_after {A = A} ([] ∷ []) ps))
@@ -78,19 +78,19 @@ read-at {A} ps tag i (Some p) known e item =
     let place : length {A = List A} ([] ∷ []) + i ≡ tag = omega (arith, e) in
     subst (λ n. IsStack (stacks_of ps) n p.now) place (IsStack-at ([] ∷ []) ps i p.now known item.3.0 item.1)
 
--- a tag that no stack has stands for the empty one
+-- a tag that the table doesn't have has the empty stack, as tag 0
 pub stack_at-kept : {A : Type 0} (ps : List (Pushed A)) (tag : ℕ) → length ps < tag → stack_at (stacks_of ps) 0 ≡ stack_at (stacks_of ps) tag
 stack_at-kept {A} ps tag h =
     stack_at-zero ps ∙ sym (get_or_past (stacks_of ps) tag [] (omega (arith, h, length-stacks_after {A = A} ([] ∷ []) ps)))
 
 -- ---- equal stacks
 
--- the height of a stack that was pushed
+-- a stack has one annotation more than the one below
 height : {A : Type 0} (stacks : List (List A)) (tag : ℕ) (p : Pushed A) → IsStack stacks tag p →
     length (stack_at stacks tag) ≡ length (stack_at stacks p.below) + 1
 height stacks tag p known = ap length known.is ∙ length-append (stack_at stacks p.below) (p.annotation ∷ [])
 
--- lists of one length are equal with an equal element more
+-- two lists of equal length, each with one more element, are equal if the lists and these elements are
 pub pointwise-push : {A : Type 0} (eq : A → A → Bool) (xs ys : List A) (x y : A) → length xs ≡ length ys →
     pointwise eq (xs ++ x ∷ []) (ys ++ y ∷ []) ≡ pointwise eq xs ys && eq x y
 pointwise-push eq [] [] x y e = elim (eq x y) as (λ b. b && true ≡ b) [ true ↦ refl | false ↦ refl ]
@@ -101,7 +101,7 @@ pointwise-push {A} eq (w ∷ xs) (z ∷ ys) x y e =
     elim (eq w z) as (λ b. b && pointwise eq (xs ++ x ∷ []) (ys ++ y ∷ []) ≡ (b && pointwise eq xs ys) && eq x y)
     [ true ↦ rest | false ↦ refl ]
 
--- two stacks are equal where the annotations on top are, and the stacks below
+-- two stacks are equal if their depths, the annotations on top and the stacks below are
 pub pointwise-tops : {A : Type 0} (eq : A → A → Bool) (stacks : List (List A)) (i j : ℕ) (p q : Pushed A) →
     IsStack stacks i p → IsStack stacks j q → pointwise eq (stack_at stacks i) (stack_at stacks j)
     ≡ ((p.depth == q.depth) && eq p.annotation q.annotation) && pointwise eq (stack_at stacks p.below) (stack_at stacks q.below)

@@ -7,7 +7,7 @@ use Rattle.std.proofs.lemmas.Result.{IfOk-weaker}
 use Rattle.html_render_layout_tagged.proofs.grouping.tagged_lines.Goals as goal
 use Rattle.html_render_layout_tagged.proofs.grouping.tagged_lines.Given.{Over}
 
--- what all lines become, said of the layout
+-- the tagged lines, by the layout's definition
 answered : (g : Over) (c : goal.After-drop-layout-3 g) →
     IfOk c.all_tagged.result (λ made. lines_of made.items ≡ map (grouped (pointwise g.A.PartialEq.eq) c.args.layout.names) (laid_out c.args.layout))
 answered g c = rw (c.deref.ensures.value, c.as_slice.ensures) at c.all_tagged.ensures.ok

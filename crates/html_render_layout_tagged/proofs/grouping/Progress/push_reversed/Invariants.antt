@@ -2,7 +2,7 @@ use Rattle.std.proofs.Common.{length, reverse}
 use Rattle.html_render_layout_tagged.specs.Progress.{Takes}
 use Rattle.html_render_layout_tagged.proofs.grouping.Progress.push_reversed.Given as goal
 
--- once the rest is taken, all is
+-- appending the remaining elements completes the line
 abbrev pub invariant-loop-element : goal.invariant-loop-element
 invariant-loop-element g l = (now : _) → Takes g.A.PartialEq.eq l.stacks l.names l.self (reverse l.left) now →
     Takes g.A.PartialEq.eq l.stacks l.names l.initial.self (reverse l.elements) now

@@ -3,7 +3,7 @@ use Rattle.html_render_layout_lines.specs.TaggedText.{Cuts, elements_of}
 use Rattle.html_render_layout_tagged.specs.Progress.{Takes}
 use Rattle.html_render_layout_tagged.proofs.grouping.Progress.push_runs.Given as goal
 
--- once the rest is taken, all is
+-- appending the remaining runs completes the line
 abbrev pub invariant-loop-run : goal.invariant-loop-run
 invariant-loop-run g l = record {
   cuts : Cuts l.left l.text;

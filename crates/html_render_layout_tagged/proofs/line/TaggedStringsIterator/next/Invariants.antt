@@ -2,7 +2,7 @@ use Rattle.std.proofs.Common.{◌≡◌, length}
 use Rattle.html_render_layout_tagged.specs.TaggedLine.{strings_of}
 use Rattle.html_render_layout_tagged.proofs.line.TaggedStringsIterator.next.Given as goal
 
--- names are passed over
+-- fragment starts are skipped
 abbrev pub invariant-loop-first : goal.invariant-loop-first
 invariant-loop-first g l = strings_of l.self-inside.rest.now ≡ strings_of l.initial.self-inside.rest.now
 
