@@ -1,4 +1,4 @@
--- The cells of a table on the columns of its grid lead back to what they span.
+-- The spans of a table's cells follow from the cells on the columns of their grid.
 use Rattle.std.proofs.Common.{◌≡◌, ℕ, ◌+◌, ◌-◌, ◌^◌, ◌<◌, ◌≤◌, true, List, [], ◌∷◌, ◌++◌, Some, length, get_or, map, All, Contains, refl, sym, ap}
 use Rattle.std.proofs.Common.{subst, arith, inl, inr, nat_lt}
 use Rattle.std.specs.List.Sorted.{IsStrictlyIncreasing}
@@ -19,7 +19,7 @@ use Rattle.html_render_parts.proofs.Vectors.{All-unmap}
 use Rattle.std.proofs.lemmas.List.Sums.{AllPass-from_list_all}
 use Rattle.html_render_parts.proofs.SideBySide.{Wide, Wide-own_from}
 
--- ---- where the table's own cells stand
+-- ---- positions of the table's own cells
 
 own_rows-between : (I : ℕ → Type 0) (row : ℕ) (hung : List Standing) (rows : List (List Span)) → I 0 →
     All (All (EndsIn I)) (rows_from row hung rows)
@@ -43,7 +43,7 @@ all-ends_in I (r ∷ rows) f =
     All-cons (All (EndsIn I)) r rows (row-ends_in I r (λ n h. f n (Contains-append_left (map (λ p. p.end) r) (ends rows) n h)))
     (all-ends_in I rows (λ n h. f n (Contains-append_right (map (λ p. p.end) r) (ends rows) n h)))
 
--- each stands between edges
+-- each own cell begins and ends at an edge
 pub own-in_edges : (rows : List (List Span)) → All (All (Between (Contains (edges_of (placed_rows rows))))) (own_rows_from 0 [] rows)
 own-in_edges rows =
     let placed = placed_rows rows in
@@ -111,7 +111,7 @@ rows-back es rising row hung (cells ∷ more) b =
 
 -- ---- the cells of a table
 
--- the cells of these rows, where they fit
+-- cells of these rows on the columns of their grid, if they fit
 abbrev pub cells_of : List (List Span) → CellGrid
 cells_of rows =
     let edges = edges_of (placed_rows rows) in
@@ -124,7 +124,7 @@ cells-are rows g e = elim (cases_Bool (positions_fit (placed_rows rows))) [
   | inr t ↦ let f = rw t at e in cc
 ]
 
--- they span what the rows ask for
+-- the cells of these rows have the rows' spans
 pub spans-back : (rows : List (List Span)) → spans_on (cells_of rows) ≡ rows
 spans-back rows =
     let placed = placed_rows rows in
@@ -136,7 +136,7 @@ cells-valid rows valid fits = record {
   own = subst (λ r. cell_grid_of r ≡ Some (cells_of rows)) (sym (spans-back rows)) (rw fits refl);
 }
 
--- ---- what is known of each table's cells
+-- ---- properties of each table's cells
 
 pub edges-rise : (g : CellGrid) → IsCellGrid g → IsStrictlyIncreasing g.edges
 edges-rise g h =
@@ -154,7 +154,7 @@ own_rows-wide row hung (cells ∷ more) v =
     All-cons (All Wide) own (own_rows_from (row + 1) next more) (Wide-own_from row 0 hung cells (All-head (All Valid) cells more v))
     (own_rows-wide (row + 1) next more (All-tail (All Valid) cells more v))
 
--- a cell on columns of a table, one at least
+-- whether a cell is on the columns of a table, and at least on one
 abbrev pub IsWithin : ℕ → GridCell → Type 0
 IsWithin columns c = (c.first + c.columns ≤ columns) × (0 < c.columns)
 

@@ -1,4 +1,4 @@
--- The edges, sorted and without repeats, and the numbers that they get.
+-- The edges, sorted and without duplicates, and their numbers.
 use Rattle.std.proofs.Common.{◌≡◌, ℕ, ◌+◌, ◌-◌, ◌<◌, ◌≤◌, true, false, cond, List, [], ◌∷◌, ◌++◌, length, get_or, All, Contains, nat_lt, refl, sym, subst}
 use Rattle.std.proofs.Common.{arith, inl, inr, ◌⊎◌, suc, zero, ◌∙◌}
 use Rattle.std.specs.List.{AllPairs, AllWithin}
@@ -91,7 +91,7 @@ Contains-from_rising k (n ∷ ns) h = elim (Contains-from_with n k (rising ns) h
   | inr g ↦ Contains-there n k ns (Contains-from_rising k ns g)
 ]
 
--- ---- two lists that rise and have the same elements are one
+-- ---- rising lists with equal sets of elements are equal
 
 same-rise : (xs ys : List ℕ) → Rise xs → Rise ys → ((n : ℕ) → Contains xs n → Contains ys n) → ((n : ℕ) → Contains ys n → Contains xs n) → xs ≡ ys
 same-rise [] [] p q f g = refl
@@ -119,14 +119,14 @@ same-rise (x ∷ xs) (y ∷ ys) p q f g =
     ]) in
     cc
 
--- what rises and has the numbers of a list is that list in rising order
+-- a rising list with exactly the numbers of another list is `rising` of that
 pub rising-only : (xs ns : List ℕ) → IsStrictlyIncreasing xs → ((n : ℕ) → Contains xs n → Contains ns n) →
     ((n : ℕ) → Contains ns n → Contains xs n) → xs ≡ rising ns
 rising-only xs ns h f g =
     same-rise xs (rising ns) (AllPairs-from_increasing xs h) (Rise-rising ns) (λ n a. Contains-rising n ns (f n a))
     (λ n a. g n (Contains-from_rising n ns a))
 
--- lists with the same numbers are one in rising order
+-- lists with equal sets of numbers have one `rising`
 pub rising-same : (ms ns : List ℕ) → ((n : ℕ) → Contains ms n → Contains ns n) → ((n : ℕ) → Contains ns n → Contains ms n) → rising ms ≡ rising ns
 rising-same ms ns f g =
     same-rise (rising ms) (rising ns) (Rise-rising ms) (Rise-rising ns)
@@ -136,7 +136,7 @@ rising-same ms ns f g =
 pub rising-rising : (ns : List ℕ) → rising (rising ns) ≡ rising ns
 rising-rising ns = rising-same (rising ns) ns (λ n a. Contains-from_rising n ns a) (λ n a. Contains-rising n ns a)
 
--- numbers that were put in order, and more
+-- sorting sorted numbers and others is sorting all
 pub rising-more : (ms ns : List ℕ) → rising (rising ms ++ ns) ≡ rising (ms ++ ns)
 rising-more ms ns = rising-same (rising ms ++ ns) (ms ++ ns)
     (λ n a. elim (Contains-append_cases (rising ms) ns n a) [
@@ -148,7 +148,7 @@ rising-more ms ns = rising-same (rising ms ++ ns) (ms ++ ns)
       | inr b ↦ Contains-append_right (rising ms) ns n b
     ])
 
--- those that were there come to nothing new
+-- adding numbers again that are at the end of the gathered ones changes nothing
 pub rising-known : (front ns : List ℕ) → rising (rising (front ++ ns) ++ ns) ≡ rising (front ++ ns)
 rising-known front ns =
     rising-more (front ++ ns) ns
@@ -208,11 +208,11 @@ pub rank-least : (xs : List ℕ) → IsStrictlyIncreasing xs → IsLeastNumberin
 rank-least xs h = λ number is e in_e. let t = least-from xs 0 number (AllPairs-from_increasing xs h) is (λ x in_x. omega arith) e in_e in
     omega arith
 
--- an edge is below fewer edges than there are
+-- an edge's number is below the number of edges
 pub rank-below : (xs : List ℕ) (e : ℕ) → Contains xs e → rank xs e < length xs
 rank-below xs e h = let less = rank-less xs e (suc e) h (omega arith) in omega (arith, less, count_by-le-length (λ x. nat_lt x (suc e)) xs)
 
--- where those below t stand in front, t's rank is how many they are
+-- if exactly the first i elements are below t, the rank of t is i
 pub rank-split : (xs : List ℕ) (t i : ℕ) → i ≤ length xs → AllWithin (λ y. nat_lt y t ≡ true) xs 0 i →
     AllWithin (λ y. nat_lt y t ≡ false) xs i (length xs) → rank xs t ≡ i
 rank-split [] t i le f g = omega arith
@@ -226,7 +226,7 @@ rank-split (x ∷ xs) t (suc i) le f g =
     (λ k d a b. g (suc k) d (omega arith) (omega arith)) in
     rw (rank-cons x xs t, here) (omega arith)
 
--- at an edge's number stands the edge
+-- an edge is at the index of its number
 pub rank-gets : (xs : List ℕ) (e : ℕ) → IsStrictlyIncreasing xs → Contains xs e → get_or xs (rank xs e) 0 ≡ e
 rank-gets xs e h has = by xs (AllPairs-from_increasing xs h) has
   where
@@ -248,7 +248,7 @@ IsNonDecreasing-rising xs h = λ i j d le inside. elim (cases_lt i j) [
   | inr ge ↦ let e : i ≡ j = omega arith in rw e (omega arith)
 ]
 
--- a position that is not behind the first edge
+-- the rank of a position that isn't after the first edge is 0
 pub rank-first : (xs : List ℕ) (t i : ℕ) → IsStrictlyIncreasing xs → i ≡ 0 → i < length xs → t ≤ get_or xs i 0 → rank xs t ≡ 0
 rank-first xs t i h none some behind =
     let rises = IsNonDecreasing-rising xs h in
@@ -260,7 +260,7 @@ rank-first xs t i h none some behind =
     let same : get_or xs k d ≡ get_or xs k 0 = get_or_default xs k d 0 b in
     rw same (grind (arith, nat_tests)))
 
--- a position behind an edge, and not behind the next one
+-- the rank of a position after an edge, and not after the next one, is the index of that next one
 pub rank-between : (xs : List ℕ) (t i : ℕ) → IsStrictlyIncreasing xs → 0 < i → i < length xs → get_or xs (i - 1) 0 < t → t ≤ get_or xs i 0 →
     rank xs t ≡ i
 rank-between xs t i h some inside before behind =

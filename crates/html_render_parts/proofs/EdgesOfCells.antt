@@ -1,4 +1,4 @@
--- The edges are 0 and the ends of the grid's cells.
+-- The edges are 0 and the ends of the grid's places.
 use Rattle.std.proofs.Common.{◌≡◌, ℕ, ◌<◌, List, [], ◌∷◌, length, get_or, map, Any, Contains, refl, sym, subst, arith, inl, inr, ◌⊎◌, suc, zero}
 use Rattle.std.proofs.lemmas.List.Elements.{Contains-append_cases, Contains-append_left, Contains-append_right}
 use Rattle.html_render_parts.specs.declared.table.PlacedCell.{PlacedCell}

@@ -1,4 +1,4 @@
--- The ends that rows tell, with the edges of the cells that hang into them, are all ends of their places.
+-- The recorded ends of rows, with the edges of the cells that hang into them, have all ends of their places.
 use Rattle.std.proofs.Common.{◌≡◌, ℕ, ◌+◌, ◌≤◌, List, [], ◌∷◌, ◌++◌, max, map, All, Contains, refl, sym, ap, ◌∙◌, subst, arith, inl, inr}
 use Rattle.std.proofs.lemmas.Bool.Decides.{leb_tells}
 use Rattle.std.proofs.lemmas.List.Elements.{All-nil, All-cons, All-head, All-tail, All-append, All-weaker, All-filter, All-map, All-contains}
@@ -21,16 +21,16 @@ All-parts : {X : Type 0} (P : X → Type 0) (xs ys : List X) → All P (xs ++ ys
 All-parts P [] ys h = (All-nil P, h)
 All-parts P (x ∷ xs) ys h = let rest = All-parts P xs ys (All-tail P x (xs ++ ys) h) in (All-cons P x xs (All-head P x (xs ++ ys) h) rest.0, rest.1)
 
--- a cell between two positions of a kind
+-- whether a cell's own column and its end have a property
 abbrev pub Between : (ℕ → Type 0) → Standing → Type 0
 Between I c = I c.column × I (c.column + c.span.colspan)
 
 abbrev pub EndsIn : (ℕ → Type 0) → Place → Type 0
 EndsIn I p = I p.end
 
--- ---- where all told ends are of a kind, and all edges of hanging cells, all ends are
+-- ---- if all recorded ends and all edges of hanging cells have a property, all ends have it
 
--- a placeholder that starts at its cell's column or behind it
+-- the end of a placeholder that starts at its cell's own column or after it
 hanging-end : (I : ℕ → Type 0) (start : ℕ) (h : Standing) → h.column ≤ start → Between I h → All I (displaced_end start h) →
     I (start + h.span.colspan)
 hanging-end I start h le between told = elim (ltb-tells h.column start) [
@@ -86,7 +86,7 @@ row-ends I cursor hs (s ∷ ss) b told =
     (All-head I next (row_told next left ss) parts.1)
     (row-ends I next left ss (All-not_due (Between I) cursor hs b) (All-tail I next (row_told next left ss) parts.1)))
 
--- ---- the told ends are ends of places
+-- ---- the recorded ends are ends of places
 
 displaced-told : (J : ℕ → Type 0) (start : ℕ) (h : Standing) → J (start + h.span.colspan) → All J (displaced_end start h)
 displaced-told J start h j = elim (ltb-tells h.column start) [
@@ -131,7 +131,7 @@ row-told J cursor hs (s ∷ ss) e =
     (All-cons J next (row_told next left ss) (All-head (EndsIn J) p (row_from next left ss) parts.1)
     (row-told J next left ss (All-tail (EndsIn J) p (row_from next left ss) parts.1)))
 
--- ---- a row's own cells stand between ends of its places
+-- ---- a row's own cells begin and end at ends of its places
 
 due_end-in : (I : ℕ → Type 0) (cursor : ℕ) (hs : List Standing) → I cursor → All (EndsIn I) (due_places cursor hs) → I (due_end cursor hs)
 due_end-in I cursor [] i e = i
@@ -161,7 +161,7 @@ own-between I row cursor hs (s ∷ ss) i e =
 
 -- ---- the edges that are gathered
 
--- with the ends of the rows ahead, the positions that are gathered are the edges of all rows
+-- whether the gathered positions, with the ends of the rows that aren't placed yet, are the edges of all rows
 pub record IsGathered (rows ahead : List (List Place)) (hung : List Standing) (positions : List ℕ) : Type 0 where
   pub fits : positions_fit rows ≡ positions_fit ahead
   pub edges : rising (positions ++ ends ahead) ≡ edges_of rows
@@ -169,7 +169,7 @@ pub record IsGathered (rows ahead : List (List Place)) (hung : List Standing) (p
   pub zero : Contains positions 0
   pub between : All (Between (Contains positions)) hung
 
--- one row more
+-- gathering the recorded ends of a row is gathering all its ends
 gathered-row : (positions told : List ℕ) (row : List Place) (more : List (List Place)) → All (Contains (map (λ p. p.end) row)) told →
     All (EndsIn (Contains (rising (positions ++ told)))) row
     → rising (rising (positions ++ told) ++ ends more) ≡ rising (positions ++ ends (row ∷ more))
@@ -197,7 +197,7 @@ gathered-row positions told row more here all =
 abbrev with_told : List ℕ → List ℕ → List ℕ
 with_told positions told = rising (positions ++ told)
 
--- what was gathered stays so
+-- gathered positions remain gathered
 still : (positions told : List ℕ) (n : ℕ) → Contains positions n → Contains (with_told positions told) n
 still positions told n a = Contains-rising n (positions ++ told) (Contains-append_left positions told n a)
 

@@ -1,4 +1,4 @@
--- Placed rows, or their refusal, are the grid's.
+-- Placed rows have the grid's places, and their refusal is the grid's.
 use Rattle.std.proofs.Common.{◌≡◌, ℕ, ◌≤◌, List, Some, map, All, refl, sym, ap, inl, inr}
 use Rattle.std.specs.Global.{Vec}
 use Rattle.std.proofs.lemmas.Bool.{cases_Bool}
@@ -14,11 +14,11 @@ use Rattle.html_render_parts.specs.Grid.{AreValid, edges_of, grid_of, numbered, 
 use Rattle.html_render_parts.specs.Refusal.{Fails}
 use Rattle.html_render_parts.proofs.Vectors.{All-unmap}
 
--- the grid of rows that are placed
+-- edges and numbered rows of placed rows
 abbrev grid_on : List (List Place) → List ℕ × List (List PlacedCell)
 grid_on placed = (edges_of placed, map (map (numbered (edges_of placed))) placed)
 
--- rows that were placed are the definition's, and the table has a grid
+-- placed rows are those of the definition, and the table has a grid
 pub made : (rows : List (List Span)) (placed : List (List Place)) → fitting (placed_rows rows) ≡ Some placed →
     (placed ≡ placed_rows rows) × (grid_of rows ≡ Some (grid_on (placed_rows rows)))
 made rows placed e = elim (cases_Bool (positions_fit (placed_rows rows))) [
@@ -26,13 +26,13 @@ made rows placed e = elim (cases_Bool (positions_fit (placed_rows rows))) [
   | inr t ↦ let f = rw t at e in cc
 ]
 
--- a refusal to place them is the grid's
+-- an error of placing the rows is one of the grid
 pub refused : (e : Error) (rows : List (List Span)) → Fails e (fitting (placed_rows rows)) → Fails e (grid_of rows)
 refused TooNarrow rows h = h
 refused OutOfMemory rows h = tt
 refused Fail rows h = elim (cases_Bool (positions_fit (placed_rows rows))) [ inl t ↦ let f = rw t at h in cc | inr t ↦ rw t refl ]
 
--- the parts of a table's grid
+-- edges and rows of a table's grid
 pub grid-parts : (rows : List (List Span)) (g : List ℕ × List (List PlacedCell)) → grid_of rows ≡ Some g →
     (g.0 ≡ edges_of (placed_rows rows)) × (g.1 ≡ map (map (numbered (edges_of (placed_rows rows)))) (placed_rows rows))
 grid-parts rows g e = elim (cases_Bool (positions_fit (placed_rows rows))) [

@@ -1,4 +1,4 @@
--- The cells of a table on the columns of its grid are those of its grid.
+-- The cells of a table on the columns of its grid agree with the grid.
 use Rattle.std.proofs.Common.{◌≡◌, ℕ, ◌+◌, ◌-◌, ◌<◌, ◌≤◌, List, [], ◌∷◌, ◌++◌, Some, length, filter, map, drop, take, All, nat_le}
 use Rattle.std.proofs.Common.{max, refl, sym, ap, ◌∙◌, subst, arith, inl, inr, ◌⊎◌}
 use Rattle.std.specs.Prelude.{Any, Contains, option_map, sum_by}
@@ -24,7 +24,7 @@ use Rattle.html_render_parts.proofs.SideBySide.{fit-columns, have-columns, stand
 
 -- ---- the whole grid
 
--- what a grid of cells shows
+-- edges and rows of the cells' grid
 abbrev grid_on_cells : CellGrid → List ℕ × List (List PlacedCell)
 grid_on_cells g = (g.edges, rows_on g)
 
@@ -81,7 +81,7 @@ ends-edge rows g is e h =
 
 -- ---- side by side
 
--- what holds of the rows of the grid holds of those of the cells
+-- a property of the grid's number of edges and its rows is one of those of the cells
 on-table : (Q : ℕ → List (List PlacedCell) → Type 0) (g : CellGrid) → IsCellGrid g →
     (let es = edges_of (placed_rows (spans_on g)) in Q (length es) (map (map (numbered es)) (placed_rows (spans_on g))))
     → Q (length g.edges) (rows_on g)
@@ -133,7 +133,7 @@ row-cells row cursor hs (s ∷ ss) =
     ∙ ap (λ ps. ps ++ place Cell column s.colspan ∷ cells_at rest) (none-due cursor hs)
     ∙ ap (λ ps. place Cell column s.colspan ∷ ps) (row-cells row (column + s.colspan) (not_due cursor hs) ss)
 
--- places once they have columns
+-- first column and number of columns of a place
 abbrev taken_by : List ℕ → Place → ℕ × ℕ
 taken_by es p = (rank es p.start, rank es p.end - rank es p.start)
 
@@ -171,7 +171,7 @@ cells-in_rows rows g e =
     ∙ ap (λ x. map (cells_in x) (take (length rows) (map (map (numbered x)) (placed_rows rows)))) (sym (edges-of_cells rows g e))
     ∙ ap (λ r. map (cells_in g.edges) (take (length rows) r)) (sym (rows-of_cells rows g e))
 
--- ---- none below the last row
+-- ---- no own cells below the last row
 
 abbrev HasNone : List ℕ → List PlacedCell → Type 0
 HasNone es places = cells_in es places ≡ []

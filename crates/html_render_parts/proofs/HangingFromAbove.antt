@@ -1,4 +1,4 @@
--- The cells that hang into a row are those of all rows above it that reach it.
+-- The cells that hang into a row are all cells of the rows above that reach it.
 use Rattle.std.proofs.Common.{◌≡◌, ℕ, ◌+◌, ◌<◌, Bool, true, false, cond, ◌&&◌, List, [], ◌∷◌, ◌++◌, length, get_or, filter, drop, take, All}
 use Rattle.std.proofs.Common.{refl, sym, ap, ◌∙◌, subst, append_assoc, arith, inl, inr, ◌⊎◌, suc, zero}
 use Rattle.std.specs.Prelude.{Contains, count_by, flat_map}
@@ -16,9 +16,9 @@ use Rattle.html_render_parts.specs.CellsAbove.{cells_above, own_rows}
 use Rattle.html_render_parts.proofs.HangingOrder.{AllFrom-filter, AllFrom-less, IsByColumn-by_column, IsByColumn-filter, by_column-append, by_column-own, merged}
 use Rattle.html_render_parts.proofs.HangingOrder.{by_column-same, by_column_with-front, All-hanging}
 
--- ---- some of the cells, and their order
+-- ---- filters and the order by column
 
--- a cell that passes keeps its place among those that pass
+-- inserting a cell that passes a test, and then filtering, is filtering and then inserting it
 kept-with : (p : Standing → Bool) (c : Standing) (cs : List Standing) → IsByColumn cs → p c ≡ true →
     filter p (by_column_with c cs) ≡ by_column_with c (filter p cs)
 kept-with p c [] h e = rw e refl
@@ -32,7 +32,7 @@ kept-with p c (d ∷ ds) h e = elim (leb_tells c.column d.column) [
   ]
 ]
 
--- one that doesn't is gone
+-- inserting a cell that fails a test, and then filtering, is filtering alone
 dropped-with : (p : Standing → Bool) (c : Standing) (cs : List Standing) → p c ≡ false → filter p (by_column_with c cs) ≡ filter p cs
 dropped-with p c [] e = rw e refl
 dropped-with p c (d ∷ ds) e = elim (leb_tells c.column d.column) [
@@ -50,7 +50,7 @@ filter-by_column p (c ∷ cs) = elim (cases_Bool (p c)) [
   | inr e ↦ dropped-with p c (by_column cs) e ∙ filter-by_column p cs ∙ sym (rw e refl)
 ]
 
--- those of the cells that pass one test pass another one, where each that passes this one passes that one too
+-- a filter after a weaker one is the filter alone
 filter-both : (p q : Standing → Bool) → ((c : Standing) → p c ≡ true → q c ≡ true) → (cs : List Standing) → filter p (filter q cs) ≡ filter p cs
 filter-both p q h [] = refl
 filter-both p q h (c ∷ cs) = elim (cases_Bool (p c)) [
@@ -64,7 +64,7 @@ filter-both p q h (c ∷ cs) = elim (cases_Bool (p c)) [
 ordered-is : (cs : List Standing) → by_column cs ≡ cs → IsByColumn cs
 ordered-is cs e = subst IsByColumn e (IsByColumn-by_column cs)
 
--- cells that were put in order, and others in order
+-- sorting sorted cells and others, which are in order, is sorting all
 by_column-again : (xs os : List Standing) → by_column os ≡ os → by_column (by_column xs ++ os) ≡ by_column (xs ++ os)
 by_column-again xs os e =
     by_column-append (by_column xs) os e ∙ ap (λ r. merged r os) (by_column-same (by_column xs) (IsByColumn-by_column xs))
@@ -76,7 +76,7 @@ by_column-again xs os e =
 hangs-before : (row : ℕ) (c : Standing) → hangs_into (row + 1) c ≡ true → hangs_into row c ≡ true
 hangs-before row c e = let more = ltb-true (row + 1) (end_of c) e in lt-ltb row (end_of c) (omega arith)
 
--- what hangs into the next row of the cells that hang into this one, and of its own, is what hangs there of all
+-- of all cells above a row and its own, those that hang into the next row are among its own and those that hang into it
 pub hanging-step : (row : ℕ) (above own : List Standing) → by_column own ≡ own →
     hanging (row + 1) (hanging row above ++ own) ≡ hanging (row + 1) (above ++ own)
 hanging-step row above own e =
@@ -95,7 +95,7 @@ hanging-step row above own e =
 abbrev all_of : List (List Standing) → List Standing
 all_of rows = flat_map (λ own. own) rows
 
--- the next row's hanging cells are those of all rows above it
+-- the cells that hang into the next row are those of all rows above it that do
 next-hanging : (row : ℕ) (hung above : List Standing) (cells : List Span) → hung ≡ hanging row above →
     hanging (row + 1) (hung ++ own_from row 0 hung cells) ≡ hanging (row + 1) (above ++ own_from row 0 hung cells)
 next-hanging row hung above cells e =

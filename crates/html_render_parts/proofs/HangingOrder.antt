@@ -1,4 +1,5 @@
--- The cells that a row keeps, in the order in which it placed them, are the cells so far in order of own column.
+-- The cells that a row keeps, in the order of their placement, are those that hang into the next row, in order of own
+-- column.
 use Rattle.std.proofs.Common.{All, ◌≡◌, ℕ, ◌+◌, ◌<◌, ◌≤◌, Bool, true, false, cond, List, [], ◌∷◌, ◌++◌, filter, nat_le, refl, sym, ap, ◌∙◌, arith, inl, inr}
 use Rattle.std.proofs.lemmas.Bool.{cases_Bool}
 use Rattle.std.proofs.lemmas.Bool.Decides.{leb_tells, nat_tests}
@@ -8,7 +9,7 @@ use Rattle.html_render_parts.specs.declared.table.placement.Standing.{Standing}
 use Rattle.html_render_parts.specs.Placement.{by_column_with, by_column, hangs_into, hanging, due_end, not_due, own_from}
 use Rattle.html_render_parts.specs.PlacementSteps.{AllFrom, IsByColumn}
 
--- ---- two lists in one, by own column: of equal ones the first list's comes first
+-- ---- two lists merged by own column: of equal ones, that of the first list precedes
 
 abbrev pub merged_with : Standing → (List Standing → List Standing) → List Standing → List Standing
 merged_with s rest [] = s ∷ rest []
@@ -22,18 +23,18 @@ merged-nil : (ss : List Standing) → merged ss [] ≡ ss
 merged-nil [] = refl
 merged-nil (s ∷ ss) = ap (λ r. s ∷ r) (merged-nil ss)
 
--- one cell put in by column beside the other list
+-- inserting a cell by column is merging it alone
 with-alone : (a : Standing) (os : List Standing) → by_column_with a os ≡ merged (a ∷ []) os
 with-alone a [] = refl
 with-alone a (o ∷ os) = ap (λ r. cond (nat_le a.column o.column) (a ∷ o ∷ os) (o ∷ r)) (with-alone a os)
 
--- where a comes before s
+-- inserting a cell in a merged list, if its column is at most the first one's
 with-before : (a s : Standing) (ss : List Standing) → (nat_le a.column s.column ≡ true) → a.column ≤ s.column → (os : List Standing) →
     by_column_with a (merged (s ∷ ss) os) ≡ merged (a ∷ s ∷ ss) os
 with-before a s ss e le [] = rw e refl
 with-before a s ss e le (o ∷ os) = let ih = with-before a s ss e le os in grind (arith, nat_tests)
 
--- where s comes before a
+-- inserting a cell in a merged list, if its column is above the first one's
 with-behind : (a s : Standing) (ss : List Standing) → (nat_le a.column s.column ≡ false) → s.column < a.column →
     ((os : List Standing) → by_column_with a (merged ss os) ≡ merged (by_column_with a ss) os)
     → (os : List Standing) → by_column_with a (merged (s ∷ ss) os) ≡ merged (s ∷ by_column_with a ss) os
@@ -77,7 +78,7 @@ pub by_column_with-front : (a : Standing) (cs : List Standing) → AllFrom a.col
 by_column_with-front a [] h = refl
 by_column_with-front a (c ∷ cs) h = let k = h.0 in grind (arith, nat_tests)
 
--- cells in order stay as they are
+-- sorting cells in order changes nothing
 pub by_column-same : (cs : List Standing) → IsByColumn cs → by_column cs ≡ cs
 by_column-same [] h = refl
 by_column-same (c ∷ cs) h = ap (by_column_with c) (by_column-same cs h.1) ∙ by_column_with-front c cs h.0
@@ -89,7 +90,7 @@ AllFrom-filter p n (c ∷ cs) h = elim (cases_Bool (p c)) [
   | inr e ↦ rw e (AllFrom-filter p n cs h.1)
 ]
 
--- those that are left of cells in order are in order
+-- filtered cells in order are in order
 pub IsByColumn-filter : (p : Standing → Bool) (cs : List Standing) → IsByColumn cs → IsByColumn (filter p cs)
 IsByColumn-filter p [] h = tt
 IsByColumn-filter p (c ∷ cs) h = elim (cases_Bool (p c)) [
@@ -101,7 +102,7 @@ IsByColumn-filter p (c ∷ cs) h = elim (cases_Bool (p c)) [
 pub IsByColumn-hanging : (row : ℕ) (cs : List Standing) → IsByColumn (hanging row cs)
 IsByColumn-hanging row cs = IsByColumn-filter (hangs_into row) (by_column cs) (IsByColumn-by_column cs)
 
--- ---- what holds of all cells holds of those that wait, and of those that hang on
+-- ---- a property of all cells is one of the cells that aren't due, and of those that hang into the next row
 
 pub All-not_due : (P : Standing → Type 0) (cursor : ℕ) (hs : List Standing) → All P hs → All P (not_due cursor hs)
 All-not_due P cursor [] w = w
@@ -126,12 +127,12 @@ All-hanging P row cs h = All-filter (hangs_into row) P (by_column cs) (All-by_co
 
 -- ---- one row
 
--- the hanging cells that are due
+-- hanging cells that are due
 abbrev pub due_taken : ℕ → List Standing → List Standing
 due_taken cursor [] = []
 due_taken cursor (h ∷ hs) = cond (nat_le h.column cursor) (h ∷ due_taken (cursor + h.span.colspan) hs) []
 
--- the cells of a row and those that hang into it, in the order in which they are placed
+-- a row's own cells and those that hang into it, in the order of their placement
 abbrev pub in_row : ℕ → ℕ → List Standing → List Span → List Standing
 in_row row cursor hs [] = hs
 in_row row cursor hs (s ∷ ss) =
@@ -158,7 +159,7 @@ in_row-merged row cursor hs (s ∷ ss) =
     ap (λ r. due_taken cursor hs ++ o ∷ r) (in_row-merged row (column + s.colspan) (not_due cursor hs) ss)
     ∙ sym (merged-due cursor hs o (own_from row (column + s.colspan) (not_due cursor hs) ss) refl)
 
--- ---- a row's own cells stand in order
+-- ---- a row's own cells are in order
 
 own-from : (row cursor : ℕ) (hs : List Standing) (ss : List Span) → AllFrom cursor (own_from row cursor hs ss)
 own-from row cursor hs [] = tt
@@ -181,7 +182,7 @@ by_column-own row cursor hs (s ∷ ss) =
 
 -- ---- from row to row
 
--- what a row leaves to the next one is what hangs into that one of the cells that hung into it and its own
+-- of the cells that hang into a row and its own cells, it keeps for the next row those that hang into that, in order
 pub hanging-next : (row : ℕ) (hung : List Standing) (ss : List Span) → IsByColumn hung →
     filter (hangs_into (row + 1)) (in_row row 0 hung ss) ≡ hanging (row + 1) (hung ++ own_from row 0 hung ss)
 hanging-next row hung ss ordered =

@@ -1,4 +1,4 @@
--- What a test on two numbers tells.
+-- Meaning of a test on two numbers.
 use Rattle.std.proofs.Common.{◌≡◌, ℕ, ◌<◌, ◌≤◌, true, false, nat_lt, arith, inl, inr, ◌⊎◌, suc}
 use Rattle.std.proofs.lemmas.Bool.Decides.{leb_tells}
 

@@ -1,4 +1,4 @@
--- A row that is put together from the left is the row of the definition.
+-- A row placed from the left, step by step, is the row of the definition.
 use Rattle.std.proofs.Common.{◌≡◌, ℕ, ◌+◌, ◌^◌, true, false, List, [], ◌∷◌, ◌++◌, Option, Some, None, MatchOption, max, filter, nat_lt, nat_le, refl, ap}
 use Rattle.std.proofs.Common.{◌∙◌, subst, arith, append_assoc, inl, inr}
 use Rattle.std.specs.Option.{option_and_then}
@@ -20,9 +20,9 @@ use Rattle.html_render_parts.specs.Refusal.{Fails}
 use Rattle.html_render_parts.proofs.HangingOrder.{due_taken, in_row, hanging-next, IsByColumn-hanging}
 use Rattle.html_render_parts.proofs.NumberTests.{ltb-tells}
 
--- ---- what a step adds to a row on its way
+-- ---- additions of steps to a row under construction
 
--- a row with this behind it; what is kept of that is to hang into the next row
+-- a row with an addition after it; of the cells kept by the addition, those that hang into the next row remain
 abbrev with_added : ℕ → RowSoFar → RowSoFar → RowSoFar
 with_added row built added = record {
   places = built.places ++ added.places;
@@ -32,7 +32,7 @@ with_added row built added = record {
   cursor = added.cursor;
 }
 
--- one addition behind another
+-- an addition followed by another one
 abbrev then : RowSoFar → RowSoFar → RowSoFar
 then a b = record {
   places = a.places ++ b.places;
@@ -42,11 +42,11 @@ then a b = record {
   cursor = b.cursor;
 }
 
--- a step adds this, where its places fit, and else has no result
+-- whether a step's result `o` is the row with this addition, or `None` if the addition's places don't fit
 abbrev Gives : ℕ → RowSoFar → RowSoFar → Option RowSoFar → Type 0
 Gives row built added o = MatchOption o (row_fits added.places ≡ false) (λ l. (l ≡ with_added row built added) × (row_fits added.places ≡ true))
 
--- a step behind another begins where that one ends
+-- a step after another begins at the cursor where that one ends
 Gives-then : (row : ℕ) (built a : RowSoFar) (b : ℕ → RowSoFar) (o : Option RowSoFar) (f : RowSoFar → Option RowSoFar) →
     Gives row built a o → ((l : RowSoFar) → Gives row l (b l.cursor) (f l)) →
     Gives row built (then a (b a.cursor)) (option_and_then f o)
@@ -57,7 +57,7 @@ Gives-then row built a b (Some l) f h g = by (f l) (subst (λ x. Gives row x (b 
     by None k = rw (list_all-append, h.1, k) refl
     by (Some m) k = (k.0 ∙ simp (append_assoc, filter-append), rw (list_all-append, h.1, k.1) refl)
 
--- an addition of nothing
+-- the empty addition
 abbrev none_at : ℕ → RowSoFar
 none_at c = record { places = []; own = []; told = []; kept = []; cursor = c }
 
@@ -112,7 +112,7 @@ with_gap-gives row column built = elim (ltb-tells built.cursor column) [
   | inr t ↦ (let e : max built.cursor column ≡ built.cursor = omega arith in rw (t.0, e) (Gives-same row built))
 ]
 
--- ---- the hanging cells that are due, and those behind the row's cells
+-- ---- the placeholders that are due, and those after the row's own cells
 
 abbrev due : List Standing → ℕ → RowSoFar
 due hs cursor = record {
@@ -134,7 +134,7 @@ with_due-gives row (h ∷ hs) built = elim (cases_Bool (nat_le h.column built.cu
   | inr e ↦ rw e (Gives-same row built)
 ]
 
--- the cursor behind the hanging cells
+-- the cursor after the placeholders that follow the row's own cells
 abbrev rest_end : ℕ → List Standing → ℕ
 rest_end cursor [] = cursor
 rest_end cursor (h ∷ hs) = rest_end (max cursor h.column + h.span.colspan) hs
@@ -152,7 +152,7 @@ with_rest-gives row (h ∷ hs) built =
 
 -- ---- the row
 
--- the cursor behind a row
+-- the cursor after a row
 abbrev row_end : ℕ → List Standing → List Span → ℕ
 row_end cursor hs [] = rest_end cursor hs
 row_end cursor hs (s ∷ ss) = row_end (due_end cursor hs + s.colspan) (not_due cursor hs) ss
@@ -184,20 +184,20 @@ row-gives : (row : ℕ) (ss : List Span) (hung : List Standing) (o : Option RowS
     Gives row empty_row (whole row hung ss 0) o
 row-gives row ss hung o e = subst (Gives row empty_row (whole row hung ss 0)) e (with_row-gives row ss hung empty_row)
 
--- a row that was put together is the definition's
+-- a placed row is the definition's next row
 pub next-made : (row : ℕ) (ss : List Span) (done : Placing) (hung : List Standing) (l : RowSoFar) → done.hanging ≡ hung →
     IsByColumn hung
     → with_row row ss hung empty_row ≡ Some l →
     with_next row ss done ≡ Some (record { places = l.places; own = l.own; told = l.told; hanging = l.kept })
 next-made row ss done hung l same ordered e = let h = row-gives row ss hung (Some l) e in rw (same, h.1, h.0, hanging-next row hung ss ordered) refl
 
--- the cells that it keeps are in order
+-- the cells that a placed row keeps are in order of own column
 pub kept-ordered : (row : ℕ) (ss : List Span) (hung : List Standing) (l : RowSoFar) → IsByColumn hung →
     with_row row ss hung empty_row ≡ Some l → IsByColumn l.kept
 kept-ordered row ss hung l ordered e =
     rw ((row-gives row ss hung (Some l) e).0, hanging-next row hung ss ordered) (IsByColumn-hanging (row + 1) (hung ++ own_from row 0 hung ss))
 
--- a refusal of it is the definition's
+-- an error of placing a row is one of the definition
 pub next-refused : (e : Error) (row : ℕ) (ss : List Span) (done : Placing) (hung : List Standing) → done.hanging ≡ hung →
     Fails e (with_row row ss hung empty_row)
     → Fails e (with_next row ss done)
@@ -205,7 +205,7 @@ next-refused TooNarrow row ss done hung same h = h
 next-refused OutOfMemory row ss done hung same h = tt
 next-refused Fail row ss done hung same h = rw (same, row-gives row ss hung None h) refl
 
--- the same of a row below the last one
+-- a row below the last one adds the placeholders of the cells that hang there
 bottom-gives : (hung : List Standing) (o : Option RowSoFar) → with_rest hung empty_row ≡ o → Gives 0 empty_row (rest hung 0) o
 bottom-gives hung o e = subst (Gives 0 empty_row (rest hung 0)) e (with_rest-gives 0 hung empty_row)
 

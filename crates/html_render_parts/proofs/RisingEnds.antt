@@ -1,4 +1,4 @@
--- The rows below the last one, one after another: the cells that end first, and then those that end later.
+-- The rows below the last one, one after another: that of the cells that end first, and then those of the others.
 use Rattle.std.proofs.Common.{◌≡◌, ℕ, ◌<◌, ◌≤◌, Bool, true, List, [], ◌∷◌, Some, length, get_or, filter, map, All, Contains, nat_lt}
 use Rattle.std.proofs.Common.{nat_le, refl, sym, ap, ◌∙◌, arith, inl, inr, ◌⊎◌, suc, zero}
 use Rattle.std.proofs.lemmas.Bool.{lt-ltb, le-leb, ltb-true}
@@ -14,11 +14,11 @@ use Rattle.html_render_parts.proofs.NumberTests.{ltb-tells}
 use Rattle.html_render_parts.proofs.PlacingRows.{bottom-made, bottom-past}
 use Rattle.std.proofs.lemmas.Bool.Decides.{nat_tests}
 
--- the cells that end after n
+-- cells that end after n
 abbrev later : ℕ → List Standing → List Standing
 later n cells = filter (λ c. nat_lt n (end_of c)) cells
 
--- those that reach an end
+-- cells that end at n or after it
 abbrev reaching : ℕ → List Standing → List Standing
 reaching n cells = filter (λ c. nat_le n (end_of c)) cells
 
@@ -34,12 +34,12 @@ reaching-all : (n : ℕ) (cs : List Standing) → All (λ c. n ≤ end_of c) cs 
 reaching-all n cs h = filter-all (λ c. nat_le n (end_of c)) cs
     (All-weaker (λ c. n ≤ end_of c) (λ c. nat_le n (end_of c) ≡ true) (λ c. le-leb n (end_of c)) cs h)
 
--- those that reach m are among those that end after n, for m above n
+-- for m above n, the cells that reach m are among those that end after n
 reaching-later : (m n : ℕ) → n < m → (cs : List Standing) → reaching m (later n cs) ≡ reaching m cs
 reaching-later m n less [] = refl
 reaching-later m n less (c ∷ cs) = let ih = reaching-later m n less cs in grind (arith, nat_tests)
 
--- ---- numbers that rise
+-- ---- rising numbers
 
 rising_with-front : (n : ℕ) (ms : List ℕ) → All (λ m. n < m) ms → rising_with n ms ≡ n ∷ ms
 rising_with-front n [] h = refl
@@ -48,7 +48,7 @@ rising_with-front n (m ∷ ms) h =
     let here : n < m = All-head P m ms h in
     grind (arith, nat_tests)
 
--- what holds of a number put among others, by where it comes
+-- cases of inserting a number: below the first one, above it, or equal to it
 pub rising-step : (P : List ℕ → Type 0) (n m : ℕ) (ms : List ℕ) → (n < m → P (n ∷ m ∷ ms)) → (m < n → P (m ∷ rising_with n ms)) →
     (m ≡ n → P (m ∷ ms)) → P (rising_with n (m ∷ ms))
 rising-step P n m ms first later same = grind (arith, nat_tests)
@@ -64,7 +64,7 @@ All-rising-map P (c ∷ cs) h =
     let Q : Standing → Type 0 = λ d. P (end_of d) in
     All-rising_with P (end_of c) (rising (map end_of cs)) (All-head Q c cs h) (All-rising-map P cs (All-tail Q c cs h))
 
--- of ends that are at least n: n stands first, or none is n
+-- if all ends are at least n, then n is the first one, or no end is n
 least-first : (n : ℕ) (cs : List Standing) → All (λ c. n ≤ end_of c) cs →
     (rising (map end_of cs) ≡ n ∷ rising (map end_of (later n cs))) ⊎ All (λ c. n < end_of c) cs
 least-first n [] h = inr (All-nil (λ (c : Standing). n < end_of c))
@@ -118,7 +118,7 @@ bottoms-next hung first has h =
     (filter_passes (λ c. nat_lt n (end_of c)) hung)) in
     rw (least-is first hung has h, reaching-all n hung h) (ap (λ r. rest_from 0 hung ∷ r) (sym (bottoms-later n ms above hung)))
 
--- the cell that ends first is none of those that end later
+-- fewer cells end later than all cells, since the first one doesn't
 later-shorter : (hung : List Standing) (first : Standing) → Contains hung first → length (later (end_of first) hung) < length hung
 later-shorter hung first has = shorter hung has.0 has.1 has.2
   where
@@ -134,7 +134,7 @@ later-shorter hung first has = shorter hung has.0 has.1 has.2
         let more = shorter cs k (omega arith) at in
         grind (arith, nat_tests)
 
--- a row that was put together below the last one is the next one there
+-- a row that is placed below the last one is the definition's next row there
 pub next-bottom : (done next : Placing) (hung : List Standing) (first : Standing) (l : RowSoFar) → done.hanging ≡ hung →
     Contains hung first → All (λ c. end_of first ≤ end_of c) hung
     → with_rest hung empty_row ≡ Some l → next.places ≡ l.places → next.told ≡ l.told → next.hanging ≡ later (end_of first) hung →
@@ -153,7 +153,7 @@ next-bottom done next hung first l same has h made places told hangs =
       fewer = rw (hangs, same) (later-shorter hung first has);
     }
 
--- and a refusal of it is one of all that are left
+-- an error of placing the next row below the last one is one of all rows that remain there
 pub bottoms-refused : (e : Error) (hung : List Standing) (first : Standing) → Contains hung first →
     All (λ c. end_of first ≤ end_of c) hung
     → Fails e (with_rest hung empty_row) → Fails e (fitting (bottom_rows hung))

@@ -1,4 +1,4 @@
--- Rows that are placed one after another are the rows of the definition.
+-- Rows placed one after another are the rows of the definition.
 use Rattle.std.proofs.Common.{◌≡◌, ℕ, ◌+◌, true, false, List, [], ◌∷◌, ◌++◌, Some, None, refl, sym, ap, ◌∙◌, append_assoc, inl, inr}
 use Rattle.std.proofs.lemmas.Bool.{cases_Bool}
 use Rattle.html_render_parts.specs.declared.table.Span.{Span}
@@ -7,7 +7,7 @@ use Rattle.html_render_parts.specs.Placement.{bottom_rows, hanging, own_from, ow
 use Rattle.html_render_parts.specs.PlacementSteps.{IsNextBottom, Placing, row_fits, row_told, with_next}
 use Rattle.html_render_parts.specs.Grid.{positions_fit}
 
--- what the next row is
+-- whether `next` places the definition's next row, and it fits
 pub record IsNext (row : ℕ) (cells : List Span) (done next : Placing) : Type 0 where
   pub places : next.places ≡ row_from 0 done.hanging cells
   pub own : next.own ≡ own_from row 0 done.hanging cells
@@ -39,9 +39,9 @@ next-is row cells done next e = elim (cases_Bool (row_fits (row_from 0 done.hang
 pub next-past : (row : ℕ) (cells : List Span) (done : Placing) → with_next row cells done ≡ None → row_fits (row_from 0 done.hanging cells) ≡ false
 next-past row cells done e = elim (cases_Bool (row_fits (row_from 0 done.hanging cells))) [ inl t ↦ let f = rw t at e in cc | inr t ↦ t ]
 
--- ---- whether all rows fit, by those ahead
+-- ---- whether all rows fit
 
--- the next row fits, and so all rows do where those behind it do
+-- if the next row fits, all rows fit exactly if those after it do
 pub fits-next : (row : ℕ) (cells : List Span) (more : List (List Span)) (done next : Placing) → IsNext row cells done next →
     positions_fit (rows_from row done.hanging (cells ∷ more)) ≡ positions_fit (rows_from (row + 1) next.hanging more)
 fits-next row cells more done next is = rw (is.hangs_on, is.fits) refl
@@ -49,7 +49,7 @@ fits-next row cells more done next is = rw (is.hangs_on, is.fits) refl
 pub fits-bottom : (done next : Placing) → IsNextBottom done next → positions_fit (bottom_rows done.hanging) ≡ positions_fit (bottom_rows next.hanging)
 fits-bottom done next is = rw (is.rows, is.fits) refl
 
--- the own cells of the rows, by those that are placed and those ahead
+-- own cells of all rows: those of the placed rows and those of the others
 pub own-next : (all own : List (List Standing)) (row : ℕ) (cells : List Span) (more : List (List Span)) (done next : Placing) →
     IsNext row cells done next
     → own ++ own_rows_from row done.hanging (cells ∷ more) ≡ all →

@@ -1,4 +1,4 @@
--- The rows of a table that are ahead, one after another.
+-- The rows of a table that aren't placed yet, one after another.
 use Rattle.std.proofs.Common.{◌≡◌, ℕ, ◌+◌, ◌<◌, ◌≤◌, true, false, List, [], ◌∷◌, Some, length, get_or, drop, map, All, refl, sym, ap, ◌∙◌, subst, arith}
 use Rattle.std.proofs.Common.{Bool, Err, IfErr, IfOk, MatchBool, Ok, Result}
 use Rattle.std.specs.Global.{Vec}
@@ -22,7 +22,7 @@ use Rattle.html_render_parts.proofs.Vectors.{at-vector}
 abbrev IsOrdered : Place → Type 0
 IsOrdered p = p.start ≤ p.end
 
--- all rows of a table are ahead
+-- at first no row is placed
 pub all-ahead : (g : CellGrid) → IsCellGrid g → AreAhead g 0 []
 all-ahead g h = record {
   within = omega arith;
@@ -30,7 +30,7 @@ all-ahead g h = record {
   ordered = are-ordered (spans_on g) h.valid;
 }
 
--- the next of the table's own rows
+-- the next of the table's own rows and those after it, by their spans
 own-ahead : (g : CellGrid) (row : ℕ) (cells : List GridCell) → row < length g.rows → get_or g.rows row cells ≡ cells →
     drop row (spans_on g) ≡ map (span_on g.edges) cells ∷ drop (row + 1) (spans_on g)
 own-ahead g row cells inside at =
@@ -40,7 +40,7 @@ own-ahead g row cells inside at =
     ∙ ap (λ r. r ∷ drop (row + 1) (spans_on g))
     (get_or-map (map (span_on g.edges)) g.rows row cells spans inside ∙ ap (map (span_on g.edges)) at)
 
--- a row's cells, from the vector that holds them
+-- a row's own cells, by the vector that has them
 pub own-found : (g : CellGrid) (rows : List (Vec GridCell)) (row : ℕ) (cells : Vec GridCell) → lists rows ≡ g.rows → row < length rows →
     cells ≡ get_or rows row cells
     → (row < length g.rows) × (get_or g.rows row cells.items ≡ cells.items)
@@ -53,7 +53,7 @@ own-found g rows row cells same inside is =
 pub none-found : (g : CellGrid) (rows : List (Vec GridCell)) (row : ℕ) → lists rows ≡ g.rows → length rows ≤ row → length g.rows ≤ row
 none-found g rows row same past = subst (λ r. length r ≤ row) same (subst (λ n. n ≤ row) (sym (length-map rows (λ (v : Vec GridCell). v.items))) past)
 
--- its cells stand below the last edge
+-- a row's own cells end at an edge of the grid
 pub own-on_edges : (g : CellGrid) (rows : List (Vec GridCell)) (row : ℕ) (cells : Vec GridCell) → lists rows ≡ g.rows →
     row < length rows → cells ≡ get_or rows row cells
     → All (All (IsWithin (columns_of g))) g.rows → All (λ c. c.first + c.columns < length g.edges) cells.items
@@ -62,13 +62,13 @@ own-on_edges g rows row cells same inside is h =
     (λ c w. let most = w.0 in let some = w.1 in omega arith) cells.items
     (at-vector (All (IsWithin (columns_of g))) rows row cells (subst (All (All (IsWithin (columns_of g)))) (sym same) h) inside is)
 
--- behind them come the rows below the last one
+-- after the table's own rows follow the rows below the last one
 bottom-ahead : (g : CellGrid) (row : ℕ) (hung : List Standing) → length g.rows ≤ row → places_ahead g row hung ≡ bottom_rows hung
 bottom-ahead g row hung past =
     let more : length (spans_on g) ≤ row = subst (λ n. n ≤ row) (sym (length-map g.rows (map (span_on g.edges)))) past in
     ap (rows_from row hung) (drop_all row (spans_on g) more)
 
--- one row is placed, and the others are ahead
+-- whether `next` places the first of these rows, and the others remain
 pub record IsAhead (g : CellGrid) (row : ℕ) (hung : List Standing) (row' : ℕ) (next : Placing) : Type 0 where
   pub places : places_ahead g row hung ≡ next.places ∷ places_ahead g row' next.hanging
   pub ahead : AreAhead g row' next.hanging
@@ -109,7 +109,7 @@ bottom-next g row done next past h is =
       };
     }
 
--- where a row is placed below the last one, or none, or it is refused, what is ahead is so still
+-- the remaining rows fit and are ordered after a step below the last row, whether it places a row, none, or returns an error
 pub bottom-still : (g : CellGrid) (row : ℕ) (done next : Placing) (r : Result Bool Error) → length g.rows ≤ row →
     AreAhead g row done.hanging
     → IfOk r (λ placed. MatchBool placed (IsNextBottom done next) ((done.hanging ≡ []) × (next ≡ done))) →
@@ -118,13 +118,13 @@ bottom-still g row done next (Ok true) past h is stays = (bottom-next g row done
 bottom-still g row done next (Ok false) past h is stays = subst (λ p. AreAhead g row p.hanging) (sym is.1) h
 bottom-still g row done next (Err e) past h is stays = subst (AreAhead g row) (sym stays) h
 
--- the places of the next row are ordered
+-- no place of the next row starts after its end
 pub next-ordered : (g : CellGrid) (row : ℕ) (hung : List Standing) (places : List Place) (more : List (List Place)) →
     AreAhead g row hung
     → places_ahead g row hung ≡ places ∷ more → All IsOrdered places
 next-ordered g row hung places more h is = All-head (All IsOrdered) places more (subst (All (All IsOrdered)) is h.ordered)
 
--- ---- no row ahead is refused but for want of memory
+-- ---- placing a remaining row returns no error but out of memory
 
 pub own-memory : (g : CellGrid) (row : ℕ) (cells : List GridCell) (done : Placing) (e : Error) → row < length g.rows →
     get_or g.rows row cells ≡ cells

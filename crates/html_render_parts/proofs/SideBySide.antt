@@ -1,4 +1,4 @@
--- The places of a row stand side by side from 0 on, so that each one's start is an edge.
+-- The places of a row are side by side from 0 on, so each start is an edge.
 use Rattle.std.proofs.Common.{◌≡◌, ℕ, ◌+◌, ◌<◌, ◌≤◌, List, [], ◌∷◌, ◌++◌, length, get_or, max, map, filter, All, Contains, nat_le, refl, sym, ap, subst}
 use Rattle.std.proofs.Common.{arith, suc, sum_by, zero}
 use Rattle.std.proofs.lemmas.Bool.Decides.{nat_tests}
@@ -16,7 +16,7 @@ use Rattle.html_render_parts.specs.Grid.{AreSideBySide, AreValid, ends, edges_of
 use Rattle.html_render_parts.proofs.EdgeRanks.{Contains-here, Contains-rising, Contains-there, rank-below, rank-less, rank-mono}
 use Rattle.html_render_parts.proofs.HangingOrder.{All-hanging, All-not_due}
 
--- places side by side from one position to another
+-- whether places are side by side from one position to another
 abbrev Between : ℕ → ℕ → List Place → Type 0
 Between c d [] = c ≡ d
 Between c d (p ∷ ps) = (p.start ≡ c) × (p.start < p.end) × Between p.end d ps
@@ -53,7 +53,7 @@ Between-due cursor (h ∷ hs) w =
 Between-gap : (cursor column : ℕ) → Between cursor (max cursor column) (gap_to cursor column)
 Between-gap cursor column = grind (arith, nat_tests)
 
--- where a row ends
+-- whether places are side by side from `c` to some end
 abbrev Ends : ℕ → List Place → Type 0
 Ends c ps = (d : ℕ) × Between c d ps
 
@@ -101,7 +101,7 @@ Ends-rows row hung (ss ∷ rows) w v =
 
 -- ---- each start is an edge, below its end
 
--- a place that begins at an edge
+-- whether a place starts at an edge, below its end
 abbrev StartsIn : List ℕ → Place → Type 0
 StartsIn edges p = Contains edges p.start × (p.start < p.end)
 
@@ -117,7 +117,7 @@ last-end : (c d : ℕ) (ps : List Place) → Between c d ps → Contains (c ∷ 
 last-end c d [] h = subst (λ x. Contains (c ∷ []) x) h (Contains-here c [])
 last-end c d (p ∷ ps) h = Contains-there c d (p.end ∷ map (λ q. q.end) ps) (last-end p.end d ps h.2)
 
--- a row between edges
+-- whether a row is side by side from 0 to an edge, and each place starts at an edge
 pub record OnEdges (edges : List ℕ) (ps : List Place) : Type 0 where
   pub behind : ℕ
   pub between : Between 0 behind ps
@@ -153,7 +153,7 @@ rows-on_edges rows v =
     let placed = placed_rows rows in
     on-edges placed (edges_of placed) (λ n k. Contains-rising n (0 ∷ ends placed) k) (Ends-rows 0 [] rows (All-nil Wide) v)
 
--- no place starts behind its end
+-- no place starts after its end
 pub are-ordered : (rows : List (List Span)) → AreValid rows → All (All (λ p. p.start ≤ p.end)) (placed_rows rows)
 are-ordered rows v =
     let es = edges_of (placed_rows rows) in
@@ -161,7 +161,7 @@ are-ordered rows v =
     (λ ps h. All-weaker (StartsIn es) (λ p. p.start ≤ p.end) (λ p k. let less = k.1 in omega arith) ps h.starts_in) (placed_rows rows)
     (rows-on_edges rows v)
 
--- what holds of each row of places, once it has columns, holds of each row of the grid
+-- a property of each row of places between edges, with their numbers of columns, is one of each row of the grid
 rows-numbered : (Q : List PlacedCell → Type 0) (rows : List (List Span)) → AreValid rows →
     ((ps : List Place) → OnEdges (edges_of (placed_rows rows)) ps → Q (map (numbered (edges_of (placed_rows rows))) ps)) →
     All Q (map (map (numbered (edges_of (placed_rows rows)))) (placed_rows rows))
@@ -170,7 +170,7 @@ rows-numbered Q rows v f =
     All-map Q (map (numbered es)) (placed_rows rows)
     (All-weaker (OnEdges es) (λ ps. Q (map (numbered es) ps)) f (placed_rows rows) (rows-on_edges rows v))
 
--- each cell has a column
+-- each place has a column
 pub have-columns : (rows : List (List Span)) → AreValid rows →
     All (All (λ (c : PlacedCell). 1 ≤ c.columns)) (map (map (numbered (edges_of (placed_rows rows)))) (placed_rows rows))
 have-columns rows v =
@@ -183,7 +183,7 @@ side-by-side : (es : List ℕ) (c d : ℕ) (ps : List Place) → Between c d ps 
 side-by-side es c d [] h = tt
 side-by-side es c d (p ∷ ps) h = (h.0, h.1, side-by-side es p.end d ps h.2)
 
--- a row's cells stand side by side
+-- the places of a row are side by side
 pub stand-side_by_side : (rows : List (List Span)) → AreValid rows →
     All (AreSideBySide 0) (map (map (numbered (edges_of (placed_rows rows)))) (placed_rows rows))
 stand-side_by_side rows v = rows-numbered (AreSideBySide 0) rows v (λ ps h. side-by-side (edges_of (placed_rows rows)) 0 h.behind ps h.between)
@@ -198,7 +198,7 @@ total-columns es c d (p ∷ ps) h =
     let ih = total-columns es p.end d ps h.2 in
     rw (sum_by-cons (λ (q : PlacedCell). q.columns) (numbered es p) (map (numbered es) ps)) (omega arith)
 
--- a row has at most the table's columns
+-- the places of a row have together at most the table's columns
 pub fit-columns : (rows : List (List Span)) → AreValid rows →
     All (λ cells. sum_by (λ (q : PlacedCell). q.columns) cells < length (edges_of (placed_rows rows)))
     (map (map (numbered (edges_of (placed_rows rows)))) (placed_rows rows))

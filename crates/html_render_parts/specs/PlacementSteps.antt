@@ -1,5 +1,5 @@
--- Rows of a table as they are put together from the left, and one after another: a step has no result where a place would end
--- past the last position.
+-- Placement of a table's rows, step by step from the left, and row by row. A step is `None` if a place would end past
+-- 2^128 - 1.
 use Rattle.std.specs.Prelude.{◌≡◌, ℕ, ◌+◌, ◌^◌, ◌<◌, ◌≤◌, Bool, true, List, [], ◌∷◌, ◌++◌, Option, Some, None, All, length, max, map, drop, filter, nat_lt, nat_le, if◌then◌else◌}
 use Rattle.std.specs.List.{list_all}
 use Rattle.html_render_dom_values.specs.Outcome.{◌>>=◌}
@@ -13,8 +13,8 @@ use Rattle.html_render_parts.specs.Placement.{hangs_into, hanging, due_end, not_
 use Rattle.html_render_parts.specs.Grid.{numbered, positions_fit}
 use Rattle.html_render_parts.specs.TableCells.{CellGrid, spans_on}
 
--- a row on its way: its places, its own cells, the ends that it tells, the cells that hang into the next row, and where the next
--- place begins
+-- row under construction: its places, its own cells, the recorded ends, the cells that hang into the next row, and the
+-- position at which the next place begins
 pub record RowSoFar : Type 0 where
   pub places : List Place
   pub own : List Standing
@@ -22,60 +22,63 @@ pub record RowSoFar : Type 0 where
   pub kept : List Standing
   pub cursor : ℕ
 
+-- a row without places
 abbrev pub empty_row : RowSoFar
 empty_row = record { places = []; own = []; told = []; kept = []; cursor = 0 }
 
--- one place more, up to an end
+-- row with one more place, from the cursor to `end`
 abbrev pub put_to : CellKind → ℕ → RowSoFar → Option RowSoFar
 put_to kind end built =
     if nat_lt end (2 ^ 128) then Some
     (record built { places = built.places ++ (record { kind = kind; start = built.cursor; end = end }) ∷ []; cursor = end }) else None
 
--- one place more, of `columns` columns
+-- row with one more place, of `columns` columns from the cursor on
 abbrev pub put : CellKind → ℕ → RowSoFar → Option RowSoFar
 put kind columns built = put_to kind (built.cursor + columns) built
 
--- the end of the last place told
+-- row with the end of its last place recorded
 abbrev pub telling_end : RowSoFar → RowSoFar
 telling_end built = record built { told = built.told ++ built.cursor ∷ [] }
 
--- a cell of the row's own
+-- row with one more own cell
 abbrev pub owning : Standing → RowSoFar → RowSoFar
 owning c built = record built { own = built.own ++ c ∷ [] }
 
--- those of these cells of a row that hang into the next one
+-- row that also keeps those of the cells that hang into the row after `row`
 abbrev pub keeping : ℕ → List Standing → RowSoFar → RowSoFar
 keeping row cs built = record built { kept = built.kept ++ filter (hangs_into (row + 1)) cs }
 
--- a placeholder, which tells its end where it's displaced
+-- row with a placeholder at the cursor; its end is recorded if it is displaced, past its cell's own column
 abbrev pub with_hanging : Standing → RowSoFar → Option RowSoFar
 with_hanging h built = put Placeholder h.span.colspan built >>= λ l. Some (if nat_lt h.column built.cursor then telling_end l else l)
 
--- the hanging cells that are due
+-- row with the placeholders that are due
 abbrev pub with_due : ℕ → List Standing → RowSoFar → Option RowSoFar
 with_due row [] built = Some built
 with_due row (h ∷ hs) built =
     if nat_le h.column built.cursor then (with_hanging h built >>= λ l. with_due row hs (keeping row (h ∷ []) l)) else Some built
 
--- a cell of the row
+-- row of the number `row` with an own cell at the cursor
 abbrev pub with_own : ℕ → Span → RowSoFar → Option RowSoFar
 with_own row s built =
     let c : Standing = record { row = row; column = built.cursor; span = s } in
     put Cell s.colspan built >>= λ l. Some (keeping row (c ∷ []) (owning c (telling_end l)))
 
+-- row with a gap up to a column, if the cursor isn't there yet
 abbrev pub with_gap : ℕ → RowSoFar → Option RowSoFar
 with_gap column built = if nat_lt built.cursor column then put_to Gap column built else Some built
 
--- the hanging cells behind the row's cells
+-- row with the placeholders after its own cells
 abbrev pub with_rest : List Standing → RowSoFar → Option RowSoFar
 with_rest [] built = Some built
 with_rest (h ∷ hs) built = with_gap h.column built >>= λ l. with_hanging h l >>= λ m. with_rest hs m
 
+-- row with its own cells and all placeholders
 abbrev pub with_row : ℕ → List Span → List Standing → RowSoFar → Option RowSoFar
 with_row row [] hs built = with_rest hs built >>= λ l. Some (keeping row hs l)
 with_row row (s ∷ ss) hs built = with_due row hs built >>= λ l. with_own row s l >>= λ m. with_row row ss (not_due built.cursor hs) m
 
--- ---- the ends that a row tells: those of its own cells and of displaced placeholders
+-- ---- the recorded ends of a row: those of its own cells and of displaced placeholders
 
 abbrev pub displaced_end : ℕ → Standing → List ℕ
 displaced_end start h = if nat_lt h.column start then (start + h.span.colspan) ∷ [] else []
@@ -94,7 +97,7 @@ row_told cursor hs (s ∷ ss) = let next = due_end cursor hs + s.colspan in due_
 
 -- ---- one row after another
 
--- cells in order of own column
+-- whether each cell's own column is at least `n`, and whether cells are in order of own column
 abbrev pub AllFrom : ℕ → List Standing → Type 0
 AllFrom n [] = Unit {0}
 AllFrom n (c ∷ cs) = (n ≤ c.column) × AllFrom n cs
@@ -103,20 +106,22 @@ abbrev pub IsByColumn : List Standing → Type 0
 IsByColumn [] = Unit {0}
 IsByColumn (c ∷ cs) = AllFrom c.column cs × IsByColumn cs
 
--- the row that was placed last, and the cells that hang into the next one
+-- the last placed row, and the cells that hang into the next one
 pub record Placing : Type 0 where
   pub places : List Place
   pub own : List Standing
   pub told : List ℕ
   pub hanging : List Standing
 
+-- placement before the first row
 abbrev pub nothing_placed : Placing
 nothing_placed = record { places = []; own = []; told = []; hanging = [] }
 
+-- whether each place of a row ends below 2^128
 abbrev pub row_fits : List Place → Bool
 row_fits places = list_all (λ p. nat_lt p.end (2 ^ 128)) places
 
--- the next row of these cells
+-- placement of the row `row` with these own cells; `None` if a place would end past 2^128 - 1
 abbrev pub with_next : ℕ → List Span → Placing → Option Placing
 with_next row cells done =
     let hung = done.hanging in
@@ -128,7 +133,8 @@ with_next row cells done =
       hanging = hanging (row + 1) (hung ++ own);
     }) else None
 
--- the next row below the last one: the cells that hang there, without those that end first, hang into the one below it
+-- whether `next` places the next row below the last one: the cells that hang there, except for those that end first, hang
+-- into the row after it
 pub record IsNextBottom (done next : Placing) : Type 0 where
   pub row_end : ℕ
   pub rows : bottom_rows done.hanging ≡ next.places ∷ bottom_rows next.hanging
@@ -138,19 +144,21 @@ pub record IsNextBottom (done next : Placing) : Type 0 where
   pub hangs_on : next.hanging ≡ filter (hangs_into row_end) done.hanging
   pub fewer : length next.hanging < length done.hanging
 
--- rows, where they fit
+-- rows of places; `None` if one doesn't fit
 abbrev pub fitting : List (List Place) → Option (List (List Place))
 fitting rows = if positions_fit rows then Some rows else None
 
--- ---- the rows of a table that are ahead: those from one on, into which these cells hang
+-- ---- the rows of a table from `row` on, where `hung` are the cells that hang into `row`
 
+-- places of these rows, without numbers of columns
 abbrev pub places_ahead : CellGrid → ℕ → List Standing → List (List Place)
 places_ahead g row hung = rows_from row hung (drop row (spans_on g))
 
+-- places of these rows, with numbers of columns
 abbrev pub rows_ahead : CellGrid → ℕ → List Standing → List (List PlacedCell)
 rows_ahead g row hung = map (map (numbered g.edges)) (places_ahead g row hung)
 
--- they fit, and no place begins behind its end
+-- whether these rows fit, and no place in them begins after its end
 pub record AreAhead (g : CellGrid) (row : ℕ) (hung : List Standing) : Type 0 where
   pub within : row ≤ length g.rows
   pub fits : positions_fit (places_ahead g row hung) ≡ true

@@ -1,8 +1,8 @@
-//! The grid of a table: where each cell stands, and how many columns it has.
+//! The grid of a table: the place of each cell, and its number of columns.
 //!
-//! A row of one cell of three columns beside one of two columns and two rows,
-//! `table_grid(alloc, &rows)` with `rows` the one row `(3, 1), (2, 2)`, has the edges 0, 3 and 5: two columns.
-//! A second row, below the last one, holds a gap and a placeholder of one column each.
+//! For one row of a cell with colspan 3 and rowspan 1 and a cell with colspan 2 and rowspan 2, `table_grid(alloc, &rows)`
+//! has the edges 0, 3 and 5: two columns. Its second row, below the last one, has a gap and a placeholder of one column
+//! each.
 
 ghost use Rattle.std.specs.Prelude.{◌≡◌, ◌↔◌, ◌⊎◌, ◌<◌, ◌≤◌, ℕ, All, Any, Contains, IsTrue, IfOk, IfErr, Some, length, sum_by};
 ghost use Rattle.std.specs.List.Sorted.{IsStrictlyIncreasing};
@@ -19,45 +19,45 @@ mod placement;
 use html_render_dom_values::Error;
 use std::alloc::Global;
 
-/// How many columns and rows a cell asks for, each at least 1.
+/// Numbers of columns and rows that a cell spans. Each is at least 1 in a valid span.
 #[derive(Clone, Copy, Debug, PartialEq, Eq)]
 pub struct Span {
-    /// How many columns the cell spans.
+    /// Number of columns that the cell spans.
     pub colspan: u128,
-    /// How many rows the cell spans, its own included.
+    /// Number of rows that the cell spans, its own included.
     pub rowspan: u128,
 }
 
-/// What stands in a place of a table's row.
+/// Content of a place in a table's row.
 #[derive(Clone, Copy, Debug, PartialEq, Eq)]
 pub enum CellKind {
-    /// A cell of the row itself.
+    /// Cell of the row itself.
     Cell,
-    /// A cell of an earlier row that hangs into the row.
+    /// Slot covered by a cell of an earlier row that spans into this one.
     Placeholder,
-    /// An empty cell that fills the room before a placeholder.
+    /// Empty slot before a placeholder.
     Gap,
 }
 
-/// A cell, placeholder or gap where it stands in its row.
+/// Cell, placeholder or gap, with its place in its row.
 #[derive(Clone, Copy, Debug, PartialEq, Eq)]
 pub struct PlacedCell {
-    /// What stands there.
+    /// Content of the place.
     pub kind: CellKind,
-    /// The position at which it begins: 0, or the end of the one before.
+    /// Position of the start: 0, or the end of the place before.
     pub start: u128,
-    /// The position before which it ends.
+    /// Position of the end, which isn't part of the place.
     pub end: u128,
-    /// How many columns of the grid it has, at least 1.
+    /// Number of grid columns, at least 1.
     pub columns: usize,
 }
 
-/// Where the cells of a table stand.
+/// Grid of a table: its edges, and the places of its cells.
 #[derive(Debug, PartialEq, Eq, Drop)]
 pub struct TableGrid {
-    /// 0 and the ends of all placed cells, each once, in rising order: one more than there are columns.
+    /// Edges of the columns: 0 and the ends of all places, each once, rising. There is one more than there are columns.
     pub edges: Vec<u128>,
-    /// The table's rows, and then one for each end of a span below the last row.
+    /// Places of each row: the table's own rows, and then one for each distinct end of a row span below the last row.
     pub rows: Vec<Vec<PlacedCell>>,
 }
 
@@ -77,33 +77,37 @@ fn rows_are_valid(rows: &[Vec<Span>]) -> bool
     rows.iter().all(|cells| row_is_valid(cells))
 }
 
-/// Whether each cell spans at least one column and one row, as [`table_grid`] asks. It takes no memory.
+/// Whether each cell of each row spans at least one column and one row, as [`table_grid`] requires. Allocates nothing.
 pub fn spans_are_valid(rows: &[Vec<Span>]) -> bool
     ensures { IsTrue result ↔ AreValid (lists rows.now) }
 {
     rows_are_valid(rows)
 }
 
-/// The grid of a table's rows.
+/// Returns the grid of a table's rows.
 ///
-/// Rows are placed from above. A cell whose rowspan reaches past its own row is a placeholder in the rows that it
-/// hangs into, below the last row too. The columns are the fewest that keep the order of all edges.
+/// Rows are placed from the first on, each from position 0. A cell that spans further rows has a placeholder in each of
+/// them. Below the last row follows one row for each distinct end of a row span there, with a placeholder for each cell that
+/// reaches it. The columns are the fewest that keep the order of all edges.
+///
+/// The caller ensures that each span is at least 1 (see [`spans_are_valid`]).
 ///
 /// # Errors
 ///
-/// `Fail` exactly where a cell, placeholder or gap would end past `u128::MAX`, and `OutOfMemory`.
+/// - `Fail`, exactly if a cell, placeholder or gap would end past `u128::MAX`.
+/// - `OutOfMemory`.
 pub fn table_grid(alloc: Global, rows: &[Vec<Span>]) -> Result<TableGrid, Error>
     requires { AreValid (lists rows.now) }
     ensures ok { IfOk result (λ g. grid_of (lists rows.now) ≡ Some (shown g)) }
     ensures err { IfErr result (λ e. Fails e (grid_of (lists rows.now))) }
 
-    // A row's cells stand side by side from 0 on. Each has a column, and together they have no more than the table.
+    // the places of a row are side by side from 0 on; each has a column, and all together no more than the table has
     ensures side_by_side { IfOk result (λ g. All (AreSideBySide 0) (lists g.rows.items)) }
     ensures columns { IfOk result (λ g. All (λ cells. All (λ c. 1 ≤ c.columns) cells) (lists g.rows.items)) }
     ensures in_table { IfOk result (λ g. All (λ cells. sum_by (λ c. c.columns) cells < length g.edges.items) (lists g.rows.items)) }
 
-    // The edges are 0 and the ends of all cells, and rise. They are numbered in their order, and no numbering in their
-    // order has a smaller number.
+    // the edges are 0 and the ends of all places, rising; their numbers are in this order, and no numbering in this order
+    // has a smaller number for any edge
     ensures edges { IfOk result (λ g. (e : ℕ) → Contains g.edges.items e
         ↔ ((e ≡ 0) ⊎ Any (λ cells. Any (λ c. c.end ≡ e) cells) (lists g.rows.items))) }
     ensures rising { IfOk result (λ g. IsStrictlyIncreasing g.edges.items) }

@@ -1,23 +1,23 @@
--- How an error's word of a definition goes on to others.
+-- An error of a definition is an error of what continues it.
 use Rattle.std.specs.Prelude.{◌≡◌, Option, Some, None, option_and_then, refl}
 use Rattle.html_render_dom_values.specs.declared.errors.Error.{Error}
 use Rattle.html_render_dom_values.specs.declared.errors.Error.TheVariants.{TooNarrow, Fail, OutOfMemory}
 use Rattle.html_render_parts.specs.Refusal.{Fails}
 
--- what has no answer has none with more after it
+-- an error of a definition is one of the definition followed by another step
 pub Fails-then : {X Y : Type 0} (e : Error) (o : Option X) (f : X → Option Y) → Fails e o → Fails e (option_and_then f o)
 Fails-then TooNarrow o f h = absurd h
 Fails-then Fail None f h = refl
 Fails-then Fail (Some x) f h = cc
 Fails-then OutOfMemory o f h = tt
 
--- the same once the definition has an answer so far
+-- an error of a definition is one of any equal definition
 pub Fails-same : {X : Type 0} (e : Error) (o p : Option X) → o ≡ p → Fails e p → Fails e o
 Fails-same TooNarrow o p q h = absurd h
 Fails-same Fail o p q h = cc
 Fails-same OutOfMemory o p q h = tt
 
--- running out of memory says nothing
+-- out of memory is possible for any definition
 pub Fails-memory : {X : Type 0} (e : Error) (o : Option X) → e ≡ OutOfMemory → Fails e o
 Fails-memory OutOfMemory o h = tt
 Fails-memory e o h = cc

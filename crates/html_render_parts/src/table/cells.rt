@@ -1,7 +1,8 @@
-//! The cells of a table on the columns of its grid, and what stands in each of its rows.
+//! Cells of a table on the columns of its grid, and the places in each of its rows.
 //!
-//! A row of one cell of three columns beside one of two columns and two rows has cells over one column each. What stands in the
-//! rows follows from these and from the edges: the cells in the first row, and a gap and a placeholder in the one below it.
+//! In a row of a cell with colspan 3 and rowspan 1 and a cell with colspan 2 and rowspan 2, each cell has one column. The
+//! places follow from the cells and the edges: the two cells in the first row, and a gap and a placeholder in the row below
+//! it.
 
 ghost use Rattle.std.specs.Prelude.{◌≡◌, ◌+◌, ◌^◌, ◌≤◌, ◌<◌, ◌∷◌, [], All, Some, length, map, IsTrue, IfOk, IfErr, OnOk, MatchBool, MatchOption};
 ghost use Rattle.std.specs.List.Sorted.{IsStrictlyIncreasing};
@@ -18,27 +19,27 @@ use html_render_dom_values::Error;
 use std::alloc::{AllocError, Global};
 use std::marker::Model;
 
-/// A cell of a table on the columns of its grid.
+/// Cell of a table on the columns of its grid.
 #[derive(Clone, Copy)]
 pub struct GridCell {
-    /// How many rows it spans, its own included, at least 1.
+    /// Number of rows that the cell spans, its own included, at least 1.
     pub rowspan: u128,
-    /// The first of its columns, counted from 0.
+    /// First column, from 0.
     pub first: usize,
-    /// How many columns it has, at least 1.
+    /// Number of columns, at least 1.
     pub columns: usize,
 }
 
-/// The cells of a table at their own columns, row by row, and the edges of its grid.
+/// Cells of a table at their own columns, row by row, and the edges of its grid.
 #[derive(Drop)]
 struct PlacedCells {
-    /// The edges, rising.
+    /// Edges, rising.
     edges: Vec<u128>,
-    /// The cells of each row.
+    /// Own cells of each row.
     own: Vec<Vec<Standing>>,
 }
 
-/// Places the rows of a table, and keeps its cells and edges of them.
+/// Places the rows of a table, and returns their own cells and the edges. The other places aren't stored.
 fn place_cells(alloc: Global, rows: &[Vec<Span>]) -> Result<PlacedCells, Error>
     ensures fits { IfOk result (λ p. IsTrue (positions_fit (placed_rows (lists rows.now)))) }
     ensures edges { IfOk result (λ p. p.edges.items ≡ edges_of (placed_rows (lists rows.now))) }
@@ -60,7 +61,7 @@ fn place_cells(alloc: Global, rows: &[Vec<Span>]) -> Result<PlacedCells, Error>
     Ok(PlacedCells { edges, own })
 }
 
-/// A cell on the columns of its grid, the first of which is guessed.
+/// Returns a cell on the columns of its grid. `guess` is the expected first column: it saves a search if it is right.
 fn cell_on(edges: &[u128], cell: &Standing, guess: usize) -> GridCell
     requires rising { IsStrictlyIncreasing edges.now }
     requires fits { cell.now.column + cell.now.span.colspan < 2 ^ 128 }
@@ -79,7 +80,7 @@ fn cell_on(edges: &[u128], cell: &Standing, guess: usize) -> GridCell
     }
 }
 
-/// The cells of a row on the columns of their grid.
+/// Returns the cells of a row on the columns of their grid.
 fn row_on(alloc: Global, edges: &[u128], cells: &[Standing]) -> Result<Vec<GridCell>, AllocError>
     requires rising { IsStrictlyIncreasing edges.now }
     requires fits { All (λ c. c.column + c.span.colspan < 2 ^ 128) cells.now }
@@ -95,7 +96,7 @@ fn row_on(alloc: Global, edges: &[u128], cells: &[Standing]) -> Result<Vec<GridC
     Ok(row)
 }
 
-/// The cells of all rows on the columns of their grid.
+/// Returns the cells of all rows on the columns of their grid.
 fn rows_on_columns(
     alloc: Global,
     edges: &[u128],
@@ -112,7 +113,7 @@ fn rows_on_columns(
     Ok(rows)
 }
 
-/// A copy of the cells of all rows.
+/// Returns a copy of the cells of all rows.
 fn copied_rows(alloc: Global, rows: &[Vec<GridCell>]) -> Result<Vec<Vec<GridCell>>, AllocError>
     ensures { IfOk result (λ v. lists v.items ≡ lists rows.now) }
 {
@@ -123,7 +124,7 @@ fn copied_rows(alloc: Global, rows: &[Vec<GridCell>]) -> Result<Vec<Vec<GridCell
     Ok(copy)
 }
 
-/// Puts what the cells of a row span in place of other spans.
+/// Replaces `spans` by the spans of a row's cells.
 fn put_spans(spans: &mut Vec<Span>, edges: &[u128], cells: &[GridCell]) -> Result<(), AllocError>
     requires rising { IsStrictlyIncreasing edges.now }
     requires on_edges { All (λ c. c.first + c.columns < length edges.now) cells.now }
@@ -139,12 +140,12 @@ fn put_spans(spans: &mut Vec<Span>, edges: &[u128], cells: &[GridCell]) -> Resul
     Ok(())
 }
 
-/// The cells of a table, row by row, and the edges of its grid.
+/// Cells of a table on the columns of its grid, row by row, and the edges of the grid.
 #[derive(Drop)]
 pub struct TableCells {
-    /// 0 and the ends of all places, each once, in rising order: one more than there are columns.
+    /// Edges: 0 and the ends of all places, each once, rising. There is one more than there are columns.
     edges: Vec<u128>,
-    /// The cells of each row.
+    /// Own cells of each row.
     rows: Vec<Vec<GridCell>>,
 }
 
@@ -160,11 +161,13 @@ impl Model for TableCells {
 }
 
 impl TableCells {
-    /// The cells of rows that ask for this, on the columns of their grid.
+    /// Returns the cells with these spans, row by row, on the columns of their grid. The caller ensures that each span is at
+    /// least 1.
     ///
     /// # Errors
     ///
-    /// `Fail` exactly where a cell, placeholder or gap would end past `u128::MAX`, and `OutOfMemory`.
+    /// - `Fail`, exactly if a cell, placeholder or gap would end past `u128::MAX`.
+    /// - `OutOfMemory`.
     pub fn new(alloc: Global, rows: &[Vec<Span>]) -> Result<TableCells, Error>
         requires { AreValid (lists rows.now) }
         ensures ok { IfOk result (λ cells. cell_grid_of (lists rows.now) ≡ Some cells) }
@@ -178,7 +181,7 @@ impl TableCells {
         })
     }
 
-    /// The edges of the grid: 0 and the ends of all places, each once, in rising order.
+    /// Returns the edges of the grid: 0 and the ends of all places, each once, rising.
     fn edges(&self) -> &[u128]
         ensures edges { result.now ≡ self.now.edges }
         ensures rising { IsStrictlyIncreasing result.now }
@@ -186,14 +189,14 @@ impl TableCells {
         self.edges.as_slice()
     }
 
-    /// How many columns the table has.
+    /// Returns the number of columns of the table.
     pub fn columns(&self) -> usize
         ensures { result ≡ columns_of self.now }
     {
         self.edges.len().saturating_sub(1)
     }
 
-    /// The cells of each row.
+    /// Returns the own cells of each row, without placeholders and gaps.
     pub fn rows(&self) -> &[Vec<GridCell>]
         ensures rows { lists result.now ≡ self.now.rows }
         ensures on_columns { All (λ cells. All (λ c. (c.first + c.columns ≤ columns_of self.now) × (0 < c.columns)) cells) self.now.rows }
@@ -201,7 +204,7 @@ impl TableCells {
         self.rows.as_slice()
     }
 
-    /// A copy.
+    /// Returns a copy.
     ///
     /// # Errors
     ///
@@ -215,7 +218,7 @@ impl TableCells {
         Ok(TableCells { edges, rows })
     }
 
-    /// What stands in the rows of the table, from the first on, to be asked for row by row.
+    /// Returns an iterator over the rows of the table, from the first on, with the places in each.
     ///
     /// # Errors
     ///
@@ -228,11 +231,11 @@ impl TableCells {
         Ok(RowsAhead { left: Some(left) })
     }
 
-    /// The same, in place.
+    /// Returns the rows of the table, from the first on, without an allocation.
     fn into_placer(self, alloc: Global) -> RowsLeft
         ensures { result ≡ rows_on self }
     {
-        // the proof reads here what the cells of each table are
+        // the proof reads here that these are the cells of a table
         let _ = &self.edges;
         RowsLeft {
             cells: self,
@@ -243,7 +246,7 @@ impl TableCells {
     }
 }
 
-/// Places the next row of a table, and answers whether there is one.
+/// Places the next row of a table, and returns whether there is one.
 fn place_next(
     cells: &TableCells,
     row: &mut usize,
@@ -268,16 +271,16 @@ fn place_next(
     }
 }
 
-/// What places the rows of a table that are ahead, and the memory that this takes.
+/// Rows of a table that aren't placed yet, and the state of their placement.
 #[derive(Drop)]
 struct RowsLeft {
-    /// The cells of the table.
+    /// Cells of the table.
     cells: TableCells,
-    /// How many of the table's own rows were placed.
+    /// Number of the table's own rows that are placed.
     row: usize,
-    /// What places the rows.
+    /// Placement of the rows.
     placer: RowPlacer,
-    /// What the cells of the row that was placed last span.
+    /// Buffer for the spans of a row's own cells.
     spans: Vec<Span>,
 }
 
@@ -295,7 +298,8 @@ impl Model for RowsLeft {
 }
 
 impl RowsLeft {
-    /// What stands in the next row, from the first column on: cells, placeholders and gaps. There is none behind the last row.
+    /// Returns the places of the next row, from the first column on: cells, placeholders and gaps. `None` after the last
+    /// row.
     fn next(&mut self, alloc: Global) -> Result<Option<Vec<PlacedCell>>, Error>
         ensures ok { IfOk result (λ row. MatchOption row ((self.old ≡ []) × (self.new ≡ [])) (λ places. self.old ≡ places.items ∷ self.new)) }
         ensures err { IfErr result (λ e. e ≡ Error.OutOfMemory) }
@@ -313,7 +317,7 @@ impl RowsLeft {
         Ok(Some(places))
     }
 
-    /// Whether all rows were placed.
+    /// Whether all rows are placed.
     fn is_over(&self) -> bool
         ensures { IsTrue result → self.now ≡ [] }
     {
@@ -321,11 +325,12 @@ impl RowsLeft {
     }
 }
 
-/// The rows of a table that are ahead: its own, and behind these one for each end of a span below the last row. Each is placed
-/// when it is asked for, and behind the last one no memory is held.
+/// Iterator over the rows of a table: its own, and then one for each distinct end of a row span below the last row.
+///
+/// A row is placed when it is asked for. After the last row, no memory is held.
 #[derive(Drop)]
 pub struct RowsAhead {
-    /// What places them, while there are any.
+    /// Rows that aren't placed yet; `None` after the last row.
     left: Option<Box<RowsLeft>>,
 }
 
@@ -339,7 +344,8 @@ impl Model for RowsAhead {
 }
 
 impl RowsAhead {
-    /// What stands in the next row, from the first column on: cells, placeholders and gaps. There is none behind the last row.
+    /// Returns the places of the next row, from the first column on: cells, placeholders and gaps. `None` after the last
+    /// row.
     ///
     /// # Errors
     ///

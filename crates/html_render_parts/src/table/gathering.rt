@@ -1,4 +1,4 @@
-//! The edges of a table's grid, gathered row by row.
+//! Edges of a table's grid, gathered row by row.
 
 ghost use Rattle.std.specs.Prelude.{◌≡◌, ◌++◌, ◌∷◌, [], IfOk, OnOk};
 ghost use Rattle.html_render_parts.specs.Placement.{rising};
@@ -7,15 +7,18 @@ use crate::table::numbering::make_rising;
 use std::alloc::{AllocError, Global};
 use std::marker::Model;
 
-/// Fewer positions than this needn't be put in order.
+/// Minimum limit: fewer positions are only sorted at the end.
 const FEWEST: usize = 16;
 
-/// Positions that are gathered. They take no more memory than twice as many as are different, and those that came last.
+/// Growing set of positions. Between two additions it holds fewer than 16, or than twice the distinct ones when it was last
+/// sorted, whichever is more.
+///
+/// In contracts, it is the distinct positions, rising.
 #[derive(Drop)]
 pub(crate) struct Positions {
-    /// The positions, some of them more than once.
+    /// Positions, unsorted and with duplicates.
     gathered: Vec<u128>,
-    /// How many they may become before they are put in order, each once.
+    /// Number of positions at which they are sorted and duplicates removed.
     limit: usize,
 }
 
@@ -30,7 +33,7 @@ impl Model for Positions {
 }
 
 impl Positions {
-    /// The position 0 alone.
+    /// Returns the set of position 0 alone.
     pub(crate) fn zero(alloc: Global) -> Result<Positions, AllocError>
         ensures { IfOk result (λ p. p ≡ 0 ∷ []) }
     {
@@ -42,11 +45,11 @@ impl Positions {
         })
     }
 
-    /// Gathers more positions.
+    /// Adds positions.
     pub(crate) fn add(&mut self, positions: &[u128]) -> Result<(), AllocError>
         ensures { OnOk result (self.new ≡ rising (self.old ++ positions.now)) }
     {
-        // the rows of most tables end their cells where the row before did
+        // in most tables, the cells of a row end at the positions of the row before
         if self.gathered.as_slice().ends_with(positions) {
             return Ok(());
         }
@@ -58,7 +61,7 @@ impl Positions {
         Ok(())
     }
 
-    /// The positions that were gathered, in rising order, each once.
+    /// Returns the positions, each once, rising.
     pub(crate) fn into_rising(self) -> Result<Vec<u128>, AllocError>
         ensures { IfOk result (λ v. v.items ≡ self) }
     {

@@ -1,4 +1,4 @@
-//! Laws of the grid of a table, each the contract of a function that does nothing.
+//! Laws of the grid of a table. Each is the contract of an empty function.
 
 ghost use Rattle.std.specs.Prelude.{◌≡◌, ◌↔◌, ◌⊎◌, ◌&&◌, ◌+◌, ◌<◌, ◌≤◌, ℕ, Bool, List, [], Some, All, Any, Contains, length, map, take, drop, count_by, option_map, slice_index_or, sum_by};
 ghost use Rattle.std.specs.List.Sorted.{IsStrictlyIncreasing};
@@ -12,8 +12,11 @@ ghost use Rattle.html_render_parts.specs.CellsAbove.{cells_above, own_rows};
 use super::Span;
 use super::placement::Standing;
 
-/// The cells of a table on the columns of its grid agree with the grid: they have its edges, what is in each row is what the grid
-/// has there, and each cell begins and ends at the numbers of its edges. None are refused but where the grid is.
+/// States that the cells of a table on the columns of its grid agree with the grid:
+///
+/// - They have its edges, and are refused exactly if the grid is.
+/// - The places of their rows are those of the grid.
+/// - Each cell begins and ends at the numbers of its edges. The rows below the last one have none.
 fn cells_are_those_of_the_grid()
     ensures grid { (rows : List (List Span)) → grid_of rows ≡ option_map (λ g. (g.edges, rows_on g)) (cell_grid_of rows) }
     ensures tables { (g : CellGrid) → IsCellGrid g → grid_of (spans_on g) ≡ Some (g.edges, rows_on g) }
@@ -24,8 +27,8 @@ fn cells_are_those_of_the_grid()
         → All (λ places. cells_in g.edges places ≡ []) (drop (length rows) (rows_on g)) }
 {}
 
-/// The edges of a table's cells are 0 and the ends of all that is in its rows, and rise. They are numbered in their order, and no
-/// numbering in their order has a smaller number.
+/// States that the edges of a table's cells are 0 and the ends of all places in its rows, rising; and that their numbers are
+/// in this order, and no numbering in this order has a smaller number for any edge.
 fn cells_have_the_least_numbering()
     ensures edges { (rows : List (List Span)) (g : CellGrid) → cell_grid_of rows ≡ Some g → (e : ℕ) → Contains g.edges e
         ↔ ((e ≡ 0) ⊎ Any (λ places. Any (λ p. p.end ≡ e) places) (rows_on g)) }
@@ -34,16 +37,16 @@ fn cells_have_the_least_numbering()
     ensures least { (rows : List (List Span)) (g : CellGrid) → cell_grid_of rows ≡ Some g → IsLeastNumbering g.edges (rank g.edges) }
 {}
 
-/// What is in each row of a table is side by side from 0 on. Each cell, placeholder and gap has a column, and those of a row have
-/// together no more than the table.
+/// States that the places of each row of a table are side by side from 0 on, that each has a column, and that those of a row
+/// have together no more columns than the table.
 fn rows_of_cells_are_side_by_side()
     ensures side_by_side { (g : CellGrid) → IsCellGrid g → All (AreSideBySide 0) (rows_on g) }
     ensures columns { (g : CellGrid) → IsCellGrid g → All (λ places. All (λ p. 1 ≤ p.columns) places) (rows_on g) }
     ensures in_table { (g : CellGrid) → IsCellGrid g → All (λ places. sum_by (λ p. p.columns) places ≤ columns_of g) (rows_on g) }
 {}
 
-/// The cells that hang into a row are all cells of the rows above it whose own row and rowspan together pass its number, each as
-/// often as it is there, in order of own column.
+/// States that the cells that hang into a row are all cells of the rows above it whose own row and rowspan have a sum above
+/// its number, each as often as it is there, in order of own column.
 fn cells_hang_from_all_rows_above()
     ensures rows { (rows : List (List Span)) (row : ℕ) → row < length rows
         → slice_index_or (placed_rows rows) row [] ≡ row_from 0 (hanging row (cells_above row rows)) (slice_index_or rows row []) }

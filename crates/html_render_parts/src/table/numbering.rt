@@ -1,4 +1,4 @@
-//! The edges of a table's grid, and the numbers of its columns.
+//! Edges of a table's grid, and the numbers of columns of its places.
 
 ghost use Rattle.std.specs.Prelude.{◌≡◌, ◌≤◌, ◌∷◌, ◌++◌, All, map, IfOk, OnOk};
 ghost use Rattle.std.specs.List.Sorted.{IsStrictlyIncreasing};
@@ -9,7 +9,7 @@ use crate::table::PlacedCell;
 use crate::table::placement::Place;
 use std::alloc::{AllocError, Global};
 
-/// Puts the ends of a row's places behind other positions.
+/// Appends the ends of a row's places.
 fn push_ends(positions: &mut Vec<u128>, places: &[Place]) -> Result<(), AllocError>
     ensures { OnOk result (positions.new.items ≡ positions.old.items ++ map (λ p. p.end) places.now) }
 {
@@ -19,7 +19,7 @@ fn push_ends(positions: &mut Vec<u128>, places: &[Place]) -> Result<(), AllocErr
     Ok(())
 }
 
-/// 0 and the ends of all places.
+/// Returns 0 and the ends of all places, in order of rows.
 fn zero_and_ends(alloc: Global, placed: &[Vec<Place>]) -> Result<Vec<u128>, AllocError>
     ensures { IfOk result (λ v. v.items ≡ 0 ∷ ends (lists placed.now)) }
 {
@@ -31,7 +31,7 @@ fn zero_and_ends(alloc: Global, placed: &[Vec<Place>]) -> Result<Vec<u128>, Allo
     Ok(positions)
 }
 
-/// Puts positions in rising order, each once.
+/// Sorts positions, rising, and removes duplicates.
 pub(crate) fn make_rising(positions: &mut Vec<u128>) -> Result<(), AllocError>
     ensures { OnOk result (positions.new.items ≡ rising positions.old.items) }
 {
@@ -40,7 +40,7 @@ pub(crate) fn make_rising(positions: &mut Vec<u128>) -> Result<(), AllocError>
     Ok(())
 }
 
-/// The edges of a grid, rising: 0 and the ends of all places, each once.
+/// Returns the edges of a grid: 0 and the ends of all places, each once, rising.
 pub(crate) fn edges_of(alloc: Global, placed: &[Vec<Place>]) -> Result<Vec<u128>, AllocError>
     ensures edges { IfOk result (λ v. v.items ≡ edges_of (lists placed.now)) }
     ensures rising { IfOk result (λ v. IsStrictlyIncreasing v.items) }
@@ -50,7 +50,7 @@ pub(crate) fn edges_of(alloc: Global, placed: &[Vec<Place>]) -> Result<Vec<u128>
     Ok(edges)
 }
 
-/// How many edges are below a position.
+/// Returns the number of edges below a position.
 pub(crate) fn rank(edges: &[u128], position: u128) -> usize
     requires { IsStrictlyIncreasing edges.now }
     ensures { result ≡ rank edges.now position }
@@ -58,7 +58,8 @@ pub(crate) fn rank(edges: &[u128], position: u128) -> usize
     edges.partition_point(|edge| *edge < position)
 }
 
-/// How many edges are below a position. They are searched only where a guess is wrong.
+/// Returns the number of edges below a position. `guess` is the expected result: it saves a search if it is right and below
+/// the number of edges.
 pub(crate) fn rank_near(edges: &[u128], position: u128, guess: usize) -> usize
     requires { IsStrictlyIncreasing edges.now }
     ensures { result ≡ rank edges.now position }
@@ -78,7 +79,7 @@ pub(crate) fn rank_near(edges: &[u128], position: u128, guess: usize) -> usize
     rank(edges, position)
 }
 
-/// A row's places with their columns counted.
+/// Returns a row's places, each with its number of columns.
 pub(crate) fn numbered_row(
     alloc: Global,
     edges: &[u128],
@@ -103,7 +104,7 @@ pub(crate) fn numbered_row(
     Ok(cells)
 }
 
-/// All rows with their cells' columns counted.
+/// Returns the places of all rows, each with its number of columns.
 pub(crate) fn numbered_rows(
     alloc: Global,
     edges: &[u128],

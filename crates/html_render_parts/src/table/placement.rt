@@ -1,4 +1,4 @@
-//! Where the cells of a table stand, before its edges have numbers.
+//! Positions of a table's cells in its rows, before the edges are numbered.
 
 ghost use Rattle.std.specs.Prelude.{◌≡◌, ◌↔◌, ◌≤◌, ◌∷◌, nat_lt, [], Some, filter, IsTrue, IfOk, OnOk, IfErr, MatchBool, MatchOption, Contains, All};
 ghost use Rattle.html_render_parts.specs.Placement.{bottom_rows, end_of, hangs_into, lists, not_due, placed_rows};
@@ -12,30 +12,30 @@ use std::alloc::Global;
 use std::marker::Model;
 use std::mem;
 
-/// A cell at its own column of its own row.
+/// Cell of the table with its own row and its own column.
 #[derive(Clone, Copy)]
 pub(crate) struct Standing {
-    /// The row, counted from 0.
+    /// Own row, from 0.
     row: usize,
-    /// The position at which the cell begins in its own row.
+    /// Own column: the position at which the cell begins in its own row.
     pub column: u128,
-    /// How many columns and rows it asks for.
+    /// Columns and rows that the cell spans.
     pub span: Span,
 }
 
-/// A part of a row that is taken: by a cell, a placeholder or a gap.
+/// Place in a row: that of a cell, a placeholder or a gap.
 #[derive(Clone, Copy)]
 pub(crate) struct Place {
-    /// What stands there.
+    /// Content of the place.
     pub kind: CellKind,
-    /// The position at which it begins.
+    /// Position of the start.
     pub start: u128,
-    /// The position before which it ends.
+    /// Position of the end, which isn't part of the place.
     pub end: u128,
 }
 
 impl Standing {
-    /// Whether the cell reaches into a row.
+    /// Whether the cell's last row is `row` or below it.
     fn hangs_into(&self, row: u128) -> bool
         ensures { result ≡ hangs_into row self.now }
     {
@@ -43,7 +43,7 @@ impl Standing {
         row < own || row - own < self.span.rowspan
     }
 
-    /// Whether the cell's last row is before another's.
+    /// Whether the cell's last row is above that of `other`.
     fn ends_before(&self, other: &Standing) -> bool
         ensures { result ≡ nat_lt (end_of self.now) (end_of other.now) }
     {
@@ -57,18 +57,18 @@ impl Standing {
     }
 }
 
-/// A row that is being placed.
+/// Row under construction, from the left.
 #[derive(Drop)]
 struct RowBuilder {
-    /// The places so far.
+    /// Places so far.
     places: Vec<Place>,
     /// The row's own cells so far.
     own: Vec<Standing>,
-    /// The ends so far, but for those of placeholders at their cell's own column, where the cell ends, and of gaps.
+    /// Ends of the own cells and of the displaced placeholders so far. Each other end is an edge of a cell above.
     told: Vec<u128>,
-    /// Those of the cells so far that hang into the next row, in the order in which they were placed.
+    /// Cells so far that hang into the next row, in the order in which they were placed.
     kept: Vec<Standing>,
-    /// Where the next place begins.
+    /// Position at which the next place begins.
     cursor: u128,
 }
 
@@ -87,7 +87,7 @@ impl Model for RowBuilder {
 }
 
 impl RowBuilder {
-    /// A row without places.
+    /// Returns a row without places.
     fn new(alloc: Global) -> RowBuilder
         ensures { result ≡ empty_row }
     {
@@ -100,7 +100,7 @@ impl RowBuilder {
         }
     }
 
-    /// Begins a new row.
+    /// Empties the row, and keeps its buffers.
     fn clear(&mut self)
         ensures { self.new ≡ empty_row }
     {
@@ -111,35 +111,35 @@ impl RowBuilder {
         self.cursor = 0;
     }
 
-    /// Where the next place begins.
+    /// Returns the position at which the next place begins.
     fn cursor(&self) -> u128
         ensures { result ≡ self.now.cursor }
     {
         self.cursor
     }
 
-    /// The places so far.
+    /// Returns the places so far.
     fn places(&self) -> &[Place]
         ensures { result.now ≡ self.now.places }
     {
         &self.places
     }
 
-    /// The row's own cells so far.
+    /// Returns the row's own cells so far.
     fn own(&self) -> &[Standing]
         ensures { result.now ≡ self.now.own }
     {
         &self.own
     }
 
-    /// The ends that were told so far.
+    /// Returns the ends that were recorded so far.
     fn told(&self) -> &[u128]
         ensures { result.now ≡ self.now.told }
     {
         &self.told
     }
 
-    /// Takes what stands up to an end.
+    /// Appends a place from the cursor to `end`.
     fn put_to(&mut self, kind: CellKind, end: u128) -> Result<(), Error>
         ensures ok { OnOk result (put_to kind end self.old ≡ Some self.new) }
         ensures err { IfErr result (λ e. Fails e (put_to kind end self.old)) }
@@ -150,7 +150,7 @@ impl RowBuilder {
         Ok(())
     }
 
-    /// Takes `columns` columns.
+    /// Appends a place of `columns` columns at the cursor. `Fail` if it would end past `u128::MAX`.
     fn put(&mut self, kind: CellKind, columns: u128) -> Result<(), Error>
         ensures ok { OnOk result (put kind columns self.old ≡ Some self.new) }
         ensures err { IfErr result (λ e. Fails e (put kind columns self.old)) }
@@ -161,7 +161,7 @@ impl RowBuilder {
         }
     }
 
-    /// Tells the end of the last place.
+    /// Records the end of the last place.
     fn tell_end(&mut self) -> Result<(), Error>
         ensures ok { OnOk result (self.new ≡ telling_end self.old) }
         ensures err { IfErr result (λ e. e ≡ Error.OutOfMemory) }
@@ -171,7 +171,7 @@ impl RowBuilder {
         Ok(())
     }
 
-    /// Keeps a cell of a row where it hangs into the next one.
+    /// Keeps a cell, placed in the row `row`, if it hangs into the next one.
     fn keep(&mut self, row: usize, cell: Standing) -> Result<(), Error>
         ensures ok { OnOk result (self.new ≡ keeping row (cell ∷ []) self.old) }
         ensures err { IfErr result (λ e. e ≡ Error.OutOfMemory) }
@@ -182,7 +182,7 @@ impl RowBuilder {
         Ok(())
     }
 
-    /// Keeps those cells of a row that hang into the next one.
+    /// Keeps those of the cells, placed in the row `row`, that hang into the next one.
     fn keep_all(&mut self, row: usize, cells: &[Standing]) -> Result<(), Error>
         ensures ok { OnOk result (self.new ≡ keeping row cells.now self.old) }
         ensures err { IfErr result (λ e. e ≡ Error.OutOfMemory) }
@@ -202,7 +202,7 @@ impl RowBuilder {
         Ok(())
     }
 
-    /// Places a hanging cell at the cursor.
+    /// Places the placeholder of a hanging cell at the cursor. If that is past the cell's own column, records the end.
     fn put_hanging(&mut self, cell: Standing) -> Result<(), Error>
         ensures ok { OnOk result (with_hanging cell self.old ≡ Some self.new) }
         ensures err { IfErr result (λ e. Fails e (with_hanging cell self.old)) }
@@ -215,7 +215,7 @@ impl RowBuilder {
         Ok(())
     }
 
-    /// Places a cell of the row at the cursor.
+    /// Places one of the row's own cells at the cursor.
     fn put_own(&mut self, row: usize, span: Span) -> Result<(), Error>
         ensures ok { OnOk result (with_own row span self.old ≡ Some self.new) }
         ensures err { IfErr result (λ e. Fails e (with_own row span self.old)) }
@@ -228,7 +228,7 @@ impl RowBuilder {
         self.keep(row, cell)
     }
 
-    /// Fills the room up to a column.
+    /// Places a gap up to a column, if the cursor isn't there yet.
     fn put_gap(&mut self, column: u128) -> Result<(), Error>
         ensures ok { OnOk result (with_gap column self.old ≡ Some self.new) }
         ensures err { IfErr result (λ e. Fails e (with_gap column self.old)) }
@@ -239,7 +239,8 @@ impl RowBuilder {
         Ok(())
     }
 
-    /// Places the hanging cells that are due at the cursor, and answers the others.
+    /// Places the placeholders that are due, those of hanging cells whose own column is at most the cursor. Returns the
+    /// cells that aren't due yet.
     fn put_due<'a>(&mut self, row: usize, hanging: &'a [Standing]) -> Result<&'a [Standing], Error>
         ensures ok { OnOk result (with_due row hanging.now self.old ≡ Some self.new) }
         ensures rest { IfOk result (λ rest. rest.now ≡ not_due self.old.cursor hanging.now) }
@@ -255,7 +256,8 @@ impl RowBuilder {
         Ok(&hanging[hanging.len()..])
     }
 
-    /// Places the hanging cells behind the row's cells, each at its own column or, where that is taken, at the cursor.
+    /// Places the placeholders after the row's own cells, each at the greater of the cursor and its cell's own column, after
+    /// a gap if there is room.
     fn put_rest(&mut self, hanging: &[Standing]) -> Result<(), Error>
         ensures ok { OnOk result (with_rest hanging.now self.old ≡ Some self.new) }
         ensures err { IfErr result (λ e. Fails e (with_rest hanging.now self.old)) }
@@ -267,7 +269,7 @@ impl RowBuilder {
         Ok(())
     }
 
-    /// Places a row's cells and those that hang into it.
+    /// Places a row's own cells and those that hang into it.
     #[tactic(auto, using(crate::specs::laws::Refusal::refusals))]
     fn put_row(&mut self, row: usize, cells: &[Span], hanging: &[Standing]) -> Result<(), Error>
         ensures ok { OnOk result (with_row row cells.now hanging.now self.old ≡ Some self.new) }
@@ -282,7 +284,7 @@ impl RowBuilder {
         self.keep_all(row, rest)
     }
 
-    /// Hands out the cells that were kept, for others.
+    /// Exchanges the kept cells for others.
     fn swap_kept(&mut self, cells: &mut Vec<Standing>)
         ensures kept { self.new ≡ record self.old { kept = cells.old.items } }
         ensures cells { cells.new.items ≡ self.old.kept }
@@ -291,7 +293,7 @@ impl RowBuilder {
     }
 }
 
-/// The cell that ends first of those that hang below the last row.
+/// Returns a cell that ends first; `None` if there are no cells.
 fn first_to_end(hanging: &[Standing]) -> Option<Standing>
     ensures { MatchOption result (hanging.now ≡ []) (λ first. Contains hanging.now first × All (λ c. end_of first ≤ end_of c) hanging.now) }
 {
@@ -304,20 +306,20 @@ fn first_to_end(hanging: &[Standing]) -> Option<Standing>
     Some(first)
 }
 
-/// Leaves the cells that end after another.
+/// Removes all cells but those that end after `first`.
 fn keep_later(cells: &mut Vec<Standing>, first: Standing)
     ensures { cells.new.items ≡ filter (λ c. nat_lt (end_of first) (end_of c)) cells.old.items }
 {
     cells.retain(|cell| first.ends_before(cell));
 }
 
-/// Places the rows of a table one after another, in memory that it takes once: the row that was placed last, and the cells that
-/// hang into the next one.
+/// Placement of a table's rows, one after another: the last placed row, and the cells that hang into the next one. Its
+/// buffers are reused for each row.
 #[derive(Drop)]
 pub(crate) struct RowPlacer {
-    /// The row that was placed last.
+    /// Last placed row.
     last: RowBuilder,
-    /// The cells that hang into the next row, in order of own column.
+    /// Cells that hang into the next row, in order of own column.
     hanging: Vec<Standing>,
 }
 
@@ -337,7 +339,7 @@ impl Model for RowPlacer {
 }
 
 impl RowPlacer {
-    /// No row yet.
+    /// Returns a placement without rows.
     pub(crate) fn new(alloc: Global) -> RowPlacer
         ensures { result ≡ nothing_placed }
     {
@@ -347,21 +349,21 @@ impl RowPlacer {
         }
     }
 
-    /// The places of the last row.
+    /// Returns the places of the last row.
     pub(crate) fn places(&self) -> &[Place]
         ensures { result.now ≡ self.now.places }
     {
         self.last.places()
     }
 
-    /// The cells of the last row, without those that hang into it.
+    /// Returns the last row's own cells, without those that hang into it.
     pub(crate) fn own(&self) -> &[Standing]
         ensures { result.now ≡ self.now.own }
     {
         self.last.own()
     }
 
-    /// The ends in the last row, but for those of placeholders at their cell's own column, where the cell ends, and of gaps.
+    /// Returns the ends of the last row's own cells and displaced placeholders. Each other end is an edge of a cell above.
     pub(crate) fn told(&self) -> &[u128]
         ensures { result.now ≡ self.now.told }
     {
@@ -375,7 +377,7 @@ impl RowPlacer {
         self.hanging.is_empty()
     }
 
-    /// Places the next row. Where it is refused, the cells that hang into it stay.
+    /// Places the next row, `row`, with these own cells. On an error the hanging cells are unchanged.
     pub(crate) fn place_row(&mut self, row: usize, cells: &[Span]) -> Result<(), Error>
         ensures ok { OnOk result (with_next row cells.now self.old ≡ Some self.new) }
         ensures err { IfErr result (λ e. Fails e (with_next row cells.now self.old)) }
@@ -387,8 +389,8 @@ impl RowPlacer {
         Ok(())
     }
 
-    /// Places the next row below the last one, and answers whether there is one. Where it is refused, the cells that hang into
-    /// it stay.
+    /// Places the next row below the table's last one, and returns whether there is one. On an error the hanging cells are
+    /// unchanged.
     pub(crate) fn place_bottom_row(&mut self) -> Result<bool, Error>
         ensures ok { IfOk result (λ placed. MatchBool placed (IsNextBottom self.old self.new) ((self.old.hanging ≡ []) × (self.new ≡ self.old))) }
         ensures err { IfErr result (λ e. Fails e (fitting (bottom_rows self.old.hanging))) }
@@ -404,7 +406,7 @@ impl RowPlacer {
     }
 }
 
-/// Places all rows of a table, and those below the last one.
+/// Returns the places of all rows of a table, and of the rows below the last one. `Fail` if one would end past `u128::MAX`.
 pub(crate) fn place_rows(alloc: Global, rows: &[Vec<Span>]) -> Result<Vec<Vec<Place>>, Error>
     ensures ok { IfOk result (λ all. fitting (placed_rows (lists rows.now)) ≡ Some (lists all.items)) }
     ensures err { IfErr result (λ e. Fails e (fitting (placed_rows (lists rows.now)))) }
