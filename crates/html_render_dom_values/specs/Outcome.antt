@@ -21,7 +21,7 @@ Refuses TooNarrow wanted = wanted ≡ None
 Refuses Fail wanted = ⊥
 Refuses OutOfMemory wanted = Unit {0}
 
--- `f` of the value of `o`; `None` if `o` is
+-- `f` of the value of `o`; `None` if `o` is `None`
 infixl 10 ◌>>=◌
 abbrev pub ◌>>=◌ : {A B : Type 0} → Option A → (A → Option B) → Option B
 o >>= f = option_and_then f o
