@@ -16,8 +16,8 @@ pub enum Error {
     TooNarrow = 1,
     /// The document can't be converted, or a table has no grid:
     ///
-    /// - A body, foot, row or cell is outside of the part of a table that may hold it.
-    /// - A cell of a table would end past position `u128::MAX` of its row.
+    /// - The render tree would have a row, a cell, a body or a foot of a table outside of its place in a table.
+    /// - A cell, placeholder or gap of a table would end past position `u128::MAX` of its row.
     Fail = 2,
     /// An allocation was refused.
     OutOfMemory = 3,
