@@ -1,4 +1,4 @@
--- One declaration more changes the property that it is of, and nothing else.
+-- A declaration changes its own property, and nothing else.
 use Rattle.std.proofs.Common.{◌≡◌, ℕ, ◌+◌, ◌<◌, Bool, true, false, List, [], ◌∷◌, ◌++◌, length, get_or, take, map, filter, Option, Some, None}
 use Rattle.std.proofs.Common.{option_to_list, String, refl, sym, ap, ◌∙◌, append_assoc, cond, inl, inr, Global}
 use Rattle.std.proofs.lemmas.List.{append-nil, take_more}
@@ -36,11 +36,11 @@ taken old u new h = h (option_to_list old) (sym (winner-one old))
 pub untouched : {T : Type 0} (kept : Option (Update T)) → kept ≡ winner (option_to_list kept ++ [])
 untouched kept = sym (ap winner (append-nil (option_to_list kept)) ∙ winner-one kept)
 
--- what doesn't win is left
+-- an update that doesn't win changes nothing
 pub left : {T : Type 0} (kept : Option (Update T)) (u : Update T) → yields_to kept (key_of u) ≡ false → kept ≡ winner (option_to_list kept ++ u ∷ [])
 left kept u y = winner-left kept u (option_to_list kept) y (sym (winner-one kept))
 
--- declarations one after another
+-- applying two lists of declarations in turn is applying their concatenation
 with_more-append : {T : Type 0} (property : Option PseudoElement → StyleValue → Option T) (kept : Option (Update T))
     (front behind : List Applied) → with_more property (with_more property kept front) behind ≡ with_more property kept (front ++ behind)
 with_more-append property kept front behind =
@@ -61,7 +61,7 @@ with_declarations-append s front behind = λ i. record {
   internal_pre = s.internal_pre;
 }
 
--- where no declaration comes, the style is as it was
+-- no declarations leave the style unchanged
 pub still : (s : ElementStyle) → s ≡ with_declarations s []
 still s = λ i. record {
   colour = untouched s.colour i;
@@ -74,7 +74,7 @@ still s = λ i. record {
   internal_pre = s.internal_pre;
 }
 
--- beside an element's children only content counts
+-- declarations of a pseudo-element that aren't content leave the style unchanged
 pub other_beside : (s : ElementStyle) (important : Bool) (origin : StyleOrigin) (specificity : Specificity) (place : PseudoElement) (style : Style) →
     ((text : String Global) → style ≡ Content text → ⊥) →
     s ≡ with_declarations s (record {
@@ -93,7 +93,7 @@ other_beside s important origin specificity Before (WhiteSpaceSet x) h = still s
 other_beside s important origin specificity After (WhiteSpaceSet x) h = still s
 other_beside s important origin specificity place (Content text) h = absurd (h text refl)
 
--- the declarations of one thing more
+-- the declarations of i items of a list, and then those of the next one, are those of i + 1 items
 pub with_declarations-more : {X : Type 0} (f : X → List Applied) (s : ElementStyle) (xs : List X) (i : ℕ) (x : X) → i < length xs →
     x ≡ get_or xs i x → with_declarations (with_declarations s (flat_map f (take i xs))) (f x)
     ≡ with_declarations s (flat_map f (take (i + 1) xs))
@@ -105,7 +105,7 @@ with_declarations-more f s xs i x lt e =
     one_more : take (i + 1) xs ≡ take i xs ++ x ∷ []
     one_more = take_more xs i x lt ∙ ap (λ z. take i xs ++ z ∷ []) (sym e)
 
--- what a rule says of one of its declarations
+-- a declaration with the origin, specificity and pseudo-element of its rule, as a list of one
 abbrev pub said_by : StyleOrigin → Specificity → Option PseudoElement → Declaration → List Applied
 said_by origin specificity pseudo d = record { origin = origin; specificity = specificity; pseudo = pseudo; declared = declared_of d } ∷ []
 
@@ -120,7 +120,7 @@ said_by-all rule = each rule.declarations.items
     each [] = refl
     each (d ∷ ds) = rw (each ds) refl
 
--- the declarations of a rule, if it selects the element
+-- the declarations of a rule if it selects the element, otherwise none
 abbrev pub said_to : (selects : Rule → Bool) → StyleRule → List Applied
 said_to selects rule = cond (selects (rule_of rule)) (applied (rule_of rule)) []
 

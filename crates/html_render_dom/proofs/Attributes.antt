@@ -1,4 +1,4 @@
--- The first attribute of a name.
+-- The first attribute with a name, in a mapped list.
 use Rattle.std.proofs.Common.{◌≡◌, Bool, List, [], ◌∷◌, map, option_map, find, refl, inl, inr}
 use Rattle.std.proofs.lemmas.Bool.{cases_Bool}
 

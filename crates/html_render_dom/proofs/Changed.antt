@@ -1,4 +1,4 @@
--- A document whose lists and parents are changed in agreement stays a forest.
+-- A forest remains a forest if lists and parents are changed in agreement.
 use Rattle.std.proofs.Common.{◌≡◌, ◌≢◌, ℕ, ◌≤◌, List, [], ◌∷◌, Option, Some, None, Contains, nat_eq, ◌⊎◌, inl, inr, refl, sym, ap, ◌∙◌, subst, arith}
 use Rattle.std.specs.List.{IsDistinct}
 use Rattle.std.proofs.lemmas.Bool.Decides.{eqb_tells}
@@ -10,14 +10,15 @@ use Rattle.html_render_dom.specs.laws.Changes.{SameShape, Rewrites}
 use Rattle.html_render_dom.specs.laws.Forests.{below_or_not, children_at-past}
 use Rattle.html_render_dom.specs.laws.Members.{Contains-nil, Contains-head, Contains-tail, Contains-cons_cases, Contains-single}
 
--- what stands above a node's parent stands above the node
+-- the parent of an inclusive ancestor of a node is an inclusive ancestor of that node
 pub descend : (dom : Dom) (h k : ℕ) → parent_at dom k ≡ Some h → {x : ℕ} → IsInclusiveAncestor dom k x → IsInclusiveAncestor dom h x
 descend dom h k e itself = above h e itself
 descend dom h k e (above p q r) = above p q (descend dom h k e r)
 
--- ---- a forest in which some nodes moved
+-- ---- a forest after some nodes moved
 
--- the nodes cs may have come to stand under p; every other place in a list is an old one; and there may be more nodes
+-- whether new is old with nodes cs moved into the list of p: every other member of a list was in it before, lists and
+-- parents agree, a list has a child once, and no node is gone
 pub record Moves (old new : Dom) (p : ℕ) (cs : List ℕ) : Type 0 where
   pub grows : node_count old ≤ node_count new
   pub listed : (q x : ℕ) → Contains (children_at new q) x → Contains (children_at old q) x ⊎ ((q ≡ p) × Contains cs x)
@@ -25,11 +26,11 @@ pub record Moves (old new : Dom) (p : ℕ) (cs : List ℕ) : Type 0 where
   pub lists : (q x : ℕ) → parent_at new x ≡ Some q → Contains (children_at new q) x
   pub once : (q : ℕ) → IsDistinct nat_eq (children_at new q)
 
--- the tree of a node
+-- a tree with the root h
 abbrev Tree : Dom → ℕ → Type 0
 Tree dom h = (t : Forest Content) × HaveTrees dom (h ∷ []) t
 
--- the trees of some nodes, from the tree of each
+-- the trees of a list of nodes, from the tree of each
 collected : (dom : Dom) (hs : List ℕ) → ((h : ℕ) → Contains hs h → Tree dom h) → (t : Forest Content) × HaveTrees dom hs t
 collected dom [] each = (none, tt)
 collected dom (h ∷ hs) each =
@@ -47,7 +48,7 @@ grown dom h at each =
 
 module _ {old new : Dom} {p : ℕ} {cs : List ℕ} (m : Moves old new p cs) (f : IsForest old) (nodes : (c : ℕ) → Contains cs c → IsNode old c)
     (away : (c : ℕ) → Contains cs c → IsInclusiveAncestor old c p → ⊥) where
-  -- nodes of a kind that their children are of too have trees, if what has come to stand below one of them has
+  -- nodes with a property that children inherit have trees in new, if the moved nodes have trees in case p has the property
   trees_of_kind : (P : ℕ → Type 0) → ((q x : ℕ) → P q → Contains (children_at old q) x → P x) →
       (P p → (x : ℕ) → Contains cs x → Tree new x) → (h : ℕ) → IsNode old h → P h → Tree new h
   trees_of_kind P down come h at is = let t = f.finite h at in go t.0 (h ∷ []) t.1 (Contains-single P h is) h (Contains-head h [])
@@ -66,7 +67,7 @@ module _ {old new : Dom} {p : ℕ} {cs : List ℕ} (m : Moves old new p cs) (f :
           ]
       go t hs s are x l = absurd s
 
-  -- what p isn't in still stands for a tree
+  -- a moved node has a tree in new, since p isn't in its old tree
   tree_moved : (c : ℕ) → Contains cs c → Tree new c
   tree_moved c l = trees_of_kind (λ h. IsInclusiveAncestor old h p → ⊥)
       (λ q x out z up. out (descend old q x (f.child_names_parent q x z) up)) (λ out. absurd (out itself)) c (nodes c l) (away c l)
@@ -95,7 +96,7 @@ module _ {old new : Dom} {p : ℕ} {cs : List ℕ} (m : Moves old new p cs) (f :
     finite = tree_anywhere;
   }
 
-  -- where all contents are as they were
+  -- moved nodes leave a forest if all contents are unchanged
   pub IsForest-same_contents : ((h : ℕ) → content_at new h ≡ content_at old h) → IsForest new
   IsForest-same_contents same = IsForest-moved (same 0 ∙ f.document_content)
       (λ h c e. omega (arith, f.template_contents_is_node h c (ap contents_in (sym (same h)) ∙ e), m.grows))
@@ -114,9 +115,10 @@ IsForest-same_shape {old} {new} s top template_contents f =
       once = λ q. rw s.children (f.once q);
     }
 
--- ---- one list and one parent rewritten
+-- ---- a forest after one list and one parent are rewritten
 
--- of the parent's list only whether c stands in it may have changed: it does where c has come to name p, and stands in no other
+-- whether xs is the list of p in old, except for c: xs has c exactly if q, the new parent of c, is p; no other list of old
+-- has c
 pub record Relists (old : Dom) (p : ℕ) (xs : List ℕ) (c : ℕ) (q : Option ℕ) : Type 0 where
   pub from : (x : ℕ) → Contains xs x → (Contains (children_at old p) x × (x ≢ c)) ⊎ ((c ≡ x) × (q ≡ Some p))
   pub still : (x : ℕ) → Contains (children_at old p) x → x ≢ c → Contains xs x
@@ -158,12 +160,12 @@ module _ {old new : Dom} {p c : ℕ} {xs : List ℕ} {q : Option ℕ} (f : IsFor
     ];
   }
 
--- c stands in no list any more
+-- a forest remains one if c is removed from the list of p
 pub IsForest-taken : {old new : Dom} {p c : ℕ} {xs : List ℕ} → IsForest old → Rewrites old new p xs c None → Relists old p xs c None → IsForest new
 IsForest-taken f a b = IsForest-same_contents (Moves-relisted f a b [] (λ e. absurd (cc))) f (λ x l. absurd (Contains-nil x l))
     (λ x l. absurd (Contains-nil x l)) a.contents
 
--- c, which stood in no list, stands in the parent's
+-- a forest remains one if c, which has no parent, is inserted into the list of p
 pub IsForest-put : {old new : Dom} {p c : ℕ} {xs : List ℕ} → IsForest old → parent_at old c ≡ None → Rewrites old new p xs c (Some p) →
     ((x : ℕ) → Contains xs x → Contains (children_at old p) x ⊎ (c ≡ x)) → ((x : ℕ) → Contains (children_at old p) x → Contains xs x) →
     Contains xs c → ((Contains (children_at old p) c → ⊥) → IsDistinct nat_eq xs) → IsNode old c → (IsInclusiveAncestor old c p → ⊥) →

@@ -1,4 +1,4 @@
--- What is left of a dump, step by step.
+-- The rest of a dump after each step.
 use Rattle.std.proofs.Common.{◌≡◌, ℕ, ◌<◌, ◌≤◌, ◌+◌, ◌-◌, ◌*◌, List, [], ◌∷◌, ◌++◌, length, drop, slice_index_or, Result, Ok, Err, OnOk, Option}
 use Rattle.std.proofs.Common.{Bool, Contains, refl, sym, ap, ◌∙◌, subst, arith, append_assoc}
 use Rattle.std.proofs.lemmas.List.{append-nil, at_drop_more}
@@ -16,7 +16,7 @@ pub on_ok : {T E P Q : Type 0} (r : Result T E) → OnOk r P → (P → Q) → O
 on_ok (Ok x) p f = f p
 on_ok (Err y) p f = tt
 
--- a first tree's lines, then those of the trees beside it
+-- the dump of a forest is the dump of its first tree, then that of the others
 pub dump-beside : (i : ℕ) (c : Content) (k b : Forest Content) → dump i (node c k b) ≡ dump i (node c k none) ++ dump i b
 dump-beside i (comment contents) k b = refl
 dump-beside i (instruction target contents) k b = refl
@@ -29,7 +29,7 @@ rest-push dom (g ∷ fs) f = ap (λ r. r ++ rest_of dom g) (rest-push dom fs f) 
 pub steps-push : (dom : Dom) (fs : List Frame) (f : Frame) → steps dom (fs ++ f ∷ []) ≡ steps dom fs + steps_of dom f
 steps-push dom fs f = let e = sum_by-append (steps_of dom) fs (f ∷ []) in omega (arith, e)
 
--- an open node after its next child
+-- an open node after the start of its next child
 abbrev pub after_child : Frame → Frame
 after_child f = record { node = f.node; passed = f.passed + 1; indent = f.indent }
 
@@ -56,7 +56,7 @@ rest-child dom g f x lt e at =
     ∙ append_assoc (dump f.indent (node c kids none)) (dump f.indent later) ending
     ∙ ap (λ t. dump f.indent t ++ (dump f.indent later ++ ending)) (sym (tree-node dom g x at))
 
--- the start of a node is written: what is left of it stands in one more open node, or nothing is
+-- writing the start a of a node and pushing a frame f adds the node's dump d, if d is a and the rest of f
 pub opened : (dom : Dom) (out out' a d : List ℕ) (fs fs' : List Frame) (f : Frame) → out' ≡ out ++ a → fs' ≡ fs ++ f ∷ [] →
     d ≡ a ++ rest_of dom f → out' ++ rest dom fs' ≡ out ++ (d ++ rest dom fs)
 opened dom out out' a d fs fs' f e g h =
@@ -64,7 +64,7 @@ opened dom out out' a d fs fs' f e g h =
     ap (λ o. o ++ rest dom fs') e ∙ ap (λ r. (out ++ a) ++ r) pushed ∙ append_assoc out a (rest_of dom f ++ rest dom fs)
     ∙ ap (λ r. out ++ r) (sym (append_assoc a (rest_of dom f) (rest dom fs)) ∙ ap (λ x. x ++ rest dom fs) (sym h))
 
--- an open node, none of whose children is written
+-- an open node without a started child
 abbrev pub fresh_frame : (h indent : ℕ) → Frame
 fresh_frame h indent = record { node = h; passed = 0; indent = indent }
 
@@ -90,7 +90,7 @@ dump-element dom f h indent name properties template_contents point at e =
     ∙ ap (λ i. start_line indent name.local ++ (kids ++ end_line i name.local)) (sym less)
     ∙ ap (λ x. start_line indent name.local ++ (kids ++ end_of (indent + 1) x)) (sym e)
 
--- what a child of an open node is
+-- the next child of an open node is a node
 pub child-facts : (dom : Dom) → IsForest dom → (f : Frame) (xs : List ℕ) (x : ℕ) → xs ≡ children_at dom f.node → f.passed < length xs →
     x ≡ slice_index_or xs f.passed x →
     (f.passed < length (children_at dom f.node)) × (x ≡ slice_index_or (children_at dom f.node) f.passed x) × IsNode dom x
@@ -108,7 +108,7 @@ pub fits-after : (dom : Dom) → IsForest dom → (f : Frame) (x : ℕ) →
     FrameFits dom f → FrameFits dom (after_child f)
 fits-after dom g f x p h = let e = ap depth (left-child dom g f x p.0 p.1 p.2) in (h.0, omega (arith, e, h.1))
 
--- a child's start is written, and what is left of its parent stands in the frame below
+-- with the dump of its next child, an open node's rest is that of the frame pushed for it again
 pub stepped : (dom : Dom) → IsForest dom → (f : Frame) (x : ℕ) →
     (f.passed < length (children_at dom f.node)) × (x ≡ slice_index_or (children_at dom f.node) f.passed x) × IsNode dom x →
     (out : List ℕ) (fs fs' : List Frame) → fs' ≡ fs ++ after_child f ∷ [] →

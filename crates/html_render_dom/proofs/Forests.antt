@@ -1,4 +1,4 @@
--- The edits keep the forest.
+-- Calls that add nodes, texts and attributes leave a forest.
 use Rattle.std.proofs.Common.{◌≡◌, ℕ, zero, suc, ◌<◌, ◌+◌, ◌-◌, List, [], ◌∷◌, ◌++◌, length, slice_set}
 use Rattle.std.proofs.Common.{Option, Some, None, IfSome, ◌⊎◌, inl, inr, refl, sym, ap, ◌∙◌, subst, arith, length-append}
 use Rattle.std.proofs.lemmas.Bool.{cond_both}
@@ -22,12 +22,12 @@ use Rattle.html_render_dom.proofs.Changed.{IsForest-put, IsForest-same_shape}
 some_same : (a b : ℕ) → Some a ≡ Some b → a ≡ b
 some_same a b e = cc
 
--- ---- the edits, one by one
+-- ---- each edit
 
 pub document-created : (dom : Dom) (c : Content) → IsForest dom → content_at (record dom { nodes = created dom.nodes c }) 0 ≡ document
 document-created dom c f = ap (λ n. n.content) (older dom.nodes c 0 f.has_document) ∙ f.document_content
 
--- a template's contents in more nodes: those of an old one, or of the new one
+-- template contents after a node is appended: those of an old node, or of the new one
 created-contents : (nodes : List Node) (c : Content) (h k : ℕ) → contents_in (node_in (created nodes c) h).content ≡ Some k →
     (contents_in (node_in nodes h).content ≡ Some k) ⊎ (contents_in c ≡ Some k)
 created-contents nodes c h k e =
@@ -49,7 +49,7 @@ IsForest-created dom c no_contents f =
       | inr n ↦ absurd (let none : None ≡ Some k = sym no_contents ∙ n in cc)
     ]) f
 
--- the next number hangs nowhere, and no older node is below it
+-- a new node with the next number has no parent, and no old node below it
 pub IsFresh-next : {old new : Dom} → SameShape old new → IsForest old → node_count old < node_count new → IsFresh old new (node_count old)
 IsFresh-next {old} {new} s f more = record {
   is_node = more;
@@ -57,7 +57,7 @@ IsFresh-next {old} {new} s f more = record {
   above_none = above_no_older f (λ h at. s.parents h);
 }
 
--- a node that stands in no list is put last
+-- a forest remains one if a node without a parent is appended to a list
 IsForest-attached : (dom : Dom) → IsForest dom → (p c : ℕ) → IsNode dom p →
     IsNode dom c × (parent_at dom c ≡ None) × ¬ IsInclusiveAncestor dom c p → IsForest (record dom { nodes = attached dom.nodes p c })
 IsForest-attached dom f p c at_p can =
@@ -104,7 +104,7 @@ IsForest-attach_new dom now same f p c no_contents at nodes e =
     subst (λ ns. IsForest (record dom { nodes = ns })) (sym e) (IsForest-attached mid (IsForest-created dom c no_contents f) p (node_count dom)
     (omega (arith, count, in_p)) (fresh.is_node, fresh.no_parent, fresh.above_none p in_p))
 
--- a text that is joined and attributes that are added leave a template's contents
+-- joining a text and adding attributes leave template contents unchanged
 pub contents_in-joined : (c : Content) (more : List ℕ) → contents_in (joined c more) ≡ contents_in c
 contents_in-joined document more = refl
 contents_in-joined c more = refl
@@ -127,7 +127,7 @@ shape-trans s t = record {
   parents = λ h. t.parents h ∙ s.parents h;
 }
 
--- what a new element leaves as it was
+-- whether nodes are those of a document and at least one more, with old lists and parents unchanged, and are a forest
 record Grown (dom : Dom) (nodes : List Node) : Type 0 where
   forest : IsForest (record dom { nodes = nodes })
   shape : SameShape dom (record dom { nodes = nodes })
@@ -140,7 +140,7 @@ grown-one dom c no_contents f = record {
   more = omega (arith, length-append dom.nodes (lone c ∷ []));
 }
 
--- a template, whose contents are the node after it
+-- a template and the next node, which is its contents
 grown-two : (dom : Dom) (c : Content) → contents_in c ≡ Some (length dom.nodes + 1) → IsForest dom →
     Grown dom (created (created dom.nodes c) document)
 grown-two dom c next f =

@@ -1,4 +1,4 @@
--- What stands in lists of children, after the calls that change them.
+-- Members of lists of children after removals and insertions.
 use Rattle.std.proofs.Common.{◌≡◌, ◌≢◌, ◌==◌, ℕ, false, not, nat_eq, List, [], ◌∷◌, ◌++◌, slice_index_or, Contains}
 use Rattle.std.proofs.Common.{◌⊎◌, inl, inr, sym, ◌∙◌, subst}
 use Rattle.std.specs.List.{IsDistinct, AllByRecursion}
@@ -80,7 +80,7 @@ Contains-placed s c (y ∷ xs) m =
       ]
     ]
 
--- the first of a list is none of the others
+-- a number that isn't in a list differs from each of its members; the first of distinct numbers differs from the others
 apart_from : (x : ℕ) (xs : List ℕ) → ((y : ℕ) → Contains xs y → y ≢ x) → AllByRecursion (λ y. nat_eq x y ≡ false) xs
 apart_from x xs other = recursion_from_All (λ y. nat_eq x y ≡ false) xs (λ k d lt. elim (eqb_tells x (slice_index_or xs k d)) [
   | inl e ↦ absurd (other (slice_index_or xs k d) (Contains-get_or xs k d lt) (sym e.1))

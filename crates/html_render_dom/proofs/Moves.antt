@@ -1,4 +1,4 @@
--- The moves keep the forest.
+-- Calls that move nodes leave a forest.
 use Rattle.std.proofs.Common.{◌≡◌, ◌≢◌, ℕ, List, [], ◌∷◌, length, Option, Some, None, IfSome, Contains, eqb, ◌⊎◌, inl, inr, refl}
 use Rattle.std.proofs.Common.{sym, ◌∙◌, subst, arith, length-append}
 use Rattle.std.specs.List.{list_any}
@@ -22,9 +22,9 @@ use Rattle.html_render_dom.proofs.Forests.{IsForest-created, IsFresh-next, IsFor
 same_value : (a b : ℕ) → Some a ≡ Some b → a ≡ b
 same_value a b e = cc
 
--- ---- the moves, one by one
+-- ---- each move
 
--- a node that is named is in a list, and so is a node
+-- a parent and its child are nodes, since the parent's list has the child
 pub IsNode-named : (dom : Dom) → IsForest dom → (p c : ℕ) → parent_at dom c ≡ Some p → IsNode dom p × IsNode dom c
 IsNode-named dom f p c e =
     let l = f.parent_lists_child p c e in
@@ -34,7 +34,7 @@ taken_facts : (dom : Dom) → IsForest dom → (p c : ℕ) → parent_at dom c �
     Rewrites dom (record dom { nodes = taken_out dom.nodes (Some p) c }) p (without c (children_at dom p)) c None
 taken_facts dom f p c e = let at = IsNode-named dom f p c e in rewritten dom p _ c None at.0 at.1
 
--- a child in no list any more
+-- a forest remains one if a child is removed from its list
 IsForest-out : (dom : Dom) → IsForest dom → (p c : ℕ) → parent_at dom c ≡ Some p → IsForest (record dom { nodes = taken_out dom.nodes (Some p) c })
 IsForest-out dom f p c named = IsForest-taken f (taken_facts dom f p c named) (record {
   from = λ x l. inl (Contains-from_without c (children_at dom p) x l);
@@ -50,7 +50,7 @@ IsForest-taken_out dom now same f p c named nodes e =
     subst (λ ns. IsForest (record dom { nodes = ns })) (sym e)
     (IsForest-out dom f p c (subst (λ d. parent_at d c ≡ Some p) (sym same) named))
 
--- what stands above a node once another is taken out stood there before
+-- an inclusive ancestor in the document with c removed from its list is one in the old document
 ancestor_before : {old new : Dom} {c : ℕ} → parent_at new c ≡ None → ((h : ℕ) → h ≢ c → parent_at new h ≡ parent_at old h) → {a h : ℕ} →
     IsInclusiveAncestor new a h → IsInclusiveAncestor old a h
 ancestor_before {old} {new} {c} lone_c others itself = itself
@@ -60,7 +60,7 @@ ancestor_before {old} {new} {c} lone_c others {a} {h} (above p e r) =
       | inr d ↦ above p (sym (others h d.1) ∙ e) (ancestor_before lone_c others r)
     ]
 
--- a forest with a node that hangs nowhere, but what hung below it and beside it as before
+-- whether nodes are a forest with those of a document, where c has no parent and all others have their old one
 record Freed (dom : Dom) (c : ℕ) (nodes : List Node) : Type 0 where
   forest : IsForest (record dom { nodes = nodes })
   count : length nodes ≡ node_count dom
@@ -114,7 +114,7 @@ IsForest-text_placed dom now same f p s named None is more nodes e =
 IsForest-text_placed dom now same f p s named (Some h) is more nodes e =
     IsForest-with_content dom now same f h (λ c. joined c more) refl (λ c. contents_in-joined c more) is nodes e
 
--- ---- all children moved to another parent
+-- ---- moving all children to another parent
 
 listed_or_not : (cs : List ℕ) (h : ℕ) → Contains cs h ⊎ (Contains cs h → ⊥)
 listed_or_not cs h =
@@ -124,7 +124,7 @@ listed_or_not cs h =
     ]
 
 module _ {old new : Dom} {u v : ℕ} (f : IsForest old) (apart : u ≢ v) (a : Reparents old new u v) where
-  -- a child of another node than u is none of its children
+  -- a child of a node other than u isn't a child of u
   not_moved : (q x : ℕ) → q ≢ u → Contains (children_at old q) x → Contains (children_at old u) x → ⊥
   not_moved q x other l m = other (same_value q u (sym (f.child_names_parent q x l) ∙ f.child_names_parent u x m))
 

@@ -1,9 +1,9 @@
--- A call that may be refused.
+-- The document after a call that may be refused.
 use Rattle.std.proofs.Common.{◌≡◌, List, sym, subst, Result, Ok, Err, OnOk, OnErr}
 use Rattle.html_render_dom_nodes.specs.Nodes.{Node}
 use Rattle.html_render_dom.specs.Dom.{Dom, IsForest}
 
--- what holds of the nodes, whether they were changed or not
+-- the nodes after a call are a forest, whether the call changed them or was refused
 pub IsForest-either : {T E : Type 0} (r : Result T E) (dom : Dom) (nodes changed : List Node) → IsForest dom → OnOk r (nodes ≡ changed) →
     OnErr r (nodes ≡ dom.nodes) → ((ns : List Node) → ns ≡ changed → IsForest (record dom { nodes = ns })) →
     IsForest (record dom { nodes = nodes })

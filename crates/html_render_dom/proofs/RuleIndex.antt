@@ -1,4 +1,4 @@
--- What an index finds, as rules come one after another; and that it finds each rule that selects an element.
+-- An index has each rule that is added to it, and finds each rule that selects an element.
 use Rattle.std.proofs.Common.{◌≡◌, ◌⊎◌, ℕ, zero, suc, ◌+◌, ◌-◌, ◌<◌, ◌≤◌, Bool, true, false, not, ◌&&◌, ◌||◌, nat_lt, if◌then◌else◌, List, [], ◌∷◌, ◌++◌, length, get_or, set, take}
 use Rattle.std.proofs.Common.{Option, Some, None, is_some, codes, map, filter, option_to_list, refl, sym, ap, subst, ◌∙◌, inl, inr, arith, Bor}
 use Rattle.std.proofs.lemmas.Bool.{and_parts, cases_Bool, or_parts}
@@ -24,9 +24,9 @@ use Rattle.html_render_dom_rules.specs.Rules.{Rule, rule_of}
 use Rattle.html_render_dom.specs.Attributes.{first_value}
 use Rattle.html_render_dom_rules.specs.Selectors.{has_class, is_filled, matches_part, selects, words}
 
--- ---- as rules come
+-- ---- adding rules
 
--- what one index finds, the other finds as well
+-- whether the new index has each number that the old one has
 abbrev pub Keeps : RuleIndex → RuleIndex → Type 0
 Keeps old new = (number : ℕ) (stated : Option (List ℕ)) → IsFound old number stated → IsFound new number stated
 
@@ -64,7 +64,7 @@ Finds-more old new rules rule finds long keeps found asks = (
           | inr e ↦ last number d (grind (arith, nat_tests, e, le))
         ]
 
--- a rule is put under its text
+-- adding a number under a text keeps the others, and the number is found
 pub put-keeps : (old new : RuleIndex) (text : List ℕ) (number : ℕ) → length old.keys.items ≡ 64 → key_of text < 64 →
     new.keys.items ≡ set old.keys.items (key_of text) true →
     ((t : List ℕ) → numbers_under new t ≡ (if bytes_eq t text then numbers_under old t ++ number ∷ [] else numbers_under old t)) →
@@ -96,7 +96,7 @@ put-found old new text number long small keys numbers = (
       (Contains-push (numbers_under old text) number),
 )
 
--- a rule that states no text is put among its like
+-- adding the number of a rule that states no text keeps the others
 pub general-keeps : (old new : RuleIndex) (number : ℕ) → new.keys.items ≡ old.keys.items → new.by_text ≡ old.by_text →
     new.general.items ≡ old.general.items ++ number ∷ [] → Keeps old new
 general-keeps old new number keys texts general n None found =
@@ -109,7 +109,7 @@ general-keeps old new number keys texts general n (Some t) (told, found) = (
 pub key_small : (text : List ℕ) → key_of text < 64
 key_small text = omega arith
 
--- ---- what an element finds
+-- ---- lookup for an element
 
 -- an element that a rule selects has the text that the rule states
 pub has_stated : (name : List ℕ) (id classes : Option (List ℕ)) (rule : Rule) (text : List ℕ) → selects name id classes rule ≡ true →
@@ -146,7 +146,7 @@ has_stated name id classes rule text asked states =
         subst (Contains (texts_of name of_it classes)) this (here name (option_to_list of_it ++ words (unwrap_or classes [])))
     had [] None None of_it classed identified named is = absurd (cc)
 
--- what passes a test is among those that pass
+-- a member that passes a test is a member of the filtered list
 pub Contains-filter : {X : Type 0} (p : X → Bool) (xs : List X) (x : X) → p x ≡ true → Contains xs x → Contains (filter p xs) x
 Contains-filter p [] x passes (k, lt, is) = absurd (omega arith)
 Contains-filter p (y ∷ ys) x passes (zero, lt, is) = subst (λ z. Contains (filter p (z ∷ ys)) x) (sym is) (first (p x) refl)
@@ -161,7 +161,7 @@ Contains-filter p (y ∷ ys) x passes (suc k, lt, is) =
       | inr e ↦ rw e rest
     ]
 
--- what a mapped list has comes of an item of the list
+-- a member of a mapped list is the image of a member of the list
 pub Contains-unmap : {X Y : Type 0} (f : X → Y) (xs : List X) (y : Y) → Contains (map f xs) y → (x : X) × Contains xs x × (f x ≡ y)
 Contains-unmap f [] y (k, lt, is) = absurd (omega arith)
 Contains-unmap f (x ∷ xs) y (zero, lt, is) = (x, Contains-append_left (x ∷ []) xs x (Contains-push [] x), is)
@@ -169,7 +169,8 @@ Contains-unmap f (x ∷ xs) y (suc k, lt, is) =
     let rest = Contains-unmap f xs y (k, omega arith, is) in
     (rest.0, Contains-append_right (x ∷ []) xs rest.0 rest.1, rest.2)
 
--- an index finds each rule that selects the element, by its texts whose keys are told
+-- the numbers under those texts of an element whose keys are marked, with those of rules without a text, are those of all
+-- rules that select the element
 pub finds-selected : (index : RuleIndex) (rules : List Rule) (name : List ℕ) (id classes : Option (List ℕ)) (texts : List (Bor (List ℕ)))
     (numbers : List ℕ) → Finds index rules →
     map (λ t. t.now) texts ≡ filter (is_told index.keys.items) (texts_of name id classes) →
@@ -188,7 +189,7 @@ finds-selected index rules name id classes texts numbers finds told under genera
         let item = Contains-unmap (λ t. t.now) texts text kept in
         under item.0 number item.1 (subst (λ t. Contains (numbers_under index t) number) (sym item.2) found.1)
 
--- the numbers under one text more
+-- a list that has the numbers under the texts before a place, and those under the text there, has those up to the next place
 pub texts-more : (index : RuleIndex) (texts : List (Bor (List ℕ))) (place : ℕ) (old new : List ℕ) → place < length texts →
     ((k : ℕ) (d : Bor (List ℕ)) (number : ℕ) → k < place → Contains (numbers_under index (get_or texts k d).now) number → Contains old number) →
     ((number : ℕ) → Contains old number → Contains new number) → (this : Bor (List ℕ)) →
@@ -210,7 +211,7 @@ equal_texts a b e = sym ((bytes_eq-Decides a b).0 (by (bytes_eq a b) e))
     by true e = refl
     by false e = e
 
--- where no rule is asked for, none is left
+-- a filter is empty if no rule passes it
 pub finds-none : (rules : List Rule) (asked : Rule → Bool) →
     ((number : ℕ) (d : Rule) → number < length rules → asked (get_or rules number d) ≡ true → ⊥) → filter asked rules ≡ []
 finds-none [] asked none = refl
@@ -221,7 +222,7 @@ finds-none (rule ∷ rules) asked none =
       | inr e ↦ rw e rest
     ]
 
--- where no rule states an id or a class, one that selects an element states its name
+-- the text of a rule that states no id and no class, and selects an element, is the element's name
 name_stated : (name : List ℕ) (id classes : Option (List ℕ)) (rule : Rule) (text : List ℕ) → asks_attributes rule ≡ false →
     selects name id classes rule ≡ true → stated_text rule ≡ Some text → text ≡ name
 name_stated name id classes rule text plain asked states =
@@ -246,8 +247,10 @@ only : {X : Type 0} (x y : X) → Contains (x ∷ []) y → y ≡ x
 only x y (zero, lt, is) = sym is
 only x y (suc k, lt, is) = absurd (omega (arith, lt))
 
--- an element whose name isn't told, where each rule states a text, is selected by none, if no rule states an id or a class, or it has
--- no attributes
+-- no rule selects an element if:
+-- * the key of its name isn't marked;
+-- * each rule states a text;
+-- * no rule states an id or a class, or the element has no attributes.
 pub none_selects : (index : RuleIndex) (rules : List Rule) (name : List ℕ) (properties : List Property) → Finds index rules →
     is_told index.keys.items name ≡ false → length index.general.items ≡ 0 → (index.asks_attributes ≡ false) ⊎ (properties ≡ []) →
     element_style rules name properties ≡ style_by []
@@ -284,9 +287,9 @@ none_selects index rules name properties finds untold none_general plain =
             let no : true ≡ false = sym found.0 ∙ ap (is_told index.keys.items) this ∙ untold in
             absurd (cc)
 
--- ---- rules by their numbers, one after another
+-- ---- applying rules by their numbers, in order
 
--- each rule from `next` on that is asked for has its number at or behind this place of the numbers
+-- whether the numbers from `place` on have the number of each rule from `next` on that is asked for
 abbrev pub Left : (asked : Rule → Bool) → List StyleRule → (next : ℕ) → (numbers : List ℕ) → (place : ℕ) → Type 0
 Left asked rules next numbers place = (number : ℕ) (rule : StyleRule) → next ≤ number → number < length rules →
     asked (rule_of (get_or rules number rule)) ≡ true → (k : ℕ) × (place ≤ k) × (k < length numbers) × (get_or numbers k 0 ≡ number)
@@ -298,7 +301,7 @@ Left-start asked rules numbers has number rule le lt selected =
     let held = has number (rule_of rule) le (subst (λ n. number < n) (sym (length-map rules rule_of)) lt) (ap asked is ∙ selected) in
     (held.0, omega arith, held.1, get_or_default numbers held.0 0 number held.1 ∙ held.2)
 
--- a number is passed that no rule asked for has, or that is done
+-- the number at `place` can be skipped if its rule isn't asked for, precedes `next`, or doesn't exist
 pub Left-passed : (asked : Rule → Bool) (rules : List StyleRule) (next : ℕ) (numbers : List ℕ) (place : ℕ) → Left asked rules next numbers place →
     ((rule : StyleRule) → next ≤ get_or numbers place 0 → get_or numbers place 0 < length rules →
     asked (rule_of (get_or rules (get_or numbers place 0) rule)) ≡ false) → Left asked rules next numbers (place + 1)
@@ -314,7 +317,7 @@ Left-passed asked rules next numbers place left passed number rule le lt selecte
     beyond : (k : ℕ) → place ≤ k → (k ≡ place → ⊥) → place + 1 ≤ k
     beyond k le other = omega (arith, le, other)
 
--- a rule is done, and those before it are
+-- after the rule with the number at `place`, the next one is the rule with the next number
 pub Left-done : (asked : Rule → Bool) (rules : List StyleRule) (next : ℕ) (numbers : List ℕ) (place number : ℕ) →
     Left asked rules next numbers place → get_or numbers place 0 ≡ number → next ≤ number → Left asked rules (number + 1) numbers (place + 1)
 Left-done asked rules next numbers place number left is within n rule le lt selected =
@@ -326,7 +329,7 @@ Left-done asked rules next numbers place number left is within n rule le lt sele
     beyond : (k : ℕ) → place ≤ k → (k ≡ place → ⊥) → place + 1 ≤ k
     beyond k le other = omega (arith, le, other)
 
--- rules that say nothing leave what is said as it is
+-- items without declarations don't change the declarations of a list
 pub silent : {X : Type 0} (f : X → List Applied) (xs : List X) (d : X) (i k : ℕ) → i + k ≤ length xs →
     ((j : ℕ) → i ≤ j → j < i + k → f (get_or xs j d) ≡ []) → flat_map f (take (i + k) xs) ≡ flat_map f (take i xs)
 silent f xs d i zero le none = ap (λ n. flat_map f (take n xs)) (omega arith)
@@ -342,7 +345,7 @@ silent f xs d i (suc k) le none =
 said_to-silent : (asked : Rule → Bool) (rule : StyleRule) → asked (rule_of rule) ≡ false → said_to asked rule ≡ []
 said_to-silent asked rule e = rw e refl
 
--- between the rule that is next and the next one that is among the numbers no rule is asked for
+-- no rule from `next` on with a number below that at `place` is asked for
 pub none-between : (asked : Rule → Bool) (rules : List StyleRule) (next : ℕ) (numbers : List ℕ) (place number : ℕ) →
     Left asked rules next numbers place → IsNonDecreasing numbers → get_or numbers place 0 ≡ number →
     (j : ℕ) (d : StyleRule) → next ≤ j → j < number → j < length rules → asked (rule_of (get_or rules j d)) ≡ false

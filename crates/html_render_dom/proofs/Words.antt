@@ -1,4 +1,4 @@
--- The words of a text, one after another.
+-- The words of a text, from the first to the last.
 use Rattle.std.proofs.Common.{◌≡◌, ℕ, suc, ◌<◌, inl, inr, Bool, true, false, nat_lt, List, [], ◌∷◌, ◌++◌, length, filter, get_or}
 use Rattle.std.proofs.Common.{refl, sym, ap, ◌∙◌, arith}
 use Rattle.std.proofs.lemmas.List.{append-nil}
@@ -12,14 +12,14 @@ use Rattle.std.specs.Char.{is_ascii_whitespace}
 use Rattle.html_render_dom_rules.specs.Selectors.{is_filled, words}
 use Rattle.std.specs.List.{slice_split, onto_first}
 
--- no byte of a text passes
+-- whether no byte of a text passes a test
 abbrev NoneOf : (ℕ → Bool) → List ℕ → Type 0
 NoneOf p xs = (k : ℕ) → k < length xs → p (get_or xs k 0) ≡ false
 
 NoneOf-tail : (p : ℕ → Bool) (x : ℕ) (xs : List ℕ) → NoneOf p (x ∷ xs) → NoneOf p xs
 NoneOf-tail p x xs none k lt = none (suc k) (omega (arith, lt))
 
--- a text without white space is one part, up to its end and up to white space behind it
+-- a text without white space is one part, if it ends there and if white space follows it
 one_part : (p : ℕ → Bool) (xs : List ℕ) → NoneOf p xs → slice_split p xs ≡ xs ∷ []
 one_part p [] none = refl
 one_part p (x ∷ xs) none =
@@ -35,7 +35,7 @@ part_first p (x ∷ xs) c rest none passes =
     let more = part_first p xs c rest (NoneOf-tail p x xs none) passes in
     rw this (ap (onto_first x) more)
 
--- white space before a text has no words
+-- white space at the start of a text has no words
 gap_passed : (gap text : List ℕ) → AllPass is_ascii_whitespace gap → words (gap ++ text) ≡ words text
 gap_passed [] text all = refl
 gap_passed (c ∷ gap) text all =

@@ -1,4 +1,4 @@
--- The document object model that the vectors of `RcDom` hold.
+-- The document that is the value of an `RcDom`.
 use Rattle.std.specs.Prelude.{map, string_bytes}
 use Rattle.html_render_dom.specs.declared.dom.documents.RcDom.TheInside.{Inside}
 use Rattle.html_render_dom.specs.Dom.{Dom}

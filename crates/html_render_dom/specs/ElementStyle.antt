@@ -16,7 +16,7 @@ use Rattle.html_render_dom_rules.specs.Rules.{StyleValue, colour, bg_colour, dis
 use Rattle.html_render_dom.specs.Attributes.{first_value}
 use Rattle.html_render_dom_rules.specs.Selectors.{selects, specificity_of}
 
--- a declaration with what its rule says of it
+-- a declaration with the origin, specificity and pseudo-element of its rule
 pub record Applied : Type 0 where
   pub origin : StyleOrigin
   pub specificity : Specificity
@@ -27,7 +27,7 @@ pub record Applied : Type 0 where
 abbrev pub applied : Rule → List Applied
 applied rule = map (λ d. record { origin = rule.origin; specificity = specificity_of rule; pseudo = rule.pseudo; declared = d }) rule.declarations
 
--- what is declared of each property: with a pseudo-element only content counts
+-- For each property, the value that a declaration gives it, if any. With a pseudo-element only content counts.
 abbrev pub colour_in : Option PseudoElement → StyleValue → Option Colour
 colour_in None (colour c) = Some c
 colour_in _ _ = None
@@ -44,20 +44,20 @@ abbrev pub white_space_in : Option PseudoElement → StyleValue → Option White
 white_space_in None (white_space w) = Some w
 white_space_in _ _ = None
 
--- content of the element itself, or at a place beside its children
+-- the content that a declaration gives a place: the element itself, before its contents, or after them
 abbrev pub content_in : (place : Option PseudoElement) → Option PseudoElement → StyleValue → Option (List ℕ)
 content_in None None (content text) = Some text
 content_in (Some Before) (Some Before) (content text) = Some text
 content_in (Some After) (Some After) (content text) = Some text
 content_in _ _ _ = None
 
--- the updates of a property that the declarations of it make, in order
+-- the updates of a property by declarations, in order
 abbrev pub updates : {T : Type 0} → (Option PseudoElement → StyleValue → Option T) → List Applied → List (Update T)
 updates property declarations = filter_map (λ a.
     option_map (λ x. record { important = a.declared.important; origin = a.origin; specificity = a.specificity; value = x })
     (property a.pseudo a.declared.style)) declarations
 
--- for each property the update that wins, if there is one
+-- a style: for each property the winning update, if there is one
 pub record ElementStyle : Type 0 where
   pub colour : Option (Update Colour)
   pub bg_colour : Option (Update Colour)
@@ -68,7 +68,7 @@ pub record ElementStyle : Type 0 where
   pub content_after : Option (Update (List ℕ))
   pub internal_pre : Bool
 
--- the style that declarations give
+-- the style that declarations give, in this order
 abbrev pub style_by : List Applied → ElementStyle
 style_by declarations = record {
   colour = winner (updates colour_in declarations);
@@ -81,13 +81,13 @@ style_by declarations = record {
   internal_pre = false;
 }
 
--- the style of an element of this local name and these attributes: that which the rules that select it give, in the order in
--- which they were added
+-- the style of an element with a local name and attributes, from the rules that select it, in the order in which they were
+-- added
 abbrev pub element_style : List Rule → (name : List ℕ) → List Property → ElementStyle
 element_style rules name properties =
     style_by (flat_map applied (filter (selects name (first_value (codes "id") properties) (first_value (codes "class") properties)) rules))
 
--- the style that a `ComputedStyle` holds
+-- the value of a `ComputedStyle`
 abbrev pub style_of : ComputedStyle → ElementStyle
 style_of s = record {
   colour = s.colour;
@@ -100,7 +100,7 @@ style_of s = record {
   internal_pre = s.internal_pre;
 }
 
--- the style that is kept, and declarations behind it
+-- the winning update of a property, and the style, after more declarations
 abbrev pub with_more : {T : Type 0} → (Option PseudoElement → StyleValue → Option T) → Option (Update T) → List Applied → Option (Update T)
 with_more property kept declarations = winner (option_to_list kept ++ updates property declarations)
 

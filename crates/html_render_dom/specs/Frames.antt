@@ -1,4 +1,4 @@
--- What is left of a dump that is half written: of each node whose start is written, its last children and its end.
+-- The rest of a dump that is being written: for each open node, the children that aren't started, and its end.
 use Rattle.std.specs.Prelude.{ℕ, ◌+◌, ◌-◌, ◌*◌, ◌≤◌, List, [], ◌∷◌, ◌++◌, sum_by, drop}
 use Rattle.html_render_dom.specs.declared.dom.dump.Frame.{Frame}
 use Rattle.html_render_dom_nodes.specs.Content.{Content, document, doctype, text, comment, element, instruction}
@@ -6,11 +6,11 @@ use Rattle.html_render_dom_values.specs.Forest.{Forest, count, depth}
 use Rattle.html_render_dom.specs.Dom.{Dom, node_count, IsNode, content_at, children_at, trees_of}
 use Rattle.html_render_dom.specs.Dump.{dump, end_line}
 
--- the trees of the children whose turn is still to come
+-- the trees of an open node's children that aren't started
 abbrev pub left_of : Dom → Frame → Forest Content
 left_of dom f = trees_of dom (drop f.passed (children_at dom f.node))
 
--- an element's end; the children stand one space deeper
+-- the end of a node whose children have this indent: a line for an element, one space less deep; nothing for others
 abbrev pub end_of : (indent : ℕ) → Content → List ℕ
 end_of indent document = []
 end_of indent (doctype name public_id system_id) = []
@@ -19,20 +19,20 @@ end_of indent (comment contents) = []
 end_of indent (element name properties template_contents integration_point) = end_line (indent - 1) name.local
 end_of indent (instruction target contents) = []
 
--- what is left of one node
+-- the rest of the dump of one open node
 abbrev pub rest_of : Dom → Frame → List ℕ
 rest_of dom f = dump f.indent (left_of dom f) ++ end_of f.indent (content_at dom f.node)
 
--- what is left of all of them, the innermost last
+-- the rest of the dump, from the open nodes; the innermost is the last of the list, and is written first
 abbrev pub rest : Dom → List Frame → List ℕ
 rest dom [] = []
 rest dom (f ∷ fs) = rest dom fs ++ rest_of dom f
 
--- the indents stay below the number of nodes
+-- whether an open node exists, and the indents below it are at most the number of nodes
 abbrev pub FrameFits : Dom → Frame → Type 0
 FrameFits dom f = IsNode dom f.node × (f.indent + depth (left_of dom f) ≤ node_count dom)
 
--- how many steps are left
+-- an upper bound of the steps that an open node still takes, and of those of all open nodes
 abbrev pub steps_of : Dom → Frame → ℕ
 steps_of dom f = 1 + 2 * count (left_of dom f)
 

@@ -1,16 +1,16 @@
--- a document: the nodes and their trees, and the vectors that hold them
+-- documents: nodes and their trees, and the value of an `RcDom`
 pub mod Dom
 pub mod Documents
--- what the calls on a document answer, and what they make of it
+-- results of queries, and documents after edits
 pub mod Paths
 pub mod Dump
 pub mod Edits
 pub mod Moves
--- how text is styled
+-- computed styles
 pub mod Attributes
 pub mod ElementStyle
 pub mod RuleIndex
--- what the functions inside the crate promise each other
+-- definitions for private functions
 pub mod Frames
--- what holds of all of them
+-- laws of these definitions
 pub mod laws

@@ -1,4 +1,4 @@
--- What each call that moves nodes between lists makes of a document.
+-- The document after each call that inserts a node or a text before another node, and the conditions of these calls.
 use Rattle.std.specs.Prelude.{ℕ, Option, Some, None, string_bytes}
 use Rattle.html_render_dom_nodes.specs.declared.contents.NodeOrText.{NodeOrText}
 use Rattle.html_render_dom_nodes.specs.declared.contents.NodeOrText.TheVariants.{AppendNode, AppendText}
@@ -6,12 +6,12 @@ use Rattle.html_render_dom.specs.Dom.{Dom, IsNode, parent_at, IsInclusiveAncesto
 use Rattle.html_render_dom.specs.Edits.{appended, CanAppend}
 use Rattle.html_render_dom_nodes.specs.Moves.{placed, taken_out, text_before, text_placed}
 
--- what is put before a sibling is not the sibling, nor an ancestor of it
+-- the condition of `append_before_sibling`: a node isn't an inclusive ancestor of the sibling; a text has no condition
 abbrev pub CanAppendBefore : Dom → (sibling : ℕ) → NodeOrText → Type 0
 CanAppendBefore dom sibling (AppendNode child) = IsNode dom child × ¬ IsInclusiveAncestor dom child sibling
 CanAppendBefore dom sibling (AppendText more) = Unit {0}
 
--- put into the parent's list, directly before the sibling
+-- the document with a node or a text directly before the sibling in the parent's list; unchanged without a parent
 abbrev pub put_before : Dom → (parent : Option ℕ) → (sibling : ℕ) → NodeOrText → Dom
 put_before dom None sibling child = dom
 put_before dom (Some parent) sibling (AppendNode child) =
@@ -19,11 +19,12 @@ put_before dom (Some parent) sibling (AppendNode child) =
 put_before dom (Some parent) sibling (AppendText more) =
     record dom { nodes = text_placed dom.nodes parent sibling (text_before dom.nodes parent sibling) (string_bytes more) }
 
--- put into the list in which the sibling stands, directly before it
+-- the document with a node or a text directly before the sibling, in the list that has the sibling
 abbrev pub appended_before : Dom → (sibling : ℕ) → NodeOrText → Dom
 appended_before dom sibling child = put_before dom (parent_at dom sibling) sibling child
 
--- what is put before an element, or behind the last child of another where that element has no parent
+-- the condition of `append_based_on_parent_node`: that of `append_before_sibling` if the element has a parent, otherwise
+-- that of `append` to the other node
 abbrev pub CanPutByParent : Dom → (parent : Option ℕ) → (element last : ℕ) → NodeOrText → Type 0
 CanPutByParent dom None element last child = IsNode dom last × CanAppend dom last child
 CanPutByParent dom (Some parent) element last child = CanAppendBefore dom element child

@@ -1,12 +1,12 @@
--- Where a path of numbers leads: each counts the element children of a node, from 1.
+-- The node at the end of a path. Each number of a path counts the children of a node that are elements, from 1.
 use Rattle.std.specs.Prelude.{◌==◌, ℕ, ◌-◌, if◌then◌else◌, List, [], ◌∷◌, filter, slice_get, Option, Some, None, option_and_then}
 use Rattle.html_render_dom.specs.Dom.{Dom, content_at, children_at, is_element}
 
--- those of some nodes that are elements
+-- the elements among the nodes hs
 abbrev pub elements_of : Dom → List ℕ → List ℕ
 elements_of dom hs = filter (λ h. is_element (content_at dom h)) hs
 
--- the element child of a number, from 1
+-- the child with a number among the children that are elements, from 1
 abbrev pub nth_child : Dom → ℕ → ℕ → Option ℕ
 nth_child dom h index = if index == 0 then None else slice_get (elements_of dom (children_at dom h)) (index - 1)
 

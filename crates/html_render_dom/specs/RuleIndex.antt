@@ -1,4 +1,4 @@
--- Which rules may select an element, found by the texts that rules state.
+-- The index of rules by the texts that they state.
 use Rattle.std.specs.Prelude.{◌≡◌, ℕ, ◌+◌, ◌*◌, ◌%◌, ◌<◌, ◌≤◌, Bool, true, ◌||◌, is_some, List, [], ◌∷◌, ◌++◌, length, get_or, Option, Some, None, option_to_list, slice_index_or}
 use Rattle.std.specs.BTreeMap.{get_by_text}
 use Rattle.std.specs.List.{Contains, list_any}
@@ -7,15 +7,15 @@ use Rattle.html_render_dom.specs.declared.style.index.RuleIndex.{RuleIndex}
 use Rattle.html_render_dom_rules.specs.Rules.{Rule}
 use Rattle.html_render_dom_rules.specs.Selectors.{is_filled, words}
 
--- the key of a text: one of 64, by its length and its first byte
+-- the key of a text, a hash of its length and its first byte that is less than 64
 abbrev pub key_of : (text : List ℕ) → ℕ
 key_of text = (length text % 64 * 3 + slice_index_or text 0 0) % 64
 
--- whether a text has a key that is told
+-- whether a rule may be indexed under a text: whether its key is marked
 abbrev pub is_told : (keys : List Bool) → (text : List ℕ) → Bool
 is_told keys text = slice_index_or keys (key_of text) true
 
--- the text that a rule is found under: its first class, else its id, else the name of its elements
+-- the text under which a rule is indexed: its first class, else its id, else its element name
 abbrev pub text_stated : (classes : List (List ℕ)) → (id element : Option (List ℕ)) → Option (List ℕ)
 text_stated (class ∷ more) id element = Some class
 text_stated [] (Some id) element = Some id
@@ -24,15 +24,16 @@ text_stated [] None element = element
 abbrev pub stated_text : Rule → Option (List ℕ)
 stated_text rule = text_stated rule.classes rule.id rule.element
 
--- the texts that an element has: its name, its id, and its classes
+-- the texts of an element: its local name, its id and its classes
 abbrev pub texts_of : (name : List ℕ) → (id classes : Option (List ℕ)) → List (List ℕ)
 texts_of name id classes = name ∷ option_to_list id ++ words (unwrap_or classes [])
 
--- the numbers that an index has under a text
+-- the numbers of the rules that are indexed under a text
 abbrev pub numbers_under : RuleIndex → (text : List ℕ) → List ℕ
 numbers_under index text = option_map_or (λ numbers. numbers.items) (get_by_text index.by_text text) []
 
--- a rule is found by its number: under the text that it states, whose key is told, or among those that state none
+-- whether an index has a rule's number: under the text that the rule states, with a marked key, or among those of rules that
+-- state none
 abbrev pub IsFound : RuleIndex → (number : ℕ) → (stated : Option (List ℕ)) → Type 0
 IsFound index number None = Contains index.general.items number
 IsFound index number (Some text) = (is_told index.keys.items text ≡ true) × Contains (numbers_under index text) number
@@ -41,12 +42,12 @@ IsFound index number (Some text) = (is_told index.keys.items text ≡ true) × C
 abbrev pub asks_attributes : Rule → Bool
 asks_attributes rule = is_some rule.id || is_filled rule.classes
 
--- an index finds each of these rules, and says whether one of them states an id or a class
+-- whether an index is one of these rules: it has the number of each, and the fact whether any states an id or a class
 abbrev pub Finds : RuleIndex → List Rule → Type 0
 Finds index rules = (length index.keys.items ≡ 64) × ((number : ℕ) (rule : Rule) → number < length rules →
     IsFound index number (stated_text (get_or rules number rule))) × (index.asks_attributes ≡ list_any asks_attributes rules)
 
--- the numbers of all rules from `next` on that are selected stand in this list
+-- whether a list has the numbers of all rules from `next` on for which `selects` is true
 abbrev pub HasSelected : (selects : Rule → Bool) → List Rule → (next : ℕ) → (numbers : List ℕ) → Type 0
 HasSelected selects rules next numbers = (number : ℕ) (rule : Rule) → next ≤ number → number < length rules →
     selects (get_or rules number rule) ≡ true → Contains numbers number

@@ -1,7 +1,7 @@
-//! The document object model: numbered nodes, each with its data, its parent and its children in order.
+//! The document object model (DOM): numbered nodes, each with its data, its parent and its children in order.
 //!
-//! [`RcDom`] owns the nodes, and a [`Handle`] names one of them; `RcDom::new(alloc)?.get_document()` is the
-//! document, the node that all others hang from.
+//! [`RcDom`] is an arena that owns the nodes. A [`Handle`] is the number of one of them;
+//! `RcDom::new(alloc)?.get_document()` is node 0, the document.
 
 mod documents;
 mod dump;

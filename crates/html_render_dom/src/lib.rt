@@ -1,4 +1,4 @@
-//! The document object model that a render tree is made of, and the rules that style it.
+//! The document object model (DOM), from which render trees are converted, and the computed styles of its elements.
 #![tactic(auto)]
 
 pub mod dom;

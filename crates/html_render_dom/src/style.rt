@@ -1,10 +1,10 @@
-//! How text is styled: the cascade, the rules that it is made of, and the styles that come of them.
+//! Computed styles: rules with declarations, and the cascade that decides between them.
 //!
 //! `computed_style(alloc, &rules, "p", &attrs)?` gives each property of a `p` with these attributes the value that
-//! wins among the declarations of the rules that match it.
+//! wins among the declarations of the rules that select it.
 //!
-//! Importance, origin and specificity decide as CSS Cascading and Inheritance Level 3, section 6, has them; elements
-//! are selected as Selectors Level 3 has it.
+//! Importance, origin and specificity decide as in CSS Cascading and Inheritance Level 3, section 6. Rules select elements
+//! as in Selectors Level 3.
 
 mod attributes;
 mod computed;

@@ -1,4 +1,4 @@
--- What stands at the nodes of a document that was changed.
+-- Contents, lists and parents of the nodes of a changed document.
 use Rattle.std.specs.Prelude.{◌≡◌, ◌≢◌, ℕ, zero, suc, ◌<◌, ◌≤◌, ◌-◌, List, [], ◌∷◌, ◌++◌, length, slice_set, Option, Some, Contains}
 use Rattle.std.proofs.Common.{◌⊎◌, inl, inr, refl, sym, ap, ◌∙◌, subst, arith, length-append}
 use Rattle.std.proofs.lemmas.Bool.Decides.{eqb_tells}
@@ -14,7 +14,7 @@ use Rattle.html_render_dom_nodes.specs.Moves.{with_parents, reparented}
 use Rattle.html_render_dom.specs.laws.Forests.{below_or_not, IfSome-parent}
 use Rattle.html_render_dom.specs.laws.Members.{Contains-nil, Contains-head, Contains-tail, Contains-cons_cases}
 
--- ---- one node written
+-- ---- writing one node
 
 pub there : {X : Type 0} (f : Node → X) (nodes : List Node) (i : ℕ) (n : Node) → i < length nodes → f (node_in (slice_set nodes i n) i) ≡ f n
 there f nodes i n at = ap f (get_or-set_same nodes i n (lone document) at)
@@ -23,7 +23,7 @@ pub elsewhere : {X : Type 0} (f : Node → X) (nodes : List Node) (i : ℕ) (n :
     f (node_in (slice_set nodes i n) h) ≡ f (node_in nodes h)
 elsewhere f nodes i n h other = ap f (get_or-set_other nodes i h n (lone document) other)
 
--- what the write leaves as it was
+-- a function of nodes that the written node doesn't change has its old value at every node
 pub kept : {X : Type 0} (f : Node → X) (nodes : List Node) (i : ℕ) (n : Node) → i < length nodes → f n ≡ f (node_in nodes i) → (h : ℕ) →
     f (node_in (slice_set nodes i n) h) ≡ f (node_in nodes h)
 kept f nodes i n at same h =
@@ -32,7 +32,7 @@ kept f nodes i n at same h =
       | inr d ↦ elsewhere f nodes i n h d.1
     ]
 
--- ---- a node more
+-- ---- appending a node
 
 pub made : (nodes : List Node) (c : Content) → node_in (created nodes c) (length nodes) ≡ lone c
 made nodes c = subst (λ n. node_in (created nodes c) n ≡ lone c) (omega arith) (get_or-append-add nodes (lone c ∷ []) 0 (lone document))
@@ -40,13 +40,13 @@ made nodes c = subst (λ n. node_in (created nodes c) n ≡ lone c) (omega arith
 pub older : (nodes : List Node) (c : Content) (h : ℕ) → h < length nodes → node_in (created nodes c) h ≡ node_in nodes h
 older nodes c h at = get_or_append_left nodes (lone c ∷ []) (lone document) h at
 
--- the same lists and parents, and perhaps more nodes
+-- whether two documents have equal lists and parents, and the new one has at least the nodes of the old one
 pub record SameShape (old new : Dom) : Type 0 where
   pub grows : node_count old ≤ node_count new
   pub children : (h : ℕ) → children_at new h ≡ children_at old h
   pub parents : (h : ℕ) → parent_at new h ≡ parent_at old h
 
--- more nodes that hang nowhere and have no children
+-- appending a node without a parent and children leaves all lists and parents unchanged
 pub created-shape : (dom : Dom) (c : Content) → SameShape dom (record dom { nodes = created dom.nodes c })
 created-shape dom c = record {
   grows = omega (arith, length-append dom.nodes (lone c ∷ []));
@@ -67,13 +67,13 @@ created-shape dom c = record {
               ∙ one f e (h - length dom.nodes) ∙ sym (ap f (get_or_past dom.nodes h (lone document) ge))
         ]
 
--- where older nodes keep their parents, the next number is above none of them
+-- if the old nodes keep their parents, the next number is an ancestor of none of them
 pub above_no_older : {old new : Dom} → IsForest old → ((h : ℕ) → IsNode old h → parent_at new h ≡ parent_at old h) → (h : ℕ) →
     IsNode old h → IsInclusiveAncestor new (node_count old) h → ⊥
 above_no_older f same h at itself = omega arith
 above_no_older {old} f same h at (above p e up) = above_no_older f same p (IfSome-parent old f h (Some p) (sym e ∙ same h at)) up
 
--- ---- one list and one parent written
+-- ---- writing one list and one parent
 
 pub record Rewrites (old new : Dom) (p : ℕ) (xs : List ℕ) (c : ℕ) (q : Option ℕ) : Type 0 where
   pub count : node_count new ≡ node_count old
@@ -100,14 +100,14 @@ rewritten dom p xs c q at_p at_c =
       parents_elsewhere = λ h other. elsewhere (λ x. x.parent) listed c n h other ∙ kept (λ x. x.parent) dom.nodes p m at_p refl h;
     }
 
--- ---- all children moved to another parent
+-- ---- moving all children to another parent
 
 module _ (p : ℕ) where
   parents-count : (nodes : List Node) (cs : List ℕ) → length (with_parents nodes cs p) ≡ length nodes
   parents-count nodes [] = refl
   parents-count nodes (c ∷ cs) = parents-count (with_parent nodes c (Some p)) cs ∙ length-set nodes c _
 
-  -- the bound holds of the others after the first is named
+  -- the other children are still below the length after the first one's parent is set
   later : (nodes : List Node) (c : ℕ) (cs : List ℕ) → ((x : ℕ) → Contains (c ∷ cs) x → x < length nodes) → (x : ℕ) → Contains cs x →
       x < length (with_parent nodes c (Some p))
   later nodes c cs at x m = omega (arith, at x (Contains-tail c cs x m), length-set nodes c (record (node_in nodes c) { parent = Some p }))
@@ -120,7 +120,7 @@ module _ (p : ℕ) where
       parents-kept f same (with_parent nodes c (Some p)) cs (later nodes c cs at) h
       ∙ kept f nodes c (record (node_in nodes c) { parent = Some p }) (at c (Contains-head c cs)) (same (node_in nodes c) (Some p)) h
 
-  -- a node names the parent in the end if it is one of these, or named it before
+  -- a node has the parent p afterwards if it is one of cs, or had it before
   named-in : (nodes : List Node) (cs : List ℕ) → ((x : ℕ) → Contains cs x → x < length nodes) → (h : ℕ) →
       Contains cs h ⊎ ((node_in nodes h).parent ≡ Some p) → (node_in (with_parents nodes cs p) h).parent ≡ Some p
   named-in nodes [] at h (inl l) = absurd (Contains-nil h l)
@@ -179,7 +179,7 @@ reparented-facts dom u v at_u at_v apart nodes =
           ∙ kept (λ x. x.parent) dom.nodes u m at_u refl h;
     }
 
--- ---- the trees beside each other
+-- ---- the trees of two lists, one after the other
 
 pub HaveTrees-append : (dom : Dom) (t u : Forest Content) (xs ys : List ℕ) → HaveTrees dom xs t → HaveTrees dom ys u →
     HaveTrees dom (xs ++ ys) (followed_by t u)

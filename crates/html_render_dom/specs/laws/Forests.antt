@@ -1,4 +1,4 @@
--- What holds of every forest.
+-- Laws of every document that is a forest.
 use Rattle.std.specs.Prelude.{◌≡◌, ℕ, zero, suc, ◌<◌, ◌≤◌, List, [], Option, Some, None, IfSome, All, Contains, nat_eq}
 use Rattle.std.specs.List.{IsDistinct}
 use Rattle.std.proofs.Common.{refl, sym, ◌∙◌, ltb, arith, ◌⊎◌, inl, inr, ap}
@@ -14,7 +14,7 @@ use Rattle.html_render_dom_nodes.specs.Nodes.{lone, node_in}
 pub below_or_not : (a b : ℕ) → (a < b) ⊎ (b ≤ a)
 below_or_not a b = elim (cases_Bool (ltb a b)) [ inl e ↦ inl (ltb-true a b e) | inr e ↦ inr (ltb-false a b e) ]
 
--- past the last node there are no children
+-- past the last node there are no children and no parents
 pub children_at-past : (dom : Dom) (h : ℕ) → node_count dom ≤ h → children_at dom h ≡ []
 children_at-past dom h ge = ap (λ n. n.children) (get_or_past dom.nodes h (lone document) ge)
 
@@ -34,7 +34,7 @@ IsNode-element dom h is =
           let no : IsElement document = rw past at is in absurd (false≢true no))
     ]
 
--- what has children is a node
+-- a number with a child is a node
 pub IsNode-above : (dom : Dom) (p c : ℕ) → Contains (children_at dom p) c → IsNode dom p
 IsNode-above dom p c m =
     elim (below_or_not p (node_count dom)) [
@@ -42,7 +42,7 @@ IsNode-above dom p c m =
       | inr ge ↦ absurd (let m' = rw (children_at-past dom p ge) at m in let gone : m'.0 < 0 = m'.1 in omega arith)
     ]
 
--- a parent is a node: a child stands in its list
+-- a parent is a node, since its list has a child
 pub IfSome-parent : (dom : Dom) → IsForest dom → (h : ℕ) (p : Option ℕ) → p ≡ parent_at dom h → IfSome p (IsNode dom)
 IfSome-parent dom f h None e = tt
 IfSome-parent dom f h (Some p) e = IsNode-above dom p h (f.parent_lists_child p h (sym e))
@@ -51,7 +51,7 @@ pub IsDistinct-nil : IsDistinct nat_eq []
 unfolding IsDistinct
 IsDistinct-nil = tt
 
--- the document alone is a forest
+-- a new document is a forest
 only : (h : ℕ) → node_in empty_dom.nodes h ≡ lone document
 only zero = refl
 only (suc h) = refl

@@ -1,4 +1,4 @@
--- What stands in a list.
+-- Members of lists.
 use Rattle.std.proofs.Common.{◌≡◌, ℕ, true, false, List, [], ◌∷◌, ◌⊎◌, inl, inr, refl, subst, arith, eqb, Contains}
 use Rattle.std.specs.List.{list_any}
 use Rattle.std.proofs.lemmas.Bool.{cases_Bool, eqb-true}
@@ -22,11 +22,11 @@ Contains-cons_cases x xs y h =
       | inr b ↦ inr b
     ]
 
--- what holds of one element holds of all that stand in its list of one
+-- each member of a list of one has the properties of that one
 pub Contains-single : {X : Type 0} (P : X → Type 0) (x : X) → P x → (y : X) → Contains (x ∷ []) y → P y
 Contains-single P x p y h = elim (Contains-cons_cases x [] y h) [ inl e ↦ subst P e p | inr n ↦ absurd (Contains-nil y n) ]
 
--- a number that a test finds stands in the list
+-- `list_any` finds a number exactly if the number is in the list
 pub Contains-from_any : (xs : List ℕ) (y : ℕ) → list_any (eqb y) xs ≡ true → Contains xs y
 Contains-from_any xs y e = Views.Contains-from_any {eq = eqb} eqb-true y xs e
 

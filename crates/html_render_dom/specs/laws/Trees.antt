@@ -1,4 +1,4 @@
--- The tree that a node stands for: it is the only one, and it is no deeper than there are nodes.
+-- The tree with a node as its root: there is only one, and its depth is at most the number of nodes.
 use Rattle.std.specs.Prelude.{◌≡◌, ℕ, zero, suc, ◌<◌, ◌≤◌, ◌+◌, List, [], ◌∷◌, ◌++◌, length, Some, All, Contains, nat_eq}
 use Rattle.std.specs.List.{IsDistinct}
 use Rattle.std.proofs.Common.{refl, sym, ap, ◌∙◌, ◌⊎◌, inl, inr, arith, subst, length-append}
@@ -16,7 +16,7 @@ use Rattle.html_render_dom.specs.Dom.{IsForest, beside_each, below, trees_of, tr
 node-same : {c d : Content} {k l b e : Forest Content} → c ≡ d → k ≡ l → b ≡ e → node c k b ≡ node d l e
 node-same p q r = cc
 
--- some nodes stand for the same trees always
+-- the trees with given roots are unique
 pub HaveTrees-unique : (dom : Dom) (t u : Forest Content) (hs : List ℕ) → HaveTrees dom hs t → HaveTrees dom hs u → t ≡ u
 HaveTrees-unique dom none none [] g h = refl
 HaveTrees-unique dom none none (x ∷ hs) g h = refl
@@ -26,7 +26,7 @@ HaveTrees-unique dom (node c k b) (node d l e) (x ∷ hs) g h =
     node-same (sym g.1 ∙ h.1) (HaveTrees-unique dom k l (children_at dom x) g.2 h.2) (HaveTrees-unique dom b e hs g.3 h.3)
 HaveTrees-unique dom t u hs g h = absurd g
 
--- one of the trees beside each other, which is no larger and no deeper
+-- a tree of a forest, with at most the forest's nodes and depth
 record OneOf (dom : Dom) (x : ℕ) (t : Forest Content) : Type 0 where
   tree : Forest Content
   has_tree : HaveTrees dom (x ∷ []) tree
@@ -48,7 +48,7 @@ one_of dom (node c kids beside) (y ∷ hs) x m h =
     ]
 one_of dom t hs x m h = absurd h
 
--- a child's tree is smaller and less deep than its parent's
+-- the tree with the root x, if it has fewer nodes and less depth than the forest t
 record Below (dom : Dom) (x : ℕ) (t : Forest Content) : Type 0 where
   tree : Forest Content
   has_tree : HaveTrees dom (x ∷ []) tree
@@ -61,7 +61,7 @@ child_below dom f p x e (node c kids beside) h =
     let r = one_of dom kids (children_at dom p) x (f.parent_lists_child p x e) h.2 in
     record { tree = r.tree; has_tree = r.has_tree; smaller = omega (arith, r.smaller); flatter = omega (arith, r.flatter) }
 
--- a descendant's tree is smaller
+-- the tree of a descendant has fewer nodes and less depth
 descendant_below : (dom : Dom) → IsForest dom → (h : ℕ) {p : ℕ} → IsInclusiveAncestor dom h p → (x : ℕ) → parent_at dom x ≡ Some p →
     (t : Forest Content) → HaveTrees dom (h ∷ []) t → Below dom x t
 descendant_below dom f h itself x e t s = child_below dom f h x e t s
@@ -83,7 +83,7 @@ IsInclusiveAncestor-no_loop dom f h p e up =
     let same = ap count (HaveTrees-unique dom b.tree t.0 (h ∷ []) b.has_tree t.1) in
     absurd (omega (arith, same, b.smaller))
 
--- the nodes on the way down to some nodes: no two are equal, and each is above them
+-- the nodes `up` on the way down to the nodes hs: they are distinct, and each is an ancestor of each of hs
 record Way (dom : Dom) (up hs : List ℕ) : Type 0 where
   distinct : IsDistinct nat_eq up
   nodes : (q : ℕ) → Contains up q → IsNode dom q
@@ -118,14 +118,14 @@ way_length dom f (node c kids beside) up (x ∷ hs) h w =
     let after = way_length dom f beside up hs h.3 (way_tail dom up hs x w) in
     omega (arith, down, after, length-append up (x ∷ []))
 
--- no way down has more nodes than there are
+-- the depth of a tree is at most the number of nodes
 pub depth-le : (dom : Dom) → IsForest dom → (t : Forest Content) (hs : List ℕ) → HaveTrees dom hs t → depth t ≤ node_count dom
 depth-le dom f t hs h =
     let way = way_length dom f t [] hs h
     (record { distinct = IsDistinct-nil; nodes = λ q l. absurd (Contains-nil q l); over = λ k m q l. absurd (Contains-nil q l) }) in
     omega (arith, way)
 
--- enough fuel gives the trees
+-- enough levels give the whole trees
 enough : (dom : Dom) (t : Forest Content) (hs : List ℕ) (n : ℕ) → HaveTrees dom hs t → depth t ≤ 1 + n → beside_each dom (below n dom) hs ≡ t
 enough dom none [] n h le = refl
 enough dom (node c none beside) (x ∷ hs) zero h le = node-same h.1 refl (enough dom beside hs zero h.3 (omega arith))
@@ -134,7 +134,7 @@ enough dom (node c kids beside) (x ∷ hs) (suc m) h le =
     node-same h.1 (enough dom kids (children_at dom x) m h.2 (omega arith)) (enough dom beside hs (suc m) h.3 (omega arith))
 enough dom t hs n h le = absurd h
 
--- the trees that some nodes stand for
+-- `tree_of` and `trees_of` are the trees with these roots
 pub HaveTrees-tree_of : (dom : Dom) → IsForest dom → (h : ℕ) → IsNode dom h → HaveTrees dom (h ∷ []) (tree_of dom h)
 HaveTrees-tree_of dom f h at =
     let t = f.finite h at in
@@ -147,18 +147,18 @@ HaveTrees-trees_of dom f (h ∷ hs) all =
     let one = HaveTrees-tree_of dom f h (All-head (IsNode dom) h hs all) in
     (one.0, one.1, one.2, HaveTrees-trees_of dom f hs (All-tail (IsNode dom) h hs all))
 
--- below a node stand its children's trees
+-- the forest below a node has the trees of its children
 pub below-children : (dom : Dom) → IsForest dom → (h : ℕ) → IsNode dom h → below (node_count dom) dom h ≡ trees_of dom (children_at dom h)
 below-children dom f h at =
     let kids = HaveTrees-trees_of dom f (children_at dom h) (All-children dom f h (children_at dom h) refl) in
     HaveTrees-unique dom _ _ (children_at dom h) (HaveTrees-tree_of dom f h at).2 kids
 
--- the trees of some nodes: the first one's content, its children's trees, and the trees of the others
+-- the trees of a list of nodes: the first node's content, its children's trees, and the trees of the other nodes
 pub trees_of-cons : (dom : Dom) → IsForest dom → (h : ℕ) (hs : List ℕ) → IsNode dom h →
     trees_of dom (h ∷ hs) ≡ node (content_at dom h) (trees_of dom (children_at dom h)) (trees_of dom hs)
 trees_of-cons dom f h hs at = node-same refl (below-children dom f h at) refl
 
--- a child's tree is less deep than its parent's
+-- the tree of a child has less depth than that of its parent
 pub depth-child : (dom : Dom) → IsForest dom → (h p : ℕ) → parent_at dom h ≡ Some p → IsNode dom p → depth (tree_of dom h) < depth (tree_of dom p)
 depth-child dom f h p e at =
     let b = child_below dom f p h e (tree_of dom p) (HaveTrees-tree_of dom f p at) in
@@ -166,7 +166,7 @@ depth-child dom f h p e at =
     let same = ap depth (HaveTrees-unique dom b.tree (tree_of dom h) (h ∷ []) b.has_tree (HaveTrees-tree_of dom f h in_h)) in
     omega (arith, same, b.flatter)
 
--- the node itself, or what is above its parent
+-- an inclusive ancestor of h is h itself, or an inclusive ancestor of its parent
 pub IsInclusiveAncestor-cases : (dom : Dom) (a h : ℕ) → IsInclusiveAncestor dom a h →
     (a ≡ h) ⊎ ((p : ℕ) × (parent_at dom h ≡ Some p) × IsInclusiveAncestor dom a p)
 IsInclusiveAncestor-cases dom a h itself = inl refl

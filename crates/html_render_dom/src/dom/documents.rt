@@ -1,4 +1,4 @@
-//! The document object model as a whole, and what can be asked of it.
+//! [`RcDom`], the arena of a document's nodes, with queries of its structure.
 
 ghost use Rattle.std.specs.Prelude.{◌≡◌, ◌↔◌, map, string_bytes, IsTrue, IsSome, IfOk, IfErr, IfSome, All};
 ghost use Rattle.html_render_dom_nodes.specs.Content.{content_of};
@@ -13,10 +13,13 @@ use html_render_dom_values::Error;
 use std::alloc::Global;
 use std::marker::Model;
 
-/// A document: its nodes, the messages of its errors and its quirks mode.
+/// A document: an arena of nodes, the messages of parse errors, and the quirks mode.
 ///
-/// Each node has an ordered list of children. A child stands in one list, once, and no node is its own ancestor. A
-/// template's contents are a node of the document.
+/// Each node has an ordered list of children. A node is in at most one list, once, and isn't its own ancestor. The
+/// contents of a template are a document node in this arena. Nodes are freed only with the document.
+///
+/// A handle that is passed to a call must be that of a node of this document ([`is_node`](RcDom::is_node)), unless the call
+/// says what it returns for others.
 #[derive(Drop)]
 pub struct RcDom {
     pub(super) nodes: Vec<Node>,
@@ -37,11 +40,11 @@ impl Model for RcDom {
 }
 
 impl RcDom {
-    /// The document alone, without errors, in no quirks mode.
+    /// Creates a document without children and errors, in `NoQuirks` mode.
     ///
     /// # Errors
     ///
-    /// `OutOfMemory`.
+    /// Returns `OutOfMemory` if an allocation is refused.
     pub fn new(alloc: Global) -> Result<RcDom, Error>
         ensures ok { IfOk result (λ dom. dom ≡ empty_dom) }
         ensures err { IfErr result (λ e. e ≡ Error.OutOfMemory) }
@@ -55,52 +58,52 @@ impl RcDom {
         })
     }
 
-    /// The document, the node that all others are to hang from.
+    /// Returns the document node, which has the number 0.
     pub fn get_document(&self) -> Handle
         ensures document { result ≡ 0 }
         ensures forest { IsForest self.now }
     {
-        // a field is named so that the proof can read that the nodes are a forest
+        // naming a field gives the proof the invariant that the nodes are a forest
         let _ = &self.nodes;
         Handle::new(0)
     }
 
-    /// The messages of the errors that a parser met, in order.
+    /// Returns the messages of parse errors, in the order in which [`parse_error`](RcDom::parse_error) added them.
     pub fn errors(&self) -> &[String]
         ensures { map string_bytes result.now ≡ self.now.messages }
     {
         self.errors.as_slice()
     }
 
-    /// The quirks mode: at first none.
+    /// Returns the quirks mode, which is `NoQuirks` in a new document.
     pub fn quirks_mode(&self) -> QuirksMode
         ensures { result ≡ self.now.mode }
     {
         self.quirks_mode
     }
 
-    /// Whether there is a node of this name.
+    /// Reports whether the document has a node with this number.
     pub fn is_node(&self, node: Handle) -> bool
         ensures { IsTrue result ↔ IsNode self.now node }
     {
         node.number() < self.nodes.len()
     }
 
-    /// Whether the node stands in a list of children; `false` where there is no such node.
+    /// Reports whether the node has a parent; `false` if there is no such node.
     pub fn has_parent(&self, node: Handle) -> bool
         ensures { IsTrue result ↔ IsSome (parent_at self.now node) }
     {
         self.is_node(node) && self.get_parent(node).is_some()
     }
 
-    /// Whether the node is an element; `false` where there is no such node.
+    /// Reports whether the node is an element; `false` if there is no such node.
     pub fn is_element(&self, node: Handle) -> bool
         ensures { IsTrue result ↔ IsElement (content_at self.now node) }
     {
         self.is_node(node) && matches!(self.data(node), NodeData::Element { .. })
     }
 
-    /// Whether one node is the other, or an ancestor of it; `false` where there is no such node.
+    /// Reports whether `ancestor` is `node` itself or an ancestor of it; `false` if one of them is no node.
     pub fn is_inclusive_ancestor(&self, ancestor: Handle, node: Handle) -> bool
         ensures { IsTrue result ↔ (IsNode self.now node × IsInclusiveAncestor self.now ancestor node) }
     {
@@ -117,7 +120,7 @@ impl RcDom {
         true
     }
 
-    /// What the node holds.
+    /// Returns the node's data.
     pub fn data(&self, node: Handle) -> &NodeData
         requires { IsNode self.now node }
         ensures { content_of result.now ≡ content_at self.now node }
@@ -125,7 +128,7 @@ impl RcDom {
         &self.entry(node).data
     }
 
-    /// The node's children, in order, borrowed.
+    /// Returns a slice of the node's children, in order.
     pub fn child_list(&self, node: Handle) -> &[Handle]
         requires { IsNode self.now node }
         ensures list { result.now ≡ children_at self.now node }
@@ -134,11 +137,11 @@ impl RcDom {
         self.entry(node).children.as_slice()
     }
 
-    /// The node's children, in order.
+    /// Returns a vector of the node's children, in order.
     ///
     /// # Errors
     ///
-    /// `OutOfMemory`.
+    /// Returns `OutOfMemory` if an allocation is refused.
     pub fn children(&self, alloc: Global, node: Handle) -> Result<Vec<Handle>, Error>
         requires { IsNode self.now node }
         ensures ok { IfOk result (λ list. list.items ≡ children_at self.now node) }
@@ -147,7 +150,7 @@ impl RcDom {
         Ok(Vec::from_slice(alloc, self.child_list(node))?)
     }
 
-    /// The node in whose list of children the node stands.
+    /// Returns the node whose list of children has this node; `None` if it is in no list.
     pub fn get_parent(&self, node: Handle) -> Option<Handle>
         requires { IsNode self.now node }
         ensures parent { result ≡ parent_at self.now node }
@@ -156,7 +159,7 @@ impl RcDom {
         self.entry(node).parent
     }
 
-    /// The node of this name.
+    /// Returns the arena's entry of the node.
     pub(super) fn entry(&self, node: Handle) -> &Node
         requires { IsNode self.now node }
         ensures node { node_of result.now ≡ node_in self.now.nodes node }
@@ -165,7 +168,7 @@ impl RcDom {
         &self.nodes[node.number()]
     }
 
-    /// The last child, if it is a text node.
+    /// Returns the last child if it is a text node, and `None` otherwise.
     pub(super) fn last_text(&self, parent: Handle) -> Option<Handle>
         requires { IsNode self.now parent }
         ensures text { result ≡ last_text self.now.nodes parent }

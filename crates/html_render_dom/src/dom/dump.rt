@@ -1,4 +1,4 @@
-//! A dump of nodes as lines of text, to look at: `<p>`, ` Text:x` and `</p>` for a paragraph with an `x`.
+//! Dumps of nodes as lines of text, for debugging: a `p` with the text `x` gives the lines `<p>`, ` Text:x` and `</p>`.
 
 ghost use Rattle.std.specs.Prelude.{◌≡◌, ◌+◌, ◌*◌, ◌<◌, ◌≤◌, ◌++◌, ◌∷◌, [], All, IfOk, IfErr, OnOk, codes, replicate, string_bytes};
 ghost use Rattle.html_render_dom_values.specs.Forest.{count, depth};
@@ -11,33 +11,39 @@ use html_render_dom_nodes::{Handle, NodeData};
 use html_render_dom_values::Error;
 use std::alloc::{AllocError, Global};
 
-/// A node whose start is written, and whose end is not.
+/// An open node of a dump: its start is written, and its end isn't.
 #[derive(Drop)]
 pub struct Frame {
     /// The node.
     pub node: Handle,
-    /// How many of its children are written.
+    /// Number of its children whose start is written.
     pub passed: usize,
-    /// The indent of its children.
+    /// Indent of its children, in spaces.
     pub indent: usize,
 }
 
 impl RcDom {
-    /// The node and what hangs below it, as lines of text.
+    /// Returns a dump of the node and its descendants.
     ///
-    /// A document writes its children at its own indent, a doctype `<doctype>`, a text that is not of white space alone
-    /// `Text:` and the text as it is, an element `<name>`, its children one space deeper and `</name>`; comments and
-    /// processing instructions write nothing. Each piece stands behind its indent in spaces and ends with a line feed.
+    /// | Node | Pieces |
+    /// |---|---|
+    /// | document | those of its children, at its own indent |
+    /// | doctype | `<doctype>` |
+    /// | text | `Text:` and the text as it is, with its line feeds; nothing if it is white space alone |
+    /// | element | `<name>` with the local name, those of its children one space deeper, and `</name>` |
+    /// | comment, processing instruction | nothing |
+    ///
+    /// Each piece follows its indent in spaces and ends with a line feed. The node itself has the indent 0.
     ///
     /// # Errors
     ///
-    /// `OutOfMemory`.
+    /// Returns `OutOfMemory` if an allocation is refused.
     pub fn node_as_dom_string(&self, alloc: Global, node: Handle) -> Result<String, Error>
         requires { IsNode self.now node }
         ensures ok { IfOk result (λ text. string_bytes text ≡ dump 0 (tree_of self.now node)) }
         ensures err { IfErr result (λ e. e ≡ Error.OutOfMemory) }
     {
-        // a field is named so that the proof can read that the nodes are a forest
+        // naming a field gives the proof the invariant that the nodes are a forest
         let _ = &self.nodes;
         let mut text = String::new(alloc);
         let mut frames = Vec::new(alloc);
@@ -48,11 +54,11 @@ impl RcDom {
         Ok(text)
     }
 
-    /// The whole document, as lines of text: see `node_as_dom_string`.
+    /// Returns a dump of the document node, as [`node_as_dom_string`](RcDom::node_as_dom_string) does.
     ///
     /// # Errors
     ///
-    /// `OutOfMemory`.
+    /// Returns `OutOfMemory` if an allocation is refused.
     pub fn as_dom_string(&self, alloc: Global) -> Result<String, Error>
         ensures ok { IfOk result (λ text. string_bytes text ≡ dump 0 (tree_of self.now 0)) }
         ensures err { IfErr result (λ e. e ≡ Error.OutOfMemory) }
@@ -60,7 +66,7 @@ impl RcDom {
         self.node_as_dom_string(alloc, self.get_document())
     }
 
-    /// Writes the start of the next child of an open node; behind the last one, the node's end.
+    /// Writes the start of the next child of an open node, or the node's end if it has no more children.
     fn write_next(
         &self,
         text: &mut String,
@@ -89,7 +95,7 @@ impl RcDom {
         }
     }
 
-    /// Writes the start of a node, and leaves its children and its end to an open node.
+    /// Writes the start of a node. Pushes a frame for the children and the end of a document or an element.
     fn write_start(
         &self,
         text: &mut String,
@@ -106,7 +112,7 @@ impl RcDom {
         ensures steps { OnOk result (steps self.now frames.new.items
             < 2 * count (tree_of self.now node) + steps self.now frames.old.items) }
     {
-        // a field is named so that the proof can read that the nodes are a forest
+        // naming a field gives the proof the invariant that the nodes are a forest
         let _ = &self.nodes;
         match self.data(node) {
             NodeData::Document => open_children(frames, node, indent),
@@ -120,7 +126,7 @@ impl RcDom {
         }
     }
 
-    /// Writes the end of a node whose children stand at the indent.
+    /// Writes the end of a node whose children have this indent.
     fn write_end(&self, text: &mut String, node: Handle, indent: usize) -> Result<(), AllocError>
         requires { IsNode self.now node }
         ensures { OnOk result (string_bytes text.new
@@ -141,7 +147,7 @@ impl RcDom {
     }
 }
 
-/// Opens a node whose children stand at the indent.
+/// Pushes a frame for a node whose children have this indent.
 fn open_children(frames: &mut Vec<Frame>, node: Handle, indent: usize) -> Result<(), AllocError>
     ensures { OnOk result (frames.new.items
         ≡ frames.old.items ++ record { node = node; passed = 0; indent = indent } ∷ []) }
@@ -154,7 +160,7 @@ fn open_children(frames: &mut Vec<Frame>, node: Handle, indent: usize) -> Result
     Ok(())
 }
 
-/// Writes a text that is not of white space alone.
+/// Writes a text, unless it is white space alone.
 fn write_text(text: &mut String, indent: usize, contents: &str) -> Result<(), AllocError>
     ensures { OnOk result (string_bytes text.new ≡ string_bytes text.old ++ text_line indent contents.now) }
 {
@@ -164,7 +170,7 @@ fn write_text(text: &mut String, indent: usize, contents: &str) -> Result<(), Al
     write_line(text, indent, "Text:", contents, "")
 }
 
-/// Writes the three pieces behind the indent, and a line feed.
+/// Writes the indent, the three pieces and a line feed.
 fn write_line(
     text: &mut String,
     indent: usize,

@@ -1,4 +1,5 @@
-//! The calls that change a document. Each grows whatever it has to before it changes anything.
+//! Calls that add nodes, attributes and messages to a document. Each makes its allocations before it changes anything, so a
+//! refused call leaves the document unchanged.
 
 ghost use Rattle.std.specs.Prelude.{◌≡◌, ◌≤◌, ◌++◌, ◌∷◌, [], None, OnOk, OnErr, IfOk, IfErr, map, string_bytes};
 ghost use Rattle.html_render_dom_nodes.specs.Content.{name_of, property_of, content_of, doctype, comment, instruction};
@@ -17,14 +18,15 @@ use html_render_dom_values::Error;
 use std::alloc::{AllocError, Global};
 
 impl RcDom {
-    /// Puts a node or a text behind the last child of a node.
+    /// Appends a node or a text to the children of `parent`.
     ///
-    /// A text joins the last child if that is a text node; else it becomes a text node, of the next number. A node
-    /// must stand in no list of children yet, and the parent must not be in its tree.
+    /// A text is joined to the last child if that is a text node. Otherwise it becomes a text node with the next number. A
+    /// node must not have a parent, and must not be an inclusive ancestor of `parent`.
     ///
     /// # Errors
     ///
-    /// `OutOfMemory`. The document is then as it was, and what was handed in is gone.
+    /// Returns `OutOfMemory` if an allocation is refused. The document is then unchanged, and a text that was passed in is
+    /// dropped.
     pub fn append(&mut self, alloc: Global, parent: Handle, child: NodeOrText) -> Result<(), Error>
         requires parent { IsNode self.old parent }
         requires child { CanAppend self.old parent child }
@@ -40,7 +42,7 @@ impl RcDom {
         Ok(())
     }
 
-    /// Puts the node behind the last child.
+    /// Appends the node to the children of `parent`.
     fn append_node(&mut self, parent: Handle, child: Handle) -> Result<(), AllocError>
         requires parent { IsNode self.old parent }
         requires child { CanAppend self.old parent (NodeOrText.AppendNode child) }
@@ -51,7 +53,7 @@ impl RcDom {
         nodes::attach(&mut self.nodes, parent, child)
     }
 
-    /// Puts the text behind the last child's, if that is a text node; else makes it the last child.
+    /// Joins the text to the last child if that is a text node; otherwise appends a text node.
     fn append_text(&mut self, alloc: Global, parent: Handle, text: String) -> Result<(), AllocError>
         requires { IsNode self.old parent }
         ensures ok { OnOk result (self.new ≡ appended self.old parent (NodeOrText.AppendText text)) }
@@ -62,12 +64,14 @@ impl RcDom {
         nodes::put_text(alloc, &mut self.nodes, parent, last, text)
     }
 
-    /// Puts a copy of a text behind the last child of a node, as [`append`](RcDom::append) does with a text that it is given. A
-    /// short one takes no memory beside its node.
+    /// Appends a copy of a text to the children of `parent`.
+    ///
+    /// As in [`append`](RcDom::append), the text is joined to the last child if that is a text node. A new text node stores
+    /// up to 24 bytes without a further allocation.
     ///
     /// # Errors
     ///
-    /// `OutOfMemory`. The document is then as it was.
+    /// Returns `OutOfMemory` if an allocation is refused. The document is then unchanged.
     pub fn append_str(&mut self, alloc: Global, parent: Handle, text: &str) -> Result<(), Error>
         requires { IsNode self.old parent }
         ensures ok { let nodes = self.old.nodes in OnOk result (self.new
@@ -80,7 +84,7 @@ impl RcDom {
         Ok(())
     }
 
-    /// Puts a copy of the text behind the last child's, if that is a text node; else makes it the last child.
+    /// Joins a copy of the text to the last child if that is a text node; otherwise appends a text node.
     fn copy_text(&mut self, alloc: Global, parent: Handle, text: &str) -> Result<(), AllocError>
         requires { IsNode self.old parent }
         ensures ok { let nodes = self.old.nodes in OnOk result (self.new
@@ -92,12 +96,13 @@ impl RcDom {
         nodes::put_str(alloc, &mut self.nodes, parent, last, text)
     }
 
-    /// Makes an HTML element of this name, without attributes, the parent's last child, and answers its handle, which is the
-    /// next number. Of a `template` it makes no contents.
+    /// Appends a new HTML element with the local name `name`, without attributes, to the children of `parent`.
+    ///
+    /// Returns its handle, which is the next number. A `template` gets no contents.
     ///
     /// # Errors
     ///
-    /// `OutOfMemory`. The document is then as it was.
+    /// Returns `OutOfMemory` if an allocation is refused. The document is then unchanged.
     pub fn append_element(
         &mut self,
         alloc: Global,
@@ -118,12 +123,15 @@ impl RcDom {
         Ok(appended)
     }
 
-    /// Makes an element of the next number, which hangs nowhere and has no children. A template's contents, a document
-    /// node, have the number after it.
+    /// Creates an element without a parent and children, and returns its handle, which is the next number.
+    ///
+    /// If `flags.template` is set, the element gets contents: a document node without a parent, with the number after the
+    /// element's.
     ///
     /// # Errors
     ///
-    /// `OutOfMemory`. The document is then as it was, and what was handed in is gone.
+    /// Returns `OutOfMemory` if an allocation is refused. The document is then unchanged; the name and the attributes are
+    /// dropped.
     pub fn create_element(
         &mut self,
         alloc: Global,
@@ -144,11 +152,11 @@ impl RcDom {
         Ok(Handle::new(number))
     }
 
-    /// Makes a comment of the next number, which hangs nowhere.
+    /// Creates a comment without a parent, and returns its handle, which is the next number.
     ///
     /// # Errors
     ///
-    /// `OutOfMemory`. The document is then as it was, and the text is gone.
+    /// Returns `OutOfMemory` if an allocation is refused. The document is then unchanged, and the text is dropped.
     pub fn create_comment(&mut self, alloc: Global, contents: String) -> Result<Handle, Error>
         ensures number { IfOk result (λ made. made ≡ node_count self.old) }
         ensures ok { OnOk result (self.new
@@ -161,11 +169,11 @@ impl RcDom {
         Ok(self.create(alloc, NodeData::Comment { contents })?)
     }
 
-    /// Makes a processing instruction of the next number, which hangs nowhere.
+    /// Creates a processing instruction without a parent, and returns its handle, which is the next number.
     ///
     /// # Errors
     ///
-    /// `OutOfMemory`. The document is then as it was, and the texts are gone.
+    /// Returns `OutOfMemory` if an allocation is refused. The document is then unchanged, and the texts are dropped.
     pub fn create_pi(
         &mut self,
         alloc: Global,
@@ -183,7 +191,7 @@ impl RcDom {
         Ok(self.create(alloc, NodeData::ProcessingInstruction { target, contents })?)
     }
 
-    /// Makes a node of the next number, which hangs nowhere and has no children; it is no template.
+    /// Creates a node without a parent and children, and returns its handle, which is the next number. It isn't a template.
     fn create(&mut self, alloc: Global, contents: NodeData) -> Result<Handle, AllocError>
         requires { contents_in (content_of contents) ≡ None }
         ensures number { IfOk result (λ made. made ≡ node_count self.old) }
@@ -198,11 +206,11 @@ impl RcDom {
         Ok(made)
     }
 
-    /// Makes a doctype of the next number, the document's last child.
+    /// Appends a new doctype, with the next number, to the children of the document node.
     ///
     /// # Errors
     ///
-    /// `OutOfMemory`. The document is then as it was, and the texts are gone.
+    /// Returns `OutOfMemory` if an allocation is refused. The document is then unchanged, and the texts are dropped.
     pub fn append_doctype_to_document(
         &mut self,
         alloc: Global,
@@ -226,12 +234,13 @@ impl RcDom {
         Ok(())
     }
 
-    /// Adds to the element's attributes, in order, those given whose name none of them has: two new ones of one name
-    /// are both added.
+    /// Appends to the element's attributes, in order, those of `attrs` with a name that the element doesn't have yet.
+    ///
+    /// Names are compared by namespace and local name. Two new attributes with one name are both added.
     ///
     /// # Errors
     ///
-    /// `OutOfMemory`. The document is then as it was, and the attributes given are gone.
+    /// Returns `OutOfMemory` if an allocation is refused. The document is then unchanged, and `attrs` is dropped.
     pub fn add_attrs_if_missing(
         &mut self,
         _alloc: Global,
@@ -249,11 +258,11 @@ impl RcDom {
         Ok(())
     }
 
-    /// Puts a parser's message behind those that came before.
+    /// Appends the message of a parse error to [`errors`](RcDom::errors).
     ///
     /// # Errors
     ///
-    /// `OutOfMemory`. The document is then as it was, and the message is gone.
+    /// Returns `OutOfMemory` if an allocation is refused. The document is then unchanged, and the message is dropped.
     pub fn parse_error(&mut self, _alloc: Global, message: String) -> Result<(), Error>
         ensures ok { OnOk result (self.new
             ≡ record self.old { messages = self.old.messages ++ string_bytes message ∷ [] }) }

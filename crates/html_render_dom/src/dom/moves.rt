@@ -1,4 +1,5 @@
-//! The calls that move nodes between lists. Each grows whatever it has to before it changes anything.
+//! Calls that move nodes between lists of children. Each makes its allocations before it changes anything, so a refused call
+//! leaves the document unchanged.
 
 ghost use Rattle.std.specs.Prelude.{◌≡◌, ◌≤◌, OnOk, OnErr, IfErr, IfSome, IsSome, Some, string_bytes};
 ghost use Rattle.html_render_dom.specs.Dom.{IsNode, IsInclusiveAncestor, node_count, parent_at};
@@ -11,7 +12,7 @@ use html_render_dom_values::Error;
 use std::alloc::{AllocError, Global};
 
 impl RcDom {
-    /// Takes the node out of its parent's list of children. Without a parent nothing changes.
+    /// Removes the node from its parent's list of children. Does nothing if it has no parent.
     pub fn remove_from_parent(&mut self, node: Handle)
         requires { IsNode self.old node }
         ensures removed { self.new
@@ -23,15 +24,16 @@ impl RcDom {
         }
     }
 
-    /// Puts a node or a text directly before the sibling, into the list in which that stands.
+    /// Inserts a node or a text directly before the sibling, which must have a parent.
     ///
-    /// A text joins the text node that stands directly before the sibling; without one it becomes a text node, of the
-    /// next number. A node is first taken out of the list in which it stands; it must not be the sibling, nor an
-    /// ancestor of it.
+    /// A text is joined to the text node directly before the sibling. If there is none, it becomes a text node with the next
+    /// number. A node is first removed from its old list; it may be an earlier child of the same parent. It must not be an
+    /// inclusive ancestor of the sibling.
     ///
     /// # Errors
     ///
-    /// `OutOfMemory`. The document is then as it was, and what was handed in is gone.
+    /// Returns `OutOfMemory` if an allocation is refused. The document is then unchanged, and a text that was passed in is
+    /// dropped.
     pub fn append_before_sibling(
         &mut self,
         alloc: Global,
@@ -53,7 +55,7 @@ impl RcDom {
         Ok(())
     }
 
-    /// The parent of a node that has one.
+    /// Returns the parent of a node that has one.
     fn parent_of(&self, node: Handle) -> Handle
         requires { IsSome (parent_at self.now node) }
         ensures { parent_at self.now node ≡ Some result }
@@ -61,7 +63,7 @@ impl RcDom {
         self.get_parent(node).unwrap()
     }
 
-    /// Puts the node directly before the sibling.
+    /// Removes the node from its old list, if any, and inserts it directly before the sibling.
     fn move_before(
         &mut self,
         parent: Handle,
@@ -79,7 +81,7 @@ impl RcDom {
         lists::move_before(&mut self.nodes, from, parent, sibling, child)
     }
 
-    /// Puts the text directly before the sibling.
+    /// Joins the text to the text node directly before the sibling, or inserts a text node there.
     fn put_text_before(
         &mut self,
         alloc: Global,
@@ -97,7 +99,7 @@ impl RcDom {
         lists::put_text_before(alloc, &mut self.nodes, parent, sibling, last, text)
     }
 
-    /// The text node that stands directly before the sibling.
+    /// Returns the node directly before the sibling if it is a text node, and `None` otherwise.
     fn text_before(&self, parent: Handle, sibling: Handle) -> Option<Handle>
         requires { IsNode self.now parent }
         ensures text { result ≡ text_before self.now.nodes parent sibling }
@@ -107,12 +109,16 @@ impl RcDom {
         matches!(self.data(previous), NodeData::Text { .. }).then_some(previous)
     }
 
-    /// Puts a node or a text directly before the element, where that has a parent; else behind the last child of the
-    /// other node.
+    /// Inserts a node or a text before `element`, or appends it to `prev_element`.
+    ///
+    /// If `element` has a parent, the call is [`append_before_sibling`](RcDom::append_before_sibling) with `element` as the
+    /// sibling. Otherwise it is [`append`](RcDom::append) with `prev_element` as the parent. The conditions are those of
+    /// that call.
     ///
     /// # Errors
     ///
-    /// `OutOfMemory`. The document is then as it was, and what was handed in is gone.
+    /// Returns `OutOfMemory` if an allocation is refused. The document is then unchanged, and a text that was passed in is
+    /// dropped.
     pub fn append_based_on_parent_node(
         &mut self,
         alloc: Global,
@@ -134,11 +140,13 @@ impl RcDom {
         }
     }
 
-    /// Moves all children of a node, in order, behind those of another, which is not in the node's tree.
+    /// Moves all children of `node`, in order, to the end of the children of `new_parent`.
+    ///
+    /// `node` must not be an inclusive ancestor of `new_parent`. Texts aren't joined.
     ///
     /// # Errors
     ///
-    /// `OutOfMemory`. The document is then as it was.
+    /// Returns `OutOfMemory` if an allocation is refused. The document is then unchanged.
     pub fn reparent_children(
         &mut self,
         alloc: Global,

@@ -1,5 +1,5 @@
-//! Elements by their places among their siblings: `dom.get_node_by_path(&[1, 2])` is the second element below the
-//! document's first.
+//! Elements by their positions among their siblings: `dom.get_node_by_path(&[1, 2])` is the second element child of the
+//! document's first element child.
 
 ghost use Rattle.std.specs.Prelude.{◌≡◌, IfSome};
 ghost use Rattle.html_render_dom.specs.Dom.{IsNode};
@@ -9,7 +9,9 @@ use super::documents::RcDom;
 use html_render_dom_nodes::Handle;
 
 impl RcDom {
-    /// The element of this number among the node's children, where only elements are counted, from 1.
+    /// Returns the `index`th of the node's children that are elements, counted from 1.
+    ///
+    /// Returns `None` if `index` is 0, or greater than their number.
     pub fn nth_child(&self, node: Handle, index: usize) -> Option<Handle>
         requires { IsNode self.now node }
         ensures child { result ≡ nth_child self.now node index }
@@ -27,8 +29,9 @@ impl RcDom {
         None
     }
 
-    /// The node at the end of a path from the document: each number is that of an element among the children of the
-    /// node before, from 1. The empty path leads to the document.
+    /// Returns the node at the end of a path from the document node; `None` if a step of the path leads nowhere.
+    ///
+    /// Each number is the `index` of one step, as in [`nth_child`](RcDom::nth_child). The empty path leads to the document.
     pub fn get_node_by_path(&self, path: &[usize]) -> Option<Handle>
         ensures node { result ≡ node_by_path self.now 0 path.now }
         ensures is_node { IfSome result (IsNode self.now) }

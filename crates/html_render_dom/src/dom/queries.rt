@@ -1,4 +1,4 @@
-//! What can be asked of one node: whether it is another, an element's name, a template's contents.
+//! Queries of handles and single nodes: identity, the number of nodes, names of elements, contents of templates.
 
 ghost use Rattle.std.specs.Prelude.{◌≡◌, ◌↔◌, IsTrue, IsSome, IfOk, IfErr, Some, string_bytes};
 ghost use Rattle.std.specs.Option.{option_map};
@@ -12,21 +12,21 @@ use html_render_dom_values::Error;
 use std::alloc::Global;
 
 impl RcDom {
-    /// Whether the two names are those of one node.
+    /// Reports whether two handles are those of one node.
     pub fn same_node(&self, x: Handle, y: Handle) -> bool
         ensures { IsTrue result ↔ (x ≡ y) }
     {
         x == y
     }
 
-    /// How many nodes there are, also those that hang nowhere.
+    /// Returns the number of nodes, those without a parent included. It is the number of the next node.
     pub fn node_count(&self) -> usize
         ensures { result ≡ node_count self.now }
     {
         self.nodes.len()
     }
 
-    /// Whether the node is a template: an element with contents of its own; `false` where there is no such node.
+    /// Reports whether the node is a template, an element with contents; `false` if there is no such node.
     pub fn is_template(&self, node: Handle) -> bool
         ensures { IsTrue result ↔ IsSome (contents_in (content_at self.now node)) }
     {
@@ -42,7 +42,7 @@ impl RcDom {
         }
     }
 
-    /// The node that holds the template's contents.
+    /// Returns the document node that holds the template's contents. The node must be a template.
     pub fn get_template_contents(&self, node: Handle) -> Handle
         requires { IsSome (contents_in (content_at self.now node)) }
         ensures contents { contents_in (content_at self.now node) ≡ Some result }
@@ -57,7 +57,7 @@ impl RcDom {
         }
     }
 
-    /// The element's name.
+    /// Returns the element's name. The node must be an element.
     pub fn elem_name(&self, node: Handle) -> &QualName
         requires { IsElement (content_at self.now node) }
         ensures { name_in (content_at self.now node) ≡ Some (name_of result.now) }
@@ -68,11 +68,11 @@ impl RcDom {
         }
     }
 
-    /// The element's name within its namespace; `None` where the node is no element.
+    /// Returns a copy of the element's local name; `None` if the node isn't an element.
     ///
     /// # Errors
     ///
-    /// `OutOfMemory`.
+    /// Returns `OutOfMemory` if an allocation is refused.
     pub fn element_name(&self, alloc: Global, node: Handle) -> Result<Option<String>, Error>
         requires { IsNode self.now node }
         ensures ok { IfOk result
@@ -88,7 +88,9 @@ impl RcDom {
         }
     }
 
-    /// Whether the element is an HTML integration point of MathML's `annotation-xml`.
+    /// Reports whether the element was created as an HTML integration point of MathML's `annotation-xml`.
+    ///
+    /// The node must be an element.
     pub fn is_mathml_annotation_xml_integration_point(&self, node: Handle) -> bool
         requires { IsElement (content_at self.now node) }
         ensures { result ≡ is_integration_point (content_at self.now node) }

@@ -1,12 +1,12 @@
-//! What a parser decides of a document.
+//! The quirks mode of a document.
 
-/// How far a document departs from the standard's rendering, as a parser decides it from the doctype.
+/// The quirks mode of a document, which an HTML parser derives from the doctype. This library stores it and doesn't use it.
 #[derive(Clone, Copy, Debug, PartialEq, Eq)]
 pub enum QuirksMode {
-    /// Rendered as old browsers did.
+    /// Rendered as by old browsers.
     Quirks,
-    /// Rendered as old browsers did in a few details.
+    /// Rendered by the standard, except for a few details of old browsers.
     LimitedQuirks,
-    /// Rendered as the standard says.
+    /// Rendered by the standard.
     NoQuirks,
 }

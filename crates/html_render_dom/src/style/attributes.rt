@@ -1,4 +1,4 @@
-//! What an element's attributes say, of which rules ask.
+//! Attributes of an element by local name, which rules test.
 
 ghost use Rattle.std.specs.Prelude.{◌≡◌, find, map, option_copied};
 ghost use Rattle.std.specs.Str.{bytes_eq};
@@ -7,7 +7,7 @@ ghost use Rattle.html_render_dom_nodes.specs.Content.{property_of};
 
 use html_render_dom_nodes::Attribute;
 
-/// The first attribute of this local name.
+/// Returns the first attribute with the local name `name`, in any namespace.
 fn first_named<'a>(attrs: &'a [Attribute], name: &str) -> Option<&'a Attribute>
     ensures { option_copied result ≡ find (λ a. bytes_eq a.name.local name.now) attrs.now }
 {
@@ -16,7 +16,7 @@ fn first_named<'a>(attrs: &'a [Attribute], name: &str) -> Option<&'a Attribute>
         .find(|attribute| attribute.name.local.as_str() == name)
 }
 
-/// The value of the first attribute of this local name.
+/// Returns the value of the first attribute with the local name `name`, in any namespace; `None` if there is none.
 #[inline]
 #[tactic(auto, using(crate::proofs::Attributes::finds))]
 pub fn first_value<'a>(attrs: &'a [Attribute], name: &str) -> Option<&'a str>

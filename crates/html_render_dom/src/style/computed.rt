@@ -1,4 +1,4 @@
-//! The style of an element, computed from rules.
+//! Computed styles of elements.
 
 ghost use Rattle.std.specs.Prelude.{◌≡◌, [], ◌∷◌, ◌++◌, IfErr, IfOk, None, OnOk, Some, filter, map, option_copied, option_to_list, string_bytes};
 ghost use Rattle.std.specs.List.{flat_map};
@@ -21,44 +21,44 @@ use html_render_dom_values::small_text::SmallText;
 use html_render_dom_values::white_space::WhiteSpace;
 use std::alloc::{AllocError, Global};
 
-/// A text that a rule gives an element as content: 24 bytes at most stand in the value itself.
+/// Text of a content declaration. Up to 24 bytes are stored without an allocation.
 pub type ContentText = SmallText<24>;
 
-/// The style of an element: for each property the value that wins.
+/// The style of an element: for each property the declared value that wins, if there is one.
 ///
-/// Nothing is inherited from the element above it.
+/// Nothing is inherited from the element's parent.
 #[derive(Drop)]
 pub struct ComputedStyle {
-    /// The colour of the text.
+    /// Colour of the text.
     pub colour: WithSpec<Colour>,
-    /// The colour of the background.
+    /// Colour of the background.
     pub bg_colour: WithSpec<Colour>,
-    /// Whether there is a box.
+    /// The kind of the element's box; `Display::None` for no box at all.
     pub display: WithSpec<Display>,
-    /// How white space is treated.
+    /// Treatment of white space.
     pub white_space: WithSpec<WhiteSpace>,
-    /// The content of the element itself, which isn't shown.
+    /// Content of the element itself, which isn't shown.
     pub content: WithSpec<ContentText>,
-    /// The content that is put before the element's children.
+    /// Text that is inserted before the element's contents.
     pub content_before: WithSpec<ContentText>,
-    /// The content that is put after the element's children.
+    /// Text that is inserted after the element's contents.
     pub content_after: WithSpec<ContentText>,
-    /// Whether the element is `pre`; it is false in a style that comes from rules alone.
+    /// Whether the element is an HTML `pre`, so that its text is preformatted; false in a style from rules alone.
     pub internal_pre: bool,
 }
 
-/// What a rule says of each of its declarations.
+/// Data of a rule that apply to each of its declarations.
 #[derive(Clone, Copy)]
 struct Source {
-    /// Where the rule comes from.
+    /// Origin of the rule.
     origin: StyleOrigin,
-    /// How specific the rule is.
+    /// Specificity of the rule.
     specificity: Specificity,
-    /// The place beside the element's children that the rule is for, or none for the element itself.
+    /// Pseudo-element that the rule styles; `None` for the element itself.
     pseudo: Option<PseudoElement>,
 }
 
-/// Takes a content, which is copied only where it wins.
+/// Updates a content property. Copies the text only if it wins.
 #[tactic(auto, using(crate::proofs::Applies::contents))]
 fn update_content(
     kept: &mut WithSpec<ContentText>,
@@ -78,7 +78,7 @@ fn update_content(
 }
 
 impl ComputedStyle {
-    /// The style without any declaration.
+    /// Returns the style without any declaration.
     fn unset() -> ComputedStyle
         ensures { style_of result ≡ style_by [] }
     {
@@ -94,7 +94,7 @@ impl ComputedStyle {
         }
     }
 
-    /// Takes one declaration more, of the element itself.
+    /// Applies a declaration for the element itself.
     fn update_own(
         &mut self,
         origin: StyleOrigin,
@@ -129,7 +129,7 @@ impl ComputedStyle {
         Ok(())
     }
 
-    /// Takes one declaration more, of what stands beside the element's children: only content counts there.
+    /// Applies a declaration for the pseudo-element `place`. Ignores all properties but content.
     fn update_beside(
         &mut self,
         origin: StyleOrigin,
@@ -156,7 +156,7 @@ impl ComputedStyle {
         Ok(())
     }
 
-    /// Takes one declaration more.
+    /// Applies a declaration for the element itself or, if its rule has a pseudo-element, for that.
     fn update(&mut self, source: Source, declaration: &Declaration) -> Result<(), AllocError>
         ensures { OnOk result (style_of self.new ≡ with_declarations (style_of self.old)
             (record { origin = source.origin; specificity = source.specificity; pseudo = source.pseudo; declared = declared_of declaration.now } ∷ [])) }
@@ -169,7 +169,7 @@ impl ComputedStyle {
         }
     }
 
-    /// Takes all declarations of a rule.
+    /// Applies all declarations of a rule, in order.
     #[inline(never)]
     fn update_all(&mut self, rule: &StyleRule) -> Result<(), AllocError>
         ensures { OnOk result (style_of self.new ≡ with_declarations (style_of self.old) (applied (rule_of rule.now))) }
@@ -186,15 +186,14 @@ impl ComputedStyle {
     }
 }
 
-/// The style of an element of this local name and these attributes, computed from the rules in the order in which they
-/// were added.
+/// Returns the style that the rules, in this order, give an element with this local name and these attributes.
 ///
-/// For each property the declaration that wins is the last one whose importance, origin and specificity are greatest,
-/// among those of the rules that select the element: CSS Cascading and Inheritance Level 3, section 6.
+/// For each property, the last of the declarations with the greatest importance, origin and specificity wins, among those of
+/// the rules that select the element: CSS Cascading and Inheritance Level 3, section 6.
 ///
 /// # Errors
 ///
-/// `OutOfMemory`, where a copy of a content was refused.
+/// Returns `OutOfMemory` if the allocation for a copy of a content is refused.
 pub fn computed_style(
     alloc: Global,
     rules: &[StyleRule],
@@ -215,8 +214,10 @@ pub fn computed_style(
     Ok(style)
 }
 
-/// The style of an element of this local name, id and classes, computed from the rules of these numbers, which ascend and are
-/// those of all rules that select it; others are asked as well.
+/// Returns the style that the rules with these numbers give an element with this local name, id and classes.
+///
+/// `numbers` ascends and has the number of each rule that selects the element. It may also have numbers of other rules, and
+/// numbers twice: each rule is tested, and applied once at most.
 pub(super) fn style_of_rules(
     rules: &[StyleRule],
     numbers: &[usize],
@@ -230,7 +231,7 @@ pub(super) fn style_of_rules(
         ≡ style_by (flat_map applied (filter (selects element.now (option_copied id.entry) (option_copied classes.entry)) (map rule_of rules.now)))) }
 {
     let mut style = ComputedStyle::unset();
-    // the number of the first rule that isn't done
+    // the number after that of the last applied rule
     let mut next = 0;
     for number in numbers {
         if let Some(rule) = rules.get(*number) {

@@ -1,4 +1,4 @@
-//! Which rules may select an element, found by the texts that rules state: an element asks these rules alone.
+//! An index of rules by the texts that they state. With it, only few of many rules are tested for an element.
 
 ghost use Rattle.std.specs.Prelude.{◌≡◌, ◌<◌, ◌||◌, ◌&&◌, [], ◌∷◌, ◌++◌, filter, if◌then◌else◌, IfErr, IfOk, length, List, ℕ, map, OnOk, option_copied, option_map, set, string_bytes, true};
 ghost use Rattle.std.specs.Borrow.{Bor};
@@ -20,13 +20,13 @@ use html_render_dom_values::Error;
 use std::alloc::{AllocError, Global};
 use std::collections::BTreeMap;
 
-/// So few rules are asked one by one.
+/// Maximum number of rules that are all tested, without a lookup in the index.
 const FEW: usize = 16;
 
-/// How many keys there are.
+/// Number of keys.
 const KEYS: usize = 64;
 
-/// The key of a text, by its length and its first byte.
+/// Returns the key of a text, a hash of its length and its first byte that is less than `KEYS`.
 fn key_of(text: &str) -> usize
     ensures key { result ≡ key_of text.now }
     ensures small { result < 64 }
@@ -38,16 +38,17 @@ fn key_of(text: &str) -> usize
     (text.len() % KEYS * 3 + first) % KEYS
 }
 
-/// Whether the rule states an id or a class.
+/// Reports whether the rule states an id or a class.
 fn asks_attributes(rule: &StyleRule) -> bool
     ensures { result ≡ asks_attributes (rule_of rule.now) }
 {
     rule.id.is_some() || !rule.classes.is_empty()
 }
 
-/// The text that the rule is found under: its first class, else its id, else the name of its elements.
+/// Returns the text under which the rule is indexed: its first class, else its id, else its element name.
 ///
-/// An element that the rule selects has this text as a class, as its id or as its name.
+/// An element that the rule selects has this text as a class, as its id or as its local name. Returns `None` if the rule
+/// states none of these.
 fn stated_text(rule: &StyleRule) -> Option<&String>
     ensures { option_map (λ text. string_bytes text.now) result ≡ stated_text (rule_of rule.now) }
 {
@@ -60,25 +61,26 @@ fn stated_text(rule: &StyleRule) -> Option<&String>
     }
 }
 
-/// The rules of a conversion by the texts that they state, so that an element asks few of many rules.
+/// An index of a list of rules by the texts that they state, so that few of many rules are tested for an element.
 #[derive(Drop)]
 pub struct RuleIndex {
-    /// For each key of a text whether a rule is found under a text that has it; for most elements none is.
+    /// For each key, whether a rule is indexed under a text with that key. Texts without such a rule, which are most, need
+    /// no lookup in `by_text`.
     keys: Vec<bool>,
-    /// The numbers of the rules that are found under a text, ascending.
+    /// Numbers of the rules that are indexed under each text, ascending.
     by_text: BTreeMap<String, Vec<usize>>,
-    /// The numbers of the rules that state no text.
+    /// Numbers of the rules that state no text, ascending.
     general: Vec<usize>,
-    /// Whether a rule states an id or a class.
+    /// Whether any rule states an id or a class.
     asks_attributes: bool,
 }
 
 impl RuleIndex {
-    /// The index of these rules.
+    /// Creates the index of a list of rules.
     ///
     /// # Errors
     ///
-    /// `OutOfMemory`.
+    /// Returns `OutOfMemory` if an allocation is refused.
     pub fn of(alloc: Global, rules: &[StyleRule]) -> Result<RuleIndex, Error>
         ensures ok { IfOk result (λ index. Finds index (map rule_of rules.now)) }
         ensures err { IfErr result (λ e. e ≡ Error.OutOfMemory) }
@@ -99,7 +101,7 @@ impl RuleIndex {
         Ok(index)
     }
 
-    /// Puts a rule under a text.
+    /// Adds the number of a rule under a text.
     fn put(&mut self, text: &String, number: usize) -> Result<(), AllocError>
         requires { length self.old.keys.items ≡ 64 }
         ensures keys { OnOk result (self.new.keys.items ≡ set self.old.keys.items (key_of (string_bytes text.now)) true) }
@@ -114,7 +116,7 @@ impl RuleIndex {
         Ok(())
     }
 
-    /// Adds a text that a rule may be found under; any other is left out.
+    /// Pushes the text, unless its key shows that no rule is indexed under it.
     fn add_told<'a>(&self, text: &'a str, texts: &mut Vec<&'a str>) -> Result<(), AllocError>
         requires { length self.now.keys.items ≡ 64 }
         ensures { OnOk result (map (λ t. t.now) texts.new.items
@@ -126,7 +128,7 @@ impl RuleIndex {
         Ok(())
     }
 
-    /// The texts of an element of this name, id and classes that a rule may be found under.
+    /// Returns the texts of an element (its local name, id and classes) under which a rule may be indexed.
     fn texts<'a>(
         &self,
         alloc: Global,
@@ -152,7 +154,7 @@ impl RuleIndex {
         Ok(texts)
     }
 
-    /// Adds the numbers of the rules that are found under a text.
+    /// Appends the numbers of the rules that are indexed under a text.
     fn add_numbers(&self, text: &str, numbers: &mut Vec<usize>) -> Result<(), AllocError>
         ensures { OnOk result (numbers.new.items ≡ numbers.old.items ++ numbers_under self.now text.now) }
     {
@@ -162,7 +164,7 @@ impl RuleIndex {
         Ok(())
     }
 
-    /// The numbers of the rules that are found under one of these texts, or state none, ascending.
+    /// Returns the numbers of the rules that state no text or are indexed under one of these texts, ascending.
     fn numbers(&self, alloc: Global, mut texts: Vec<&str>) -> Result<Vec<usize>, AllocError>
         ensures found { IfOk result (λ numbers. (text : Bor (List ℕ)) (number : ℕ) → Contains texts.entry.items text →
             Contains (numbers_under self.now text.now) number → Contains numbers.items number) }
@@ -171,7 +173,7 @@ impl RuleIndex {
     {
         let mut numbers = Vec::new(alloc);
         numbers.extend_from_slice(self.general.as_slice())?;
-        // a class that an element has twice is looked up once
+        // equal texts, such as a repeated class, are looked up once
         texts.sort_unstable();
         for (place, text) in texts.iter().enumerate() {
             if place == 0 || texts[place - 1] != *text {
@@ -182,8 +184,9 @@ impl RuleIndex {
         Ok(numbers)
     }
 
-    /// Whether one of the rules of which this is the index may select an element of this local name and these attributes. Where none
-    /// may, its style is that of no declaration.
+    /// Reports whether one of the indexed rules may select an element with this local name and these attributes.
+    ///
+    /// If it returns `false`, no rule selects the element, and its style is that without any declaration.
     #[inline]
     pub fn may_select(&self, element: &str, attrs: &[Attribute]) -> bool
         requires { length self.now.keys.items ≡ 64 }
@@ -197,11 +200,13 @@ impl RuleIndex {
             || (self.asks_attributes && !attrs.is_empty())
     }
 
-    /// The style that these rules, of which this is the index, give an element of this local name and these attributes.
+    /// Returns the style that `rules` give an element with this local name and these attributes.
+    ///
+    /// `rules` must be the list of which this is the index. The result is that of [`computed_style`], which tests all rules.
     ///
     /// # Errors
     ///
-    /// `OutOfMemory`.
+    /// Returns `OutOfMemory` if an allocation is refused.
     #[inline(never)]
     pub fn computed_style(
         &self,

@@ -6,7 +6,7 @@ use Rattle.html_render_dom.proofs.Applies.{said_to}
 use Rattle.html_render_dom.proofs.RuleIndex.{Left}
 use Rattle.html_render_dom.proofs.style.computed.style_of_rules.Given as goal
 
--- the rules before `next` are done, and each other one that selects the element is among the numbers that are left
+-- the rules before `next` are applied, and the remaining numbers have each later rule that selects the element
 abbrev pub invariant-loop-number : goal.invariant-loop-number
 invariant-loop-number l =
     (style_of l.style ≡ with_declarations (style_by [])

@@ -1,4 +1,4 @@
--- Only content counts beside an element's children.
+-- Only content counts for a pseudo-element.
 use Rattle.html_render_dom.specs.ElementStyle.{style_of}
 use Rattle.html_render_dom.proofs.Applies.{still, other_beside}
 use Rattle.html_render_dom.proofs.style.computed.ComputedStyle.update_beside.Goals as goal

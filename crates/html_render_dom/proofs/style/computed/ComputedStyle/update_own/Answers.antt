@@ -1,4 +1,4 @@
--- Each declaration changes the property that it is of.
+-- Each declaration changes its own property.
 use Rattle.html_render_dom.specs.ElementStyle.{style_of}
 use Rattle.html_render_dom.proofs.Applies.{still, taken}
 use Rattle.html_render_dom.proofs.style.computed.ComputedStyle.update_own.Goals as goal

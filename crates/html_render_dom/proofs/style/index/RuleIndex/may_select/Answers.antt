@@ -25,7 +25,7 @@ no_items : (xs : List Attribute) → (length xs == 0) ≡ true → map property_
 no_items [] e = refl
 no_items (x ∷ xs) e = grind (arith, nat_tests)
 
--- the name isn't told, and each rule states a text
+-- the key of the name isn't marked, and each rule states a text
 both : (c : Else-not-is_empty) → (is_told c.args.self.now.keys.items c.args.element.now ≡ false) × (length c.args.self.now.general.items ≡ 0)
 both c = elim c.if-index.branch [
   | then-index w ↦ (let no : true ≡ false = sym w.if-index.true ∙ sym w.value-is ∙ c.if-not-is_empty.false in absurd (cc))
@@ -49,7 +49,7 @@ filled (x ∷ xs) = grind (arith, nat_tests)
 not_filled : {X : Type 0} (xs : List X) → length xs ≡ 0 → is_filled xs ≡ false
 not_filled xs e = sym (filled xs) ∙ ap (λ n. not (n == 0)) e
 
--- what it answers where the name isn't told, and each rule states a text
+-- the result if the key of the name isn't marked, and each rule states a text
 by_attributes : (told general asks attrs : Bool) → told ≡ false → general ≡ false → asks && attrs ≡ (told || general) || asks && attrs
 by_attributes false false asks attrs t g = refl
 by_attributes false true asks attrs t g = absurd (cc)

@@ -3,7 +3,7 @@ use Rattle.std.specs.List.{Contains}
 use Rattle.html_render_dom.specs.RuleIndex.{numbers_under}
 use Rattle.html_render_dom.proofs.style.index.RuleIndex.numbers.Given as goal
 
--- the numbers of rules that state no text, and those of each text so far
+-- the numbers so far have those of rules that state no text, and those under each text before `place`
 abbrev pub invariant-loop-place : goal.invariant-loop-place
 invariant-loop-place l =
     ((number : ℕ) → Contains l.self.general.items number → Contains l.numbers.items number)

@@ -4,7 +4,7 @@ use Rattle.html_render_dom.specs.RuleIndex.{is_told, texts_of}
 use Rattle.html_render_dom_rules.specs.Selectors.{words}
 use Rattle.html_render_dom.proofs.style.index.RuleIndex.texts.Given as goal
 
--- what is done, and the words that are left
+-- the texts so far and those of the remaining words are the texts of the element
 abbrev pub invariant-loop-word : goal.invariant-loop-word
 invariant-loop-word l =
     map (λ t. t.now) l.texts.items ++ filter (is_told l.self.keys.items) (words (split_ascii_whitespace_text l.words))
