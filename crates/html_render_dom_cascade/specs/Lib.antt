@@ -1,8 +1,8 @@
--- how specific a selector is
+-- specificities
 pub mod Specificities
--- which update of a property wins
+-- the winner among updates of a property
 pub mod Cascade
--- what becomes of the update that is kept when another one comes
+-- the winner so far, and the next update
 pub mod Keeping
--- what holds of all of them
+-- laws of these definitions
 pub mod laws

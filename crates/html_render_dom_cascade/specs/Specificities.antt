@@ -1,4 +1,4 @@
--- How specificities are ordered and added: CSS Selectors Level 3, section 9.
+-- The order and the sum of specificities: Selectors Level 3, section 9.
 use Rattle.std.specs.Prelude.{ℕ, ◌+◌, min, false, ◌||◌}
 use Rattle.std.specs.Ordering.{nat_cmp, bool_cmp, on, then_cmp}
 use Rattle.std.specs.declared.cmp.Ordering.{Ordering}
@@ -7,13 +7,13 @@ use Rattle.html_render_dom_cascade.specs.declared.specificities.Specificity.{Spe
 abbrev pub no_specificity : Specificity
 no_specificity = record { inline = false; id = 0; class = 0; typ = 0 }
 
--- inline decides, then the ids, the classes, and the element names and pseudo-elements
+-- the order of specificities: by `inline`, then by the counts of ids, of classes, and of element names and pseudo-elements
 abbrev pub specificity_cmp : Specificity → Specificity → Ordering
 specificity_cmp =
     then_cmp (on (λ s. s.inline) bool_cmp)
     (then_cmp (on (λ s. s.id) nat_cmp) (then_cmp (on (λ s. s.class) nat_cmp) (on (λ s. s.typ) nat_cmp)))
 
--- a count stops at 65535
+-- the sum of two counts, at most 65535
 abbrev pub count_sum : ℕ → ℕ → ℕ
 count_sum m n = min (m + n) 65535
 

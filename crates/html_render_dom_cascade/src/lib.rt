@@ -1,5 +1,5 @@
-//! Which of several values a property has: the winner among its updates, by importance, origin and specificity, as CSS
-//! Cascading and Inheritance Level 3, section 6, has them.
+//! The cascade for one property: the winner among its updates, by importance, origin and specificity, as in CSS Cascading
+//! and Inheritance Level 3, section 6.
 #![tactic(auto)]
 
 mod laws;

@@ -1,27 +1,27 @@
-//! Where a rule comes from: `StyleOrigin::Agent < StyleOrigin::Author`.
+//! Origins of rules: `StyleOrigin::Agent < StyleOrigin::Author`.
 
 ghost use Rattle.std.specs.Prelude.{◌≡◌};
 ghost use Rattle.html_render_dom_cascade.specs.Cascade.{rank_of};
 
-/// Where a rule comes from: CSS Cascading and Inheritance Level 3, section 6, "Cascading Origins".
+/// The origin of a rule: CSS Cascading and Inheritance Level 3, section 6, "Cascading Origins".
 ///
-/// The origins rise from `None` to `Author`, as normal declarations rank them; important ones rank them the other way
-/// round.
+/// The order is that of normal declarations: `None`, `Agent`, `User`, `Author`. Among important declarations it is reversed.
 #[derive(Clone, Copy, Debug, Default, PartialEq, Eq, PartialOrd)]
 pub enum StyleOrigin {
     /// No origin.
     #[default]
     None,
-    /// The user agent's own rules.
+    /// The user agent's rules.
     Agent,
     /// The user's rules.
     User,
-    /// The document's author's rules.
+    /// The rules of the document's author.
     Author,
 }
 
 impl StyleOrigin {
-    /// The rank of declarations of this origin, from 0 up.
+    /// Returns the rank of declarations of this origin, from 0 to 3. Of two declarations of equal importance, the one with
+    /// the greater rank wins.
     pub(super) fn rank(self, important: bool) -> u8
         ensures { result ≡ rank_of important self }
     {

@@ -1,4 +1,4 @@
-//! Specificities: of two of them the one with more ids is the greater, whatever their classes.
+//! Specificities, which decide between declarations of equal importance and origin.
 
 ghost use Rattle.std.specs.Prelude.{◌≡◌, true};
 ghost use Rattle.std.specs.Ordering.{as_partial_cmp};
@@ -10,24 +10,24 @@ ghost use Rattle.html_render_dom_cascade.specs.Specificities.{no_specificity, sp
 use std::cmp::Ordering;
 use std::ops::{Add, AddAssign};
 
-/// How specific a selector is: CSS Selectors Level 3, section 9.
+/// The specificity of a declaration: Selectors Level 3, section 9.
 ///
-/// A specificity of a declaration in a `style` attribute (`inline`) is greater than each other one; then the counts
-/// decide, `id` first, then `class`, then `typ`.
+/// A declaration in a `style` attribute (`inline`) has a greater specificity than any other. Otherwise the counts decide,
+/// first `id`, then `class`, then `typ`.
 #[derive(Clone, Copy, Debug, Default, PartialEq, Eq)]
 pub struct Specificity {
-    /// Whether the declaration stands in the element's own `style` attribute.
+    /// Whether the declaration is in the element's `style` attribute.
     pub inline: bool,
-    /// The number of ids.
+    /// Number of ids.
     pub id: u16,
-    /// The number of classes.
+    /// Number of classes.
     pub class: u16,
-    /// The number of element names and pseudo-elements.
+    /// Number of element names and pseudo-elements.
     pub typ: u16,
 }
 
 impl Specificity {
-    /// The specificity of a `style` attribute.
+    /// Returns the specificity of a `style` attribute, with all counts 0.
     pub fn inline() -> Specificity
         ensures { result ≡ record no_specificity { inline = true } }
     {
@@ -37,7 +37,7 @@ impl Specificity {
         }
     }
 
-    /// How two specificities stand to each other.
+    /// Compares two specificities. The order is total.
     pub(super) fn order(self, other: Specificity) -> Ordering
         ensures { result ≡ specificity_cmp self other }
     {
@@ -59,7 +59,7 @@ impl PartialOrd for Specificity {
     }
 }
 
-/// The sum of the counts, each at most 65535; the sum is inline where one of the two is.
+/// Adds each count, up to 65535. The sum is `inline` if one of the two is.
 impl Add for Specificity {
     type Output = Specificity;
 

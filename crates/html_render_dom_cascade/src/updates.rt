@@ -1,17 +1,17 @@
-//! One update of a property.
+//! Updates of a property.
 
 use super::origins::StyleOrigin;
 use super::specificities::Specificity;
 
-/// A value that a property is given, with what decides whether it wins.
+/// A declared value of a property, with the data that decide whether it wins.
 #[derive(Drop)]
 pub struct Update<T> {
     /// Whether the declaration is important.
     pub important: bool,
-    /// Where the rule comes from.
+    /// Origin of the rule.
     pub origin: StyleOrigin,
-    /// How specific the rule is.
+    /// Specificity of the rule.
     pub specificity: Specificity,
-    /// The value.
+    /// Declared value.
     pub value: T,
 }

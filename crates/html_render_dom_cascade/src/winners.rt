@@ -1,13 +1,13 @@
-//! The value of a property: the winner among all its updates.
+//! The value of a property, which is that of the winner among its updates.
 
 use super::origins::StyleOrigin;
 use super::specificities::Specificity;
 use super::updates::Update;
 use std::marker::Model;
 
-/// The winner of the updates that it was given: the last one whose key is greatest, or nothing before the first.
+/// The winner among the updates so far: the last of those with the greatest key. There is none before the first update.
 ///
-/// The key of an update is its importance, the rank of its origin and its specificity, compared in this order:
+/// The key of an update has its importance, the rank of its origin and its specificity, which are compared in this order:
 /// CSS Cascading and Inheritance Level 3, section 6.
 #[derive(Drop)]
 pub struct WithSpec<T> {
@@ -41,7 +41,8 @@ impl<T> WithSpec<T> {
     ghost use Rattle.html_render_dom_cascade.specs.Cascade.{rank_of, value_of, winner};
     ghost use Rattle.html_render_dom_cascade.specs.Keeping.{yields_to};
 
-    /// Whether an update of this key wins over the one that is kept.
+    /// Reports whether an update with this key would win: whether its key is at least that of the winner so far, or there is
+    /// none.
     pub fn yields_to(&self, important: bool, origin: StyleOrigin, specificity: Specificity) -> bool
         ensures { result ≡ yields_to self.now (record { important = important; origin_rank = rank_of important origin; specificity = specificity }) }
     {
@@ -59,7 +60,7 @@ impl<T> WithSpec<T> {
             .is_le()
     }
 
-    /// Takes one update more. It wins over the one that is kept if its key is at least as great.
+    /// Takes an update. It becomes the winner if its key is at least that of the winner so far, or there is none.
     #[tactic(auto, using(crate::specs::laws::Keeps::keeps))]
     pub fn maybe_update(
         &mut self,
@@ -83,14 +84,14 @@ impl<T> WithSpec<T> {
         }
     }
 
-    /// The winner's value, if there is one.
+    /// Returns the value of the winner; `None` before the first update.
     pub fn val(&self) -> Option<&T>
         ensures { option_copied result ≡ value_of self.now }
     {
         self.kept.as_ref().map(|update| &update.value)
     }
 
-    /// The winner's value, if there is one, taken out.
+    /// Consumes this and returns the value of the winner; `None` before the first update.
     pub fn into_val(self) -> Option<T>
         ensures { result ≡ value_of self }
     {

@@ -1,5 +1,4 @@
--- Specificities and keys are totally ordered, and equal in the order exactly where they are equal; sums of specificities
--- can be taken in any order and grouping.
+-- Specificities and keys are totally ordered, and tie exactly if they are equal.
 use Rattle.std.specs.Prelude.{◌≡◌, ℕ, Bool, true, false, ◌↔◌}
 use Rattle.std.specs.declared.cmp.Ordering.{Ordering}
 use Rattle.std.specs.declared.cmp.Ordering.TheVariants.{Equal, Greater}
@@ -22,7 +21,7 @@ key_cmp-total =
     then_total (on_total (λ k. k.important) bool_cmp_total)
     (then_total (on_total (λ k. k.origin_rank) nat_cmp_total) (on_total (λ k. k.specificity) specificity_cmp-total))
 
--- what comes after an order that tells two apart isn't asked
+-- two orders taken in turn tie only if both tie
 then_both : (r s : Ordering) → ordering_then r s ≡ Equal → (r ≡ Equal) × (s ≡ Equal)
 then_both Equal s e = (refl, e)
 then_both r s e = cc
@@ -61,7 +60,7 @@ specificity_cmp-Equal a b = (specificity_tied a b, λ e. subst (λ c. specificit
 pub key_cmp-Equal : (a b : Key) → (key_cmp a b ≡ Equal) ↔ (a ≡ b)
 key_cmp-Equal a b = (key_tied a b, λ e. subst (λ c. key_cmp a c ≡ Equal) e (tied_itself key_cmp-total a))
 
--- at most, and not at most
+-- at most is not greater; if a isn't at most b, then b is at most a
 le_from_not_gt : (r : Ordering) → is_gt r ≡ false → is_le r ≡ true
 le_from_not_gt Greater e = cc
 le_from_not_gt r e = refl
@@ -74,7 +73,7 @@ turned_le : (r : Ordering) → is_le r ≡ false → is_le (ordering_reverse r) 
 turned_le Greater e = refl
 turned_le r e = cc
 
--- of two keys one is at most the other, and at most goes on
+-- of two keys one is at most the other, and being at most is transitive
 pub key-turned : (a b : Key) → is_le (key_cmp a b) ≡ false → is_le (key_cmp b a) ≡ true
 key-turned a b e = ap is_le (key_cmp-total.antisymm b a) ∙ turned_le (key_cmp a b) e
 

@@ -1,4 +1,4 @@
--- Laws of the winner: it can be found from the winner of a front and what stands behind it.
+-- Laws of the winner: it is determined by the winner of a first part of the list and the updates after that part.
 use Rattle.std.specs.Prelude.{◌≡◌, Bool, true, false, ◌&&◌, List, [], ◌∷◌, ◌++◌, Option, Some, None, filter, fold, option_to_list}
 use Rattle.std.specs.List.{list_all, last_or}
 use Rattle.std.specs.Ordering.{is_le}
@@ -37,7 +37,7 @@ and_before a b h = ap (λ c. a && c) (and_true b) ∙ and_first a b h
 and_last : (a b : Bool) → (b ≡ true → a ≡ true) → (a && (b && true)) ≡ b
 and_last a b h = ap (λ c. a && c) (and_true b) ∙ and_second a b h
 
--- an element before the last one changes nothing
+-- an item at the front of a list doesn't change the last one that passes a test, if there is one
 kept_behind : {X : Type 0} (test : X → Bool) (x : X) (xs : List X) (w : X) → last_or None (filter test xs) ≡ Some w →
     last_or None (filter test (x ∷ xs)) ≡ Some w
 kept_behind test x xs w e = elim (cases_Bool (test x)) [ inl a ↦ rw a (last_or-some (Some x) (filter test xs) w e) | inr a ↦ rw a e ]
@@ -59,7 +59,7 @@ module _ {U : Type 0} (le : U → U → Bool) where
   abbrev last_greatest : List U → Option U
   last_greatest us = last_or None (filter (greatest us) us)
 
-  -- w is the last of the greatest
+  -- whether w is the last of the greatest items
   record IsBest (us : List U) (w : U) : Type 0 where
     same : (v : U) → greatest us v ≡ le w v
     last : last_or None (filter (le w) us) ≡ Some w
@@ -67,7 +67,7 @@ module _ {U : Type 0} (le : U → U → Bool) where
   IsBest-is : (us : List U) (w : U) → IsBest us w → last_greatest us ≡ Some w
   IsBest-is us w b = ap (λ test. last_or None (filter test us)) (λ i v. b.same v i) ∙ b.last
 
-  -- the one that is kept, and one more
+  -- the last of the greatest items after one more item
   abbrev pub later : Option U → U → Option U
   later None u = Some u
   later (Some w) u = cond (le w u) (Some u) (Some w)
@@ -76,7 +76,7 @@ module _ {U : Type 0} (le : U → U → Bool) where
     itself : (u : U) → le u u ≡ true
     itself u = elim (cases_Bool (le u u)) [ inl e ↦ e | inr e ↦ turned u u e ]
 
-    -- none of what is at most w is at least u, where u isn't at most w
+    -- no item that is at most w is at least u, if u isn't at most w
     filter-none : (us : List U) (u w : U) → greatest us w ≡ true → le u w ≡ false → filter (le u) us ≡ []
     filter-none [] u w h e = refl
     filter-none (x ∷ us) u w h e =
@@ -89,7 +89,7 @@ module _ {U : Type 0} (le : U → U → Bool) where
     IsBest-one : (u : U) → IsBest (u ∷ []) u
     IsBest-one u = record { same = λ v. and_true (le u v); last = rw (itself u) refl }
 
-    -- a list that isn't empty has a last one of the greatest
+    -- a list that isn't empty has a last of its greatest items
     best_of : (u : U) (us : List U) → (w : U) × IsBest (u ∷ us) w
     best_of u [] = (u, IsBest-one u)
     best_of u (x ∷ us) =
@@ -144,20 +144,20 @@ module _ {U : Type 0} (le : U → U → Bool) where
     last_greatest-one None = refl
     last_greatest-one (Some u) = IsBest-is (u ∷ []) u (IsBest-one u)
 
--- whether an update wins over one that was made before it
+-- whether an update wins over an earlier one
 abbrev pub yields : {T : Type 0} → Update T → Update T → Bool
 yields earlier u = is_le (key_cmp (key_of earlier) (key_of u))
 
--- one update is its list's winner
+-- a single update is the winner of its list
 pub winner-one : {T : Type 0} (o : Option (Update T)) → winner (option_to_list o) ≡ o
 winner-one o = last_greatest-one yields (λ u v. key-turned (key_of u) (key_of v)) (λ u v w. key-chain (key_of u) (key_of v) (key_of w)) o
 
--- the winner of a list with an update behind it
+-- the winner of a list with one more update at its end
 pub winner-push : {T : Type 0} (us : List (Update T)) (u : Update T) → winner (us ++ u ∷ []) ≡ later yields (winner us) u
 winner-push us u = last_greatest-push yields (λ u v. key-turned (key_of u) (key_of v))
     (λ u v w. key-chain (key_of u) (key_of v) (key_of w)) us u
 
--- of a front only its winner counts
+-- only the winner of the first part of a list counts
 pub winner-front : {T : Type 0} (us vs : List (Update T)) → winner (option_to_list (winner us) ++ vs) ≡ winner (us ++ vs)
 winner-front {T} us vs =
     appended (option_to_list (winner us)) ∙ ap (λ o. fold (later yields) o vs) (winner-one (winner us)) ∙ sym (appended us)
