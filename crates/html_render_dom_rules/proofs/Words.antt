@@ -1,4 +1,4 @@
--- The parts of a text between its white space, one after another.
+-- The parts of a text between its white space, from the first to the last.
 use Rattle.std.proofs.Common.{◌≡◌, ℕ, suc, ◌+◌, ◌-◌, ◌<◌, ◌≤◌, inl, inr, Bool, true, false, ◌||◌, ◌==◌, List, [], ◌∷◌, length, take, drop, Some}
 use Rattle.std.proofs.Common.{None, refl, ap, ◌∙◌, arith, filter, position}
 use Rattle.std.proofs.lemmas.Bool.{cases_Bool}
@@ -11,7 +11,7 @@ use Rattle.std.specs.Str.{bytes_eq}
 use Rattle.html_render_dom_rules.specs.Selectors.{is_filled, words}
 use Rattle.std.specs.List.{list_any, slice_split, onto_first, position_or_len}
 
--- up to the first element that passes, and what stands behind it
+-- the parts are the items up to the first that passes, and the parts of the items after it
 pub slice_split-first : {X : Type 0} (p : X → Bool) (xs : List X) → position_or_len p xs < length xs →
     slice_split p xs ≡ take (position_or_len p xs) xs ∷ slice_split p (drop (position_or_len p xs + 1) xs)
 slice_split-first p [] h = absurd (omega arith)
@@ -32,12 +32,12 @@ slice_split-first p (x ∷ xs) h =
         let e : 1 + k ≡ suc k = omega arith in
         rw (f, e) refl
 
--- none passes
+-- if no item passes, the list is the only part
 pub slice_split-none : {X : Type 0} (p : X → Bool) (xs : List X) → length xs ≤ position_or_len p xs → slice_split p xs ≡ xs ∷ []
 slice_split-none p [] h = refl
 slice_split-none p (x ∷ xs) h = let ih = slice_split-none p xs in grind (arith, nat_tests)
 
--- what `position` answers tells the first part
+-- the first part, from the result of `position`
 pub slice_split-Some : {X : Type 0} (p : X → Bool) (xs : List X) (k : ℕ) → position p xs ≡ Some k →
     slice_split p xs ≡ take k xs ∷ slice_split p (drop (k + 1) xs)
 slice_split-Some p xs k e = let first = slice_split-first p xs in grind (arith, nat_tests)
@@ -45,7 +45,7 @@ slice_split-Some p xs k e = let first = slice_split-first p xs in grind (arith, 
 pub slice_split-None : {X : Type 0} (p : X → Bool) (xs : List X) → position p xs ≡ None → slice_split p xs ≡ xs ∷ []
 slice_split-None p xs e = let none = slice_split-none p xs in grind (arith, nat_tests)
 
--- what is found in the first part, and what is left to look at
+-- a search is successful with the first part, continues with the other parts, or ends with the last part
 pub found_first : (part rest : List ℕ) (k : ℕ) → position is_ascii_whitespace rest ≡ Some k → bytes_eq part (take k rest) ≡ true →
     list_any (bytes_eq part) (slice_split is_ascii_whitespace rest) ≡ true
 found_first part rest k e t = rw (slice_split-Some is_ascii_whitespace rest k e, t) refl
@@ -72,7 +72,7 @@ no_word [] = refl
 no_word ([] ∷ parts) = no_word parts
 no_word ((c ∷ cs) ∷ parts) = no_word parts
 
--- of the parts only a word can be another text
+-- a text that isn't empty is a part exactly if it is a word
 only_words : (c : ℕ) (cs : List ℕ) (parts : List (List ℕ)) →
     list_any (bytes_eq (c ∷ cs)) (filter is_filled parts) ≡ list_any (bytes_eq (c ∷ cs)) parts
 only_words c cs [] = refl

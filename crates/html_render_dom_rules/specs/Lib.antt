@@ -1,3 +1,3 @@
--- the rules, and which elements they select
+-- style rules, and the elements that they select
 pub mod Rules
 pub mod Selectors

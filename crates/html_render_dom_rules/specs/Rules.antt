@@ -1,4 +1,4 @@
--- The rules of a style sheet, with each text as its list of bytes.
+-- The values of style rules, with each text as its list of bytes.
 use Rattle.std.specs.Prelude.{ℕ, Bool, List, Option, map, option_map, string_bytes}
 use Rattle.html_render_dom_values.specs.declared.colours.Colour.{Colour as TheColour}
 use Rattle.html_render_dom_cascade.specs.declared.origins.StyleOrigin.{StyleOrigin}
@@ -10,7 +10,7 @@ use Rattle.html_render_dom_rules.specs.declared.rules.Style.TheVariants.{Colour,
 use Rattle.html_render_dom_rules.specs.declared.rules.Declaration.{Declaration}
 use Rattle.html_render_dom_rules.specs.declared.rules.StyleRule.{StyleRule}
 
--- a property and the value that it is given
+-- a property and its declared value
 pub data StyleValue : Type 0 where
   colour : TheColour → StyleValue
   bg_colour : TheColour → StyleValue
@@ -23,7 +23,7 @@ pub record Declared : Type 0 where
   pub important : Bool
   pub style : StyleValue
 
--- a rule: whose it is, which elements it selects, and what it declares
+-- a style rule: its origin, the parts that select elements, and its declarations
 pub record Rule : Type 0 where
   pub origin : StyleOrigin
   pub element : Option (List ℕ)

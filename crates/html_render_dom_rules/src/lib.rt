@@ -1,4 +1,4 @@
-//! The rules that styles are computed from, and which elements they select, as Selectors Level 3 has it.
+//! Style rules, from which styles are computed, and the elements that they select, as in Selectors Level 3.
 #![tactic(auto)]
 
 mod rules;

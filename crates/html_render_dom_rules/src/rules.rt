@@ -1,4 +1,4 @@
-//! The rules that styles are computed from.
+//! Style rules and their declarations.
 
 ghost use Rattle.std.specs.Prelude.{◌≡◌, [], Some, None, map, string_bytes};
 ghost use Rattle.html_render_dom_rules.specs.Rules.{declared_of, rule_of};
@@ -9,68 +9,70 @@ use html_render_dom_values::colours::Colour;
 use html_render_dom_values::white_space::WhiteSpace;
 use std::alloc::Global;
 
-/// What kind of box an element makes: the CSS property `display`.
+/// The kind of an element's box: the CSS property `display`.
 #[derive(Clone, Copy, Debug, PartialEq, Eq)]
 pub enum Display {
-    /// The element makes nothing at all.
+    /// No box: the element and its contents are dropped.
     None,
 }
 
-/// A place beside an element's children: CSS Selectors Level 3, section 7.3.
+/// A pseudo-element, before or after an element's contents: Selectors Level 3, section 7.3.
 #[derive(Clone, Copy, Debug, PartialEq, Eq)]
 pub enum PseudoElement {
-    /// Before the element's children.
+    /// Before the element's contents.
     Before,
-    /// After the element's children.
+    /// After the element's contents.
     After,
 }
 
-/// A property and the value that it is given.
+/// A property and its declared value.
 #[derive(Drop)]
 pub enum Style {
-    /// The colour of the text.
+    /// Colour of the text.
     Colour(Colour),
-    /// The colour of the background.
+    /// Colour of the background.
     BgColour(Colour),
-    /// Whether there is a box.
+    /// Kind of the element's box.
     Display(Display),
-    /// How white space is treated.
+    /// Treatment of white space.
     WhiteSpace(WhiteSpace),
-    /// The text that is put before or after an element's children.
+    /// Text that a rule for a pseudo-element inserts. Without a pseudo-element it isn't shown.
     Content(String),
 }
 
 /// A declaration of a rule.
 #[derive(Drop)]
 pub struct Declaration {
-    /// Whether it is important: CSS Cascading and Inheritance Level 3, section 6, "Important Declarations".
+    /// Whether the declaration is important: CSS Cascading and Inheritance Level 3, section 6, "Important Declarations".
     pub important: bool,
-    /// What it declares.
+    /// Property and declared value.
     pub style: Style,
 }
 
-/// A rule: which elements it selects, and what it declares for them.
+/// A style rule: a selector, and declarations for the elements that it selects.
 ///
-/// It selects an element if each part that is stated holds of it: CSS Selectors Level 3, sections 6.1, 6.4 and 6.5. A
-/// rule that states none selects every element. Texts are compared exactly, also in quirks mode.
+/// The rule selects an element if each part that it states (`element`, `id`, `classes`) holds of the element: Selectors
+/// Level 3, sections 6.1, 6.4 and 6.5. A rule that states none selects every element (section 6.2). Texts are compared
+/// byte by byte, in quirks mode too.
 #[derive(Drop)]
 pub struct StyleRule {
-    /// Where the rule comes from.
+    /// Origin of the rule.
     pub origin: StyleOrigin,
-    /// The element's local name, in any namespace.
+    /// Local name of the element, in any namespace; `None` for every name.
     pub element: Option<String>,
-    /// The value of the element's first attribute `id`.
+    /// Value of the element's first attribute `id`; `None` if the rule states no id.
     pub id: Option<String>,
-    /// Words of the element's first attribute `class`. An empty class is no word, so a rule with one selects nothing.
+    /// Words that the element's first attribute `class` must have. An empty class is no word, so a rule with one selects
+    /// nothing.
     pub classes: Vec<String>,
-    /// The place beside the element's children that the rule is for, or none for the element itself.
+    /// Pseudo-element that the rule styles; `None` for the element itself.
     pub pseudo: Option<PseudoElement>,
-    /// What the rule declares, in order.
+    /// Declarations, in order of appearance.
     pub declarations: Vec<Declaration>,
 }
 
 impl StyleRule {
-    /// A rule for all elements of one local name, whatever their id and classes.
+    /// Creates a rule for all elements with one local name, whatever their ids and classes.
     pub fn for_element(
         alloc: Global,
         origin: StyleOrigin,
@@ -97,8 +99,12 @@ impl StyleRule {
         }
     }
 
-    /// How specific the rule is: 1 for its id, 1 for each of its classes, repeated ones counted and at most 65535 in
-    /// all, and 1 each for its element name and its pseudo-element.
+    /// Returns the rule's specificity: Selectors Level 3, section 9.
+    ///
+    /// - `id`: 1 if the rule states an id;
+    /// - `class`: the number of its classes, repeated ones counted, up to 65535;
+    /// - `typ`: 1 each for an element name and a pseudo-element;
+    /// - `inline`: never.
     #[inline]
     pub fn specificity(&self) -> Specificity
         ensures { result ≡ specificity_of (rule_of self.now) }

@@ -1,4 +1,4 @@
-//! Which elements a rule selects.
+//! The elements that a rule selects.
 
 ghost use Rattle.std.specs.Prelude.{◌≡◌, ◌+◌, ◌^◌, ◌<◌, IfSome, length, position, option_copied, option_map, string_bytes};
 ghost use Rattle.std.specs.List.{list_all, list_any, slice_split};
@@ -9,7 +9,7 @@ ghost use Rattle.html_render_dom_rules.specs.Selectors.{has_class, matches_part,
 
 use crate::rules::StyleRule;
 
-/// Whether a part of a rule asks for nothing, or for what the element has.
+/// Reports whether a part of a rule isn't stated, or equals the value `has` of the element.
 #[inline(always)]
 fn matches_part(stated: &Option<String>, has: Option<&str>) -> bool
     ensures { result ≡ matches_part (option_map string_bytes stated.now) (option_copied has.entry) }
@@ -23,7 +23,7 @@ fn matches_part(stated: &Option<String>, has: Option<&str>) -> bool
     }
 }
 
-/// The place of the first white space of the text.
+/// Returns the index of the first byte of ASCII white space; `None` if there is none.
 fn first_white_space(text: &[u8]) -> Option<usize>
     ensures place { result ≡ position is_ascii_whitespace text.now }
     ensures within { IfSome result (λ place. place < length text.now) }
@@ -32,7 +32,7 @@ fn first_white_space(text: &[u8]) -> Option<usize>
     text.iter().position(|byte| byte.is_ascii_whitespace())
 }
 
-/// Whether one of the parts of the text between its white space is this one.
+/// Reports whether one of the parts of the text, split at each byte of ASCII white space, equals `part`.
 #[tactic(auto, using(crate::proofs::Words::parts))]
 fn has_part(text: &[u8], part: &[u8]) -> bool
     ensures { result ≡ list_any (bytes_eq part.now) (slice_split is_ascii_whitespace text.now) }
@@ -47,7 +47,7 @@ fn has_part(text: &[u8], part: &[u8]) -> bool
     part == rest
 }
 
-/// Whether a class is one of the element's.
+/// Reports whether `class` is a word of the element's attribute `class`. An empty class never is.
 #[inline]
 #[tactic(auto, using(crate::proofs::Words::words_of))]
 fn has_class(classes: Option<&str>, class: &str) -> bool
@@ -59,7 +59,7 @@ fn has_class(classes: Option<&str>, class: &str) -> bool
     }
 }
 
-/// Whether all of these classes are the element's.
+/// Reports whether all wanted classes are words of the element's attribute `class`.
 fn has_classes(classes: Option<&str>, wanted: &[String]) -> bool
     ensures { result ≡ list_all (λ class. has_class (option_copied classes.entry) (string_bytes class)) wanted.now }
 {
@@ -69,7 +69,7 @@ fn has_classes(classes: Option<&str>, wanted: &[String]) -> bool
 }
 
 impl StyleRule {
-    /// Whether the rule selects an element of this local name, id and classes.
+    /// Reports whether the rule selects an element with this local name, id and text of its attribute `class`.
     #[inline(always)]
     #[tactic(auto, using(crate::proofs::Words::all_of))]
     pub fn selects(&self, name: &str, id: Option<&str>, classes: Option<&str>) -> bool
