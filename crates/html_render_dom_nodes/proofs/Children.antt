@@ -1,4 +1,4 @@
--- Lists of children, after the calls that change them.
+-- Lists of children after removals and insertions.
 use Rattle.std.proofs.Common.{◌≡◌, ◌==◌, ℕ, zero, suc, ◌+◌, ◌<◌, ◌≤◌, false, cond, ltb, List, [], ◌∷◌}
 use Rattle.std.proofs.Common.{length, slice_get, slice_index_or, Option, Some, None, Result, Ok, Err, IsOk, OnOk, inl, inr, refl, ap, ◌∙◌, arith}
 use Rattle.std.specs.List.{insert, remove, position_or_len}
@@ -6,16 +6,16 @@ use Rattle.std.proofs.lemmas.Bool.{false≢true}
 use Rattle.std.proofs.lemmas.Bool.Decides.{eqb_tells, nat_tests}
 use Rattle.html_render_dom_nodes.specs.Moves.{without, before, previous}
 
--- what a call leaves that can't be refused
+-- the postcondition of a call that can't be refused
 pub ok_then : {T E : Type 0} (r : Result T E) (P : Type 0) → IsOk r → OnOk r P → P
 ok_then (Ok x) P h e = e
 ok_then (Err y) P h e = absurd (false≢true h)
 
--- where a node stands, or the length
+-- the place of a node in a list, or the list's length
 abbrev pub place_of : ℕ → List ℕ → ℕ
 place_of s xs = position_or_len (λ x. x == s) xs
 
--- what `position` answered
+-- the place of a node, from the result of `position`
 pub place_found : (r : Option ℕ) (n len i : ℕ) → r ≡ cond (ltb n len) (Some n) None → r ≡ Some i → (i ≡ n) × (n < len)
 place_found r n len i e f = grind (arith, nat_tests)
 
@@ -58,7 +58,7 @@ pub previous-absent : (s : ℕ) (last : Option ℕ) (xs : List ℕ) → length x
 previous-absent s last [] le = refl
 previous-absent s last (x ∷ xs) le = let more = previous-absent s (Some x) xs in grind (arith, nat_tests)
 
--- the one before the first
+-- the member before the first is the given one
 pub previous-first : (s : ℕ) (last : Option ℕ) (xs : List ℕ) → place_of s xs < length xs → place_of s xs ≡ 0 → previous s last xs ≡ last
 previous-first s last [] lt e = absurd (omega arith)
 previous-first s last (x ∷ xs) lt e = grind (arith, nat_tests)

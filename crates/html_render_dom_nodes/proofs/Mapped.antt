@@ -1,4 +1,4 @@
--- Lists that a definition sees through a function.
+-- Tests and filters of mapped lists.
 use Rattle.std.proofs.Common.{◌≡◌, List, [], ◌∷◌, Bool, true, false, ◌||◌, cond, map, refl, ap, filter}
 use Rattle.std.specs.List.{list_any}
 

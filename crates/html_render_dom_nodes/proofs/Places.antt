@@ -1,4 +1,4 @@
--- The places of attributes, one list behind another; and that a name is looked for from the first attribute of its local name on.
+-- The places of attributes in a concatenated list. A search for a name can begin at the first attribute with its local name.
 use Rattle.std.proofs.Common.{◌≡◌, ℕ, suc, ◌+◌, ◌-◌, ◌<◌, ◌≤◌, Bool, true, false, ◌||◌, if◌then◌else◌, List, [], ◌∷◌, ◌++◌, length, get_or, take, drop, map}
 use Rattle.std.proofs.Common.{Option, Some, None, refl, sym, ap, ◌∙◌, inl, inr, arith}
 use Rattle.std.proofs.lemmas.Bool.{and_parts, cases_Bool}
@@ -27,7 +27,7 @@ place_of-append local start (x ∷ xs) ys = elim (cases_Bool (bytes_eq local x.n
       )
 ]
 
--- one attribute more
+-- the place after one more attribute is recorded
 pub place_of-more : (local : List ℕ) (start : ℕ) (attrs : List Attribute) (i : ℕ) (a : Attribute) (before : Option ℕ) → i < length attrs →
     a ≡ get_or attrs i a → length (take i attrs) ≡ i →
     first_of (first_of before (place_of local start (take i attrs))) (if bytes_eq local a.name.local then Some (start + i) else None)
@@ -38,7 +38,7 @@ place_of-more local start attrs i a before lt is long =
     ∙ ap (first_of before) (sym (place_of-append local start (take i attrs) (a ∷ [])))
     ∙ ap (λ xs. first_of before (place_of local start xs)) (sym (take_more attrs i a lt ∙ ap (λ x. take i attrs ++ x ∷ []) (sym is)))
 
--- another local name is another name
+-- names with different local names differ
 other : (name : Name) (a : Attribute) → bytes_eq name.local a.name.local ≡ false → name_eq (name_of a.name) name ≡ false
 other name a e = by (name_eq (name_of a.name) name) refl
   where

@@ -1,4 +1,4 @@
--- A write to one node of the vector, as an edit of the nodes that it stands for.
+-- A write to one node of the vector, as an edit of the vector's value.
 use Rattle.std.proofs.Common.{◌≡◌, ℕ, ◌<◌, List, [], ◌∷◌, ◌++◌, length, map, slice_set, slice_index_or, Some, sym, ap, ◌∙◌}
 use Rattle.std.proofs.lemmas.List.{map-set, set-get_or, get_or_append_left, set-append_left, length-set}
 use Rattle.std.proofs.Math.Seq.{get_or-append_seam, set-append_seam}
@@ -8,18 +8,18 @@ use Rattle.html_render_dom_nodes.specs.Nodes.{Node, node_in, lone, node_of}
 use Rattle.html_render_dom_nodes.specs.Edits.{attached, attached_new, created, with_children, with_parent}
 use Rattle.html_render_dom_nodes.specs.laws.Nodes.{node_in-map}
 
--- the node m in the place of n
+-- writing the node m over n, with a value that is a change of n's value, makes that change in the vector's value
 pub written : (items : List TheNode) (i : ℕ) (n m : TheNode) → i < length items → n ≡ slice_index_or items i n → (change : Node → Node) →
     node_of m ≡ change (node_of n) →
     map node_of (slice_set items i m) ≡ slice_set (map node_of items) i (change (node_in (map node_of items) i))
 written items i n m h e change q = map-set node_of items i m ∙ ap (slice_set (map node_of items) i) (q ∙ ap change (sym (node_in-map items i n h e)))
 
--- a node that stands for the same as before
+-- writing a node with the old value leaves the vector's value unchanged
 pub written-same : (items : List TheNode) (i : ℕ) (n m : TheNode) → i < length items → n ≡ slice_index_or items i n → node_of m ≡ node_of n →
     map node_of (slice_set items i m) ≡ map node_of items
 written-same items i n m h e q = written items i n m h e (λ x. x) q ∙ set-get_or (map node_of items) i (lone document)
 
--- a new node as the last child of an older one, whose list is written first
+-- a new node as the last child of an old one: the old one's list can be written first
 pub attached-created : (nodes : List Node) (c : Content) (p : ℕ) → p < length nodes →
     attached (created nodes c) p (length nodes)
     ≡ with_parent (created (with_children nodes p ((node_in nodes p).children ++ length nodes ∷ [])) c) (length nodes) (Some p)
@@ -33,7 +33,7 @@ attached-created nodes c p at =
     ∙ set-append_left nodes (lone c ∷ []) p (record (node_in nodes p) { children = cs }) at in
     ap (λ ns. with_parent ns n (Some p)) first
 
--- the same, where the new node names its parent as it is written
+-- a new node as the last child of an old one: the old one's list can be written first, and the new one with its parent
 pub attached_new-named : (nodes : List Node) (c : Content) (p : ℕ) → p < length nodes →
     with_children nodes p ((node_in nodes p).children ++ length nodes ∷ []) ++ record { content = c; children = []; parent = Some p } ∷ []
     ≡ attached_new nodes c p

@@ -1,4 +1,4 @@
--- What a node of the document object model holds, with each text as its list of bytes.
+-- The contents of nodes, with each text as its list of bytes.
 use Rattle.std.specs.Prelude.{ℕ, Bool, true, false, List, Option, map, string_bytes}
 use Rattle.html_render_dom_nodes.specs.declared.names.Namespace.{Namespace}
 use Rattle.html_render_dom_nodes.specs.declared.names.Namespace.TheVariants.{None, Html, Svg, MathMl, Other}
@@ -7,22 +7,22 @@ use Rattle.html_render_dom_nodes.specs.declared.names.Attribute.{Attribute}
 use Rattle.html_render_dom_nodes.specs.declared.contents.NodeData.{NodeData}
 use Rattle.html_render_dom_nodes.specs.declared.contents.NodeData.TheVariants.{Document, Doctype, Text, Comment, Element, ProcessingInstruction}
 
--- a namespace
+-- a namespace; other ones by their address
 pub data Space : Type 0 where
   no_space html svg mathml : Space
   other : List ℕ → Space
 
--- a name in a namespace
+-- a qualified name: a namespace and a local name
 pub record Name : Type 0 where
   pub space : Space
   pub local : List ℕ
 
--- an attribute
+-- an attribute: a name and a value
 pub record Property : Type 0 where
   pub name : Name
   pub value : List ℕ
 
--- what a node holds
+-- the content of a node, without its children and its parent
 pub data Content : Type 0 where
   document : Content
   doctype : (name public_id system_id : List ℕ) → Content

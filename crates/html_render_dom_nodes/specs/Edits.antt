@@ -1,4 +1,4 @@
--- What each edit of a node, or of a list of children, makes of the nodes.
+-- The nodes after each edit of a node or of a list of children.
 use Rattle.std.specs.Prelude.{ℕ, ◌+◌, ◌-◌, Bool, true, false, if◌then◌else◌, List, [], ◌∷◌, ◌++◌, length, slice_get, slice_set}
 use Rattle.std.specs.Prelude.{Option, Some, None}
 use Rattle.html_render_dom_nodes.specs.declared.flags.ElementFlags.{ElementFlags}
@@ -14,15 +14,15 @@ with_children nodes h cs = slice_set nodes h (record (node_in nodes h) { childre
 abbrev pub with_parent : List Node → ℕ → Option ℕ → List Node
 with_parent nodes h p = slice_set nodes h (record (node_in nodes h) { parent = p })
 
--- the child stands last in the parent's list, and names it
+-- the nodes with the child appended to the parent's list, and that parent set
 abbrev pub attached : List Node → (parent child : ℕ) → List Node
 attached nodes parent child = with_parent (with_children nodes parent ((node_in nodes parent).children ++ child ∷ [])) child (Some parent)
 
--- a node more, of the next number, which hangs nowhere and has no children
+-- the nodes with a new node at the end, which has the next number, no parent and no children
 abbrev pub created : List Node → Content → List Node
 created nodes c = nodes ++ lone c ∷ []
 
--- a node more, the parent's last child
+-- the nodes with a new node, which is the parent's last child
 abbrev pub attached_new : List Node → Content → (parent : ℕ) → List Node
 attached_new nodes c parent = attached (created nodes c) parent (length nodes)
 
@@ -34,7 +34,7 @@ is_text (comment contents) = false
 is_text (element name properties template_contents integration_point) = false
 is_text (instruction target contents) = false
 
--- a text with more text behind it
+-- the content of a text node with more text at its end; any other content unchanged
 abbrev pub joined : Content → List ℕ → Content
 joined document more = document
 joined (doctype name public_id system_id) more = doctype name public_id system_id
@@ -43,23 +43,23 @@ joined (comment contents) more = comment contents
 joined (element name properties template_contents integration_point) more = element name properties template_contents integration_point
 joined (instruction target contents) more = instruction target contents
 
--- the node, if it is a text node
+-- a node if it is a text node, otherwise none
 abbrev pub text_node : List Node → Option ℕ → Option ℕ
 text_node nodes None = None
 text_node nodes (Some h) = if is_text (node_in nodes h).content then Some h else None
 
--- the last child, if it is a text node
+-- the last child of the parent if it is a text node, otherwise none
 abbrev pub last_text : List Node → (parent : ℕ) → Option ℕ
 last_text nodes parent =
     let children = (node_in nodes parent).children in
     text_node nodes (slice_get children (length children - 1))
 
--- the text joins the text node that stands before its place; without one a new text node is put last
+-- the nodes with a text joined to the text node `before`, or without one in a new text node, the parent's last child
 abbrev pub text_put : List Node → (parent : ℕ) → (before : Option ℕ) → List ℕ → List Node
 text_put nodes parent (Some before) more = with_content nodes before (joined (node_in nodes before).content more)
 text_put nodes parent None more = attached_new nodes (text more) parent
 
--- an element of the next number; a template's contents, a document, have the number after it
+-- the nodes with a new element, which has the next number; a template's contents, a document, have the number after it
 abbrev pub element_created : List Node → Name → List Property → ElementFlags → List Node
 element_created nodes name properties flags =
     let point = flags.mathml_annotation_xml_integration_point in

@@ -1,10 +1,10 @@
--- What an element's content says.
+-- The parts of an element's content.
 use Rattle.std.specs.Prelude.{ℕ, Bool, false, ◌++◌, List, Option, Some, None, not, filter}
 use Rattle.std.specs.List.{list_any}
 use Rattle.html_render_dom_nodes.specs.Content.{Content, Name, Property, document, doctype, text, comment, element, instruction}
 use Rattle.html_render_dom_nodes.specs.Names.{name_eq}
 
--- an element's name
+-- the name of an element
 abbrev pub name_in : Content → Option Name
 name_in document = None
 name_in (doctype name public_id system_id) = None
@@ -13,7 +13,7 @@ name_in (comment contents) = None
 name_in (element name properties template_contents integration_point) = Some name
 name_in (instruction target contents) = None
 
--- an element's name within its namespace
+-- the local name of an element
 abbrev pub local_name_in : Content → Option (List ℕ)
 local_name_in document = None
 local_name_in (doctype name public_id system_id) = None
@@ -22,7 +22,7 @@ local_name_in (comment contents) = None
 local_name_in (element name properties template_contents integration_point) = Some name.local
 local_name_in (instruction target contents) = None
 
--- the node that holds a template's contents
+-- the node with the contents of a template
 abbrev pub contents_in : Content → Option ℕ
 contents_in document = None
 contents_in (doctype name public_id system_id) = None
@@ -31,7 +31,7 @@ contents_in (comment contents) = None
 contents_in (element name properties template_contents integration_point) = template_contents
 contents_in (instruction target contents) = None
 
--- an HTML integration point of MathML's annotation-xml
+-- whether a content is that of an HTML integration point of MathML's `annotation-xml`
 abbrev pub is_integration_point : Content → Bool
 is_integration_point document = false
 is_integration_point (doctype name public_id system_id) = false
@@ -44,11 +44,11 @@ is_integration_point (instruction target contents) = false
 abbrev pub has_name : List Property → Name → Bool
 has_name properties name = list_any (λ p. name_eq p.name name) properties
 
--- the attributes, then those given whose name none of them has
+-- the attributes, then those of the given ones with a name that none of them has
 abbrev pub with_missing : List Property → List Property → List Property
 with_missing properties given = properties ++ filter (λ p. not (has_name properties p.name)) given
 
--- an element with the missing ones of the attributes given
+-- the content of an element with the given attributes that it lacks; any other content unchanged
 abbrev pub completed : Content → List Property → Content
 completed document given = document
 completed (doctype name public_id system_id) given = doctype name public_id system_id

@@ -1,13 +1,13 @@
--- the nodes: what they hold, and their places
+-- nodes: their contents, and their places in the forest
 pub mod Content
 pub mod Names
 pub mod Elements
 pub mod Nodes
--- what one edit makes of them
+-- nodes after single edits and moves
 pub mod Edits
 pub mod Moves
--- what the functions inside the crate promise each other
+-- definitions for private functions
 pub mod Room
 pub mod Places
--- what holds of all of them
+-- laws of these definitions
 pub mod laws

@@ -1,4 +1,4 @@
--- When two names, and two attributes, are equal: where their values are, with each text as its bytes.
+-- Equality of namespaces, names and attributes, which is that of their values.
 use Rattle.std.specs.Prelude.{Bool, true, false, ◌&&◌}
 use Rattle.std.specs.Str.{bytes_eq}
 use Rattle.html_render_dom_nodes.specs.Content.{Space, no_space, html, svg, mathml, other, Name, Property}

@@ -1,4 +1,4 @@
-//! The attributes of an element.
+//! Attributes of an element, with an index of names if there are many.
 
 ghost use Rattle.std.specs.Prelude.{◌≡◌, ◌+◌, ◌^◌, ◌<◌, ◌++◌, drop, if◌then◌else◌, IfOk, length, List, ℕ, map, None, OnErr, OnOk, Some, string_bytes};
 ghost use Rattle.std.specs.BTreeMap.{get_by_text};
@@ -13,17 +13,17 @@ use std::collections::BTreeMap;
 use std::marker::Model;
 use std::mem;
 
-/// So few attributes are looked through one by one.
+/// Maximum number of attributes that are searched one by one, without an index.
 const FEW: usize = 16;
 
 /// The attributes of an element, in the order in which they were given.
 ///
-/// They may be many, and are then found by their local names, so that `n` of them are added one by one in time that grows about
-/// as `n`.
+/// If there are many, they are indexed by local name. So the time to add `n` attributes, one by one, is about
+/// proportional to `n`.
 #[derive(Drop)]
 pub struct Attributes {
     list: Vec<Attribute>,
-    /// The place of the first attribute of each local name, once there are many.
+    /// Index in `list` of the first attribute with each local name; `None` while there are few.
     places: Option<Box<BTreeMap<String, usize>>>,
 }
 
@@ -39,7 +39,7 @@ impl Model for Attributes {
     ghost invariant = { λ a. IfSome a.places (λ places. TellsPlaces places.value a.list.items) };
 }
 
-/// Notes the place of an attribute of this local name, unless one is noted.
+/// Records the place of an attribute with this local name, unless one is recorded already.
 fn note(
     alloc: Global,
     places: &mut BTreeMap<String, usize>,
@@ -55,7 +55,7 @@ fn note(
     Ok(())
 }
 
-/// Notes the places of attributes, of which the first has the place `start`.
+/// Records the places of attributes, from `start` on.
 fn note_all(
     alloc: Global,
     places: &mut BTreeMap<String, usize>,
@@ -72,7 +72,7 @@ fn note_all(
     Ok(())
 }
 
-/// The places of attributes.
+/// Returns the place of the first attribute with each local name.
 fn places_of(alloc: Global, attrs: &[Attribute]) -> Result<BTreeMap<String, usize>, AllocError>
     ensures { IfOk result (λ places. TellsPlaces places attrs.now) }
 {
@@ -81,7 +81,7 @@ fn places_of(alloc: Global, attrs: &[Attribute]) -> Result<BTreeMap<String, usiz
     Ok(places)
 }
 
-/// Whether one of the attributes from this place on has the name.
+/// Reports whether one of the attributes from this place on has the name.
 fn has_name_from(attrs: &[Attribute], place: usize, name: &QualName) -> bool
     requires { place < length attrs.now }
     ensures { result ≡ has_name (map property_of (drop place attrs.now)) (name_of name.now) }
@@ -90,7 +90,7 @@ fn has_name_from(attrs: &[Attribute], place: usize, name: &QualName) -> bool
 }
 
 impl Attributes {
-    /// These attributes.
+    /// Creates a list of these attributes, without an index.
     #[inline]
     pub fn of(list: Vec<Attribute>) -> Attributes
         ensures { result ≡ list.items }
@@ -98,7 +98,7 @@ impl Attributes {
         Attributes { list, places: None }
     }
 
-    /// All of them, in order.
+    /// Returns a slice of all attributes, in order.
     #[inline]
     pub fn as_slice(&self) -> &[Attribute]
         ensures { result.now ≡ self.now }
@@ -106,7 +106,7 @@ impl Attributes {
         self.list.as_slice()
     }
 
-    /// Whether one of them has the name.
+    /// Reports whether one of the attributes has the name.
     fn has(&self, name: &QualName) -> bool
         ensures { result ≡ has_name (map property_of self.now) (name_of name.now) }
     {
@@ -119,7 +119,7 @@ impl Attributes {
         }
     }
 
-    /// Notes their places, if they are many.
+    /// Creates the index if there are many attributes and it doesn't exist yet.
     fn index(&mut self) -> Result<(), AllocError>
         ensures { self.new ≡ self.old }
     {
@@ -131,7 +131,7 @@ impl Attributes {
         Ok(())
     }
 
-    /// Puts attributes behind them.
+    /// Appends attributes, and records their places if there is an index. An error leaves the list unchanged.
     fn append(&mut self, mut given: Vec<Attribute>) -> Result<(), AllocError>
         ensures ok { OnOk result (self.new ≡ self.old ++ given.items) }
         ensures err { OnErr result (self.new ≡ self.old) }
@@ -140,7 +140,7 @@ impl Attributes {
             *self = Attributes::of(given);
             return Ok(());
         }
-        // so that no place is noted of an attribute that isn't put
+        // taken out, so that an error leaves no index with places of attributes that aren't appended
         let alloc = *self.list.allocator();
         let mut noted = mem::replace(&mut self.places, None);
         if let Some(places) = &mut noted {
@@ -151,7 +151,11 @@ impl Attributes {
         Ok(())
     }
 
-    /// Adds, in order, those given whose name none of them has.
+    /// Appends, in order, the given attributes with a name that the element doesn't have yet.
+    ///
+    /// # Errors
+    ///
+    /// Returns an error if an allocation is refused. The attributes are then unchanged.
     pub fn add_missing(&mut self, mut given: Vec<Attribute>) -> Result<(), AllocError>
         ensures ok { OnOk result (map property_of self.new ≡ with_missing (map property_of self.old) (map property_of given.items)) }
         ensures err { OnErr result (map property_of self.new ≡ map property_of self.old) }

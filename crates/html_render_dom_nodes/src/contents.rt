@@ -1,4 +1,4 @@
-//! What a node holds, and what can be put into a list of children.
+//! Data of nodes, and children that calls insert.
 
 use crate::attributes::Attributes;
 use crate::handles::Handle;
@@ -6,50 +6,50 @@ use crate::names::QualName;
 use html_render_dom_values::small_text::SmallText;
 use std::alloc::{AllocError, Global};
 
-/// The text of a text node: 24 bytes at most stand in the node itself.
+/// Text of a text node. Up to 24 bytes are stored in the node, without an allocation.
 pub type TextContents = SmallText<24>;
 
-/// What a node holds, beside its place among the others.
+/// The data of a node, without its children and its parent.
 #[derive(Drop)]
 pub enum NodeData {
-    /// The document itself, or the contents of a template.
+    /// The document, or the contents of a template.
     Document,
     /// A doctype.
     Doctype {
-        /// The name of the document's language, as `html`.
+        /// Name, such as `html`.
         name: String,
-        /// The public identifier.
+        /// Public identifier.
         public_id: String,
-        /// The system identifier.
+        /// System identifier.
         system_id: String,
     },
     /// A text.
     Text {
-        /// The text.
+        /// Text of the node.
         contents: TextContents,
     },
     /// A comment.
     Comment {
-        /// The comment's text.
+        /// Text of the comment.
         contents: String,
     },
     /// An element.
     Element {
-        /// Whether the element is an HTML integration point of MathML's `annotation-xml`. It comes first, where it makes no node
-        /// larger.
+        /// Whether the element is an HTML integration point of MathML's `annotation-xml`. As the first field it makes no
+        /// node larger.
         mathml_annotation_xml_integration_point: bool,
-        /// The element's name.
+        /// Name of the element.
         name: QualName,
-        /// The attributes, in the order in which they were given.
+        /// Attributes, in the order in which they were given.
         attrs: Attributes,
-        /// The node that holds a template's contents, for an HTML `template`.
+        /// Document node with the contents of an HTML `template`; `None` for other elements.
         template_contents: Option<Handle>,
     },
     /// A processing instruction.
     ProcessingInstruction {
-        /// The target.
+        /// Target of the instruction.
         target: String,
-        /// The text behind the target.
+        /// Text after the target.
         contents: String,
     },
 }
@@ -58,7 +58,7 @@ impl NodeData {
     ghost use Rattle.std.specs.Prelude.{◌≡◌, IfOk, string_bytes};
     ghost use Rattle.html_render_dom_nodes.specs.Content.{content_of, text};
 
-    /// A text.
+    /// Creates the data of a text node.
     #[inline]
     pub fn text(contents: String) -> NodeData
         ensures { content_of result ≡ text (string_bytes contents) }
@@ -68,11 +68,11 @@ impl NodeData {
         }
     }
 
-    /// A copy of a text.
+    /// Creates the data of a text node with a copy of the text.
     ///
     /// # Errors
     ///
-    /// Memory ran out.
+    /// Returns an error if an allocation is refused.
     #[inline]
     pub fn text_of(alloc: Global, contents: &str) -> Result<NodeData, AllocError>
         ensures { IfOk result (λ made. content_of made ≡ text contents.now) }
@@ -82,11 +82,11 @@ impl NodeData {
     }
 }
 
-/// What is put into a list of children.
+/// A node or a text to insert into a list of children.
 #[derive(Drop)]
 pub enum NodeOrText {
-    /// A node that stands in no list yet.
+    /// A node of the document.
     AppendNode(Handle),
-    /// A text, which joins a text node that it comes to stand behind.
+    /// A text, which is joined to a text node directly before its place.
     AppendText(String),
 }

@@ -1,10 +1,10 @@
-//! What a parser decides of an element that it creates.
+//! Flags for the creation of an element.
 
-/// What `RcDom::create_element` makes of an element beside its name and its attributes.
+/// Flags that a parser passes to `RcDom::create_element`. By default none is set.
 #[derive(Clone, Copy, Debug, Default, PartialEq, Eq)]
 pub struct ElementFlags {
-    /// The element is an HTML `template`: its contents are a document node of their own.
+    /// Whether the element is an HTML `template`, whose contents are a document node of their own.
     pub template: bool,
-    /// The element is an HTML integration point of MathML's `annotation-xml`.
+    /// Whether the element is an HTML integration point of MathML's `annotation-xml`.
     pub mathml_annotation_xml_integration_point: bool,
 }

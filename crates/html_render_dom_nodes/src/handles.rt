@@ -1,9 +1,10 @@
-//! The name of a node.
+//! Handles of nodes.
 
 use std::marker::Model;
 
-/// The name of a node of an `RcDom`: its number, in the order in which the nodes were made. The document has the
-/// number 0, which is the default.
+/// A handle of a node in an `RcDom`: its number, in the order of creation.
+///
+/// The document node has the number 0, which is the default.
 #[derive(Clone, Copy, Debug, Default, PartialEq, Eq)]
 pub struct Handle {
     number: usize,
@@ -22,7 +23,7 @@ impl Model for Handle {
 impl Handle {
     ghost use Rattle.std.specs.Prelude.{◌≡◌};
 
-    /// The node of this number.
+    /// Returns the handle of the node with this number.
     #[inline]
     pub fn new(number: usize) -> Handle
         ensures { result ≡ number }
@@ -30,7 +31,7 @@ impl Handle {
         Handle { number }
     }
 
-    /// The node's number.
+    /// Returns the node's number.
     #[inline]
     pub fn number(self) -> usize
         ensures { result ≡ self }

@@ -1,4 +1,4 @@
-//! The nodes of a document: what they hold, the vector that holds them, and what one edit does to it.
+//! The nodes of a document: their data, the vector of nodes, and single edits and moves in it.
 #![tactic(auto)]
 
 mod attributes;

@@ -1,4 +1,4 @@
-//! The lists of children in the vector of nodes, and what one move does to them.
+//! Lists of children in the vector of nodes, and single moves between them.
 
 ghost use Rattle.std.specs.Prelude.{◌≡◌, ◌≢◌, ℕ, ◌+◌, ◌<◌, ◌≤◌, ◌++◌, [], All, Contains, IfSome, None, OnOk, OnErr, Some, length, vec_len, vec_capacity, string_bytes};
 ghost use Rattle.std.specs.Option.{ForSome};
@@ -16,7 +16,7 @@ use smallvec::SmallVec;
 use std::alloc::{AllocError, Global};
 use std::mem;
 
-/// Takes the child out of the parent's list, and the parent's name out of the child.
+/// Removes the child from the parent's list, and clears its parent.
 pub fn take_out(nodes: &mut Vec<Node>, parent: Handle, child: Handle)
     requires parent { parent < vec_len nodes.old }
     requires child { child < vec_len nodes.old }
@@ -28,7 +28,7 @@ pub fn take_out(nodes: &mut Vec<Node>, parent: Handle, child: Handle)
     nodes::set_parent(nodes, child, None);
 }
 
-/// Takes the child out of the parent's list.
+/// Removes the child from the parent's list.
 fn drop_child(nodes: &mut Vec<Node>, parent: Handle, child: Handle)
     requires { parent < vec_len nodes.old }
     ensures len { vec_len nodes.new ≡ vec_len nodes.old }
@@ -39,7 +39,7 @@ fn drop_child(nodes: &mut Vec<Node>, parent: Handle, child: Handle)
     drop_from(&mut nodes[parent.number()].children, child);
 }
 
-/// Takes the child out of a list.
+/// Removes each occurrence of the child from a list.
 fn drop_from(list: &mut SmallVec<Handle, 2>, child: Handle)
     ensures list { list.new.items ≡ without child list.old.items }
     ensures len { small_vec_len list.new ≤ small_vec_len list.old }
@@ -50,7 +50,11 @@ fn drop_from(list: &mut SmallVec<Handle, 2>, child: Handle)
     }
 }
 
-/// Takes the child out of the list where it stands, and puts it directly before the sibling in the parent's list.
+/// Removes the child from the list of `from`, if any, and inserts it directly before the sibling in the parent's list.
+///
+/// # Errors
+///
+/// Returns an error if an allocation is refused. The nodes are then unchanged.
 pub fn move_before(
     nodes: &mut Vec<Node>,
     from: Option<Handle>,
@@ -74,7 +78,11 @@ pub fn move_before(
     Ok(())
 }
 
-/// Puts the text behind that of the text node directly before the sibling; without one it makes a new text node there.
+/// Joins the text to the text node `last`, directly before the sibling. Without one, creates a text node there.
+///
+/// # Errors
+///
+/// Returns an error if an allocation is refused. The nodes are then unchanged.
 pub fn put_text_before(
     alloc: Global,
     nodes: &mut Vec<Node>,
@@ -96,7 +104,7 @@ pub fn put_text_before(
     }
 }
 
-/// Makes a node of the next number, directly before the sibling in the parent's list.
+/// Creates a node with the next number, directly before the sibling in the parent's list.
 fn place_new(
     alloc: Global,
     nodes: &mut Vec<Node>,
@@ -119,7 +127,7 @@ fn place_new(
     Ok(())
 }
 
-/// Puts the child directly before the sibling in the parent's list, and names the parent in the child.
+/// Inserts the child directly before the sibling in the parent's list, and sets its parent.
 fn place(nodes: &mut Vec<Node>, parent: Handle, sibling: Handle, child: Handle)
     requires parent { parent < vec_len nodes.old }
     requires child { child < vec_len nodes.old }
@@ -131,7 +139,7 @@ fn place(nodes: &mut Vec<Node>, parent: Handle, sibling: Handle, child: Handle)
     nodes::set_parent(nodes, child, Some(parent));
 }
 
-/// Puts the child directly before the sibling in the parent's list.
+/// Inserts the child directly before the sibling in the parent's list.
 fn insert_child(nodes: &mut Vec<Node>, parent: Handle, sibling: Handle, child: Handle)
     requires parent { parent < vec_len nodes.old }
     requires room { HasRoom nodes.old.items parent 1 }
@@ -142,7 +150,7 @@ fn insert_child(nodes: &mut Vec<Node>, parent: Handle, sibling: Handle, child: H
     insert_before(&mut nodes[parent.number()].children, sibling, child);
 }
 
-/// Puts the child directly before the sibling.
+/// Inserts the child directly before the sibling in a list. Does nothing if the list doesn't have the sibling.
 fn insert_before(list: &mut SmallVec<Handle, 2>, sibling: Handle, child: Handle)
     requires { HasRoomFor list.old 1 }
     ensures { list.new.items ≡ before sibling child list.old.items }
@@ -152,7 +160,7 @@ fn insert_before(list: &mut SmallVec<Handle, 2>, sibling: Handle, child: Handle)
     }
 }
 
-/// Makes room for more children of the parent.
+/// Reserves capacity for more children of the parent.
 fn reserve_children(nodes: &mut Vec<Node>, parent: Handle, more: usize) -> Result<(), AllocError>
     requires { parent < vec_len nodes.old }
     ensures len { vec_len nodes.new ≡ vec_len nodes.old }
@@ -163,7 +171,11 @@ fn reserve_children(nodes: &mut Vec<Node>, parent: Handle, more: usize) -> Resul
     nodes[parent.number()].children.reserve(more)
 }
 
-/// Moves all children of the one behind those of the other.
+/// Moves all children of `from`, in order, to the end of the children of `to`.
+///
+/// # Errors
+///
+/// Returns an error if an allocation is refused. The nodes are then unchanged.
 pub fn move_children(
     alloc: Global,
     nodes: &mut Vec<Node>,
@@ -186,7 +198,7 @@ pub fn move_children(
     Ok(())
 }
 
-/// Takes the parent's whole list.
+/// Takes the parent's list, and leaves it empty. The children's parents aren't changed.
 fn take_children(alloc: Global, nodes: &mut Vec<Node>, parent: Handle) -> SmallVec<Handle, 2>
     requires { parent < vec_len nodes.old }
     ensures list { result.items ≡ (node_in (nodes_of nodes.old.items) parent).children }
@@ -197,7 +209,7 @@ fn take_children(alloc: Global, nodes: &mut Vec<Node>, parent: Handle) -> SmallV
     mem::replace(&mut nodes[parent.number()].children, SmallVec::new(alloc))
 }
 
-/// Puts the children last in the parent's list.
+/// Appends the children to the parent's list, which has capacity for them.
 fn push_children(nodes: &mut Vec<Node>, parent: Handle, children: &[Handle])
     requires parent { parent < vec_len nodes.old }
     requires room { HasRoom nodes.old.items parent (length children.now) }
@@ -208,7 +220,7 @@ fn push_children(nodes: &mut Vec<Node>, parent: Handle, children: &[Handle])
     let _ = nodes[parent.number()].children.extend_from_slice(children);
 }
 
-/// Names the parent in each of the children.
+/// Sets the parent of each of the children.
 fn set_parents(nodes: &mut Vec<Node>, children: &[Handle], parent: Handle)
     requires { All (λ c. c < vec_len nodes.old) children.now }
     ensures len { vec_len nodes.new ≡ vec_len nodes.old }
@@ -219,7 +231,7 @@ fn set_parents(nodes: &mut Vec<Node>, children: &[Handle], parent: Handle)
     }
 }
 
-/// What stands directly before the sibling in the list.
+/// Returns the node directly before the sibling in the list; `None` if the sibling is the first or isn't in the list.
 pub fn previous(list: &[Handle], sibling: Handle) -> Option<Handle>
     ensures previous { result ≡ previous sibling None list.now }
     ensures listed { IfSome result (Contains list.now) }

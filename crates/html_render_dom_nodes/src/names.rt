@@ -1,4 +1,4 @@
-//! The names of elements and attributes.
+//! Names of elements and attributes.
 
 ghost use Rattle.std.specs.Cmp.{on_equiv, partial_equiv_from_equiv};
 ghost use Rattle.html_render_dom_nodes.specs.Content.{name_of, property_of, space_of};
@@ -21,33 +21,33 @@ pub enum Namespace {
     Svg,
     /// MathML.
     MathMl,
-    /// Any other namespace, by its address; it equals none of those above, whatever the address.
+    /// Any other namespace, by its address (URI). It equals none of the other variants, whatever the address.
     Other(String),
 }
 
-/// A name within its namespace: 16 bytes at most stand in the value itself.
+/// A name within its namespace. Up to 16 bytes are stored without an allocation.
 pub type LocalName = SmallText<16>;
 
-/// A name in a namespace.
+/// A qualified name: a namespace and a local name.
 #[derive(Debug, Drop)]
 pub struct QualName {
-    /// The namespace.
+    /// Namespace.
     pub ns: Namespace,
-    /// The name within its namespace.
+    /// Local name, within the namespace.
     pub local: LocalName,
 }
 
 /// An attribute of an element.
 #[derive(Debug, Drop)]
 pub struct Attribute {
-    /// The attribute's name.
+    /// Name of the attribute.
     pub name: QualName,
-    /// The attribute's value.
+    /// Value of the attribute.
     pub value: String,
 }
 
 impl QualName {
-    /// An HTML name.
+    /// Creates a name in the HTML namespace.
     pub fn html(local: LocalName) -> QualName
         ensures { name_of result ≡ record { space = content.html; local = local } }
     {
@@ -107,7 +107,7 @@ impl Eq for Attribute {
     ghost laws = { on_equiv property_of property_eq_equiv };
 }
 
-/// Whether one of the attributes has the name.
+/// Reports whether one of the attributes has the name.
 pub(crate) fn has_name(attrs: &[Attribute], name: &QualName) -> bool
     ensures { result ≡ has_name (map property_of attrs.now) (name_of name.now) }
 {

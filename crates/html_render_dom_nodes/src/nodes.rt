@@ -1,4 +1,4 @@
-//! The vector of nodes, and what one edit does to it.
+//! The vector of nodes, and single edits of it.
 
 ghost use Rattle.std.specs.Prelude.{◌≡◌, ◌+◌, ◌<◌, ◌≤◌, ◌++◌, ◌∷◌, [], None, Some, false, OnOk, OnErr, vec_len, vec_capacity, map, string_bytes};
 ghost use Rattle.std.specs.Option.{ForSome};
@@ -16,19 +16,19 @@ use crate::names::{Attribute, QualName};
 use smallvec::SmallVec;
 use std::alloc::{AllocError, Global};
 
-/// A node: what it holds, and its place in the forest.
+/// A node of the document: its data, and its place in the forest.
 #[derive(Drop)]
 pub struct Node {
-    /// What the node holds.
+    /// Data of the node.
     pub data: NodeData,
-    /// The children, in order. Up to two take no memory of their own.
+    /// Children, in order. Up to two are stored without an allocation.
     pub children: SmallVec<Handle, 2>,
-    /// The node in whose list of children the node stands.
+    /// Node whose list of children has this node; `None` if it is in no list.
     pub parent: Option<Handle>,
 }
 
 impl Node {
-    /// A node that hangs nowhere and has no children.
+    /// Creates a node without a parent and children.
     pub fn lone(alloc: Global, contents: NodeData) -> Node
         ensures { node_of result ≡ lone (content_of contents) }
     {
@@ -39,7 +39,7 @@ impl Node {
         }
     }
 
-    /// A node without children below another.
+    /// Creates a node with a parent and without children.
     #[inline(always)]
     fn below(alloc: Global, parent: Handle, contents: NodeData) -> Node
         ensures { node_of result ≡ record { content = content_of contents; children = []; parent = Some parent } }
@@ -51,7 +51,7 @@ impl Node {
         }
     }
 
-    /// An element without attributes and without children below a node.
+    /// Creates an element with a parent and without attributes and children.
     #[inline(always)]
     fn element_below(alloc: Global, parent: Handle, name: QualName) -> Node
         ensures { node_of result ≡ record { content = element (name_of name) [] None false; children = []; parent = Some parent } }
@@ -69,7 +69,7 @@ impl Node {
     }
 }
 
-/// Puts the child last in the parent's list.
+/// Appends the child to the parent's list.
 fn push_child(nodes: &mut Vec<Node>, parent: Handle, child: Handle) -> Result<(), AllocError>
     requires { parent < vec_len nodes.old }
     ensures len { vec_len nodes.new ≡ vec_len nodes.old }
@@ -82,7 +82,11 @@ fn push_child(nodes: &mut Vec<Node>, parent: Handle, child: Handle) -> Result<()
     Ok(())
 }
 
-/// Puts the text behind the text node's own.
+/// Appends the text to that of a text node. Does nothing for another node.
+///
+/// # Errors
+///
+/// Returns an error if an allocation is refused. The nodes are then unchanged.
 pub fn extend_text(nodes: &mut Vec<Node>, node: Handle, more: &str) -> Result<(), AllocError>
     requires { node < vec_len nodes.old }
     ensures len { vec_len nodes.new ≡ vec_len nodes.old }
@@ -97,7 +101,11 @@ pub fn extend_text(nodes: &mut Vec<Node>, node: Handle, more: &str) -> Result<()
     Ok(())
 }
 
-/// Makes a node of the next number, the parent's last child.
+/// Creates a node with the next number as the parent's last child.
+///
+/// # Errors
+///
+/// Returns an error if an allocation is refused. The nodes are then unchanged.
 pub fn attach_new(
     alloc: Global,
     nodes: &mut Vec<Node>,
@@ -118,11 +126,11 @@ pub fn attach_new(
     Ok(())
 }
 
-/// Makes an element without attributes of the next number, the parent's last child.
+/// Creates an element without attributes, with the next number, as the parent's last child.
 ///
 /// # Errors
 ///
-/// Memory ran out. The nodes are then as they were.
+/// Returns an error if an allocation is refused. The nodes are then unchanged.
 pub fn attach_element(
     alloc: Global,
     nodes: &mut Vec<Node>,
@@ -143,8 +151,11 @@ pub fn attach_element(
     Ok(())
 }
 
-/// Puts the text behind that of the text node before its place; without one it makes a new text node, the parent's
-/// last child.
+/// Joins the text to the text node `before`. Without one, creates a text node as the parent's last child.
+///
+/// # Errors
+///
+/// Returns an error if an allocation is refused. The nodes are then unchanged.
 pub fn put_text(
     alloc: Global,
     nodes: &mut Vec<Node>,
@@ -165,11 +176,11 @@ pub fn put_text(
     }
 }
 
-/// The same with a text that is copied.
+/// Joins a copy of the text to the text node `before`. Without one, creates a text node as the parent's last child.
 ///
 /// # Errors
 ///
-/// Memory ran out. The nodes are then as they were.
+/// Returns an error if an allocation is refused. The nodes are then unchanged.
 #[inline]
 pub fn put_str(
     alloc: Global,
@@ -190,7 +201,7 @@ pub fn put_str(
     }
 }
 
-/// Names the node's parent.
+/// Sets the node's parent, without changing a list of children.
 pub fn set_parent(nodes: &mut Vec<Node>, node: Handle, parent: Option<Handle>)
     requires { node < vec_len nodes.old }
     ensures len { vec_len nodes.new ≡ vec_len nodes.old }
@@ -200,7 +211,11 @@ pub fn set_parent(nodes: &mut Vec<Node>, node: Handle, parent: Option<Handle>)
     nodes[node.number()].parent = parent;
 }
 
-/// Puts the child last in the parent's list, and names the parent in the child.
+/// Appends the child to the parent's list, and sets its parent.
+///
+/// # Errors
+///
+/// Returns an error if an allocation is refused. The nodes are then unchanged.
 pub fn attach(nodes: &mut Vec<Node>, parent: Handle, child: Handle) -> Result<(), AllocError>
     requires parent { parent < vec_len nodes.old }
     requires child { child < vec_len nodes.old }
@@ -213,7 +228,11 @@ pub fn attach(nodes: &mut Vec<Node>, parent: Handle, child: Handle) -> Result<()
     Ok(())
 }
 
-/// Makes an element of the next number; a template's contents have the number after it.
+/// Creates an element with the next number, without a parent. A template's contents have the number after it.
+///
+/// # Errors
+///
+/// Returns an error if an allocation is refused. The nodes are then unchanged.
 pub fn push_element(
     alloc: Global,
     nodes: &mut Vec<Node>,
@@ -242,7 +261,11 @@ pub fn push_element(
     Ok(())
 }
 
-/// Adds to the element's attributes those given whose name none of them has.
+/// Appends, in order, the given attributes with a name that the element doesn't have yet. Does nothing for another node.
+///
+/// # Errors
+///
+/// Returns an error if an allocation is refused. The nodes are then unchanged.
 pub fn complete(
     nodes: &mut Vec<Node>,
     node: Handle,

@@ -1,4 +1,4 @@
--- Names and attributes are equal exactly where their values are.
+-- Namespaces, names and attributes are equal exactly if their values are.
 use Rattle.std.specs.Prelude.{◌≡◌, true}
 use Rattle.std.specs.Bool.{Decides}
 use Rattle.std.specs.Cmp.{IsEquivalence, decided}
@@ -22,7 +22,7 @@ space_eq-itself : (a : Space) → space_eq a a ≡ true
 space_eq-itself (other a) = (bytes_eq-Decides a a).1 refl
 space_eq-itself a = refl
 
--- the tests tell whether the values are equal
+-- the tests decide whether the values are equal
 pub space_eq-Decides : (a b : Space) → Decides (space_eq a b) (a ≡ b)
 space_eq-Decides a b = (space_eq-true a b, λ e. subst (λ c. space_eq a c ≡ true) e (space_eq-itself a))
 
