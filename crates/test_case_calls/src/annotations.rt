@@ -1,12 +1,12 @@
-//! What decorators answer, as cases show it.
+//! Results of decorators, as cases print them.
 
 use crate::texts::push_escaped;
 use html_render_parts_decorators::decorate::RichAnnotation;
 use std::alloc::{AllocError, Global};
 
-/// An annotation that a case can show.
+/// An annotation that a case can print.
 pub trait Shown: Drop {
-    /// Puts its name and what it holds behind a text.
+    /// Appends the name of the annotation, with its value in parentheses.
     fn push_to(&self, shown: &mut String) -> Result<(), AllocError>;
 }
 
@@ -33,7 +33,7 @@ impl Shown for RichAnnotation {
     }
 }
 
-/// The line of an annotation.
+/// Returns the line of an annotation.
 pub(crate) fn annotation_line<A: Shown>(
     alloc: Global,
     annotation: &A,
@@ -44,7 +44,7 @@ pub(crate) fn annotation_line<A: Shown>(
     Ok(shown)
 }
 
-/// The line of a text.
+/// Returns the line of a text, with escapes.
 pub(crate) fn text_line(alloc: Global, text: &str) -> Result<String, AllocError> {
     let mut shown = String::from_str(alloc, "|")?;
     push_escaped(&mut shown, text)?;
@@ -52,7 +52,7 @@ pub(crate) fn text_line(alloc: Global, text: &str) -> Result<String, AllocError>
     Ok(shown)
 }
 
-/// The line of a text behind its annotation, which stands in braces.
+/// Returns the line of an annotated text: the annotation in braces, then the text with escapes.
 pub(crate) fn annotated_line<A: Shown>(
     alloc: Global,
     annotation: &A,
@@ -66,7 +66,7 @@ pub(crate) fn annotated_line<A: Shown>(
     Ok(shown)
 }
 
-/// The line of some lines, each in brackets.
+/// Returns one line for a list of lines, each in brackets, with escapes.
 pub(crate) fn line_of_lines(alloc: Global, lines: &[String]) -> Result<String, AllocError> {
     let mut shown = String::from_str(alloc, "|")?;
     for line in lines {

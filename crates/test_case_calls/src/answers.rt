@@ -1,4 +1,4 @@
-//! Questions about a document by the names of the calls that answer them.
+//! Questions about a document, by the names of their calls.
 
 ghost use Rattle.html_render_dom.specs.Dom.{IsNode};
 
@@ -10,7 +10,7 @@ use crate::watch::Watch;
 use html_render_dom::dom::{Handle, QuirksMode, RcDom};
 use std::alloc::Global;
 
-/// What a document answers to a question: the name of a call, and what is given to it.
+/// Returns the lines of the result of a question about a document: the name of a call, and its arguments.
 pub fn answer(
     alloc: Global,
     page: &Page,
@@ -49,7 +49,7 @@ pub fn answer(
     }
 }
 
-/// What is answered of a node.
+/// Returns the lines of the result of a question about a node.
 fn node_answer(
     alloc: Global,
     page: &Page,
@@ -93,7 +93,7 @@ fn node_answer(
     }
 }
 
-/// Whether something holds of a node, or of it and another. It takes no memory.
+/// Reports whether a test holds of a node, or of it and another node. It makes no allocations.
 fn holds(page: &Page, asked: &str, node: Handle, more: &str) -> Result<bool, Fault> {
     let dom = &page.dom;
     match asked {
@@ -113,7 +113,7 @@ fn holds(page: &Page, asked: &str, node: Handle, more: &str) -> Result<bool, Fau
     }
 }
 
-/// The name of a node, or `None`.
+/// Returns the name of a node, or `None`.
 fn name_in(page: &Page, node: Option<Handle>) -> &str {
     match node {
         Some(node) => page.name_of(node),
@@ -121,7 +121,7 @@ fn name_in(page: &Page, node: Option<Handle>) -> &str {
     }
 }
 
-/// A line for each child: what it holds.
+/// Returns a line for each child: its data without attributes.
 fn children(alloc: Global, dom: &RcDom, node: Handle, watch: Watch) -> Result<String, Fault>
     requires { IsNode dom.now node }
 {
@@ -139,7 +139,7 @@ fn children(alloc: Global, dom: &RcDom, node: Handle, watch: Watch) -> Result<St
     Ok(shown)
 }
 
-/// What a node holds.
+/// Returns the line of a node's data, with attributes.
 fn data(alloc: Global, dom: &RcDom, node: Handle, watch: Watch) -> Result<String, Fault>
     requires { IsNode dom.now node }
 {
@@ -151,7 +151,7 @@ fn data(alloc: Global, dom: &RcDom, node: Handle, watch: Watch) -> Result<String
     printed(alloc, &shown)
 }
 
-/// The element's name, by both calls that answer it.
+/// Returns the line of an element's local name, or of `None`. Both calls that return it must agree.
 fn element_name(alloc: Global, dom: &RcDom, node: Handle, watch: Watch) -> Result<String, Fault>
     requires { IsNode dom.now node }
 {
@@ -166,7 +166,7 @@ fn element_name(alloc: Global, dom: &RcDom, node: Handle, watch: Watch) -> Resul
     }
 }
 
-/// The parser's messages.
+/// Returns a line for each message of a parse error.
 fn errors(alloc: Global, dom: &RcDom, watch: Watch) -> Result<String, Fault> {
     let mut shown = String::new(alloc);
     watch.begin("errors");
@@ -178,7 +178,7 @@ fn errors(alloc: Global, dom: &RcDom, watch: Watch) -> Result<String, Fault> {
     Ok(shown)
 }
 
-/// The name of a quirks mode.
+/// Returns the name of a quirks mode.
 fn quirks_mode_name(mode: QuirksMode) -> &'static str {
     match mode {
         QuirksMode::Quirks => "Quirks",

@@ -1,4 +1,4 @@
-//! Calls on a document by their names.
+//! Calls that change a document, by their names.
 
 ghost use Rattle.std.specs.Prelude.{IsTrue};
 ghost use Rattle.html_render_dom.specs.Dom.{IsNode};
@@ -12,7 +12,7 @@ use crate::watch::Watch;
 use html_render_dom::dom::{Attribute, ElementFlags, Handle, NodeOrText, QuirksMode, RcDom};
 use std::alloc::Global;
 
-/// Whether a word is the name of a call.
+/// Reports whether a word is the name of a call that changes a document or names a node.
 pub fn is_call(word: &str) -> bool {
     matches!(
         word,
@@ -34,8 +34,10 @@ pub fn is_call(word: &str) -> bool {
     )
 }
 
-/// Makes a call once, by its name; `<` makes an element of a tag alone, and `@` gives a node one attribute. A node that is
-/// made gets the name that is given first, unless that is `made`.
+/// Makes a call once, by its name.
+///
+/// `<` creates an element, and `@` adds one attribute to a node. A node that another call creates gets the name that its
+/// arguments state, unless that is `made`.
 pub fn make(
     alloc: Global,
     page: &mut Page,
@@ -57,7 +59,7 @@ pub fn make(
     }
 }
 
-/// Makes a call that edits what is there.
+/// Makes a call whose first argument is the name of a node.
 fn edit(
     alloc: Global,
     page: &mut Page,
@@ -78,7 +80,7 @@ fn edit(
     }
 }
 
-/// Makes an element that hangs nowhere.
+/// Creates an element without a parent: `TAG`.
 fn create_element(
     alloc: Global,
     page: &mut Page,
@@ -95,7 +97,7 @@ fn create_element(
     page.put_made(came)
 }
 
-/// Makes an element that hangs nowhere, and names it: `NAME TAG`, and the flags that it has.
+/// Creates an element without a parent, and names it: `NAME TAG`, or with a flag `NAME TAG FLAG`.
 fn create_flagged(alloc: Global, page: &mut Page, given: &str, watch: Watch) -> Result<(), Fault> {
     let (name, more) = split_word(given);
     let (tag, flags) = split_word(more);
@@ -121,7 +123,7 @@ fn append_element(alloc: Global, page: &mut Page, given: &str, watch: Watch) -> 
     page.name_made(alloc, name)
 }
 
-/// Makes a comment that hangs nowhere.
+/// Creates a comment without a parent, and names it: `NAME TEXT`.
 fn create_comment(alloc: Global, page: &mut Page, given: &str, watch: Watch) -> Result<(), Fault> {
     let (name, text) = split_word(given);
     let text = unescaped(alloc, text)?;
@@ -132,7 +134,7 @@ fn create_comment(alloc: Global, page: &mut Page, given: &str, watch: Watch) -> 
     page.name_made(alloc, name)
 }
 
-/// Makes a processing instruction that hangs nowhere.
+/// Creates a processing instruction with empty contents and without a parent, and names it: `NAME TARGET`.
 fn create_pi(alloc: Global, page: &mut Page, given: &str, watch: Watch) -> Result<(), Fault> {
     let (name, target) = split_word(given);
     let target = unescaped(alloc, target)?;
@@ -143,7 +145,7 @@ fn create_pi(alloc: Global, page: &mut Page, given: &str, watch: Watch) -> Resul
     page.name_made(alloc, name)
 }
 
-/// Names the contents of a template.
+/// Names the contents of a template: `TEMPLATE NAME`.
 fn name_contents(alloc: Global, page: &mut Page, given: &str, watch: Watch) -> Result<(), Fault> {
     let (node, name) = split_word(given);
     let Some(node) = page.find(node) else {
@@ -159,7 +161,7 @@ fn name_contents(alloc: Global, page: &mut Page, given: &str, watch: Watch) -> R
     page.name_made(alloc, name)
 }
 
-/// Notes a message of the parser.
+/// Adds the message of a parse error.
 fn parse_error(alloc: Global, dom: &mut RcDom, message: &str, watch: Watch) -> Result<(), Fault> {
     let message = String::from_str(alloc, message)?;
     watch.begin("parse_error");
@@ -168,7 +170,7 @@ fn parse_error(alloc: Global, dom: &mut RcDom, message: &str, watch: Watch) -> R
     Ok(came?)
 }
 
-/// The quirks mode of a name.
+/// Returns the quirks mode with this name.
 fn quirks_mode(name: &str) -> Result<QuirksMode, Fault> {
     match name {
         "Quirks" => Ok(QuirksMode::Quirks),
@@ -178,7 +180,7 @@ fn quirks_mode(name: &str) -> Result<QuirksMode, Fault> {
     }
 }
 
-/// Sets the quirks mode of a name.
+/// Sets the quirks mode with this name.
 fn set_quirks_mode(dom: &mut RcDom, name: &str, watch: Watch) -> Result<(), Fault> {
     let mode = quirks_mode(name)?;
     watch.begin("set_quirks_mode");
@@ -187,7 +189,7 @@ fn set_quirks_mode(dom: &mut RcDom, name: &str, watch: Watch) -> Result<(), Faul
     Ok(())
 }
 
-/// Puts a doctype last.
+/// Appends a doctype with this name to the document.
 fn append_doctype(alloc: Global, dom: &mut RcDom, name: &str, watch: Watch) -> Result<(), Fault> {
     let name = String::from_str(alloc, name)?;
     watch.begin("append_doctype_to_document");
@@ -196,7 +198,7 @@ fn append_doctype(alloc: Global, dom: &mut RcDom, name: &str, watch: Watch) -> R
     Ok(came?)
 }
 
-/// Whether a node may be put last below another, by the public tests of conditions.
+/// Reports whether a node may be appended to another, by the public tests of the conditions.
 fn can_append(dom: &RcDom, parent: Handle, child: Handle) -> bool
     ensures { IsTrue result → CanAppend dom.now parent (NodeOrText.AppendNode child) }
 {
@@ -206,7 +208,7 @@ fn can_append(dom: &RcDom, parent: Handle, child: Handle) -> bool
         && !dom.is_inclusive_ancestor(child, parent)
 }
 
-/// `append PARENT CHILD`, where a child is a text behind `"`, or a node by its name.
+/// Makes the call `append PARENT CHILD`, where a child is a text after `"`, or a node by its name.
 fn append(
     alloc: Global,
     page: &mut Page,
@@ -238,7 +240,7 @@ fn append(
     Ok(came?)
 }
 
-/// `append_str PARENT "TEXT`.
+/// Makes the call `append_str PARENT "TEXT`.
 fn append_str(
     alloc: Global,
     page: &mut Page,
@@ -259,7 +261,7 @@ fn append_str(
     Ok(came?)
 }
 
-/// `append_before_sibling SIBLING CHILD`.
+/// Makes the call `append_before_sibling SIBLING CHILD`, where a child is a text after `"`, or a node by its name.
 fn append_before(
     alloc: Global,
     page: &mut Page,
@@ -286,7 +288,7 @@ fn append_before(
     put_before(alloc, &mut page.dom, sibling, child, watch)
 }
 
-/// Puts a node before its sibling.
+/// Inserts a node before a sibling, if the conditions hold.
 fn put_before(
     alloc: Global,
     dom: &mut RcDom,
@@ -306,7 +308,8 @@ fn put_before(
     Ok(came?)
 }
 
-/// `append_based_on_parent_node ELEMENT PREV CHILD`.
+/// Makes the call `append_based_on_parent_node ELEMENT PREV CHILD`, where a child is a text after `"`, or a node by its
+/// name.
 fn append_by_parent(
     alloc: Global,
     page: &mut Page,
@@ -336,7 +339,7 @@ fn append_by_parent(
     put_by_parent(alloc, &mut page.dom, element, other, child, watch)
 }
 
-/// Puts a node before the element, where that has a parent, and else last below the other node.
+/// Inserts a node before the element if that has a parent, otherwise appends it to the other node, if the conditions hold.
 fn put_by_parent(
     alloc: Global,
     dom: &mut RcDom,
@@ -362,7 +365,7 @@ fn put_by_parent(
     Ok(came?)
 }
 
-/// `reparent_children NODE NEW_PARENT`.
+/// Makes the call `reparent_children NODE NEW_PARENT`.
 fn reparent(
     alloc: Global,
     page: &mut Page,
@@ -385,7 +388,7 @@ fn reparent(
     Ok(came?)
 }
 
-/// `remove_from_parent NODE`.
+/// Makes the call `remove_from_parent NODE`.
 fn remove(page: &mut Page, node: &str, watch: Watch) -> Result<(), Fault> {
     let Some(node) = page.find(node) else {
         return Err(UNKNOWN);
@@ -396,7 +399,7 @@ fn remove(page: &mut Page, node: &str, watch: Watch) -> Result<(), Fault> {
     Ok(())
 }
 
-/// `add_attrs_if_missing NODE @NAME=VALUE@NAME=VALUE`.
+/// Makes the call `add_attrs_if_missing NODE @NAME=VALUE@NAME=VALUE`.
 fn add_attributes(
     alloc: Global,
     page: &mut Page,
@@ -411,7 +414,7 @@ fn add_attributes(
     complete(alloc, page, node, given, watch)
 }
 
-/// `add_attrs_if_missing` with one attribute, `NAME=VALUE`, whose value may hold `@`.
+/// Makes the call `add_attrs_if_missing` with one attribute, `NAME=VALUE`, whose value may have `@`.
 fn add_attribute(
     alloc: Global,
     page: &mut Page,
@@ -424,7 +427,7 @@ fn add_attribute(
     complete(alloc, page, node, given, watch)
 }
 
-/// Gives an element attributes.
+/// Adds attributes to an element with a name, if it lacks them.
 fn complete(
     alloc: Global,
     page: &mut Page,

@@ -1,4 +1,4 @@
-//! Questions for what a decorator answers, by the names of its calls.
+//! Questions about decorators, by the names of their calls.
 
 use crate::annotations::{Shown, annotated_line, annotation_line, line_of_lines, text_line};
 use crate::faults::Fault;
@@ -10,7 +10,7 @@ use html_render_dom_values::text::Text;
 use html_render_parts_decorators::decorate::{PlainDecorator, RichDecorator, TextDecorator};
 use std::alloc::Global;
 
-/// What a call of a decorator answers.
+/// The kind of result that a call of a decorator returns.
 #[derive(Clone, Copy)]
 enum Answered {
     /// A text and an annotation.
@@ -19,13 +19,13 @@ enum Answered {
     Text,
     /// An annotation.
     Annotation,
-    /// An annotation of a colour, or nothing.
+    /// An annotation of a colour, or `None`.
     Colour,
     /// Lines.
     Lines,
 }
 
-/// What the call of a name answers.
+/// Returns the kind of result of the call with this name.
 fn answer_of(name: &str) -> Answered {
     match name {
         "decorate_link_start"
@@ -42,7 +42,7 @@ fn answer_of(name: &str) -> Answered {
     }
 }
 
-/// What a decorator answers to a call: `plain` or `rich`, the call's name, and what it is given.
+/// Returns the line of the result of a decorator's call: `plain` or `rich`, the call's name, and its arguments.
 pub fn answer(alloc: Global, given: &str, watch: Watch) -> Result<String, Fault> {
     let (name, call) = split_word(given);
     match name {
@@ -52,7 +52,7 @@ pub fn answer(alloc: Global, given: &str, watch: Watch) -> Result<String, Fault>
     }
 }
 
-/// What a decorator answers to a call.
+/// Returns the line of the result of a decorator's call.
 fn called<D: TextDecorator>(
     alloc: Global,
     decorator: &D,
@@ -72,13 +72,13 @@ where
     }
 }
 
-/// What a call answered, after it is told of.
+/// Ends a watched call, and returns its result.
 fn told<T: Drop>(watch: Watch, came: Result<T, Error>) -> Result<T, Fault> {
     watch.end(&came);
     Ok(came?)
 }
 
-/// The text that stands before something, behind the annotation of what stands there.
+/// Returns the line of the text that starts a part of a document, after the annotation of that part.
 fn started<D: TextDecorator>(
     alloc: Global,
     decorator: &D,
@@ -104,7 +104,7 @@ where
     Ok(annotated_line(alloc, &annotation, &text)?)
 }
 
-/// The text that stands behind or before something.
+/// Returns the line of a text that ends a part of a document, or is a prefix.
 fn written<D: TextDecorator>(
     alloc: Global,
     decorator: &D,
@@ -132,7 +132,7 @@ fn written<D: TextDecorator>(
     Ok(text_line(alloc, &text)?)
 }
 
-/// The annotation of a line of preformatted text.
+/// Returns the line of the annotation of preformatted text.
 fn preformatted<D: TextDecorator>(
     alloc: Global,
     decorator: &D,
@@ -152,7 +152,7 @@ where
     Ok(annotation_line(alloc, &annotation)?)
 }
 
-/// The annotation of a colour, or `None`.
+/// Returns the line of the annotation of a colour, or of `None`.
 fn coloured<D: TextDecorator>(
     alloc: Global,
     decorator: &D,
@@ -176,7 +176,7 @@ where
     }
 }
 
-/// A text of a string that another text gave back.
+/// Creates a `Text` from the string that another `Text` of this word returned.
 fn text(alloc: Global, word: &str, watch: Watch) -> Result<Text, Fault> {
     let string = String::from_str(alloc, word)?;
     watch.begin("Text::from");
@@ -188,7 +188,7 @@ fn text(alloc: Global, word: &str, watch: Watch) -> Result<Text, Fault> {
     Ok(Text::from(string))
 }
 
-/// The places that words name.
+/// Returns a `Text` for each word: the targets of links.
 fn places(alloc: Global, words: &str, watch: Watch) -> Result<Vec<Text>, Fault> {
     let mut places = Vec::new(alloc);
     for word in words.split_whitespace() {
@@ -197,7 +197,7 @@ fn places(alloc: Global, words: &str, watch: Watch) -> Result<Vec<Text>, Fault> 
     Ok(places)
 }
 
-/// The lines that stand behind a document with links to these places.
+/// Returns the line of the closing lines of a document with links to these targets.
 fn finalised<D: TextDecorator>(
     alloc: Global,
     decorator: &D,

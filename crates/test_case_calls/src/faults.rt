@@ -1,16 +1,16 @@
-//! Why a line of a case can't be played.
+//! Faults of lines of cases.
 
 use html_render_dom::Error;
 use std::alloc::{AllocError, AllocFailed};
 use thiserror::Error;
 
-/// Why a line of a case can't be played.
+/// The reason why a line of a case can't be played.
 #[derive(Debug, Drop, Error)]
 pub enum Fault {
-    /// The library refuses what the line asks for.
+    /// The library's call returns an error.
     #[error("{0}")]
     Refused(Error),
-    /// The line has another form than its call, or breaks the call's condition.
+    /// The line isn't in the form of its call or breaks the call's condition, or a call did something that a test forbids.
     #[error("{0}")]
     Malformed(&'static str),
 }

@@ -1,9 +1,9 @@
-//! Calls by their names, as cases write them: those that build and change a document, and those that answer something of
-//! one, of its values, of a style, of a grid, of columns or of a decorator.
+//! Calls by their names, as cases write them: calls that build and change a document, and questions about documents, their
+//! values, styles, grids, columns and decorators.
 //!
-//! `Page::new(alloc, watch)?` is a document; its `take(alloc, "<p", watch)?` makes the calls of a line that has a sign,
-//! `call(alloc, "append", "current \"text", watch)?` one call by its name, and
-//! `answer(alloc, &page, "as_dom_string", "", watch)?` is what one answers, as a case prints it.
+//! `Page::new(alloc, watch)?` creates a document. Its `take(alloc, "<p", watch)?` makes the calls of a line that begins with
+//! a sign, and `call(alloc, "append", "current \"text", watch)?` makes one call by its name.
+//! `answer(alloc, &page, "as_dom_string", "", watch)?` returns the result of a question, as a case prints it.
 #![tactic(auto)]
 
 pub mod annotations;

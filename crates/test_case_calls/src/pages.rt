@@ -1,4 +1,4 @@
-//! Documents that the lines of a case build: a call a line, as in the scripts of `htree`, and with further signs.
+//! Documents that the lines of a case build. Each line is a call, as in the scripts of `htree`, with further signs.
 
 ghost use Rattle.std.specs.Prelude.{IfSome};
 ghost use Rattle.html_render_dom.specs.Dom.{IsNode};
@@ -13,20 +13,20 @@ use html_render_dom::Error;
 use html_render_dom::dom::{ElementFlags, Handle, NodeOrText, RcDom};
 use std::alloc::Global;
 
-/// What is wrong where a case names a node that isn't there.
+/// Fault of a name without a node.
 pub const UNKNOWN: Fault = Fault::Malformed("no node has this name");
 
-/// How often a watched call is made that is refused memory each time.
+/// Maximum number of times that a watched call is made, if it is out of memory each time.
 const TRIES: usize = 1_000_000;
 
-/// A node under the name that a case gives it.
+/// A node with the name that a case gives it.
 #[derive(Drop)]
 pub(crate) struct Named {
     pub(crate) name: String,
     pub(crate) node: Handle,
 }
 
-/// A document, its current node, the node that was made last, and the nodes of it that have names.
+/// A document, its current node, the node that was created last, and its nodes with names.
 #[derive(Drop)]
 pub struct Page {
     pub dom: RcDom,
@@ -35,7 +35,7 @@ pub struct Page {
     pub(crate) nodes: Vec<Named>,
 }
 
-/// A new document.
+/// Creates a document. A watched call is repeated as long as it is out of memory.
 fn new_dom(alloc: Global, watch: Watch) -> Result<RcDom, Fault> {
     for _ in 0..TRIES {
         watch.begin("RcDom::new");
@@ -50,7 +50,7 @@ fn new_dom(alloc: Global, watch: Watch) -> Result<RcDom, Fault> {
 }
 
 impl Page {
-    /// A new document, which is current, and is named `document`.
+    /// Creates a page with a new document. Its document node is current, and has the name `document`.
     pub fn new(alloc: Global, watch: Watch) -> Result<Page, Fault> {
         let dom = new_dom(alloc, watch)?;
         let document = dom.get_document();
@@ -70,7 +70,7 @@ impl Page {
         Ok(self.nodes.push(Named { name, node })?)
     }
 
-    /// Keeps the node that was made.
+    /// Records the node that was created last.
     pub(crate) fn put_made(&mut self, came: Result<Handle, Error>) -> Result<(), Fault> {
         match came {
             Ok(made) => {
@@ -81,7 +81,7 @@ impl Page {
         }
     }
 
-    /// Gives the node that was made last a name, unless it is to have none but `made`.
+    /// Gives the node that was created last a name, unless the name is `made`.
     pub(crate) fn name_made(&mut self, alloc: Global, name: &str) -> Result<(), Fault> {
         if name == "made" {
             return Ok(());
@@ -89,7 +89,7 @@ impl Page {
         self.name(alloc, name, self.made)
     }
 
-    /// The name of a node: `?` for one that has none.
+    /// Returns the name of a node; `?` if it has none.
     pub fn name_of(&self, node: Handle) -> &str {
         for known in &self.nodes {
             if self.dom.same_node(known.node, node) {
@@ -99,7 +99,9 @@ impl Page {
         "?"
     }
 
-    /// The node of a name: `current` is the current one, and `made` the one that was made last.
+    /// Returns the node with a name; `None` if there is none.
+    ///
+    /// `current` is the current node, and `made` the one that was created last.
     pub fn find(&self, name: &str) -> Option<Handle>
         ensures { IfSome result (IsNode self.now.dom) }
     {
@@ -115,7 +117,7 @@ impl Page {
         }
     }
 
-    /// The node that a case gave this name.
+    /// Returns the node to which a case gave this name.
     fn find_named(&self, name: &str) -> Option<Handle> {
         for known in &self.nodes {
             if known.name.as_str() == name {
@@ -125,7 +127,9 @@ impl Page {
         None
     }
 
-    /// Makes a call by its name. A watched call that is refused memory is made again, and has to leave all as it was.
+    /// Makes a call by its name.
+    ///
+    /// A watched call is repeated as long as it is out of memory. Each refused call must leave the page unchanged.
     pub fn call(
         &mut self,
         alloc: Global,
@@ -149,7 +153,7 @@ impl Page {
         Err(Fault::Refused(Error::OutOfMemory))
     }
 
-    /// Makes the calls of a line that has a sign.
+    /// Makes the calls of a line that begins with a sign or `repeat`.
     pub fn take(&mut self, alloc: Global, line: &str, watch: Watch) -> Result<(), Fault> {
         let Some(calls) = line.strip_prefix("repeat ") else {
             return self.take_one(alloc, line, watch);
@@ -184,7 +188,10 @@ impl Page {
         }
     }
 
-    /// Appends an element, which is current then. Where nobody is told, it isn't looked for among the nodes above it.
+    /// Appends an element, and makes it current.
+    ///
+    /// If calls aren't watched, the element isn't searched for among the ancestors of its parent, which takes time in deep
+    /// documents.
     fn open(&mut self, alloc: Global, tag: &str, watch: Watch) -> Result<(), Fault> {
         if watch.is_told() {
             self.call(alloc, "<", tag, watch)?;
@@ -200,7 +207,7 @@ impl Page {
         Ok(())
     }
 
-    /// Makes the parent current.
+    /// Makes the parent of the current node current.
     fn close(&mut self) -> Result<(), Fault> {
         if !self.dom.is_node(self.current) {
             return Err(UNKNOWN);
@@ -212,8 +219,9 @@ impl Page {
         Ok(())
     }
 
-    /// Appends a comment, a processing instruction, or a text as a node of its own: that is made below a comment that hangs
-    /// nowhere, and moved from there.
+    /// Appends a comment, a processing instruction, or a text as a node of its own.
+    ///
+    /// The text isn't joined to one before it: it is appended to a comment without a parent, and moved from there.
     fn append_made(&mut self, alloc: Global, line: &str, watch: Watch) -> Result<(), Fault> {
         if let Some(text) = line.strip_prefix('\'') {
             self.call(alloc, "create_comment", "made", watch)?;
@@ -234,7 +242,7 @@ impl Page {
     }
 }
 
-/// Appends a new element, and answers it.
+/// Appends a new element, and returns it.
 fn append_element(alloc: Global, dom: &mut RcDom, parent: Handle, tag: Tag) -> Result<Handle, Error>
     requires { IsNode dom.old parent }
 {

@@ -1,4 +1,4 @@
-//! Style rules: `Author p.note#id::before important Colour #ff0000 Content text`.
+//! Style rules as cases write them: `Author p.note#id::before important Colour #ff0000 Content text`.
 
 use crate::faults::Fault;
 use crate::texts::{split_word, unescaped};
@@ -7,7 +7,7 @@ use html_render_dom::style::{
 };
 use std::alloc::{AllocError, Global};
 
-/// The origin of a name.
+/// Returns the origin with this name.
 fn origin(name: &str) -> Result<StyleOrigin, Fault> {
     match name {
         "None" => Ok(StyleOrigin::None),
@@ -27,7 +27,7 @@ struct Selector {
     pseudo: Option<PseudoElement>,
 }
 
-/// The selector without its pseudo-element, and that.
+/// Splits the pseudo-element off the end of a selector.
 fn split_pseudo(text: &str) -> (&str, Option<PseudoElement>) {
     if let Some(rest) = text.strip_suffix("::before") {
         (rest, Some(PseudoElement::Before))
@@ -39,7 +39,7 @@ fn split_pseudo(text: &str) -> (&str, Option<PseudoElement>) {
 }
 
 impl Selector {
-    /// A selector: an element's name or `*`, an id behind `#`, classes behind `.` each, and a pseudo-element.
+    /// Parses a selector: an element name or `*`, an id after `#`, each class after `.`, and a pseudo-element.
     fn read(alloc: Global, text: &str) -> Result<Selector, AllocError> {
         let (text, pseudo) = split_pseudo(text);
         let mut selector = Selector {
@@ -62,7 +62,7 @@ impl Selector {
         Ok(selector)
     }
 
-    /// States what stands behind a sign.
+    /// Adds the part that follows a sign: an id after `#`, a class after `.`, otherwise an element name.
     fn state(&mut self, sign: char, word: String) -> Result<(), AllocError> {
         match sign {
             '#' => self.id = Some(word),
@@ -74,7 +74,7 @@ impl Selector {
     }
 }
 
-/// The colour of `#rrggbb`.
+/// Parses a colour `#rrggbb`.
 pub fn colour(text: &str) -> Result<Colour, Fault> {
     let fault = Fault::Malformed("there is no colour");
     let Some(digits) = text.strip_prefix('#') else {
@@ -90,7 +90,7 @@ pub fn colour(text: &str) -> Result<Colour, Fault> {
     }
 }
 
-/// How white space is treated, by its name.
+/// Returns the treatment of white space with this name.
 fn white_space(name: &str) -> Result<WhiteSpace, Fault> {
     match name {
         "Normal" => Ok(WhiteSpace::Normal),
@@ -100,7 +100,7 @@ fn white_space(name: &str) -> Result<WhiteSpace, Fault> {
     }
 }
 
-/// A property of a value.
+/// Parses a property and its value. The value of `Display` is always `None`.
 fn style(alloc: Global, property: &str, value: &str) -> Result<Style, Fault> {
     match property {
         "Colour" => Ok(Style::Colour(colour(value)?)),
@@ -121,8 +121,9 @@ struct Words<'a> {
     rest: &'a str,
 }
 
-/// Splits a declaration off a text: `important`, if it is so, a property and its value. The value of `Content` is all that
-/// follows, any other a word.
+/// Splits a declaration off the start of a text: `important` if it is so, a property and its value.
+///
+/// The value of `Content` is the rest of the text, any other value one word.
 fn split_declaration(text: &str) -> Words<'_> {
     let (important, declared) = match text.strip_prefix("important ") {
         Some(declared) => (true, declared),
@@ -142,7 +143,7 @@ fn split_declaration(text: &str) -> Words<'_> {
     }
 }
 
-/// Reads declarations, which spaces separate.
+/// Parses declarations, separated by spaces.
 fn declarations(alloc: Global, text: &str) -> Result<Vec<Declaration>, Fault> {
     let mut declarations = Vec::new(alloc);
     let mut rest = text;
@@ -160,7 +161,7 @@ fn declarations(alloc: Global, text: &str) -> Result<Vec<Declaration>, Fault> {
     Ok(declarations)
 }
 
-/// The rule of an origin, a selector and declarations.
+/// Parses a rule: an origin, a selector and declarations.
 pub fn rule(alloc: Global, text: &str) -> Result<StyleRule, Fault> {
     let (name, rest) = split_word(text);
     let (selector, declared) = split_word(rest);

@@ -1,4 +1,4 @@
-//! What the calls say of a whole page.
+//! The state of a whole page, as text.
 
 use crate::faults::Fault;
 use crate::pages::Page;
@@ -6,7 +6,7 @@ use crate::tags::push_data;
 use html_render_dom::dom::{Handle, RcDom};
 use std::alloc::{AllocError, Global};
 
-/// Puts a line behind a text for each node of a tree: how many children it has, and what it holds, with its attributes.
+/// Appends a line for each node of a tree: the number of its children, and its data with attributes.
 fn push_tree(
     alloc: Global,
     shown: &mut String,
@@ -31,8 +31,12 @@ fn push_tree(
     Ok(())
 }
 
-/// The dump, how many nodes there are (the next node's handle follows from it), the quirks mode, the parser's messages, and
-/// the trees of all nodes that the page knows and that have no parent.
+/// Returns the state of a page, to see whether a refused call changed it:
+///
+/// - the dump of the document;
+/// - the number of nodes, from which the next node's handle follows, and the quirks mode;
+/// - the messages of parse errors;
+/// - the tree of each named node, and of the node that was created last, if it has no parent.
 pub fn seen(alloc: Global, page: &Page) -> Result<String, Fault> {
     let dom = &page.dom;
     let mut shown = dom.as_dom_string(alloc)?;

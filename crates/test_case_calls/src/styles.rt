@@ -1,4 +1,4 @@
-//! Questions for the computed style of an element, and for what a rule counts.
+//! Questions about the computed style of an element, and the specificity of a rule.
 
 use crate::faults::Fault;
 use crate::rules::rule;
@@ -11,7 +11,7 @@ use html_render_dom::style::{
 };
 use std::alloc::{AllocError, Global};
 
-/// The rules that the calls of a configuration add.
+/// Returns the rules that the calls `add_style_rule` of a configuration add.
 fn rules_of(alloc: Global, calls: &[&str]) -> Result<Vec<StyleRule>, Fault> {
     let mut rules = Vec::new(alloc);
     for call in calls {
@@ -22,7 +22,7 @@ fn rules_of(alloc: Global, calls: &[&str]) -> Result<Vec<StyleRule>, Fault> {
     Ok(rules)
 }
 
-/// The style of an element under the rules of a configuration: a line for each property that has a value.
+/// Returns a line for each property with a value, of an element's style by the rules of a configuration.
 pub fn answer(alloc: Global, calls: &[&str], given: &str, watch: Watch) -> Result<String, Fault> {
     let rules = rules_of(alloc, calls)?;
     let tag = Tag::read(alloc, given)?;
@@ -39,7 +39,9 @@ pub fn answer(alloc: Global, calls: &[&str], given: &str, watch: Watch) -> Resul
     Ok(shown)
 }
 
-/// The style of an element under the rules of a configuration, by an index of these. One call is watched: the one that is asked.
+/// Returns a line for each property with a value, of an element's style by an index of the rules of a configuration.
+///
+/// Of the calls, only the one with the name `asked` is watched.
 pub fn indexed(
     alloc: Global,
     calls: &[&str],
@@ -68,13 +70,13 @@ pub fn indexed(
     Ok(shown)
 }
 
-/// How specific a rule is: its id, its classes, and its element's name with its pseudo-element.
+/// Returns the line of the specificity of a rule.
 pub fn specificity(alloc: Global, given: &str, watch: Watch) -> Result<String, Fault> {
     let rule = rule(alloc, given)?;
     shown_specificity(alloc, &rule, watch)
 }
 
-/// How specific a rule for an element's name is.
+/// Returns the line of the specificity of a rule for an element name.
 pub fn for_element(alloc: Global, name: &str, watch: Watch) -> Result<String, Fault> {
     let name = String::from_str(alloc, name)?;
     watch.begin("for_element");
@@ -83,7 +85,7 @@ pub fn for_element(alloc: Global, name: &str, watch: Watch) -> Result<String, Fa
     shown_specificity(alloc, &rule, watch)
 }
 
-/// How specific a rule is.
+/// Returns the line of a specificity: its counts of ids, of classes, and of element names and pseudo-elements.
 fn shown_specificity(alloc: Global, rule: &StyleRule, watch: Watch) -> Result<String, Fault> {
     watch.begin("specificity");
     let specificity = rule.specificity();
@@ -92,7 +94,7 @@ fn shown_specificity(alloc: Global, rule: &StyleRule, watch: Watch) -> Result<St
     Ok(format!(in alloc; "|id {id}, class {class}, typ {typ}\n")?)
 }
 
-/// Puts a line for each property that has a value behind a text.
+/// Appends a line for each property with a value.
 fn push_style(shown: &mut String, style: &ComputedStyle) -> Result<(), AllocError> {
     if let Some(colour) = style.colour.val() {
         write!(shown, "|colour {colour}\n")?;
@@ -115,7 +117,7 @@ fn push_style(shown: &mut String, style: &ComputedStyle) -> Result<(), AllocErro
     Ok(())
 }
 
-/// Puts the line of a content behind a text, if there is one.
+/// Appends the line of a content, if there is one.
 fn push_content(
     shown: &mut String,
     name: &str,
@@ -129,7 +131,7 @@ fn push_content(
     Ok(())
 }
 
-/// The name of how white space is treated.
+/// Returns the name of a treatment of white space.
 fn white_space_name(white_space: WhiteSpace) -> &'static str {
     match white_space {
         WhiteSpace::Normal => "Normal",

@@ -1,4 +1,4 @@
-//! Questions for grids of tables and for column cuts.
+//! Questions about grids of tables and column cuts.
 
 use crate::faults::Fault;
 use crate::texts::{number, numbers, printed};
@@ -9,7 +9,7 @@ use html_render_parts_widths::{
 };
 use std::alloc::{AllocError, Global};
 
-/// What a cell asks for: `COLSPANxROWSPAN`.
+/// Parses the span of a cell, `COLSPANxROWSPAN`.
 fn span(word: &str) -> Result<Span, Fault> {
     let fault = Fault::Malformed("a cell has columns and rows");
     let Some((colspan, rowspan)) = word.split_once('x') else {
@@ -21,7 +21,7 @@ fn span(word: &str) -> Result<Span, Fault> {
     }
 }
 
-/// The cells of a row.
+/// Parses the spans of a row's cells, separated by white space; `-` is a row without cells.
 fn row(alloc: Global, text: &str) -> Result<Vec<Span>, Fault> {
     let mut cells = Vec::new(alloc);
     for word in text.split_whitespace() {
@@ -32,7 +32,7 @@ fn row(alloc: Global, text: &str) -> Result<Vec<Span>, Fault> {
     Ok(cells)
 }
 
-/// The name of what stands in a place of a row.
+/// Returns the name of a kind of grid slot.
 fn kind_name(kind: CellKind) -> &'static str {
     match kind {
         CellKind::Cell => "Cell",
@@ -41,7 +41,7 @@ fn kind_name(kind: CellKind) -> &'static str {
     }
 }
 
-/// Puts the line of a row behind a text.
+/// Appends the line of a row: the kind, the edges and the number of columns of each slot.
 fn push_row(shown: &mut String, row: &[PlacedCell]) -> Result<(), AllocError> {
     shown.push('|')?;
     for (place, cell) in row.iter().enumerate() {
@@ -55,7 +55,7 @@ fn push_row(shown: &mut String, row: &[PlacedCell]) -> Result<(), AllocError> {
     shown.push('\n')
 }
 
-/// Rows with `/` between them.
+/// Parses rows, separated by `/`.
 fn rows(alloc: Global, given: &str) -> Result<Vec<Vec<Span>>, Fault> {
     let mut rows = Vec::new(alloc);
     if !given.is_empty() {
@@ -66,7 +66,7 @@ fn rows(alloc: Global, given: &str) -> Result<Vec<Vec<Span>>, Fault> {
     Ok(rows)
 }
 
-/// Whether each span of rows is at least 1.
+/// Returns the line of `spans_are_valid`: `true` if each span of the rows is at least 1.
 pub fn validity(alloc: Global, given: &str, watch: Watch) -> Result<String, Fault> {
     let rows = rows(alloc, given)?;
     watch.begin("spans_are_valid");
@@ -75,7 +75,7 @@ pub fn validity(alloc: Global, given: &str, watch: Watch) -> Result<String, Faul
     printed_truth(alloc, are_valid)
 }
 
-/// The grid of rows: its edges, and a line for each row.
+/// Returns the lines of the grid of rows: one for its edges, and one for each row.
 pub fn grid(alloc: Global, given: &str, watch: Watch) -> Result<String, Fault> {
     let rows = rows(alloc, given)?;
     if !spans_are_valid(rows.as_slice()) {
@@ -96,7 +96,7 @@ pub fn grid(alloc: Global, given: &str, watch: Watch) -> Result<String, Fault> {
     Ok(shown)
 }
 
-/// Columns that are to be cut into a width.
+/// Columns to cut to a width.
 #[derive(Drop)]
 struct Columns {
     minimums: Vec<usize>,
@@ -104,7 +104,7 @@ struct Columns {
     width: usize,
 }
 
-/// The next field, which has to be there.
+/// Returns the next field; a fault if there is none.
 fn next<'a>(fields: &mut std::str::Split<'a, char>) -> Result<&'a str, Fault> {
     match fields.next() {
         Some(field) => Ok(field.trim()),
@@ -112,7 +112,8 @@ fn next<'a>(fields: &mut std::str::Split<'a, char>) -> Result<&'a str, Fault> {
     }
 }
 
-/// What is answered of columns: the minimums, the shares and the width, with `/` between them, and behind these a cut.
+/// Returns the line of a question about columns: the minimums, the shares and the width, separated by `/`. For `check_cut`
+/// a cut follows these.
 pub fn cut(alloc: Global, asked: &str, given: &str, watch: Watch) -> Result<String, Fault> {
     let mut fields = given.split('/');
     let columns = Columns {
@@ -142,12 +143,14 @@ pub fn cut(alloc: Global, asked: &str, given: &str, watch: Watch) -> Result<Stri
     }
 }
 
-/// `true` or `false`.
+/// Returns the line `true` or `false`.
 fn printed_truth(alloc: Global, holds: bool) -> Result<String, Fault> {
     printed(alloc, if holds { "true" } else { "false" })
 }
 
-/// The cut of columns, by both calls, and how many sums the search took, if that is asked.
+/// Returns the line of the cut of columns, with the number of sums of the search if `is_metered`.
+///
+/// Both calls must return one cut, and `check_cut` must accept it.
 fn widths(
     alloc: Global,
     columns: &Columns,

@@ -1,18 +1,18 @@
-//! Elements as cases write them: `p`, `svg:title`, `{mathml}mi`, each with attributes behind it, as in `a@href=u@id=f`.
+//! Elements as cases write them: `p`, `svg:title`, `{mathml}mi`; attributes follow the name, as in `a@href=u@id=f`.
 
 use crate::faults::Fault;
 use crate::texts::{push_escaped, unescaped};
 use html_render_dom::dom::{Attribute, LocalName, Namespace, NodeData, QualName};
 use std::alloc::{AllocError, Global};
 
-/// An element's name and its attributes.
+/// The name and the attributes of an element.
 #[derive(Drop)]
 pub struct Tag {
     pub name: QualName,
     pub attributes: Vec<Attribute>,
 }
 
-/// The namespace that stands in braces.
+/// Returns the namespace for a word in braces.
 fn namespace(alloc: Global, word: &str) -> Result<Namespace, AllocError> {
     Ok(match word {
         "html" => Namespace::Html,
@@ -23,7 +23,7 @@ fn namespace(alloc: Global, word: &str) -> Result<Namespace, AllocError> {
     })
 }
 
-/// The name of an element.
+/// Parses the name of an element.
 fn element_name(alloc: Global, text: &str) -> Result<QualName, Fault> {
     let (ns, local) = if let Some(local) = text.strip_prefix("svg:") {
         (Namespace::Svg, local)
@@ -44,7 +44,7 @@ fn element_name(alloc: Global, text: &str) -> Result<QualName, Fault> {
     })
 }
 
-/// An attribute of `name=value`.
+/// Parses an attribute `name=value`. It has no namespace.
 pub fn attribute(alloc: Global, text: &str) -> Result<Attribute, Fault> {
     let (name, value) = text
         .split_once('=')
@@ -58,7 +58,7 @@ pub fn attribute(alloc: Global, text: &str) -> Result<Attribute, Fault> {
     })
 }
 
-/// Attributes with `@` between them.
+/// Parses attributes, separated by `@`.
 pub fn attributes(alloc: Global, text: &str) -> Result<Vec<Attribute>, Fault> {
     let mut attributes = Vec::new(alloc);
     for field in text.split('@') {
@@ -68,7 +68,7 @@ pub fn attributes(alloc: Global, text: &str) -> Result<Vec<Attribute>, Fault> {
 }
 
 impl Tag {
-    /// The element that a word is.
+    /// Parses an element: its name, then each attribute after `@`.
     pub fn read(alloc: Global, text: &str) -> Result<Tag, Fault> {
         let (name, attributes) = match text.split_once('@') {
             Some((name, fields)) => (name, attributes(alloc, fields)?),
@@ -81,7 +81,7 @@ impl Tag {
     }
 }
 
-/// Puts an element's name behind a text.
+/// Appends the name of an element, as a case writes it.
 fn push_name(shown: &mut String, name: &QualName) -> Result<(), AllocError> {
     match &name.ns {
         Namespace::Html => {}
@@ -93,7 +93,7 @@ fn push_name(shown: &mut String, name: &QualName) -> Result<(), AllocError> {
     shown.push_str(name.local.as_str())
 }
 
-/// Appends attributes to a text.
+/// Appends attributes, each after `@`, with escapes in values.
 pub(crate) fn push_attributes(
     shown: &mut String,
     attributes: &[Attribute],
@@ -105,13 +105,13 @@ pub(crate) fn push_attributes(
     Ok(())
 }
 
-/// Puts a sign and a text behind another.
+/// Appends a sign and a text with escapes.
 fn push_signed(shown: &mut String, sign: &str, text: &str) -> Result<(), AllocError> {
     shown.push_str(sign)?;
     push_escaped(shown, text)
 }
 
-/// Puts what a node holds behind a text, as a case writes it, and an element's attributes behind its name.
+/// Appends the data of a node as a case writes them, with an element's attributes.
 pub fn push_data(shown: &mut String, data: &NodeData) -> Result<(), AllocError> {
     push_label(shown, data)?;
     if let NodeData::Element { attrs, .. } = data {
@@ -120,7 +120,7 @@ pub fn push_data(shown: &mut String, data: &NodeData) -> Result<(), AllocError> 
     Ok(())
 }
 
-/// Puts what a node holds behind a text, as a case writes it.
+/// Appends the data of a node as a case writes them, without an element's attributes.
 pub fn push_label(shown: &mut String, data: &NodeData) -> Result<(), AllocError> {
     match data {
         NodeData::Document => shown.push_str("document"),

@@ -1,9 +1,9 @@
-//! Texts of cases: escapes, numbers, and words.
+//! Texts of cases: escapes, printed lines, words, and numbers.
 
 use crate::faults::Fault;
 use std::alloc::{AllocError, Global};
 
-/// What a text stands for: `\n` is a line feed and `\\` a backslash, and no other escape is known.
+/// Returns the text without escapes: `\n` is a line feed and `\\` a backslash. Any other escape is a fault.
 pub fn unescaped(alloc: Global, text: &str) -> Result<String, Fault> {
     let mut plain = String::new(alloc);
     let mut in_escape = false;
@@ -26,7 +26,7 @@ pub fn unescaped(alloc: Global, text: &str) -> Result<String, Fault> {
     Ok(plain)
 }
 
-/// Puts a text behind another, with escapes.
+/// Appends a text with escapes.
 pub fn push_escaped(shown: &mut String, text: &str) -> Result<(), AllocError> {
     for c in text.chars() {
         match c {
@@ -38,7 +38,7 @@ pub fn push_escaped(shown: &mut String, text: &str) -> Result<(), AllocError> {
     Ok(())
 }
 
-/// Puts each line of a text behind another, behind a sign.
+/// Appends each line of a text, after a sign. An empty text has no lines.
 pub fn push_lines(shown: &mut String, sign: char, text: &str) -> Result<(), AllocError> {
     if text.is_empty() {
         return Ok(());
@@ -52,25 +52,25 @@ pub fn push_lines(shown: &mut String, sign: char, text: &str) -> Result<(), Allo
     Ok(())
 }
 
-/// The lines of a text, each behind `|`.
+/// Returns the lines of a text, each after `|`.
 pub fn printed(alloc: Global, text: &str) -> Result<String, Fault> {
     let mut shown = String::new(alloc);
     push_lines(&mut shown, '|', text)?;
     Ok(shown)
 }
 
-/// A word, and what stands behind the space that follows it.
+/// Splits a text at its first space: the first word, and the text after the space.
 pub fn split_word(text: &str) -> (&str, &str) {
     text.split_once(' ').unwrap_or((text, ""))
 }
 
-/// A number of columns.
+/// Parses a number.
 pub fn number(text: &str) -> Result<usize, Fault> {
     text.parse()
         .map_err(|_| Fault::Malformed("there is no number"))
 }
 
-/// Numbers with spaces between them, where `N*M` is the number `M` `N` times.
+/// Parses numbers between white space. `N*M` is the number `M` `N` times.
 pub fn numbers(alloc: Global, text: &str) -> Result<Vec<usize>, Fault> {
     let mut all = Vec::new(alloc);
     for word in text.split_whitespace() {
@@ -83,7 +83,7 @@ pub fn numbers(alloc: Global, text: &str) -> Result<Vec<usize>, Fault> {
     Ok(all)
 }
 
-/// `true` or `false`.
+/// Parses `true` or `false`.
 pub fn truth(text: &str) -> Result<bool, Fault> {
     match text {
         "true" => Ok(true),

@@ -1,4 +1,4 @@
-//! Questions for the values that a document is made of, by the names of their calls: names, attributes, texts.
+//! Questions about the values in a document (names, attributes, texts), by the names of their calls.
 
 use crate::faults::Fault;
 use crate::tags::{Tag, attributes, push_attributes, push_data};
@@ -9,7 +9,7 @@ use html_render_dom::dom::{Attributes, LocalName, NodeData};
 use html_render_dom::text::Text;
 use std::alloc::{AllocError, Global};
 
-/// What a call of a value makes, as a line.
+/// Returns the line of the value that a call creates or changes.
 pub fn answer(alloc: Global, asked: &str, given: &str, watch: Watch) -> Result<String, Fault> {
     match asked {
         "Text::from_str" => text(alloc, given, watch),
@@ -21,21 +21,21 @@ pub fn answer(alloc: Global, asked: &str, given: &str, watch: Watch) -> Result<S
     }
 }
 
-/// What a call made, once the watch is told.
+/// Ends a watched call, and returns its result.
 fn told<T: Drop>(watch: Watch, came: Result<T, AllocError>) -> Result<T, Fault> {
     let came = came.map_err(Error::from);
     watch.end(&came);
     Ok(came?)
 }
 
-/// A copy of a text.
+/// Returns the line of a copied text.
 fn text(alloc: Global, given: &str, watch: Watch) -> Result<String, Fault> {
     watch.begin("Text::from_str");
     let text = told(watch, Text::from_str(alloc, given))?;
     printed(alloc, text.as_str())
 }
 
-/// What a text node holds.
+/// Returns the line of the data of a text node.
 fn node(alloc: Global, given: &str, watch: Watch) -> Result<String, Fault> {
     watch.begin("NodeData::text_of");
     let data = told(watch, NodeData::text_of(alloc, given))?;
@@ -44,7 +44,7 @@ fn node(alloc: Global, given: &str, watch: Watch) -> Result<String, Fault> {
     printed(alloc, &shown)
 }
 
-/// The attributes of a tag with those of `@NAME=VALUE@NAME=VALUE` that it doesn't have.
+/// Returns the line of a tag's attributes after `TAG @NAME=VALUE@NAME=VALUE`: its own, then those that it lacks.
 fn completed(alloc: Global, given: &str, watch: Watch) -> Result<String, Fault> {
     let (tag, more) = split_word(given);
     let tag = Tag::read(alloc, tag)?;
@@ -60,7 +60,7 @@ fn completed(alloc: Global, given: &str, watch: Watch) -> Result<String, Fault> 
     printed(alloc, &shown)
 }
 
-/// The line of a name: how many bytes it has, and the name.
+/// Returns the line of a name: its length in bytes, and the name.
 fn name_line(alloc: Global, name: &LocalName) -> Result<String, Fault> {
     let mut shown = format!(in alloc; "|{} ", name.len())?;
     push_escaped(&mut shown, name.as_str())?;
@@ -68,14 +68,14 @@ fn name_line(alloc: Global, name: &LocalName) -> Result<String, Fault> {
     Ok(shown)
 }
 
-/// A copy of a text as a name.
+/// Returns the line of a text copied as a name.
 fn copied(alloc: Global, given: &str, watch: Watch) -> Result<String, Fault> {
     watch.begin("LocalName::from_str");
     let name = told(watch, LocalName::from_str(alloc, given))?;
     name_line(alloc, &name)
 }
 
-/// An empty name with room for a number of bytes.
+/// Returns the line of an empty name with room for a number of bytes.
 fn with_room(alloc: Global, given: &str, watch: Watch) -> Result<String, Fault> {
     let bytes = number(given)?;
     watch.begin("LocalName::with_capacity");
@@ -83,7 +83,9 @@ fn with_room(alloc: Global, given: &str, watch: Watch) -> Result<String, Fault> 
     name_line(alloc, &name)
 }
 
-/// A name after a call that changes it: `NAME MORE`, where `MORE` is a text or a number of bytes.
+/// Returns the line of a name after a call that changes it: `NAME MORE`, where `MORE` is a text or a number of bytes.
+///
+/// A refused call must leave the name unchanged.
 fn changed(alloc: Global, asked: &str, given: &str, watch: Watch) -> Result<String, Fault> {
     let (before, more) = split_word(given);
     let bytes = more.parse().unwrap_or(0);

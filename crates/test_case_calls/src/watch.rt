@@ -1,46 +1,46 @@
-//! Who is told of each call of the library before it is made, and what it answered.
+//! Reports of the library's calls, from which a test knows when to refuse allocations.
 
 use html_render_dom::Error;
 use std::io::{Stdout, Write};
 
-/// Tells of calls on standard output, a line each, or nobody.
+/// Reports calls on standard output, if they are watched.
 ///
-/// A call is told by `call NAME` before it and by `came ANSWER` behind it, where an answer is `answer`, `TooNarrow`, `Fail` or
-/// `OutOfMemory`. Between the two only the call takes memory.
+/// A line `call NAME` precedes a call, and a line `came RESULT` follows it. `RESULT` is `answer` for success, or else
+/// `TooNarrow`, `Fail` or `OutOfMemory`. All allocations between the two lines are the call's.
 #[derive(Clone, Copy)]
 pub struct Watch {
     output: Option<Stdout>,
 }
 
-/// Writes a part of a line. Whoever listens misses one that can't be written.
+/// Writes a part of a line. A failure to write is ignored.
 fn write(mut output: Stdout, text: &str) {
     let _ = output.write_all(text.as_bytes());
 }
 
 impl Watch {
-    /// Nobody is told.
+    /// Creates a watch that reports no calls.
     pub fn nobody() -> Watch {
         Watch { output: None }
     }
 
-    /// Each call is told.
+    /// Creates a watch that reports each call on standard output.
     pub fn lines(output: Stdout) -> Watch {
         Watch {
             output: Some(output),
         }
     }
 
-    /// Whether calls are told. Such a call is made again where it is refused memory.
+    /// Reports whether calls are watched. A watched call is repeated as long as it is out of memory.
     pub fn is_told(self) -> bool {
         self.output.is_some()
     }
 
-    /// Tells only of a call for which this holds.
+    /// Returns this watch if `holds`, and otherwise one that reports no calls.
     pub fn only_if(self, holds: bool) -> Watch {
         if holds { self } else { Watch::nobody() }
     }
 
-    /// Tells that a call begins.
+    /// Reports the beginning of a call.
     pub fn begin(self, call: &str) {
         if let Some(output) = self.output {
             write(output, "call ");
@@ -49,7 +49,7 @@ impl Watch {
         }
     }
 
-    /// Tells what the call answered.
+    /// Reports the result of the call.
     pub fn end<T>(self, came: &Result<T, Error>) {
         if let Some(output) = self.output {
             write(output, line_of(came));
@@ -57,7 +57,7 @@ impl Watch {
     }
 }
 
-/// The line that tells what a call answered.
+/// Returns the line that reports a result.
 fn line_of<T>(came: &Result<T, Error>) -> &'static str {
     match came {
         Ok(_) => "came answer\n",
