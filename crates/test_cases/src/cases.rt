@@ -1,4 +1,4 @@
-//! Plays the cases of a file.
+//! The player of a file's cases.
 
 use crate::configs::{is_preset, is_setting};
 use crate::rendering::{self, Question, is_rendering};
@@ -14,51 +14,51 @@ use test_case_calls::texts::split_word;
 use test_case_calls::watch::Watch;
 use test_case_calls::{answers, decorators, styles, tables, values};
 
-/// What is wanted of a question, in the form in which answers are made: each line that is printed behind `|`.
+/// The expected output of a question, in the form of results: each printed line after `|`.
 #[derive(Drop)]
 struct Wanted {
     lines: String,
-    /// Whether the last line goes on.
+    /// Whether the last line isn't ended yet.
     is_open: bool,
 }
 
-/// A question that waits for its answer's end.
+/// A question whose expected output isn't complete yet.
 #[derive(Drop)]
 struct Waiting<'a> {
     question: &'a str,
-    /// The input of the program, or a script.
+    /// Input of the program, or a script.
     input: String,
     wanted: Wanted,
 }
 
-/// A case that is played.
+/// A case that is being played.
 #[derive(Drop)]
 struct Case<'a> {
     title: &'a str,
     page: Page,
-    /// The calls of the configuration.
+    /// Calls of the configuration, from the preset on.
     calls: Vec<&'a str>,
     waiting: Option<Waiting<'a>>,
-    /// Whether it was asked what the document becomes.
+    /// Whether the case has a question that renders the document.
     is_rendered: bool,
 }
 
-/// Documents of more nodes aren't played at each width.
+/// Maximum number of nodes of a document that is checked at each width.
 const LARGE: usize = 5000;
 
-/// How often a watched call is made that is refused memory each time.
+/// Maximum number of times that a watched call is made, if it is out of memory each time.
 const TRIES: usize = 1_000_000;
 
-/// What came of cases: how many there were, and what differs.
+/// The result of playing cases: their number, and the differences as text.
 #[derive(Drop)]
 pub struct Played {
     pub count: usize,
     pub differences: String,
-    /// Who is told of the calls.
+    /// Reports the calls, if they are watched.
     watch: Watch,
 }
 
-/// The number of times that an answer's line stands for a text, and whether the text is a line of its own.
+/// Splits a line `N|text` or `N/text`: the number, whether the text is a line of its own, and the text.
 fn split_count(line: &str) -> Option<(usize, bool, &str)> {
     if let Some((digits, text)) = line.split_once('|') {
         if let Ok(count) = digits.parse() {
@@ -69,7 +69,7 @@ fn split_count(line: &str) -> Option<(usize, bool, &str)> {
     Some((digits.parse().ok()?, true, text))
 }
 
-/// A call of a configuration that is made a number of times: `repeat N CALL`.
+/// Splits a line `repeat N CALL` with a call of a configuration; `None` for any other line.
 fn repeated_setting(line: &str) -> Option<(usize, &str)> {
     let (count, call) = split_word(line.strip_prefix("repeat ")?);
     if !is_setting(split_word(call).0) {
@@ -78,7 +78,7 @@ fn repeated_setting(line: &str) -> Option<(usize, &str)> {
     Some((count.parse().ok()?, call))
 }
 
-/// Whether a line builds the document by a sign.
+/// Reports whether a line begins with a sign that builds the document.
 fn has_sign(line: &str) -> bool {
     matches!(
         line.as_bytes().first(),
@@ -86,11 +86,11 @@ fn has_sign(line: &str) -> bool {
     )
 }
 
-/// The answer that is wanted where a decorator or a colour map refuses.
+/// Expected output if a decorator or a colour map returns `OutOfMemory`.
 const REFUSED: &str = "OutOfMemory";
 
 impl Wanted {
-    /// Nothing.
+    /// Creates an empty expected output.
     fn new(alloc: Global) -> Wanted {
         Wanted {
             lines: String::new(alloc),
@@ -98,7 +98,7 @@ impl Wanted {
         }
     }
 
-    /// Adds a text that is printed.
+    /// Appends a printed text to the last line, or begins a line with it.
     fn print(&mut self, text: &str) -> Result<(), AllocError> {
         if !self.is_open {
             self.lines.push('|')?;
@@ -113,7 +113,7 @@ impl Wanted {
         self.lines.push('\n')
     }
 
-    /// Takes a line, and answers whether it is one of an answer.
+    /// Takes a line of expected output. Returns whether it is one.
     fn take(&mut self, line: &str) -> Result<bool, AllocError> {
         if let Some(text) = line.strip_prefix('|') {
             self.print(text)?;
@@ -144,7 +144,7 @@ impl Wanted {
 }
 
 impl<'a> Waiting<'a> {
-    /// A question without an answer.
+    /// Creates a question without expected output.
     fn new(alloc: Global, question: &'a str) -> Waiting<'a> {
         Waiting {
             question,
@@ -153,7 +153,7 @@ impl<'a> Waiting<'a> {
         }
     }
 
-    /// Takes a line, and answers whether it is one of the input or of an answer.
+    /// Takes a line of the input or of expected output. Returns whether it is one.
     fn take(&mut self, line: &str) -> Result<bool, AllocError> {
         if let Some(line) = line.strip_prefix(':') {
             self.input.push_str(line)?;
@@ -168,7 +168,7 @@ impl<'a> Waiting<'a> {
 }
 
 impl<'a> Case<'a> {
-    /// A new document under plain text.
+    /// Creates a case with a new document and the configuration `plain`.
     fn new(alloc: Global, title: &'a str, watch: Watch) -> Result<Case<'a>, Fault> {
         let mut calls = Vec::new(alloc);
         calls.push("plain")?;
@@ -181,7 +181,7 @@ impl<'a> Case<'a> {
         })
     }
 
-    /// Takes a line.
+    /// Plays a line.
     fn take(&mut self, alloc: Global, line: &'a str, played: &mut Played) -> Result<(), Fault> {
         if let Some(waiting) = &mut self.waiting {
             if waiting.take(line)? {
@@ -213,7 +213,7 @@ impl<'a> Case<'a> {
         }
     }
 
-    /// What is answered to a question, asked once.
+    /// Returns the result of a question, whose calls are made once.
     fn answer_once(
         &self,
         alloc: Global,
@@ -251,8 +251,9 @@ impl<'a> Case<'a> {
         }
     }
 
-    /// What is answered to a question. A watched call that is refused memory is made again, and has to leave the document as
-    /// it was.
+    /// Returns the result of a question.
+    ///
+    /// A watched question is repeated as long as it is out of memory. Each refused call must leave the document unchanged.
     fn answer(
         &self,
         alloc: Global,
@@ -276,7 +277,9 @@ impl<'a> Case<'a> {
         Err(Fault::Refused(Error::OutOfMemory))
     }
 
-    /// What is answered to a question, after the calls that come before it, if these are watched too.
+    /// Returns the result of a question.
+    ///
+    /// If calls are watched, the calls that a rendering needs (preset, settings, conversion) are first watched on their own.
     fn answer_all(
         &self,
         alloc: Global,
@@ -295,7 +298,7 @@ impl<'a> Case<'a> {
         self.answer(alloc, question, input, watch)
     }
 
-    /// Compares the answer to the question that waits with what is wanted.
+    /// Compares the result of the open question, if there is one, with its expected output.
     fn settle(&mut self, alloc: Global, played: &mut Played) -> Result<(), AllocError> {
         let Some(waiting) = mem::take(&mut self.waiting) else {
             return Ok(());
@@ -322,8 +325,10 @@ impl<'a> Case<'a> {
         Ok(())
     }
 
-    /// Ends the case: a document that was rendered, and isn't large, is played at each width, without overflow and with it,
-    /// if nobody is told of the calls.
+    /// Ends the case.
+    ///
+    /// A document that was rendered is checked at each width, without overflow and with it, unless it is large or calls are
+    /// watched.
     fn end(&mut self, alloc: Global, played: &mut Played) -> Result<(), AllocError> {
         self.settle(alloc, played)?;
         if !self.is_rendered || played.watch.is_told() || self.page.dom.node_count() > LARGE {
@@ -345,7 +350,7 @@ impl<'a> Case<'a> {
     }
 }
 
-/// Puts as much of a text behind another as a person reads.
+/// Appends at most the first 2,000 characters of a text.
 fn push_front(text: &mut String, whole: &str) -> Result<(), AllocError> {
     for c in whole.chars().take(2000) {
         text.push(c)?;
@@ -354,7 +359,7 @@ fn push_front(text: &mut String, whole: &str) -> Result<(), AllocError> {
 }
 
 impl Played {
-    /// No cases; somebody may be told of their calls.
+    /// Creates a result without cases.
     pub fn new(alloc: Global, watch: Watch) -> Played {
         Played {
             count: 0,
@@ -363,7 +368,7 @@ impl Played {
         }
     }
 
-    /// Notes what was asked, wanted and answered, and the title of the case last.
+    /// Records a difference: the question, its expected output, its result and the title of the case.
     fn differ(
         &mut self,
         question: &str,
@@ -379,7 +384,7 @@ impl Played {
         write!(text, "{title}\n\n")
     }
 
-    /// Notes that a line can't be played.
+    /// Records that a line can't be played.
     fn fail(&mut self, line: &str, fault: &Fault, title: &str) -> Result<(), AllocError> {
         write!(
             self.differences,

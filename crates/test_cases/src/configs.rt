@@ -1,4 +1,4 @@
-//! Configurations by the names of their calls.
+//! Configurations, by the names of their calls.
 
 use html_render_tree::config::ImageRenderMode;
 use html_render_tree::text::Text;
@@ -9,7 +9,7 @@ use test_case_calls::rules::rule;
 use test_case_calls::texts::{number, split_word, truth, unescaped};
 use test_case_calls::watch::Watch;
 
-/// Whether a word is the name of a call that makes a configuration.
+/// Reports whether a word is the name of a call that creates a configuration.
 pub fn is_preset(word: &str) -> bool {
     matches!(
         word,
@@ -17,7 +17,7 @@ pub fn is_preset(word: &str) -> bool {
     )
 }
 
-/// The call that makes a configuration.
+/// Parses a call that creates a configuration.
 pub fn preset(line: &str) -> Result<Preset, Fault> {
     match split_word(line) {
         ("plain", _) => Ok(Preset::Plain),
@@ -30,7 +30,7 @@ pub fn preset(line: &str) -> Result<Preset, Fault> {
     }
 }
 
-/// Whether a word is the name of a call that changes a configuration.
+/// Reports whether a word is the name of a call that changes a configuration.
 pub fn is_setting(word: &str) -> bool {
     matches!(
         word,
@@ -50,7 +50,7 @@ pub fn is_setting(word: &str) -> bool {
     )
 }
 
-/// What stands in the place of an image without a title.
+/// Parses a mode of images without a title.
 fn image_mode(alloc: Global, given: &str) -> Result<ImageRenderMode, Fault> {
     match split_word(given) {
         ("IgnoreEmpty", _) => Ok(ImageRenderMode::IgnoreEmpty),
@@ -64,7 +64,7 @@ fn image_mode(alloc: Global, given: &str) -> Result<ImageRenderMode, Fault> {
     }
 }
 
-/// A copy of a mode.
+/// Returns a copy of a mode.
 fn copy(alloc: Global, mode: &ImageRenderMode, watch: Watch) -> Result<ImageRenderMode, Fault> {
     watch.begin("ImageRenderMode::try_clone");
     let came = mode.try_clone(alloc);
@@ -72,7 +72,7 @@ fn copy(alloc: Global, mode: &ImageRenderMode, watch: Watch) -> Result<ImageRend
     Ok(came?)
 }
 
-/// A call that changes a configuration.
+/// Parses a call that changes a configuration.
 fn setting(alloc: Global, line: &str, watch: Watch) -> Result<Setting, Fault> {
     let (name, given) = split_word(line);
     match name {
@@ -99,13 +99,13 @@ fn setting(alloc: Global, line: &str, watch: Watch) -> Result<Setting, Fault> {
 /// Calls that change a configuration.
 #[derive(Drop)]
 pub struct NamedSettings<'a> {
-    /// The name that a watch is told: that of the call, if there is one.
+    /// Name for a watch: that of the call if there is exactly one, otherwise `with_settings`.
     pub name: &'a str,
-    /// The calls, in order.
+    /// Calls, in order.
     pub calls: Vec<Setting>,
 }
 
-/// Calls that change a configuration.
+/// Parses calls that change a configuration.
 pub fn settings<'a>(
     alloc: Global,
     lines: &[&'a str],

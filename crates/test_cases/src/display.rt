@@ -1,4 +1,4 @@
-//! What a render tree is displayed as.
+//! The display of a render tree.
 
 use html_render_tree::Error;
 use html_render_tree::tree::RenderTree;
@@ -9,7 +9,7 @@ use test_case_calls::faults::Fault;
 use test_case_calls::texts::printed;
 use test_case_calls::watch::Watch;
 
-/// What is left of a text that is written once more, which takes no memory.
+/// The rest of a known text, to compare it with one that is being written, without allocations.
 #[derive(Drop)]
 struct Left<'a> {
     text: &'a str,
@@ -22,7 +22,10 @@ impl fmt::Write for Left<'_> {
     }
 }
 
-/// The lines of a tree. It is displayed twice, and watched where nothing but the tree could take memory.
+/// Returns the lines of a tree's display.
+///
+/// The tree is displayed twice, to a string and then to a comparison with it. Only the second one is watched, since there no
+/// other code makes allocations.
 pub fn displayed(alloc: Global, tree: &RenderTree, watch: Watch) -> Result<String, Fault> {
     let text = tree.to_string(alloc)?;
     let mut left = Left {

@@ -1,49 +1,76 @@
-//! Plays the cases of the files that its words name, or else of all that lie where it runs: documents that calls build, and
-//! what calls answer of them. Behind the word `watched` it tells of each call before and behind it, and makes a call that is
-//! refused memory again, which has to leave all as it was.
+//! Plays cases: documents that calls build, and questions about them with the expected output.
 //!
-//! A file of `data/` holds the cases of one subject. A line `# TITLE` begins a case, with a new document and the
-//! configuration `plain`; then a call or a question stands on each line, and behind a question its answer. Empty lines do
-//! nothing.
+//! The program's words are files of cases. Without words it plays all files of the current directory. If the first word is
+//! `watched`, it reports each call before and after it ([`Watch`]). A watched call is repeated as long as it is out of
+//! memory, and each refused call must leave the document unchanged.
 //!
-//! The document is built as by the scripts of `htree`, from its own node on:
+//! A file of `data/` has the cases of one subject. A line `# TITLE` begins a case, with a new document and the
+//! configuration `plain`. Each further line is a call or a question; the expected output follows a question. Empty lines
+//! are skipped.
+//!
+//! # Calls
+//!
+//! Signs build the document as in the scripts of `htree`. At first the document node is current.
 //!
 //! | Line | Call |
 //! |---|---|
-//! | `<name`, `<svg:name`, `<{mathml}name` | an element is appended and is current; the braces hold `html`, `mathml`, `none` or another namespace |
-//! | `<name@a=v@b=w` | the same with attributes |
-//! | `@name=value` | the current element gets an attribute, unless it has one of that name |
-//! | `"text` | a text is appended, and joins one before it |
-//! | `'text` | a text is appended as a node of its own |
-//! | `!comment`, `?target` | a comment or a processing instruction is appended |
-//! | `>` | the parent is current |
-//! | `&name` | the current node has this name |
-//! | `repeat N CALL CALL ..` | these calls `N` times |
+//! | `<name`, `<svg:name`, `<{mathml}name` | Appends an element and makes it current. |
+//! | `<name@a=v@b=w` | Appends an element with attributes and makes it current. |
+//! | `@name=value` | Adds an attribute to the current element, unless it has one with this name. |
+//! | `"text` | Appends a text. It is joined to a text before it. |
+//! | `'text` | Appends a text as a node of its own. |
+//! | `!comment`, `?target` | Appends a comment or a processing instruction. |
+//! | `>` | Makes the parent current. |
+//! | `&name` | Gives the current node a name. |
+//! | `repeat N CALL CALL ..` | Makes these calls `N` times. |
 //!
-//! Texts, comments and values know the escapes `\n` and `\\`. The other calls of `RcDom` stand by their names
-//! (`append p "text`, `append_before_sibling s c`, `create_element e em@id=i template`, ..), and so do those of a
-//! configuration (`rich`, `max_wrap_width 10`, `add_style_rule Author p.note#id::before important Content text`, ..), of
-//! which the first, as `plain`, begins it anew; `repeat N CALL` makes one `N` times. A rule's declarations follow each other,
-//! `Content` last. `document` is the document's name.
+//! The braces of a name have `html`, `svg`, `mathml`, `none` or another namespace. Texts, comments and values have the
+//! escapes `\n` and `\\`. The name of the document node is `document`.
 //!
-//! A question is a call by its name with what it is given: a width for `render_to_string`, `render_to_lines` (each string
-//! behind its annotations in braces, each name in angles), `render_coloured angles` (each string in angles, behind the number
-//! of its annotations) and `render_to_lines_metered` (which counts also where it is `TooNarrow`); `dom_to_render_tree`, and
-//! `try_clone` of what that answers; the calls of `RcDom` that answer something; `computed_style TAG`, and the same by
-//! `RuleIndex::of` and `RuleIndex::computed_style`; `specificity` with a rule and `for_element` with a name; `decorator`
-//! with `plain` or `rich` and a call of it; `table_grid` and `spans_are_valid` with the spans of rows (`3x1 2x2 / 1x1`, and `-`
-//! for a row without cells); `column_widths` with minimums, shares and the width (`3 3 / 9 4 / 10`, and `5*3` for five times 3),
-//! `column_widths_metered`, `cut_fits` and, with a cut after these, `check_cut`; the calls of names, attributes and texts
-//! (`LocalName::push_str a b`, ..); `built` and `dom_into_render_tree` with a script, and `htree` with words and an input. The
-//! lines of a script or an input follow the question, each after `:`, or after `.` for one without its line feed. `sweep` plays a
-//! document all of whose texts are laid out at the widths from 1 to 40; every other document is swept where its case ends.
+//! The other calls of `RcDom` are written by their names: `append p "text`, `append_before_sibling s c`,
+//! `create_element e em@id=i template`, .. So are the calls of a configuration: `rich`, `max_wrap_width 10`,
+//! `add_style_rule Author p.note#id::before important Content text`, .. A preset, such as `plain`, begins the configuration
+//! anew. `repeat N CALL` makes a call of a configuration `N` times. The declarations of a rule follow each other, `Content`
+//! last.
 //!
-//! `with_decorator refusing:CALL` is plain text but for one call of the decorator, which refuses memory, and
-//! `render_coloured refusing WIDTH TEXT` under a map that refuses this text.
+//! `with_decorator refusing:CALL` is plain text, except that this call of the decorator returns `OutOfMemory`.
 //!
-//! An answer's lines stand as they are printed, each behind `|`, and what the program says of faults behind `~`; a refusal is
-//! `TooNarrow`, `Fail` or `OutOfMemory`, and another status than 0 `status N`. `N|text` stands for a text `N` times, and
-//! `N/text` for `N` lines of it.
+//! # Questions
+//!
+//! A question is a call by its name, with its arguments:
+//!
+//! | Question | Arguments and output |
+//! |---|---|
+//! | `render_to_string` | a width |
+//! | `render_to_lines` | a width; each string follows its annotations in braces, each name of a mark is in angle brackets |
+//! | `render_to_lines_metered` | a width; the meter's counts, also if the layout is `TooNarrow` |
+//! | `render_coloured angles` | a width; each string is in angle brackets, after the number of its annotations |
+//! | `render_coloured refusing` | a width and a text for which the colour map returns `OutOfMemory` |
+//! | `dom_to_render_tree`, `try_clone` | the display of the render tree, or of its copy |
+//! | `dom_into_render_tree` | a script; the display of the render tree |
+//! | `sweep` | checks of the text at each width from 1 to 40, for the characters of all texts; a line for each fault |
+//! | each query of `RcDom` | names of nodes and numbers; nodes by their names, `true` or `false`, or lines of text |
+//! | `computed_style`, `RuleIndex::of`, `RuleIndex::computed_style` | an element; each property of its style |
+//! | `specificity`, `for_element` | a rule, an element name; the specificity |
+//! | `decorator` | `plain` or `rich`, and a call with its arguments |
+//! | `table_grid`, `spans_are_valid` | the spans of rows: `3x1 2x2 / 1x1`, and `-` for a row without cells |
+//! | `column_widths`, `column_widths_metered`, `cut_fits` | minimums, shares and width: `3 3 / 9 4 / 10` |
+//! | `check_cut` | minimums, shares, width and a cut |
+//! | calls of names, attributes and texts | `LocalName::push_str a b`, .. |
+//! | `built` | a script; the dump of its document, or its first faulty line |
+//! | `htree` | words and an input; its output, faults and status |
+//!
+//! In lists of numbers `5*3` is five times 3. The lines of a script or an input follow the question, each after `:`, or
+//! after `.` for one without its line feed.
+//!
+//! At the end of a case, a document that was rendered is also checked at each width from 1 to 40, for the characters of its
+//! text at a great width. A document of more than 5,000 nodes isn't checked, and none is if calls are watched.
+//!
+//! # Expected output
+//!
+//! Each line of a result follows `|`, and each line about faults of a script or of `htree` follows `~`. An error is
+//! `TooNarrow`, `Fail` or `OutOfMemory`. A status other than 0 is `status N`. `N|text` is a text `N` times, and `N/text` is
+//! `N` lines of it.
 #![tactic(auto)]
 
 mod cases;
@@ -61,7 +88,7 @@ use std::rt::{Env, Files};
 use std::{env, fs, io};
 use test_case_calls::watch::Watch;
 
-/// The names of the files that lie where the program runs, sorted.
+/// Returns the names of the files in the current directory, sorted.
 fn names_here<R: Files + AllocGlobal + Clone + Drop>(rt: &R) -> io::Result<Vec<String>> {
     let mut names = Vec::new(rt.alloc());
     for entry in fs::read_dir(rt, ".")? {
@@ -71,7 +98,7 @@ fn names_here<R: Files + AllocGlobal + Clone + Drop>(rt: &R) -> io::Result<Vec<S
     Ok(names)
 }
 
-/// The program's words.
+/// Returns the program's words, without its name.
 fn words<R: Env + AllocGlobal + Clone + Drop>(rt: &R) -> io::Result<Vec<String>> {
     let mut words = env::args(rt)?;
     let _program = words.next();
@@ -90,7 +117,7 @@ fn played<R: Files + AllocGlobal>(rt: &R, names: &[String], watch: Watch) -> io:
     Ok(played)
 }
 
-/// Plays the cases that the words ask for: files, behind `watched` where the calls are to be told.
+/// Plays the files that the words name, or all of the current directory without words. `watched` precedes names of files.
 fn asked(rt: &HostRuntime, words: &[String]) -> io::Result<Played> {
     match words {
         [] => played(rt, &names_here(rt)?, Watch::nobody()),
@@ -101,7 +128,8 @@ fn asked(rt: &HostRuntime, words: &[String]) -> io::Result<Played> {
     }
 }
 
-/// Status 0 if there are cases and none differs, and else 1, with what differs on standard error.
+/// Plays cases, and writes the differences to standard error. The status is 0 if there are cases and no differences, and
+/// otherwise 1.
 fn main(rt: HostRuntime) -> io::Result<ExitCode> {
     let played = asked(&rt, &words(&rt)?)?;
     if played.count == 0 {

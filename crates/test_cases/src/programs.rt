@@ -1,16 +1,16 @@
-//! Questions for what the program `htree` does with an input.
+//! Questions about runs of the program `htree`.
 
 use html_render_tree::htree::run;
 use std::alloc::Global;
 use test_case_calls::faults::Fault;
 use test_case_calls::texts::push_lines;
 
-/// Bytes that are to be a text.
+/// Returns bytes as a text, or `not UTF-8`.
 fn text(bytes: &[u8]) -> &str {
     str::from_utf8(bytes).unwrap_or("not UTF-8")
 }
 
-/// What the program writes, what it says of its faults behind `~`, and its status, if that isn't 0.
+/// Returns the lines of the program's output, its lines about faults, each after `~`, and its status if that isn't 0.
 pub fn answer(alloc: Global, words: &str, script: &str) -> Result<String, Fault> {
     let mut arguments = Vec::new(alloc);
     if !words.is_empty() {

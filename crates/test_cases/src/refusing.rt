@@ -1,4 +1,4 @@
-//! A decorator that refuses memory.
+//! A decorator with a call that is out of memory.
 
 ghost use Rattle.std.specs.Prelude.{◌≡◌, refl, IfErr, IfOk};
 ghost use Rattle.html_render_tree.specs.Alteration.{unchanged};
@@ -8,13 +8,13 @@ use html_render_tree::decorate::{Altered, Changes, Place, PlainDecorator};
 use html_render_tree::text::Text;
 use std::alloc::Global;
 
-/// Changes nothing, but for the call of this name, which it refuses.
+/// Changes of a decorator: the call with this name returns `OutOfMemory`, all others are unchanged.
 #[derive(Drop)]
 pub struct Refusing<'a> {
     call: &'a str,
 }
 
-/// The decorator of plain text but for the call of a name, which answers `OutOfMemory`.
+/// Creates the decorator of plain text whose call with this name returns `OutOfMemory`.
 pub fn plain_but(call: &str) -> Altered<PlainDecorator, Refusing<'_>> {
     Altered {
         below: PlainDecorator::new(),
@@ -22,7 +22,7 @@ pub fn plain_but(call: &str) -> Altered<PlainDecorator, Refusing<'_>> {
     }
 }
 
-/// The call that is made at a place.
+/// Returns the name of the decorator's call at a place.
 fn call_at(place: &Place<'_>) -> &'static str {
     match place {
         Place::LinkStart(_) => "decorate_link_start",
@@ -50,7 +50,7 @@ fn call_at(place: &Place<'_>) -> &'static str {
 }
 
 impl Refusing<'_> {
-    /// This answer, unless the call is the one that is refused.
+    /// Returns this result, unless the call is the refused one.
     fn unless_refused<T: Drop>(&self, call: &str, answer: T) -> Result<T, Error>
         ensures ok { IfOk result (λ r. r ≡ answer) }
         ensures err { IfErr result (λ e. e ≡ Error.OutOfMemory) }

@@ -1,4 +1,4 @@
-//! Questions for what a document becomes under a configuration.
+//! Questions about the conversion and the rendering of a document under a configuration.
 
 ghost use Rattle.std.specs.Prelude.{◌≡◌, IfErr};
 
@@ -21,8 +21,9 @@ use test_case_calls::faults::Fault;
 use test_case_calls::texts::{number, printed, split_word};
 use test_case_calls::watch::Watch;
 
-/// Whether a word is the name of a question that a configuration answers. `preset` and `settings` ask nothing: by these the
-/// calls are watched that make the configuration and that change it.
+/// Reports whether a word is the name of a question that needs a configuration.
+///
+/// `preset` and `settings` have no output. With them the calls that create and change the configuration are watched.
 pub fn is_rendering(word: &str) -> bool {
     matches!(
         word,
@@ -39,20 +40,20 @@ pub fn is_rendering(word: &str) -> bool {
     )
 }
 
-/// What is asked of a document: the call and what is given to it.
+/// A question about a document: a call and its arguments.
 #[derive(Clone, Copy)]
 pub struct Question<'a> {
-    /// The name of the call.
+    /// Name of the call.
     pub asked: &'a str,
-    /// What is given to it.
+    /// Arguments of the call.
     pub given: &'a str,
-    /// The script of a document that the call takes.
+    /// Script of the document that the call consumes.
     pub script: &'a str,
-    /// Who is told of the call.
+    /// Reports the call, if it is watched.
     pub watch: Watch,
 }
 
-/// What a document answers under the calls of a configuration, of which the first one makes it.
+/// Returns the result of a question under the configuration that these calls make. The first one is its preset.
 pub fn answer(
     alloc: Global,
     calls: &[&str],
@@ -84,7 +85,7 @@ pub fn answer(
     }
 }
 
-/// What a document answers under a decorator.
+/// Returns the result of a question under a configuration with the decorator of this name.
 fn answer_decorated(
     alloc: Global,
     name: DecoratorName,
@@ -113,7 +114,7 @@ fn answer_decorated(
     }
 }
 
-/// What a document answers under a configuration, which calls change first.
+/// Returns the result of a question under a configuration after these settings.
 fn answer_under<D: TextDecorator>(
     alloc: Global,
     config: Config<D>,
@@ -153,7 +154,7 @@ where
     }
 }
 
-/// What a render tree answers under a configuration.
+/// Returns the result of a question about a render tree.
 fn answer_of<D: TextDecorator>(
     alloc: Global,
     config: &Config<D>,
@@ -173,7 +174,7 @@ where
     }
 }
 
-/// What a copy of a render tree is displayed as, once the tree itself is dropped.
+/// Returns the display of a copy of a render tree, after the tree itself is dropped.
 fn copy(alloc: Global, tree: RenderTree, watch: Watch) -> Result<String, Fault> {
     watch.begin("RenderTree::try_clone");
     let came = tree.try_clone(alloc);
@@ -185,12 +186,12 @@ fn copy(alloc: Global, tree: RenderTree, watch: Watch) -> Result<String, Fault> 
     displayed(alloc, &copy, watch)
 }
 
-/// The call's name, which tells width 0 apart, where it takes no memory.
+/// Returns the name of a call, or another one at width 0, where the call makes no allocation.
 fn at_width(call: &'static str, at_none: &'static str, width: usize) -> &'static str {
     if width == 0 { at_none } else { call }
 }
 
-/// The text of a render tree.
+/// Returns the lines of a render tree's text.
 fn text<D: TextDecorator>(
     alloc: Global,
     config: &Config<D>,
@@ -204,7 +205,7 @@ fn text<D: TextDecorator>(
     printed(alloc, &came?)
 }
 
-/// Puts a line behind a text: each string behind its annotations, and each name in angles.
+/// Appends a tagged line: each string after its annotations, and each name of a mark in angle brackets.
 fn push_line<A: Shown>(shown: &mut String, line: &TaggedLine<Vec<A>>) -> Result<(), AllocError> {
     shown.push('|')?;
     for element in line.iter() {
@@ -219,7 +220,7 @@ fn push_line<A: Shown>(shown: &mut String, line: &TaggedLine<Vec<A>>) -> Result<
     shown.push('\n')
 }
 
-/// Puts annotations behind a text, in braces.
+/// Appends annotations, in braces.
 fn push_annotations<A: Shown>(shown: &mut String, annotations: &[A]) -> Result<(), AllocError> {
     shown.push('{')?;
     for (place, annotation) in annotations.iter().enumerate() {
@@ -231,7 +232,7 @@ fn push_annotations<A: Shown>(shown: &mut String, annotations: &[A]) -> Result<(
     shown.push('}')
 }
 
-/// The tagged lines of a render tree.
+/// Returns the tagged lines of a render tree, as printed lines.
 fn lines<D: TextDecorator>(
     alloc: Global,
     config: &Config<D>,
@@ -252,7 +253,7 @@ where
     Ok(shown)
 }
 
-/// What is counted of the layout, also where it is too narrow.
+/// Returns the line of the meter's counts for a layout. If that is too narrow, a line `TooNarrow` precedes it.
 fn metered<D: TextDecorator>(
     alloc: Global,
     config: &Config<D>,
@@ -277,7 +278,7 @@ fn metered<D: TextDecorator>(
     Ok(format!(in alloc; "{refusal}|entered {entered}, left {left}, frames {frames}\n")?)
 }
 
-/// `<n:text>` for a text under n annotations, or a refusal for one text.
+/// Returns `<n:text>` for a text with n annotations; `OutOfMemory` for the text `refused`.
 fn in_angles<A>(
     alloc: Global,
     annotations: &[A],
@@ -293,7 +294,8 @@ fn in_angles<A>(
     Ok(format!(in alloc; "<{count}:{text}>")?)
 }
 
-/// The text of a render tree under the map of a name: `angles WIDTH`, or `refusing WIDTH TEXT`, which refuses that text.
+/// Returns the lines of a render tree's text under a colour map: `angles WIDTH`, or `refusing WIDTH TEXT`, which returns
+/// `OutOfMemory` for that text.
 fn coloured<D: TextDecorator>(
     alloc: Global,
     config: &Config<D>,

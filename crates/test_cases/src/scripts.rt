@@ -1,4 +1,4 @@
-//! Questions for documents that scripts build.
+//! Questions about documents that scripts build.
 
 use html_render_tree::Error;
 use html_render_tree::dom::RcDom;
@@ -8,7 +8,7 @@ use test_case_calls::faults::Fault;
 use test_case_calls::texts::printed;
 use test_case_calls::watch::Watch;
 
-/// What a watch is told of a script: a refusal of memory, if there was one.
+/// Returns the result of a script for a watch: its error, if it was refused, and otherwise success.
 fn refusal(came: &Result<RcDom, ScriptError>) -> Result<(), Error> {
     match came {
         Err(ScriptError::Refused(error)) => Err(*error),
@@ -16,7 +16,7 @@ fn refusal(came: &Result<RcDom, ScriptError>) -> Result<(), Error> {
     }
 }
 
-/// The document of a script, which has no faulty line.
+/// Returns the document of a script. A faulty line is a fault of the case.
 pub fn document(alloc: Global, script: &str) -> Result<RcDom, Fault> {
     match built(alloc, script) {
         Ok(dom) => Ok(dom),
@@ -25,7 +25,7 @@ pub fn document(alloc: Global, script: &str) -> Result<RcDom, Fault> {
     }
 }
 
-/// The dump of the document that a script builds, or the number of its first faulty line.
+/// Returns the lines of the dump of a script's document, or the number of its first faulty line after `~`.
 pub fn answer(alloc: Global, script: &str, watch: Watch) -> Result<String, Fault> {
     watch.begin("built");
     let came = built(alloc, script);

@@ -1,4 +1,4 @@
-//! A document at each width from 1 to 40, with overflow and without.
+//! Checks of a document at each width from 1 to 40, with overflow and without.
 
 ghost use Rattle.std.specs.Prelude.{◌≡◌, IfErr};
 
@@ -12,10 +12,10 @@ use std::alloc::{AllocError, Global};
 use test_case_calls::faults::Fault;
 use unicode_width::UnicodeWidthChar;
 
-/// The widths that are tried.
+/// Greatest width that is checked, in columns.
 const WIDTHS: usize = 40;
 
-/// Whether no line of a text is wider than `width` columns.
+/// Reports whether no line of a text is wider than `width` columns.
 fn is_within(text: &str, width: usize) -> bool {
     for line in text.lines() {
         let mut columns = 0usize;
@@ -29,12 +29,12 @@ fn is_within(text: &str, width: usize) -> bool {
     true
 }
 
-/// Whether a character can be seen.
+/// Reports whether a character is visible: it has a width, and isn't white space or U+200B.
 fn is_visible(c: char) -> bool {
     !c.is_whitespace() && c != '\u{200b}' && c.width().is_some()
 }
 
-/// Puts the characters of a text that can be seen behind others.
+/// Appends the visible characters of a text.
 fn push_visible(visible: &mut Vec<char>, text: &str) -> Result<(), AllocError> {
     for c in text.chars() {
         if is_visible(c) {
@@ -44,7 +44,7 @@ fn push_visible(visible: &mut Vec<char>, text: &str) -> Result<(), AllocError> {
     Ok(())
 }
 
-/// The characters of a document's texts that can be seen, sorted.
+/// Returns the visible characters of all texts of a document, sorted.
 fn visible_in(alloc: Global, dom: &RcDom) -> Result<Vec<char>, Fault> {
     let mut visible = Vec::new(alloc);
     let mut waiting = Vec::new(alloc);
@@ -65,7 +65,7 @@ fn visible_in(alloc: Global, dom: &RcDom) -> Result<Vec<char>, Fault> {
     Ok(visible)
 }
 
-/// Whether each of some characters stands in a text, as often. They are sorted.
+/// Reports whether a text has each wanted character at least as often as `wanted`, which is sorted.
 fn are_kept(alloc: Global, wanted: &[char], text: &str) -> Result<bool, AllocError> {
     let mut visible = Vec::new(alloc);
     push_visible(&mut visible, text)?;
@@ -79,7 +79,7 @@ fn are_kept(alloc: Global, wanted: &[char], text: &str) -> Result<bool, AllocErr
     Ok(true)
 }
 
-/// The text of a tree, or nothing where that is too narrow.
+/// Returns the text of a tree; `None` if the width is too narrow.
 fn text_of<D: TextDecorator>(
     alloc: Global,
     config: &Config<D>,
@@ -93,7 +93,7 @@ fn text_of<D: TextDecorator>(
     }
 }
 
-/// The text of a tree's tagged lines, and what the walk counts.
+/// Returns the text of a tree's tagged lines, and updates the meter.
 fn text_of_lines<D: TextDecorator>(
     alloc: Global,
     config: &Config<D>,
@@ -112,14 +112,14 @@ fn text_of_lines<D: TextDecorator>(
     Ok(text)
 }
 
-/// A copy of a text.
+/// Returns a copy of a text.
 fn same(alloc: Global, text: &str) -> Result<String, Error>
     ensures err { IfErr result (λ e. e ≡ Error.OutOfMemory) }
 {
     Ok(String::from_str(alloc, text)?)
 }
 
-/// The text of a tree under a map that changes nothing.
+/// Returns the text of a tree under a colour map that changes nothing.
 fn coloured_text<D: TextDecorator>(
     alloc: Global,
     config: &Config<D>,
@@ -135,8 +135,13 @@ fn coloured_text<D: TextDecorator>(
     )
 }
 
-/// What is wrong with a document's text at a width, if something is: without overflow it keeps to the width, and is that
-/// with overflow, where there is one, which shows all that can be seen; tagged lines and coloured text say the same.
+/// Returns the first fault of a document's text at a width; `None` if all of these hold:
+///
+/// - there is a text with overflow;
+/// - a text without overflow, if there is one, equals it and keeps to the width;
+/// - it has all wanted characters;
+/// - the text of the tagged lines and the coloured text equal it;
+/// - the layout leaves each node that it enters, and doesn't count more nodes open at once than it enters.
 fn fault_at<D: TextDecorator>(
     alloc: Global,
     wide: &Config<D>,
@@ -172,24 +177,24 @@ fn fault_at<D: TextDecorator>(
     Ok(None)
 }
 
-/// Which characters have to stand in a text at each width.
+/// The characters that a text must have at each width.
 #[derive(Clone, Copy)]
 pub enum Kept {
-    /// Those of all texts of the document.
+    /// Visible characters of all texts of the document.
     Texts,
-    /// Those that stand in it at a great width, but for what borders are made of.
+    /// Visible characters of the text at a great width, except for those of borders.
     Shown,
 }
 
-/// A width at which nothing has to be wrapped.
+/// A width at which nothing has to be wrapped, in columns.
 const GREAT: usize = 2000;
 
-/// Whether borders are made of a character.
+/// Reports whether a character is a box drawing, of which borders are made.
 fn is_of_border(c: char) -> bool {
     matches!(c, '\u{2500}'..='\u{257f}')
 }
 
-/// The characters that have to stand in a text at each width, sorted.
+/// Returns the characters that a text must have at each width, sorted.
 fn wanted_of<D: TextDecorator>(
     alloc: Global,
     wide: &Config<D>,
@@ -209,8 +214,9 @@ fn wanted_of<D: TextDecorator>(
     Ok(shown)
 }
 
-/// What is wrong with a document at each width, with a line for each. The configuration is one without overflow, and cuts
-/// closing lines.
+/// Returns a line for the first fault of a document at each width.
+///
+/// The configuration must be without overflow, and must wrap links, so that closing lines are cut.
 pub fn sweep<D: TextDecorator>(
     alloc: Global,
     config: Config<D>,
