@@ -42,7 +42,7 @@ IsFound index number (Some text) = (is_told index.keys.items text ≡ true) × C
 abbrev pub asks_attributes : Rule → Bool
 asks_attributes rule = is_some rule.id || is_filled rule.classes
 
--- whether an index is one of these rules: it has the number of each, and the fact whether any states an id or a class
+-- whether an index is that of these rules: it has the number of each, and records whether any states an id or a class
 abbrev pub Finds : RuleIndex → List Rule → Type 0
 Finds index rules = (length index.keys.items ≡ 64) × ((number : ℕ) (rule : Rule) → number < length rules →
     IsFound index number (stated_text (get_or rules number rule))) × (index.asks_attributes ≡ list_any asks_attributes rules)

@@ -9,11 +9,11 @@ pub record Node : Type 0 where
   pub children : List ℕ
   pub parent : Option ℕ
 
--- a node without a parent and children
+-- a node without a parent or children
 abbrev pub lone : Content → Node
 lone c = record { content = c; children = []; parent = None }
 
--- the node with a number; past the last node, a document node without a parent and children
+-- the node with a number; past the last node, a document node without a parent or children
 abbrev pub node_in : List Node → ℕ → Node
 node_in nodes h = slice_index_or nodes h (lone document)
 

@@ -7,6 +7,6 @@ use Rattle.html_render_dom_nodes.specs.declared.nodes.Node.{Node}
 abbrev pub HasRoom : List Node → (node more : ℕ) → Type 0
 HasRoom items node more = (other : Node) → HasRoomFor (slice_index_or items node other).children more
 
--- whether each list of children has room for at least the children for which it had room before
+-- whether no list of children has less capacity in new than in old
 abbrev pub KeepsRoom : (old new : List Node) → Type 0
 KeepsRoom old new = (node more : ℕ) → HasRoom old node more → HasRoom new node more

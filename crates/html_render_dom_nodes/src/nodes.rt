@@ -28,7 +28,7 @@ pub struct Node {
 }
 
 impl Node {
-    /// Creates a node without a parent and children.
+    /// Creates a node without a parent or children.
     pub fn lone(alloc: Global, contents: NodeData) -> Node
         ensures { node_of result ≡ lone (content_of contents) }
     {
@@ -51,7 +51,7 @@ impl Node {
         }
     }
 
-    /// Creates an element with a parent and without attributes and children.
+    /// Creates an element with a parent and without attributes or children.
     #[inline(always)]
     fn element_below(alloc: Global, parent: Handle, name: QualName) -> Node
         ensures { node_of result ≡ record { content = element (name_of name) [] None false; children = []; parent = Some parent } }

@@ -46,7 +46,7 @@ pub record SameShape (old new : Dom) : Type 0 where
   pub children : (h : ℕ) → children_at new h ≡ children_at old h
   pub parents : (h : ℕ) → parent_at new h ≡ parent_at old h
 
--- appending a node without a parent and children leaves all lists and parents unchanged
+-- appending a node without a parent or children leaves all lists and parents unchanged
 pub created-shape : (dom : Dom) (c : Content) → SameShape dom (record dom { nodes = created dom.nodes c })
 created-shape dom c = record {
   grows = omega (arith, length-append dom.nodes (lone c ∷ []));

@@ -40,7 +40,7 @@ impl Model for RcDom {
 }
 
 impl RcDom {
-    /// Creates a document without children and errors, in `NoQuirks` mode.
+    /// Creates a document without children or errors, in `NoQuirks` mode.
     ///
     /// # Errors
     ///

@@ -123,7 +123,7 @@ impl RcDom {
         Ok(appended)
     }
 
-    /// Creates an element without a parent and children, and returns its handle, which is the next number.
+    /// Creates an element without a parent or children, and returns its handle, which is the next number.
     ///
     /// If `flags.template` is set, the element gets contents: a document node without a parent, with the number after the
     /// element's.
@@ -191,7 +191,7 @@ impl RcDom {
         Ok(self.create(alloc, NodeData::ProcessingInstruction { target, contents })?)
     }
 
-    /// Creates a node without a parent and children, and returns its handle, which is the next number. It isn't a template.
+    /// Creates a node without a parent or children, and returns its handle, which is the next number. It isn't a template.
     fn create(&mut self, alloc: Global, contents: NodeData) -> Result<Handle, AllocError>
         requires { contents_in (content_of contents) ≡ None }
         ensures number { IfOk result (λ made. made ≡ node_count self.old) }

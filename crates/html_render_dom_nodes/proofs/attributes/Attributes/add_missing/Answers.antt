@@ -7,7 +7,7 @@ use Rattle.html_render_dom_nodes.specs.Elements.{has_name, with_missing}
 use Rattle.html_render_dom_nodes.proofs.Mapped.{map-filter}
 use Rattle.html_render_dom_nodes.proofs.attributes.Attributes.add_missing.Goals as goal
 
--- the attributes after the given ones without a name among them were appended
+-- the attributes after those of the given ones whose names are new are appended
 added : {T E : Type 0} (r : Result T E) (old given left new : List Attribute) →
     left ≡ filter (λ a. not (has_name (map property_of old) (name_of a.name))) given → OnOk r (new ≡ old ++ left) →
     OnOk r (map property_of new ≡ with_missing (map property_of old) (map property_of given))

@@ -7,7 +7,7 @@ use Rattle.html_render_dom_nodes.proofs.Places.{named_from, none_named, place_wi
 use Rattle.html_render_dom_nodes.proofs.attributes.Attributes.has.Goals as goal
 use Rattle.html_render_dom_nodes.proofs.attributes.Attributes.has.Goals.{After-get}
 
--- the entry of the index for the name's local name is the place of its first attribute
+-- the index has the place of the first attribute with the name's local name
 told : (c : After-get) (found : Option ℕ) →
     found ≡ get_by_text c.deref.result.now c.as_str.result.now → place_of c.args.name.now.local 0 c.self.inside.list.items ≡ found
 told c found is =
