@@ -1,4 +1,4 @@
--- THE DEFINITION of the layout, node kind by node kind.
+-- THE DEFINITION of the layout, kind of node by kind of node.
 use Rattle.std.specs.Prelude.{ℕ, pos, ◌+◌, ◌+ℤ◌, ◌-◌, ◌==◌, ◌||◌, ◌&&◌, not, Bool, true, false, List, [], ◌∷◌, ◌++◌, length, map, codes, slice_index_or}
 use Rattle.std.specs.Prelude.{Option, Some, None, option_and_then, option_map, replicate, if◌then◌else◌}
 use Rattle.std.specs.Char.{is_ascii_digit}
@@ -42,94 +42,95 @@ use Rattle.html_render_layout_estimates.specs.declared.settings.LayoutSettings.{
 use Rattle.html_render_layout_states.specs.Images.{shown_title}
 use Rattle.html_render_layout_states.specs.Ending.{ended}
 
--- what a layout is made with: what the decorators S answer, with annotations A; the tag T of one annotation more, in what is kept of
--- annotations, K; and the operations on blocks B
+-- parts that a layout is generic in: what decorators S return, with annotations A; `push`, which adds an annotation to a tag
+-- T in a store of annotations K; and the operations on blocks B
 pub record Means (S A K T B : Type 0) : Type 0 where
   pub decoration : Decoration S A
   pub push : K → T → A → K × T
   pub operations : Operations B T ℕ
 
--- ---- WHAT EACH KIND OF NODE DOES
+-- ---- STEPS AND SHAPES OF KINDS OF NODES
 
--- a step of a layout, by what a decorator S answers
+-- step of a layout; its texts and annotations are functions of a decorator S
 pub data Step (S A : Type 0) : Type 0 where
-  Write : (S → List ℕ) → Step S A  -- characters
-  WriteNumber : Step S A  -- the number of the link that has begun here, if there are footnotes
-  Annotate : (S → Option A) → Step S A  -- texts have an annotation more, if there is one
-  Treat : (white_space : WhiteSpace) → (preformatted : Bool) → Step S A  -- texts have what a style says of white space
-  Strike : Step S A  -- texts are struck out, if that is chosen
-  Unstrike : Step S A  -- or as they were before the node
-  Restore : Step S A  -- texts have what they had before the node
+  Write : (S → List ℕ) → Step S A  -- adds characters as a text
+  WriteNumber : Step S A  -- adds the number of the link that the node is, if links have footnotes
+  Annotate : (S → Option A) → Step S A  -- adds an annotation to the texts that follow, if there is one
+  Treat : (white_space : WhiteSpace) → (preformatted : Bool) → Step S A  -- applies what a style says of white space
+  Strike : Step S A  -- strikes texts out, if `unicode_strikeout` is on
+  Unstrike : Step S A  -- restores whether texts are struck out
+  Restore : Step S A  -- restores the treatment of texts before the first step
   NewLine : Step S A
   NewLineHard : Step S A
   StartBlock : Step S A
   EndBlock : Step S A
-  Fence : Step S A  -- a line of three backquotes, if tables are fenced and this is in none
+  Fence : Step S A  -- adds a line of three backquotes, if tables are fenced and no table is open
   BeginTable : CellGrid → List ColumnNeed → Step S A
   EndTable : Step S A
-  AddTarget : List ℕ → Step S A  -- the next link's
+  AddTarget : List ℕ → Step S A  -- adds the target of the next link
   AddMark : (name : List ℕ) → Step S A
 
--- the shape of a node's layout
+-- shape of a node's layout
 pub data Shape (S A : Type 0) : Type 0 where
-  Steps : List (Step S A) → Shape S A  -- whatever stands below it
-  Around : (before after : List (Step S A)) → Shape S A  -- round the nodes below it
-  Items : (S → ℕ → List ℕ) → (S → ℕ) → (least : ℕ) → Shape S A  -- each in a block of its own: the first line behind its prefix, by its number
-  Cells : Shape S A  -- each as a cell of the table's next row
+  Steps : List (Step S A) → Shape S A  -- steps alone; children are skipped
+  Around : (before after : List (Step S A)) → Shape S A  -- steps before the children and after them
+  Items : (S → ℕ → List ℕ) → (S → ℕ) → (least : ℕ) → Shape S A  -- children in sub-blocks: prefix by number, its columns, minimum width
+  Cells : Shape S A  -- children as cells of the table's next row
 
 abbrev pub spaces : ℕ → List ℕ
 spaces count = replicate count 32
 
--- a prefix, in UTF-8, padded with spaces to `columns` columns
+-- prefix in UTF-8, padded with spaces to `columns` columns; a wider one as it is
 abbrev pub padded : (columns : ℕ) → List ℕ → List ℕ
 padded columns prefix = prefix ++ spaces (columns - prefix_columns prefix)
 
--- a digit from 0 to 9 as a superscript
+-- superscript of an ASCII digit
 abbrev pub raised : ℕ → ℕ
 raised digit = slice_index_or (8304 ∷ (185 ∷ (178 ∷ (179 ∷ (8308 ∷ (8309 ∷ (8310 ∷ (8311 ∷ (8312 ∷ (8313 ∷ [])))))))))) (digit - 48) 0
 
--- the digits of a text of ASCII digits alone
+-- digits of a text of ASCII digits alone, which may be empty; none for anything else
 abbrev pub digits_of_kind : NodeKind → Option (List ℕ)
 digits_of_kind (Text t) = if list_all is_ascii_digit t then Some t else None
 digits_of_kind _ = None
 
--- and of a superscript that holds such a text alone
+-- digits of trees that are one text without children, of ASCII digits alone
 abbrev pub digits_of : Forest RenderNode → Option (List ℕ)
 digits_of (node n none none) = digits_of_kind n.kind
 digits_of _ = None
 
 module _ {S A : Type 0} (d : Decoration S A) where
-  -- the decoration of an emphasis
+  -- decoration of an emphasis
   abbrev pub emphasis_decoration : TheEmphasis → Round S A
   emphasis_decoration Em = d.em
   emphasis_decoration Strong = d.strong
   emphasis_decoration Code = d.code
 
-  -- a text stands under its annotation, and so does what follows
+  -- steps that begin a decorated part: its annotation, for all texts in it, and the decorator's text before it
   abbrev pub start : Round S A → List (Step S A)
   start round = Annotate (λ x. Some (round.start x).annotation) ∷ (Write (λ x. chars (round.start x).text) ∷ [])
 
   abbrev pub end : Round S A → Step S A
   end round = Write (λ x. chars (round.end x))
 
-  -- a superscript: of digits by their own characters, anything else within its decoration
+  -- shape of a superscript: digits as superscript characters, anything else in its decoration
   abbrev pub superscript : (digits : Option (List ℕ)) → Shape S A
   superscript None = Around (start d.superscript) (end d.superscript ∷ [])
   superscript (Some digits) = Steps (Write (λ x. map raised digits) ∷ [])
 
-  -- an image, under its annotation, where it has a title to be shown
+  -- steps of an image, under its annotation; none without a title to show
   abbrev pub image : (source : List ℕ) → (title : Option (List ℕ)) → List (Step S A)
   image source None = []
   image source (Some title) = start (record { start = λ x. d.image x source title; end = λ x. [] })
 
-  -- THE BLOCK in which each stands, by this decorator: behind a prefix it needs the columns that are left
+  -- THE BLOCK of each kind: a sub-block with the decorator's prefix and the minimum width of the node without it, or the
+  -- siblings' block
   abbrev pub block_of : LayoutSettings → S → NodeKind → Estimate → OwnBlock
   block_of settings x (Header level) e = Prefixed (d.header_prefix x level) (e.least - e.prefix)
   block_of settings x BlockQuote e = Prefixed (d.quote_prefix x) (e.least - e.prefix)
   block_of settings x Dd e = Indented (spaces 2) 2 (e.least - e.prefix)
   block_of settings x kind e = Shared
 
-  -- THE TABLE, over these trees: the numbers of items stop at the ends of their type
+  -- THE SHAPE of each kind over its child trees; numbers of items saturate
   abbrev pub shape_of : LayoutSettings → NodeKind → Estimate → (trees : Forest RenderNode) → Shape S A
   shape_of settings (Text t) e trees = Steps (Write (λ x. chars t) ∷ [])
   shape_of settings Break e trees = Steps (NewLineHard ∷ [])
@@ -152,25 +153,25 @@ module _ {S A : Type 0} (d : Decoration S A) where
   shape_of settings TableRow e trees = Cells
   shape_of settings kind e trees = Around [] []
 
-  -- what a style gives the texts: its colour, then that of its background, and its white space
+  -- steps of a style: the annotation of its colour, that of its background, and its white space
   abbrev pub style_steps : NodeStyle → List (Step S A)
   style_steps style =
       Annotate (λ x. option_and_then (d.push_colour x) style.colour)
       ∷ (Annotate (λ x. option_and_then (d.push_background x) style.background) ∷ (Treat style.white_space style.preformatted ∷ []))
 
--- ---- STEPS
+-- ---- MEANING OF STEPS
 
--- characters that are struck out: U+0336 stands behind each that isn't collapsible white space
+-- characters with U+0336 after each that isn't collapsible white space
 abbrev pub struck : List ℕ → List ℕ
 struck [] = []
 struck (c ∷ cs) = if is_collapsible c then c ∷ struck cs else c ∷ (822 ∷ struck cs)
 
--- white space among texts, by a style: Normal changes nothing
+-- treatment of white space in a style; `Normal` changes nothing
 abbrev pub white_space_in : WhiteSpace → (style : WhiteSpace) → WhiteSpace
 white_space_in before Normal = before
 white_space_in before style = style
 
--- the state with its block after an operation
+-- state after an operation on its block; none where it is too narrow
 abbrev pub on_block : {S K T B : Type 0} → (B → Option B) → LayoutState S K T B → Option (LayoutState S K T B)
 on_block f s = option_map (λ b. record s { block = b }) (f s.block)
 
@@ -178,8 +179,8 @@ module _ {S A K T B : Type 0} (m : Means S A K T B) where
   abbrev pub State : Type 0
   State = LayoutState S K T B
 
-  -- the style of texts, with what is kept of annotations then. Preformatted ones have one annotation more on top, and another
-  -- one on continuation lines
+  -- style of texts, and the store of annotations with those that it adds: preformatted texts have one more annotation on
+  -- top, and another one on continuation lines
   abbrev pub text_style : S → K → TextContext T → (preformatted : Bool) → K × TextStyle T
   text_style decorator stacks text false = (stacks, record { mode = text.mode; tag = text.tag; continuation_tag = text.tag })
   text_style decorator stacks text true =
@@ -187,7 +188,7 @@ module _ {S A K T B : Type 0} (m : Means S A K T B) where
       let continuing = m.push first.0 text.tag (m.decoration.preformat_continuing decorator) in
       (continuing.0, record { mode = text.mode; tag = first.1; continuation_tag = continuing.1 })
 
-  -- the state with characters more in a style, struck out or not, and as its texts are
+  -- state after characters are added in a style, with U+0336 if its texts are struck out
   abbrev pub add_styled : K × TextStyle T → List ℕ → State → Option State
   add_styled style cs s =
       on_block (λ b. m.operations.add_inline_text b style.1 (if s.text.struck_out then struck cs else cs)) (record s { stacks = style.0 })
@@ -195,7 +196,7 @@ module _ {S A K T B : Type 0} (m : Means S A K T B) where
   abbrev pub write : List ℕ → State → Option State
   write cs s = add_styled (text_style s.decorator s.stacks s.text s.text.preformatted) cs s
 
-  -- with one annotation more on its texts, if there is one
+  -- state whose texts have one more annotation, if there is one
   abbrev pub annotated : Option A → State → State
   annotated None s = s
   annotated (Some a) s = let p = m.push s.stacks s.text.tag a in record s { stacks = p.0; text = record s.text { tag = p.1 } }
@@ -208,7 +209,7 @@ module _ {S A K T B : Type 0} (m : Means S A K T B) where
   abbrev pub write_number : ℕ → State → Option State
   write_number number s = if s.settings.link_footnotes then write (chars (codes "[" ++ decimal number ++ codes "]")) s else Some s
 
-  -- the state after a step, at a node that was come to in this one. The cells of a table stand one below another in raw mode
+  -- state after a step at a node whose steps began in `before`; in raw mode the cells of a table are stacked
   abbrev pub perform : (before : State) → Step S A → State → Option State
   perform before (Write text) s = write (text s.decorator) s
   perform before WriteNumber s = write_number (length before.targets + 1) s
@@ -235,36 +236,38 @@ module _ {S A K T B : Type 0} (m : Means S A K T B) where
   perform_all before (x ∷ []) s = perform before x s
   perform_all before (x ∷ (y ∷ xs)) s = perform before x s >>= λ q. perform_all before (y ∷ xs) q
 
-  -- ---- BLOCKS IN BLOCKS
+  -- ---- SUB-BLOCKS
 
-  -- the state in this block, inside its own
+  -- state inside this block, with the decorator of a sub-block
   abbrev pub within : B → State → State
   within b s = record s { decorator = m.decoration.subblock s.decorator; block = b }
 
-  -- in an empty one, behind a prefix of `prefix` columns, with at least `least` of its own; none where it is too narrow
+  -- state inside an empty sub-block, with the columns that a prefix of `prefix` columns leaves, at least `least`; none where
+  -- it is too narrow
   abbrev pub nested : (prefix least : ℕ) → State → Option State
   nested prefix least s = option_map (λ b. within b s) (m.operations.sub_block s.block prefix least)
 
-  -- the state s with what its block becomes by that of r, inside it
+  -- state r with the decorator of s, and the block that f makes of the block of s and the sub-block of r
   abbrev pub joined : (B → B → Option B) → State → State → Option State
   joined f s r = option_map (λ b. record r { decorator = s.decorator; block = b }) (f s.block r.block)
 
-  -- the lines of the block inside s, the first behind a prefix, and the later ones behind `columns` spaces
+  -- state after a sub-block's lines are appended to the block of s, the first after a prefix and later ones after `columns`
+  -- spaces
   abbrev pub appended : State → (prefix : List ℕ) → (columns : ℕ) → State → Option State
   appended s prefix columns = joined (λ b c. m.operations.append b c s.text.tag (chars prefix) (spaces columns)) s
 
-  -- and all of them behind it, as one of the blocks of s
+  -- block b after the lines of c are appended to it as a block, each after a prefix; none where it is too narrow
   abbrev pub appended_block : T → (prefix : List ℕ) → B → B → Option B
   appended_block tag prefix b c =
       m.operations.start_block b >>= λ e. option_map m.operations.end_block (m.operations.append e c tag (chars prefix) (chars prefix))
 
-  -- the place of a node that stands in this block
+  -- place of a node that is laid out into this block
   abbrev pub block_place : OwnBlock → State → Place State
   block_place Shared s = Bare
   block_place (Prefixed prefix least) s = Within (nested (prefix_columns prefix) least s) (joined (appended_block s.text.tag prefix) s)
   block_place (Indented prefix columns least) s = Within (nested columns least s) (appended s prefix columns)
 
-  -- and of the next cell of a row: it is skipped where there is no block for it
+  -- place of the next cell of a row, by its block; without one the cell is skipped
   abbrev pub cell_place : Option B → State → Place State
   cell_place None s = Skipped (record s { block = m.operations.skip_cell s.block })
   cell_place (Some cell) s = Within (Some (within cell s)) (joined m.operations.add_cell s)
@@ -280,34 +283,35 @@ module _ {S A K T B : Type 0} (m : Means S A K T B) where
       Inner (Some (record s { block = m.operations.begin_row s.block })) (λ n r. cell_place (m.operations.cell_block r.block) r)
       (on_block m.operations.end_row)
 
-  -- a kind of node over these trees, in its block
+  -- visit of a kind of node over these trees, in its block
   abbrev pub kind_layout : NodeKind → Estimate → (trees : Forest RenderNode) → State → Visit State
   kind_layout kind e trees s =
       placed (block_place (block_of m.decoration s.settings s.decorator kind e) s) (λ q. shape_layout (shape_of m.decoration q.settings kind e trees) q) s
 
-  -- EACH NODE: its kind, in its style. Texts are treated behind it as they were before it
+  -- THE VISIT OF A NODE: that of its kind, in its style; after it texts are treated as before it
   abbrev pub layout_of : Visits RenderNode State
   layout_of n trees s =
       option_map_or (λ q. followed (kind_layout n.kind n.estimate trees q) (λ r. Some (record r { text = s.text })))
       (perform_all s (style_steps m.decoration n.style) s) (Leaf None)
 
-  -- what the state shows once all trees are laid out and the document is closed, under the tag that its texts began with
+  -- view of the state after all trees are laid out and the document is closed under the tag of the first texts; none where
+  -- it is too narrow
   abbrev pub shown_after : {L : Type 0} → DocumentEnd B T → (State → L) → Forest RenderNode → State → Option L
   shown_after ending shown t s =
       run layout_of t s >>= λ r. option_map shown (ended m.decoration ending s.settings.link_footnotes s.settings.wrap_links s.text.tag r)
 
--- the state of a layout by stacks, on lists of all that was fed; marks are numbers
+-- state of the definition's layout: tags are annotation stacks, blocks keep all that was fed, and marks are indices of names
 abbrev pub Defined : Type 0 → Type 0 → Type 0
 Defined S A = LayoutState S (Unit {0}) (List A) (DefinedBlock (List A) ℕ)
 
--- its means: the stacks themselves are the tags, and an annotation comes on top
+-- means of the definition's layout: an annotation is added on top of the stack that is the tag
 abbrev pub by_stacks : {S A : Type 0} → Decoration S A → Means S A (Unit {0}) (List A) (DefinedBlock (List A) ℕ)
 by_stacks d = record { decoration = d; push = λ k stack a. (k, stack ++ a ∷ []); operations = definition.operations }
 
 abbrev pub defined : {S A : Type 0} → Decoration S A → Visits RenderNode (Defined S A)
 defined d = layout_of (by_stacks d)
 
--- the state in which a layout begins: its texts are wrapped
+-- state in which a layout begins, with white space `Normal`
 abbrev pub begin_with : {S K T B : Type 0} → LayoutSettings → S → K → T → B → LayoutState S K T B
 begin_with settings decorator stacks tag block =
     record {
@@ -323,30 +327,31 @@ begin_with settings decorator stacks tag block =
     }
 
 module _ {S A : Type 0} (d : Decoration S A) (settings : LayoutSettings) where
-  -- an empty block in the decorator's sub-block, without annotations; its lines are padded, if that is chosen
+  -- state in an empty block, with the decorator's sub-block decorator and no annotations; lines are padded under
+  -- `pad_block_width`
   abbrev pub empty_state : S → BlockSetting → Defined S A
   empty_state decorator block =
       let padding : Option (List A) = if settings.pad_block_width then Some [] else None in
       begin_with settings (d.subblock decorator) tt [] (empty_block defined_parts block padding)
 
-  -- a tree with the estimate of each node, whose prefixes are those of the decorator of a block inside the root's: a text needs
-  -- its own columns, or as many as it is wrapped to at least
+  -- trees with the estimate of each node; prefixes are those of a sub-block of the document's block, and the minimum width
+  -- of a text is `min_wrap_width`, or its own columns if these are fewer
   abbrev pub estimated : S → Forest RenderNode → Forest RenderNode
   estimated decorator t = measured d (d.subblock (d.subblock decorator)) settings t
 
-  -- THE LAYOUT of a render tree in a block: what is shown of the state behind it; none where it is too narrow
+  -- THE LAYOUT of a render tree in a block: what is shown of the state after it; none where it is too narrow, as at width 0
   abbrev pub layout : {L : Type 0} → (Defined S A → L) → Forest RenderNode → S → BlockSetting → Option L
   layout shown t decorator block =
       if block.width == 0 then None else shown_after (by_stacks d) definition.ending shown (estimated decorator t) (empty_state decorator block)
 
-  -- its lines, each character with its stack of annotations
+  -- lines of the layout, each character with its annotation stack
   abbrev pub layout_lines : Forest RenderNode → S → BlockSetting → Option (List (Line (List A) ℕ))
   layout_lines = layout (λ s. s.block.lines)
 
-  -- and the names of its marks: a mark in the lines is the place of one
+  -- names of the layout's marks; a mark in the lines is an index of them
   abbrev pub mark_names : Forest RenderNode → S → BlockSetting → Option (List (List ℕ))
   mark_names = layout (λ s. s.names)
 
--- the same lines without annotations
+-- lines without annotations
 abbrev pub unannotated : {A : Type 0} → List (Line (List A) ℕ) → List (Line (Unit {0}) ℕ)
 unannotated lines = lines_with (λ stack. tt) lines

@@ -1,4 +1,4 @@
--- the layout: the definition, and what the code computes
+-- definitions of the layout, and of the code's machine
 pub mod Images
 pub mod Ending
 pub mod Layout

@@ -1,4 +1,4 @@
--- What the walk does as it opens a node and closes it.
+-- The walk's machine: opening and closing a node, with the pending work as data.
 use Rattle.std.specs.Prelude.{Bool, ℕ, ℤ, pos, ◌+◌, ◌-◌, ◌+ℤ◌, List, length, Option, Some, None, option_map}
 use Rattle.std.specs.Int.{saturate_signed, w64}
 use Rattle.std.specs.Str.{chars}
@@ -29,61 +29,62 @@ use Rattle.html_render_layout_states.specs.Layout.{Means, State, write_number, s
 use Rattle.html_render_layout_states.specs.Layout.{block_of, shape_of, style_steps}
 use Rattle.html_render_layout_states.specs.Layout.{on_block, write, within, nested, appended_block, block_place, cell_place, Fence, perform, shape_layout, perform_all}
 
--- the number of an item; numbers stop at the ends of their type
+-- number of an item, by the list's first number and the item's index from 0; it saturates
 abbrev pub number_from : (first : ℤ) → ℕ → ℤ
 number_from first n = saturate_signed w64 (first +ℤ pos n)
 
 module _ {S A K T B : Type 0} (m : Means S A K T B) where
-  -- what a block inside the state's interrupts
+  -- suspended block of the state, for a sub-block after this prefix
   abbrev pub interrupted : State m → (prefix : List ℕ) → (columns : ℕ) → Outer S T B
   interrupted s prefix columns = record { decorator = s.decorator; block = s.block; prefix = prefix; columns = columns; tag = s.text.tag }
 
-  -- what was indented is over
+  -- state after an indented sub-block is closed
   abbrev pub indent_closed : Outer S T B → State m → Option (State m)
   indent_closed u r =
       option_map (λ b. record r { decorator = u.decorator; block = b }) (m.operations.append u.block r.block u.tag (chars u.prefix) (spaces u.columns))
 
-  -- a heading or a quote is over
+  -- state after the sub-block of a heading or a quote is closed
   abbrev pub quote_closed : Outer S T B → State m → Option (State m)
   quote_closed u r = option_map (λ b. record r { decorator = u.decorator; block = b }) (appended_block m u.tag u.prefix u.block r.block)
 
-  -- a cell is over
+  -- state after a cell's block is closed and the cell is added to its row
   abbrev pub cell_closed : OuterTable S B → State m → Option (State m)
   cell_closed u r = option_map (λ b. record r { decorator = u.decorator; block = b }) (m.operations.add_cell u.block r.block)
 
-  -- a table is over, where it stood in another one or didn't
+  -- state after a table is closed; `in_table` is whether it is nested
   abbrev pub table_closed : (in_table : Bool) → State m → Option (State m)
   table_closed in_table r = perform m r Fence (record r { block = m.operations.end_table r.block; in_table = in_table })
 
-  -- what a node interrupts goes on
+  -- state after a suspended block is resumed, if there is one
   abbrev pub continued : Interruption S T B → State m → Option (State m)
   continued NoBlock r = Some r
   continued (Quoted u) r = quote_closed u r
   continued (Indented u) r = indent_closed u r
   continued (Cell u) r = cell_closed u r
 
-  -- the way of a node, by that of its kind, with what it restores
+  -- way of a node, by that of its kind: its pending work holds what it suspends and the treatment of texts, and past it both
+  -- are restored
   abbrev pub keeping : Interruption S T B → TextContext T → Way (State m) (KindClosing S T B) → Option (Way (State m) (Closing S T B))
   keeping item text (Into q k) = Some (Into q (record { item = item; text = text; kind = k }))
   keeping item text (Past r) = past (continued item (record r { text = text }))
 
-  -- ---- each block
+  -- ---- blocks
 
-  -- a node begins in its block
+  -- state after a node's block is begun; none where it is too narrow
   abbrev pub block_begun : OwnBlock → State m → Option (State m)
   block_begun Shared s = Some s
   block_begun (Prefixed prefix least) s = nested m (prefix_columns prefix) least s
   block_begun (block.Indented prefix columns least) s = nested m columns least s
 
-  -- what it interrupts by that
+  -- what a node suspends as its block is begun
   abbrev pub block_kept : OwnBlock → State m → Interruption S T B
   block_kept Shared s = NoBlock
   block_kept (Prefixed prefix least) s = Quoted (interrupted s prefix (prefix_columns prefix))
   block_kept (block.Indented prefix columns least) s = Indented (interrupted s prefix columns)
 
-  -- ---- each kind
+  -- ---- kinds of nodes
 
-  -- what is kept of a node until its children are laid out, if it interrupts this with a block of its own
+  -- closing action of a kind, where `own` is what the node suspends with a block of its own
   abbrev pub kind_kept : (own : Interruption S T B) → NodeKind → Estimate → State m → KindClosing S T B
   kind_kept own Block e s = EndBlock
   kind_kept own ListItem e s = EndBlock
@@ -99,12 +100,12 @@ module _ {S A K T B : Type 0} (m : Means S A K T B) where
   kind_kept own TableRow e s = EndRow
   kind_kept own _ e s = Nothing own
 
-  -- how each kind of node is opened, in its block
+  -- way of a kind of node in its block, where `own` is what that suspends
   abbrev pub kind_opened : (own : Interruption S T B) → NodeKind → Estimate → (trees : Forest RenderNode) → State m →
       Option (Way (State m) (KindClosing S T B))
   kind_opened own k e trees s = opened_with (shape_layout m (shape_of m.decoration s.settings k e trees) s) (kind_kept own k e s)
 
-  -- what each does once its children are laid out
+  -- state after the closing action of a kind
   abbrev pub kind_closed : KindClosing S T B → State m → Option (State m)
   kind_closed (Nothing own) r = continued own r
   kind_closed EndBlock r = Some (record r { block = m.operations.end_block r.block })
@@ -123,21 +124,21 @@ module _ {S A K T B : Type 0} (m : Means S A K T B) where
     continued own q
   kind_closed EndRow r = on_block m.operations.end_row r
 
-  -- the block of the child of this number of each: items of lists have one of their own
+  -- block of a child, by its parent's closing action and its number: a sub-block for an item of a list
   abbrev pub child_block : S → KindClosing S T B → (number : ℕ) → OwnBlock
   child_block x (Bullets columns least) number = block.Indented (padded columns (m.decoration.unordered_item_prefix x)) columns least
   child_block x (Numbers first columns least) number =
       block.Indented (padded columns (m.decoration.ordered_item_prefix x (number_from first number))) columns least
   child_block x _ number = Shared
 
-  -- the places of the children of each
+  -- places of the children of a node, by its closing action
   abbrev pub kind_below : KindClosing S T B → Places (State m)
   kind_below EndRow number s = cell_place m (m.operations.cell_block s.block) s
   kind_below kind number s = block_place m (child_block s.decorator kind number) s
 
-  -- ---- each node
+  -- ---- nodes
 
-  -- a node is opened in its style and its block, in one that it interrupts another for, if it does
+  -- way of a node in its style and its block, where `item` is what it suspends as an item or as a cell
   abbrev pub opened_in : Interruption S T B → RenderNode → Forest RenderNode → State m → Option (Way (State m) (Closing S T B))
   opened_in item n trees s = do
     q ← perform_all m s (style_steps m.decoration n.style) s
@@ -145,25 +146,25 @@ module _ {S A K T B : Type 0} (m : Means S A K T B) where
     w ← kind_opened (block_kept (block_of m.decoration q.settings q.decorator n.kind n.estimate) q) n.kind n.estimate trees p
     keeping item s.text w
 
-  -- a text, in that of the nodes beside it
+  -- way of a text in the block of its siblings
   abbrev pub text_opened : List ℕ → NodeStyle → State m → Option (Way (State m) (Closing S T B))
   text_opened t style s = do
     q ← perform_all m s (style_steps m.decoration style) s
     r ← write m (chars t) q
     Some (Past (record r { text = s.text }))
 
-  -- as a cell in this block, or skipped
+  -- way of the next cell of a row in its block; without one the cell is skipped
   abbrev pub cell_opened : RenderNode → Forest RenderNode → Option B → State m → Option (Way (State m) (Closing S T B))
   cell_opened n trees None s = Some (Past (record s { block = m.operations.skip_cell s.block }))
   cell_opened n trees (Some cell) s = opened_in (Cell (record { decorator = s.decorator; block = s.block })) n trees (within m cell s)
 
-  -- in this block
+  -- way of a node in this block
   abbrev pub block_opened : RenderNode → Forest RenderNode → OwnBlock → State m → Option (Way (State m) (Closing S T B))
   block_opened n trees b s = do
     q ← block_begun b s
     opened_in (block_kept b s) n trees q
 
-  -- as the child of this number, below a node that keeps this of its kind
+  -- way of a child, by its parent's closing action and its number
   abbrev pub opened_below : KindClosing S T B → (number : ℕ) → RenderNode → Forest RenderNode → State m → Option (Way (State m) (Closing S T B))
   opened_below EndRow number n trees s = cell_opened n trees (m.operations.cell_block s.block) s
   opened_below kind number n trees s = block_opened n trees (child_block s.decorator kind number) s

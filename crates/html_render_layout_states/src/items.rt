@@ -1,4 +1,4 @@
-//! The items of a list: the block of each.
+//! Items of lists: the sub-block of each.
 
 ghost use Rattle.std.specs.Prelude.{◌≡◌, IfOk, IfErr, string_bytes};
 ghost use Rattle.html_render_layout_states.specs.Layout.{padded};
@@ -15,7 +15,7 @@ use html_render_dom_values::text::Text;
 use html_render_parts_decorators::decorate::TextDecorator;
 use std::alloc::Global;
 
-/// The block of an item behind a prefix, which is padded to `columns` columns.
+/// Returns the sub-block of an item. Pads its prefix with spaces to `columns` columns.
 fn item_block(prefix: String, columns: usize, least: usize) -> Result<OwnBlock, Error>
     ensures ok { IfOk result (λ b. b ≡ OwnBlock.Indented (padded columns (string_bytes prefix)) columns least) }
     ensures err { IfErr result (λ e. e ≡ Error.OutOfMemory) }
@@ -28,14 +28,15 @@ fn item_block(prefix: String, columns: usize, least: usize) -> Result<OwnBlock, 
     })
 }
 
-/// The number of the item behind `number` others; numbers stop at the ends of their type.
+/// Returns the number of an item: that of the list's first item plus `number`, the item's index from 0. It saturates.
 fn number_from(first: i64, number: usize) -> i64
     ensures { result ≡ number_from first number }
 {
     first.saturating_add_unsigned(number as u64)
 }
 
-/// The block of the child of this number, below a node that keeps this: one of its own, if it is an item of a list.
+/// Returns the block of a child by its parent's closing action: a sub-block if the parent is a list, and otherwise that of
+/// the siblings. `number` is the child's index, from 0.
 ///
 /// # Errors
 ///

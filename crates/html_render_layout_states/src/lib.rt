@@ -1,4 +1,4 @@
-//! Where a layout stands: what its texts are treated with, the block that it is laid out into, and the blocks inside it.
+//! State of a layout: the treatment of texts, the current block, and the suspended blocks around it.
 #![tactic(auto)]
 
 pub mod items;

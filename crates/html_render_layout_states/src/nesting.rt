@@ -1,4 +1,4 @@
-//! A block inside the one that is laid out into: how it begins, and how its lines go on in the other.
+//! Sub-blocks: beginning one, and appending its lines to the outer block.
 
 ghost use Rattle.std.specs.Prelude.{◌≡◌, Some, OnOk, IfOk, IfErr};
 ghost use Rattle.std.specs.Str.{chars};
@@ -22,35 +22,35 @@ use html_render_parts_decorators::decorate::TextDecorator;
 use std::alloc::Global;
 use std::mem;
 
-/// The block in which a node stands.
+/// The block that a node is laid out into.
 #[derive(Drop)]
 pub enum OwnBlock {
-    /// That of the nodes beside it.
+    /// The block of its siblings.
     Shared,
-    /// One of its own, each of whose lines stands behind a prefix.
+    /// A sub-block, each of whose lines follows the prefix.
     Prefixed {
-        /// What they stand behind.
+        /// Prefix of each line.
         prefix: Text,
-        /// The columns that the node needs behind it.
+        /// Minimum width of the sub-block, in columns.
         least: usize,
     },
-    /// One of its own, whose first line stands behind a prefix, and the others behind spaces.
+    /// A sub-block whose first line follows the prefix, and whose later lines follow spaces.
     Indented {
-        /// What the first line stands behind.
+        /// Prefix of the first line.
         prefix: Text,
-        /// How many spaces the others stand behind.
+        /// Columns reserved for the prefix, and the number of spaces before each later line.
         columns: usize,
-        /// The columns that the node needs behind them.
+        /// Minimum width of the sub-block, in columns.
         least: usize,
     },
 }
 
-/// Begins an empty block inside the state's, behind a prefix of `columns` columns and with at least `least` of its own, and
-/// answers what it interrupts.
+/// Begins an empty sub-block of the current block, and returns the latter, suspended. The sub-block has the columns that a
+/// prefix of `columns` columns leaves, or `least` if that is greater, and the decorator's sub-block decorator.
 ///
 /// # Errors
 ///
-/// `TooNarrow`, where these columns aren't there, with overflow off. `OutOfMemory`.
+/// `TooNarrow` if overflow is off and the prefix leaves fewer than `least` columns. `OutOfMemory`.
 #[tactic(auto, using(html_render_dom_values::specs::laws::Outcome::refusals))]
 fn nest<D: TextDecorator, G: Tagging<D::Annotation>>(
     alloc: Global,
@@ -75,7 +75,7 @@ fn nest<D: TextDecorator, G: Tagging<D::Annotation>>(
     Interrupted::new(alloc, outer)
 }
 
-/// Begins the block of a node, if it has one of its own, and answers what that interrupts.
+/// Begins the sub-block of a node, if it has one, and returns the block that this suspends.
 #[inline(never)]
 #[tactic(auto, using(html_render_dom_values::specs::laws::Outcome::refusals))]
 fn begin_own<D: TextDecorator, G: Tagging<D::Annotation>>(
@@ -105,11 +105,12 @@ fn begin_own<D: TextDecorator, G: Tagging<D::Annotation>>(
     }
 }
 
-/// Begins the block of a node, if it has one of its own, and answers what that interrupts. Most nodes have none.
+/// Begins the sub-block of a node, if it has one, and returns the block that this suspends. Most nodes have none: they take
+/// no call.
 ///
 /// # Errors
 ///
-/// `TooNarrow`, where there are fewer columns behind a prefix than the node needs, with overflow off. `OutOfMemory`.
+/// `TooNarrow` if overflow is off and the prefix leaves fewer columns than the sub-block's minimum width. `OutOfMemory`.
 #[inline(always)]
 pub fn begin_block<D: TextDecorator, G: Tagging<D::Annotation>>(
     alloc: Global,
@@ -126,7 +127,7 @@ pub fn begin_block<D: TextDecorator, G: Tagging<D::Annotation>>(
     begin_own(alloc, block, state)
 }
 
-/// Adds the lines of a block, the first behind a prefix and the later ones behind `columns` spaces.
+/// Appends the lines of a sub-block, the first after a prefix and later ones after `columns` spaces, all under `tag`.
 fn append_behind<T: Tag>(
     alloc: Global,
     block: &mut OpenBlock<T, usize>,
@@ -145,12 +146,12 @@ fn append_behind<T: Tag>(
     block.append(sub, tag, prefix, later.as_str())
 }
 
-/// What was indented is over: the block that it interrupted goes on, with its lines.
+/// Closes an indented sub-block: resumes the outer block, and appends the lines to it.
 ///
 /// # Errors
 ///
-/// `TooNarrow`, where a block is flushed for which a character is too wide, or a line is too wide behind its prefix.
-/// `OutOfMemory`.
+/// `TooNarrow` if overflow is off and a character of either block's open paragraph is wider than a line, or a line with its
+/// prefix is wider than the outer block. `OutOfMemory`.
 #[tactic(auto, using(html_render_dom_values::specs::laws::Outcome::refusals))]
 pub fn close_indent<D: TextDecorator, G: Tagging<D::Annotation>>(
     alloc: Global,
@@ -174,11 +175,12 @@ pub fn close_indent<D: TextDecorator, G: Tagging<D::Annotation>>(
     Ok(())
 }
 
-/// A heading or a quote is over: the block that it interrupted goes on, with its lines as a block.
+/// Closes the sub-block of a heading or a quote: resumes the outer block, and appends the lines to it as a block.
 ///
 /// # Errors
 ///
-/// As for what was indented.
+/// `TooNarrow` if overflow is off and a character of either block's open paragraph is wider than a line, or a line with its
+/// prefix is wider than the outer block. `OutOfMemory`.
 #[tactic(auto, using(html_render_dom_values::specs::laws::Outcome::refusals))]
 pub fn close_quote<D: TextDecorator, G: Tagging<D::Annotation>>(
     outer: Interrupted<D, G::Tag, HeldBlock<G::Tag, usize>>,

@@ -1,4 +1,4 @@
-//! Spaces that lines stand behind.
+//! Spaces: the prefixes of later lines, and the padding of items' prefixes.
 
 ghost use Rattle.std.specs.Prelude.{◌≡◌, ◌-◌, ◌++◌, IfOk, OnOk, IfErr, string_bytes};
 ghost use Rattle.std.specs.Str.{chars};
@@ -8,7 +8,7 @@ use html_render_dom_values::Error;
 use html_render_layout_estimates::text::columns;
 use std::alloc::{AllocError, Global};
 
-/// Writes `count` spaces behind a text.
+/// Appends `count` spaces to a text.
 fn push_spaces(text: &mut String, count: usize) -> Result<(), AllocError>
     ensures { OnOk result (string_bytes text.new ≡ string_bytes text.old ++ spaces count) }
 {
@@ -18,7 +18,7 @@ fn push_spaces(text: &mut String, count: usize) -> Result<(), AllocError>
     Ok(())
 }
 
-/// `count` spaces.
+/// Returns a text of `count` spaces.
 ///
 /// # Errors
 ///
@@ -32,7 +32,7 @@ pub fn many_spaces(alloc: Global, count: usize) -> Result<String, Error>
     Ok(text)
 }
 
-/// A prefix, padded with spaces to `count` columns.
+/// Pads a prefix with spaces to `count` columns. A wider one is returned as it is.
 ///
 /// # Errors
 ///

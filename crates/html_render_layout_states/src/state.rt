@@ -1,4 +1,4 @@
-//! Where a layout stands, and what it keeps of a node until its children are laid out.
+//! State of a layout, and the pending work of open nodes.
 
 ghost use Rattle.std.specs.Prelude.{◌≡◌, IfOk, IfErr};
 
@@ -11,58 +11,59 @@ use html_render_layout_tagged::laid_out::TextList;
 use std::alloc::Global;
 use std::marker::Model;
 
-/// How the texts that come are treated. A node that is laid out leaves it as it was.
+/// Treatment of the texts that follow. After each node it is as it was before the node.
 #[derive(Clone, Copy)]
 pub struct TextContext<T> {
-    /// Their tag.
+    /// Tag of the texts.
     pub tag: T,
-    /// How white space is treated.
+    /// Treatment of white space.
     pub mode: WhiteSpace,
-    /// Whether the decorator annotates them as preformatted.
+    /// Whether the texts are in a `pre`, so that the decorator annotates them as preformatted.
     pub preformatted: bool,
-    /// Whether they stand in a part that is struck out.
+    /// Whether U+0336 follows each character that isn't collapsible white space. It is false in struck-out text too if
+    /// `unicode_strikeout` is off.
     pub struck_out: bool,
 }
 
-/// Where a layout stands.
+/// State of a layout, with decorators `D`, a store of annotations `K`, tags `T` and blocks `B`.
 #[derive(Drop)]
 pub struct LayoutState<D, K, T, B> {
-    /// How nodes are laid out. It doesn't change.
+    /// Settings of the layout. They don't change.
     pub settings: LayoutSettings,
-    /// The decorator of the block.
+    /// Decorator of the current block.
     pub decorator: D,
-    /// What the tags stand for.
+    /// Annotation stacks that the tags refer to.
     pub stacks: K,
-    /// How the texts that come are treated.
+    /// Treatment of the texts that follow.
     pub text: TextContext<T>,
-    /// The block that is laid out into.
+    /// Current block, which receives what is laid out.
     pub block: B,
-    /// The tag of what no annotation is on: borders of tables, and fences. It doesn't change.
+    /// Tag without annotations, for fences, table borders and the padding of cells. It doesn't change.
     pub blank: T,
-    /// Whether a table is open that the nodes that come stand in.
+    /// Whether a table is open, so that the nodes that follow are in it.
     pub in_table: bool,
-    /// The targets of the links so far.
+    /// Targets of the links so far, in the order in which they started.
     pub targets: TextList,
-    /// The names of the marks so far.
+    /// Names of the fragment marks so far. A mark in a line is an index in this list.
     pub names: TextList,
 }
 
-/// A block that is interrupted by one inside it, and where its layout goes on once that is over.
+/// A suspended block, and how its sub-block's lines are appended.
 #[derive(Drop)]
 pub struct Outer<D, T, B> {
-    /// The decorator of the block.
+    /// Decorator of the suspended block.
     pub decorator: D,
-    /// The block.
+    /// The suspended block.
     pub block: B,
-    /// What the lines of the block inside it stand behind: all of them, or the first one alone.
+    /// Prefix of every line of the sub-block, or of its first line alone if it is indented.
     pub prefix: Text,
-    /// The columns of that.
+    /// Columns reserved for the prefix. If the sub-block is indented, also the number of spaces before each later line.
     pub columns: usize,
-    /// Its tag.
+    /// Tag of the prefix and of these spaces.
     pub tag: T,
 }
 
-/// The same, held so that it is moved in few bytes.
+/// A suspended block on the heap, so that moving it is cheap.
 #[derive(Drop)]
 pub struct Interrupted<D, T, B> {
     outer: Box<Outer<D, T, B>>,
@@ -77,7 +78,7 @@ impl<D, T, B> Model for Interrupted<D, T, B> {
 }
 
 impl<D: Drop, T: Drop, B: Drop> Interrupted<D, T, B> {
-    /// Holds an interrupted block.
+    /// Boxes a suspended block.
     ///
     /// # Errors
     ///
@@ -90,7 +91,7 @@ impl<D: Drop, T: Drop, B: Drop> Interrupted<D, T, B> {
         Ok(Interrupted { outer })
     }
 
-    /// Gives it back.
+    /// Returns the suspended block, unboxed.
     pub fn into_outer(self) -> Outer<D, T, B>
         ensures { result ≡ self }
     {
@@ -98,7 +99,7 @@ impl<D: Drop, T: Drop, B: Drop> Interrupted<D, T, B> {
     }
 }
 
-/// A block with an open row of a table, that is interrupted by a cell of it.
+/// A block with an open row of a table, suspended by a cell of that row.
 #[derive(Drop)]
 pub struct OuterTable<D, B> {
     /// The decorator of the block.
@@ -107,65 +108,68 @@ pub struct OuterTable<D, B> {
     pub block: B,
 }
 
-/// What an open node interrupts.
+/// The block that an open node suspends.
 #[derive(Drop)]
 pub enum Interruption<D, T, B> {
-    /// No block: it is laid out into that of the nodes beside it.
+    /// None: the node is laid out into the block of its siblings.
     NoBlock,
-    /// One behind whose prefix each line of the node stands.
+    /// The block around a heading or a quote. Each line of the node is appended to it after the prefix.
     Quoted(Interrupted<D, T, B>),
-    /// One in which it is indented, its first line behind a prefix.
+    /// The block around a child of a list, or around a description. The node's first line is appended to it after the
+    /// prefix, and later lines after spaces.
     Indented(Interrupted<D, T, B>),
-    /// The block that it is a cell of a table in.
+    /// The block with the open table that the node is a cell of.
     Cell(OuterTable<D, B>),
 }
 
-/// What is to be done once the children of an open node are laid out.
+/// Pending work of an open node, done after its children.
 #[derive(Drop)]
 pub struct Closing<D, T, B> {
-    /// What it interrupts as a child of the node above it: as an item of a list, or as a cell of a table.
+    /// Block that the node suspends as a child of a list or as a cell of a table.
     pub item: Interruption<D, T, B>,
-    /// How texts were treated before the node.
+    /// Treatment of texts before the node, which is restored.
     pub text: TextContext<T>,
-    /// What the node's kind does.
+    /// Closing action of the node's kind.
     pub kind: KindClosing<D, T, B>,
 }
 
-/// What a kind of node does once its children are laid out.
+/// Closing action of a kind of node, done after the node's children.
 #[derive(Drop)]
 pub enum KindClosing<D, T, B> {
-    /// Nothing but that a block goes on which the node interrupts with one of its own.
+    /// Resumes the outer block, if the node has a block of its own.
     Nothing(Interruption<D, T, B>),
-    /// The block is at its end.
+    /// Marks the block as at its end.
     EndBlock,
-    /// A new line begins.
+    /// Begins a new line.
     NewLine,
-    /// The emphasis ends.
+    /// Writes the decorator's text after the emphasis.
     EndEmphasis(Emphasis),
-    /// Nothing: an unordered list. Each child is an item behind a bullet.
+    /// Does nothing: an unordered list. Each child is an item with a bullet.
     Bullets {
-        /// The columns of each bullet.
+        /// Columns of the bullet.
         columns: usize,
-        /// The columns that an item needs behind it.
+        /// Minimum width of an item without its bullet, in columns.
         least: usize,
     },
-    /// Nothing: an ordered list. Each child is an item behind its number.
+    /// Does nothing: an ordered list. Each child is an item with its number.
     Numbers {
-        /// The number of the first item.
+        /// Number of the first item.
         first: i64,
-        /// The columns of each prefix.
+        /// Columns that each prefix is padded to.
         columns: usize,
-        /// The columns that an item needs behind it.
+        /// Minimum width of an item without its prefix, in columns.
         least: usize,
     },
-    /// The part that is struck out ends; whether what follows is struck out.
+    /// Writes the decorator's text after a struck-out part, and restores `struck_out` to this value first.
     EndStrikeout(bool),
-    /// The superscript ends.
+    /// Writes the decorator's text after a superscript.
     EndSuperscript,
-    /// The link of this number ends; how texts were treated before it.
+    /// Ends a link: writes the decorator's text after it, restores this treatment of texts, and writes this number if links
+    /// have footnotes.
     EndLink(TextContext<T>, usize),
-    /// The table ends: what it interrupts with a block of its own, and whether it stands in another table.
+    /// Ends a table, and resumes the outer block if the table has a block of its own. The flag is whether the table is in
+    /// another one.
     EndTable(Interruption<D, T, B>, bool),
-    /// The row of a table ends. Each child is a cell.
+    /// Ends a row of a table. Each child is a cell.
     EndRow,
 }

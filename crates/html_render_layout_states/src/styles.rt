@@ -1,5 +1,5 @@
-//! What a node's style gives its texts: colours, which characters are annotated with, how white space is treated, and
-//! whether they are preformatted.
+//! Effects of a node's style on its texts: annotations of colours, treatment of white space, and whether they are
+//! preformatted.
 
 ghost use Rattle.std.specs.Prelude.{◌≡◌, Some, OnOk, IfOk, IfErr};
 ghost use Rattle.html_render_layout_states.specs.Layout.{annotated, style_steps, perform_all};
@@ -14,7 +14,7 @@ use html_render_layout_nodes::tree::NodeStyle;
 use html_render_parts_decorators::decorate::TextDecorator;
 use std::alloc::Global;
 
-/// The texts that come have one annotation more, if there is one.
+/// Adds an annotation, if there is one, on top of the tag of the texts that follow.
 fn annotate<D: TextDecorator, G: Tagging<D::Annotation>>(
     annotation: Option<D::Annotation>,
     state: &mut State<D, G>,
@@ -28,9 +28,9 @@ fn annotate<D: TextDecorator, G: Tagging<D::Annotation>>(
     Ok(())
 }
 
-/// The texts that come have what a node's style gives them: first its colour, then that of its background, its white space,
-/// where that isn't Normal, and whether they are preformatted. How they were treated before is answered, so that what stands
-/// behind the node is treated so again.
+/// Applies a node's style to the texts that follow. In order: the annotation of its colour, that of its background, its
+/// white space unless that is `Normal`, and whether texts are preformatted. Returns the treatment of texts before the node,
+/// to be restored after it.
 ///
 /// # Errors
 ///

@@ -1,7 +1,7 @@
-//! How characters are tagged with their annotations.
+//! Tagging: how a character refers to its annotations.
 //!
-//! With [`Untagged`] a layout keeps no annotation, and a character carries nothing. With [`Stacks`] a character carries
-//! the number of its stack of annotations.
+//! With [`Untagged`] a layout stores no annotations, and a tag is `()`. With [`Stacks`] a tag is the index of an annotation
+//! stack.
 
 ghost use Rattle.std.specs.Prelude.{◌≡◌, IfOk, IfErr};
 ghost use Rattle.html_render_layout_states.specs.Working.{tabled, untagged};
@@ -10,15 +10,15 @@ use html_render_dom_values::Error;
 use html_render_layout_lines::tag::Tag;
 use html_render_layout_tagged::stacks::Stacks;
 
-/// What keeps the annotations of the characters of a layout.
+/// A store for the annotations of a layout's characters.
 pub trait Tagging<A>: Drop {
-    /// What a character carries.
+    /// Tag of a character: it refers to the character's annotations.
     type Tag: Tag;
 
-    // what is kept, and the tag, with one annotation more on a tag
+    // store and tag after an annotation is added on top of those of a tag
     ghost annotated: { Self → Self.Tag → A → Self × Self.Tag };
 
-    /// The tag with one annotation more.
+    /// Returns the tag of the annotations of `below` with one more on top, and stores these.
     ///
     /// # Errors
     ///
@@ -28,7 +28,7 @@ pub trait Tagging<A>: Drop {
         ensures err { IfErr result (λ e. e ≡ Error.OutOfMemory) };
 }
 
-/// No annotations: a character carries nothing, as in a string.
+/// No annotations: the tags are `()`, as for a string.
 #[derive(Drop)]
 pub struct Untagged;
 
@@ -37,7 +37,7 @@ impl<A: Drop> Tagging<A> for Untagged {
 
     ghost annotated = { untagged };
 
-    /// Keeps nothing.
+    /// Drops the annotation.
     fn annotate(&mut self, _below: (), _annotation: A) -> Result<(), Error> {
         Ok(())
     }
@@ -48,7 +48,7 @@ impl<A: Drop> Tagging<A> for Stacks<A> {
 
     ghost annotated = { tabled };
 
-    /// The tag of the stack that is pushed.
+    /// Pushes a stack, and returns its index.
     fn annotate(&mut self, below: usize, annotation: A) -> Result<usize, Error> {
         self.push(below, annotation)
     }
