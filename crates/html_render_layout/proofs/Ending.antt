@@ -1,4 +1,4 @@
--- Texts that close a document: footnote by footnote, and as characters.
+-- Texts of closing lines: footnote by footnote, and as characters.
 use Rattle.std.proofs.Common.{◌≡◌, ℕ, ◌+◌, Bool, List, [], ◌∷◌, ◌++◌, map, Option, Some, None, refl, sym, ap, ◌∙◌, append_assoc}
 use Rattle.std.proofs.Common.{option_and_then, OnOk, IfErr, Result, Ok, Err}
 use Rattle.std.proofs.lemmas.Simd.{map-map}
@@ -15,18 +15,18 @@ use Rattle.html_render_layout_states.specs.Ending.{footnotes, closing_texts, end
 
 pub ruleset joined = (append_assoc)
 
--- one footnote more
+-- one more footnote
 pub footnotes-more : (number : ℕ) (all old new : List (List ℕ)) (t : List ℕ) (ts : List (List ℕ)) →
     all ≡ old ++ footnotes number (t ∷ ts) → new ≡ old ++ (codes "[" ++ decimal number ++ codes "]: " ++ t) ∷ [] → all ≡ new ++ footnotes (number + 1) ts
 footnotes-more number all old new t ts before more =
     before ∙ sym (append_assoc old ((codes "[" ++ decimal number ++ codes "]: " ++ t) ∷ []) (footnotes (number + 1) ts))
     ∙ ap (λ xs. xs ++ footnotes (number + 1) ts) (sym more)
 
--- the state with this block
+-- state with this block, if there is one
 abbrev pub with_new : {S K T B : Type 0} → LayoutState S K T B → Option B → Option (LayoutState S K T B)
 with_new s o = option_and_then (λ c. Some (record s { block = c })) o
 
--- the end, once the block is finished and the texts are made
+-- the end of a document, by the finished block and the texts
 pub ended-by : {S A K T B X : Type 0} (d : Decoration S A) (end : DocumentEnd B T) (link_footnotes wrap_links : Bool) (tag : T)
     (s : LayoutState S K T B) (b : B) (f : X → List ℕ) (texts : List X) → end.finish s.block ≡ Some b →
     map f texts ≡ closing_texts d link_footnotes s.decorator s.targets →

@@ -1,4 +1,4 @@
--- How characters are written one by one.
+-- Struck-out texts, character by character.
 use Rattle.std.proofs.Common.{◌≡◌, ℕ, List, [], ◌∷◌, ◌++◌, Bool, true, false, cond, refl, sym, ap, ◌∙◌}
 use Rattle.std.proofs.lemmas.Str.{encodes-append}
 use Rattle.html_render_layout_lines.specs.Character.{is_collapsible}
@@ -14,7 +14,7 @@ pub struck-append : (cs ds : List ℕ) → struck (cs ++ ds) ≡ struck cs ++ st
 struck-append [] ds = refl
 struck-append (c ∷ cs) ds = both-ways (is_collapsible c) c (struck (cs ++ ds)) (struck cs) (struck ds) (struck-append cs ds)
 
--- one character more
+-- one more character
 pub struck-more : (old new cs : List ℕ) (c : ℕ) → old ≡ encodes (struck cs) → new ≡ old ++ encodes (struck (c ∷ [])) →
     new ≡ encodes (struck (cs ++ c ∷ []))
 struck-more old new cs c before more =

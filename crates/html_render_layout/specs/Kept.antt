@@ -1,4 +1,4 @@
--- What the lines of a layout keep of the texts of its tree.
+-- The texts of a tree that the lines of its layout show.
 use Rattle.std.specs.Prelude.{ℕ, ◌≤◌, false, List, [], flat_map}
 use Rattle.std.specs.Str.{chars}
 use Rattle.html_render_dom_values.specs.Forest.{Forest}
@@ -15,16 +15,16 @@ use Rattle.html_render_layout_pictures.specs.Visible.{count}
 use Rattle.html_render_layout_estimates.specs.declared.settings.LayoutSettings.{LayoutSettings}
 use Rattle.html_render_layout_states.specs.Layout.{defined, estimated, empty_state}
 
--- the nodes that a layout visits, in order, without the cells that it skips
+-- nodes that a layout visits, in order, without skipped cells and the nodes in them
 abbrev pub visited_nodes : {S A : Type 0} → Decoration S A → LayoutSettings → Forest RenderNode → S → BlockSetting → List RenderNode
 visited_nodes d settings t decorator block =
     nodes_at false (defined d) bare 0 (estimated d settings decorator t) (empty_state d settings decorator block)
 
--- the characters of a node, if it is a text
+-- characters of a text; none for any other kind of node
 abbrev pub node_characters : NodeKind → List ℕ
 node_characters (Text t) = chars t
 node_characters _ = []
 
--- each visible character stands in the lines as often as in the texts among these nodes, or more often
+-- whether each visible character is in the lines at least as often as in the texts among these nodes
 abbrev pub KeepsTexts : {T M : Type 0} → List RenderNode → List (Line T M) → Type 0
 KeepsTexts nodes lines = (c : ℕ) → count c (visible_in_text (flat_map (λ n. node_characters n.kind) nodes)) ≤ count c (visible_in_lines lines)

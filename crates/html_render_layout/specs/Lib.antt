@@ -1,4 +1,4 @@
--- what of a document its lines keep
+-- the texts of a document that its lines show
 pub mod Kept
 -- laws of the definitions
 pub mod laws

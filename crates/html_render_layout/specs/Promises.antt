@@ -1,4 +1,4 @@
--- What every call that lays out a tree, or renders one, promises of the lines.
+-- Promises of the calls that lay out or render a tree, about their lines.
 use Rattle.std.specs.Prelude.{◌≡◌, ◌≤◌, ℕ, true, false, List, Some, IfSome, IsSome}
 use Rattle.html_render_dom_values.specs.Forest.{Forest}
 use Rattle.html_render_parts_decorators.specs.Decoration.{Decoration}
@@ -10,8 +10,9 @@ use Rattle.html_render_layout_blocks.specs.declared.block.BlockSetting.{BlockSet
 use Rattle.html_render_layout.specs.Kept.{visited_nodes, KeepsTexts}
 use Rattle.html_render_layout_states.specs.Layout.{layout_lines, Defined, defined}
 
--- of the lines that it answers: they are those of the tree in a block; with overflow off and links wrapped none passes the width;
--- where overflow off gives lines, they are these; and each visible character of the texts that are visited stands in them
+-- Promises about the lines of a result. They are the definition's lines of the tree in a block. With overflow off and
+-- closing lines cut, none passes the width. Where overflow off gives lines, these are the same. Each visible character of
+-- the texts that are visited, without skipped cells, is in them.
 pub record AreLines {S A : Type 0} (d : Decoration S A) (settings : LayoutSettings) (tree : Forest RenderNode) (decorator : S) (block : BlockSetting)
     (lines : List (Line (List A) ℕ)) : Type 0 where
   pub are : layout_lines d settings tree decorator block ≡ Some lines
@@ -19,16 +20,16 @@ pub record AreLines {S A : Type 0} (d : Decoration S A) (settings : LayoutSettin
   pub same : IfSome (layout_lines d settings tree decorator (record block { overflow = false })) (λ others. lines ≡ others)
   pub kept : KeepsTexts (visited_nodes d settings tree decorator block) lines
 
--- the lines that it answers, of which this holds
+-- lines of a result, with their promises and with `Shown` of them
 abbrev pub Lines : {S A : Type 0} → Decoration S A → LayoutSettings → Forest RenderNode → S → BlockSetting → (List (Line (List A) ℕ) → Type 0) → Type 0
 Lines {S} {A} d settings tree decorator block Shown =
     (lines : List (Line (List A) ℕ)) × AreLines d settings tree decorator block lines × Shown lines
 
--- with overflow on there are lines in every width but 0
+-- whether there are lines at each width from 1, with overflow on
 abbrev pub HasLines : {S A : Type 0} → Decoration S A → LayoutSettings → Forest RenderNode → S → BlockSetting → Type 0
 HasLines d settings tree decorator block = block.overflow ≡ true → 1 ≤ block.width → IsSome (layout_lines d settings tree decorator block)
 
--- every tree that is laid out leaves the texts that follow, with their annotations, and the decorator of any state as they were
+-- whether each layout of trees leaves the treatment of texts, with its tag, and the decorator as they were
 abbrev pub LeavesTexts : {S A : Type 0} → Decoration S A → Type 0
 LeavesTexts {S} {A} d =
     (t : Forest RenderNode) (s : Defined S A) → IfSome (run (defined d) t s) (λ r. (r.text ≡ s.text) × (r.decorator ≡ s.decorator))

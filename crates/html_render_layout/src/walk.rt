@@ -1,7 +1,7 @@
-//! The layout of a render tree into lines.
+//! Layout of a render tree into lines.
 //!
-//! `lay_out(alloc, &decorator, tree, block, &settings, &mut meter)?` answers the lines of the tree, wrapped to the columns of
-//! a block.
+//! `lay_out(alloc, &decorator, tree, block, &settings, &mut meter)?` returns the lines of the tree, wrapped to the columns
+//! of a block.
 
 ghost use Rattle.std.specs.Prelude.{◌≡◌, ◌≢◌, ◌≤◌, ◌<◌, Some, ℕ, true, Err, OnOk, OnErr, IfOk, IfErr};
 ghost use Rattle.html_render_dom_values.specs.Outcome.{Refuses};
@@ -49,7 +49,7 @@ mod texts;
 
 /// The pass that lays out a tree.
 struct Layout<D, G> {
-    /// The decorator and the tagging that the layout is of.
+    /// Decorator and tagging of the layout.
     of: PhantomData<(D, G)>,
 }
 
@@ -70,7 +70,7 @@ impl<D: TextDecorator, G: Tagging<D::Annotation>> Pass for Layout<D, G> {
 
     ghost told = { layout-opened (by_tags D.decoration G.annotated) };
 
-    /// Opens a node, as its kind and its style say.
+    /// Opens a node by its kind and its style.
     fn open(
         alloc: Global,
         node: &RenderNode,
@@ -82,13 +82,13 @@ impl<D: TextDecorator, G: Tagging<D::Annotation>> Pass for Layout<D, G> {
         steps::open(alloc, node, children, parent, number, state)
     }
 
-    /// Closes it.
+    /// Closes a node.
     fn close(alloc: Global, kept: Kept<D, G>, state: &mut State<D, G>) -> Result<(), Error> {
         steps::close(alloc, kept, state)
     }
 }
 
-/// The state in which a layout begins.
+/// Returns the state in which a layout begins.
 fn begin_with<D: TextDecorator, G: Tagging<D::Annotation>>(
     alloc: Global,
     settings: LayoutSettings,
@@ -117,7 +117,7 @@ fn begin_with<D: TextDecorator, G: Tagging<D::Annotation>>(
     }
 }
 
-/// Lays out a tree, and closes the document under the tag that its texts begin with.
+/// Lays out a tree, and closes the document under the tag of its first texts.
 #[tactic(auto, using(html_render_dom_values::specs::laws::Outcome::refusals))]
 fn lay_out_into<D: TextDecorator, G: Tagging<D::Annotation>>(
     alloc: Global,
@@ -138,7 +138,7 @@ fn lay_out_into<D: TextDecorator, G: Tagging<D::Annotation>>(
     ending::end(alloc, link_footnotes, wrap_links, tag, state)
 }
 
-/// The state once a tree is laid out and the document is closed.
+/// Returns the state after a tree is laid out and the document is closed.
 fn laid_out_from<D: TextDecorator, G: Tagging<D::Annotation>>(
     alloc: Global,
     tree: &Flat<RenderNode>,
@@ -157,7 +157,7 @@ fn laid_out_from<D: TextDecorator, G: Tagging<D::Annotation>>(
     Ok(state)
 }
 
-/// The lines of a tree from a state, with the stacks of their tags.
+/// Returns the lines of a tree from a state, with the annotation stacks of their tags and the names of their marks.
 fn lines_from<D: TextDecorator>(
     alloc: Global,
     tree: &Flat<RenderNode>,
@@ -178,18 +178,18 @@ fn lines_from<D: TextDecorator>(
     })
 }
 
-/// What a layout takes as its own.
+/// Settings, decorator and measured tree, owned by a layout.
 #[derive(Drop)]
 struct Prepared<D> {
     settings: LayoutSettings,
-    /// The decorator of a sub-block.
+    /// Decorator of the document's block.
     decorator: D,
-    /// The tree with the estimate of each node, whose prefixes are those of a sub-block of that sub-block. Sizes are left out
-    /// of a tree without a table.
+    /// Tree with the estimate of each node, whose prefixes are those of a sub-block of the document's block. Without a table
+    /// in the tree, preferred widths are left out.
     tree: Flat<RenderNode>,
 }
 
-/// What the layout of a tree takes as its own.
+/// Copies the settings, makes the decorator of the document's block, and measures the tree.
 fn prepare<D: TextDecorator>(
     alloc: Global,
     decorator: &D,
@@ -210,7 +210,7 @@ fn prepare<D: TextDecorator>(
     })
 }
 
-/// The tag of the spaces that lines are filled with, if they are.
+/// Returns the tag of padding spaces; `None` without padding.
 fn padding<T: Tag>(settings: &LayoutSettings, tag: T) -> Option<T>
     ensures { result ≡ padding settings.now tag }
 {
@@ -221,7 +221,7 @@ fn padding<T: Tag>(settings: &LayoutSettings, tag: T) -> Option<T>
     }
 }
 
-/// The empty block of a document.
+/// Returns the empty block of a document.
 fn document_block<T: Tag>(
     alloc: Global,
     setting: BlockSetting,
@@ -233,15 +233,19 @@ fn document_block<T: Tag>(
     OpenBlock::new(alloc, Block::new(alloc, setting, padding))
 }
 
-/// The lines of a tree in a block, with what a sub-block of the decorator's writes. Behind them stand the lines that close the
-/// document: the number of each link and its target with `settings.link_footnotes`, and what the decorator answers for all
-/// targets; they are wrapped with `settings.wrap_links`. With `block.overflow` a character or a prefix that has no room passes
-/// the width. The meter's `entered`, `left` and `frames` count from 0, also where the call refuses; `probes` stays.
+/// Lays out a tree in a block. Returns its lines with their annotation stacks and the names of their marks.
+///
+/// The decorator of the document's block is the one that `decorator` returns for a sub-block. The document's closing lines
+/// follow: a footnote with the number and the target of each link, if `settings.link_footnotes` is set, and then what the
+/// decorator returns for all targets. If `settings.wrap_links` is set, they are cut at the width of the block.
+///
+/// With `block.overflow`, a character or a prefix without room passes the width. The meter's `entered`, `left` and `frames`
+/// count from 0, also on an error; `probes` isn't changed.
 ///
 /// # Errors
 ///
-/// `TooNarrow`, at width 0, and, with overflow off, where a character is wider than a line or a prefix leaves too few
-/// columns. `OutOfMemory`.
+/// `TooNarrow` at width 0. With overflow off, also if a character is wider than a line, a prefix leaves too few columns, or
+/// a line with its prefix is wider than its block. `OutOfMemory`.
 #[tactic(auto, using(crate::specs::laws::Promises::lines_there, crate::specs::laws::Promises::texts_left))]
 pub fn lay_out<D: TextDecorator>(
     alloc: Global,
@@ -251,20 +255,21 @@ pub fn lay_out<D: TextDecorator>(
     settings: &LayoutSettings,
     meter: &mut Meter,
 ) -> Result<LaidOut<D::Annotation>, Error>
-    // the lines are those of the tree, of which each promise holds; want of memory aside, it is too narrow exactly where there are none
+    // the lines are the definition's, with all promises; the result is `TooNarrow` exactly without them, unless memory runs
+    // out
     ensures ok { IfOk result (λ lines. AreLines D.decoration settings.now tree decorator.now block (laid_out lines)) }
     ensures names { IfOk result (λ lines. mark_names D.decoration settings.now tree decorator.now block ≡ Some lines.names) }
     ensures err { IfErr result (λ e. Refuses e (layout_lines D.decoration settings.now tree decorator.now block)) }
 
-    // with overflow no width is too small but 0, before anything is allocated
+    // with overflow on, only width 0 is too narrow, and it is refused before anything is allocated
     ensures wide { 0 < block.width → block.overflow ≡ true → result ≢ Err Error.TooNarrow }
     ensures no_width { block.width ≡ 0 → result ≡ Err Error.TooNarrow }
 
-    // what holds of every tree: where there are lines, and what is left as it was
+    // laws of every tree: with overflow on there are lines, and after a tree texts are treated as before it
     ensures there { HasLines D.decoration settings.now tree decorator.now block }
     ensures stacks { LeavesTexts D.decoration }
 
-    // what was counted, where there are lines, and where there are none
+    // counts of visited nodes and of nodes open at once, exact with lines and at most these without
     ensures counts { CountsNodes result (defined D.decoration)
         (estimated D.decoration settings.now decorator.now tree) (empty_state D.decoration settings.now decorator.now block) meter.old meter.new }
 {
@@ -287,7 +292,7 @@ pub fn lay_out<D: TextDecorator>(
     lines_from(alloc, &own.tree, state, meter)
 }
 
-/// The lines of a tree from a state without annotations.
+/// Returns the lines of a tree from a state without annotations.
 fn untagged_lines_from<D: TextDecorator>(
     alloc: Global,
     tree: &Flat<RenderNode>,
@@ -302,13 +307,12 @@ fn untagged_lines_from<D: TextDecorator>(
     Ok(lines)
 }
 
-/// The lines of a tree, as [`lay_out`] answers them, without what their characters are annotated with. Nothing is kept
-/// of annotations meanwhile.
+/// Lays out a tree in a block without storing annotations. Returns the lines of [`lay_out`] without their annotations.
 ///
 /// # Errors
 ///
-/// `TooNarrow`, at width 0, and, with overflow off, where a character is wider than a line or a prefix leaves too few
-/// columns. `OutOfMemory`.
+/// `TooNarrow` at width 0. With overflow off, also if a character is wider than a line, a prefix leaves too few columns, or
+/// a line with its prefix is wider than its block. `OutOfMemory`.
 #[tactic(auto, using(crate::specs::laws::Promises::lines_there, crate::specs::laws::Promises::texts_left))]
 pub fn lay_out_untagged<D: TextDecorator>(
     alloc: Global,
@@ -317,7 +321,7 @@ pub fn lay_out_untagged<D: TextDecorator>(
     block: BlockSetting,
     settings: &LayoutSettings,
 ) -> Result<Vec<Line<(), usize>>, Error>
-    // as for the lines with annotations
+    // the lines are the definition's without annotations; the clauses are those of `lay_out` without a meter
     ensures ok { IfOk result (λ answer. Lines D.decoration settings.now tree decorator.now block (λ lines. answer.items ≡ unannotated lines)) }
     ensures err { IfErr result (λ e. Refuses e (layout_lines D.decoration settings.now tree decorator.now block)) }
     ensures wide { 0 < block.width → block.overflow ≡ true → result ≢ Err Error.TooNarrow }

@@ -1,5 +1,5 @@
--- The laws of the layout: with overflow off no line passes the width; with overflow on no width is too small but 0, and where overflow off gives
--- lines, they are these.
+-- The laws of the layout. With overflow off no line passes the width. With overflow on only width 0 is too narrow. Where
+-- overflow off gives lines, overflow on gives the same.
 use Rattle.std.proofs.Common.{◌≡◌, ℕ, ◌<◌, ◌==◌, Bool, true, false, cond, List, [], ◌∷◌, ◌++◌, Option, Some, None, refl, sym, ap, ◌∙◌, subst, arith}
 use Rattle.std.proofs.Common.{IfSome, IsSome}
 use Rattle.std.proofs.lemmas.Bool.{eqb-true}
@@ -26,12 +26,13 @@ use Rattle.html_render_layout_states.specs.Layout.{by_stacks, shown_after, Defin
 use Rattle.html_render_layout_states.specs.Working.{padding}
 use Rattle.html_render_layout.specs.laws.Related.{Other, with_other, shown-related}
 
--- a layout beside one that may have overflow on: stacks are the same, and what is said of the block's lines is said of those that are shown
+-- two layouts of a tree, whose overflow g relates: stacks are equal, and a claim about the lines of blocks holds of the
+-- lines that are shown
 module _ {S A : Type 0} (d : Decoration S A) (settings : LayoutSettings) (g : Bool → Bool) (N M : Type 0) (weak : M → N) (Cut : Bool → Type 0)
     (OnOverflow : Bool → Type 0) (OnOwn : ℕ → Setting → Type 0) (OnLines : ℕ → List (Line (List A) ℕ) → Type 0)
     (OnPicture : ℕ → List ℕ → Rows (List A) ℕ → Type 0) (OnRow : ℕ → OpenRow (List A) ℕ → Type 0)
     (h : Holds g N M Cut OnOverflow OnOwn OnLines OnPicture OnRow) (cut : Cut settings.wrap_links) where
-  -- the stacks of both sides are the tags
+  -- stacks of both sides: none, as the tags are stacks themselves
   abbrev Stacks : Type 0
   Stacks = Unit {0} × Unit {0}
 
@@ -44,7 +45,7 @@ module _ {S A : Type 0} (d : Decoration S A) (settings : LayoutSettings) (g : Bo
   abbrev Beside : ℕ → Stacks → DefinedBlock (List A) ℕ → DefinedBlock (List A) ℕ → Type 0
   Beside = Blocks g N M Tags (λ w t u e. e) Cut OnOverflow OnOwn OnLines OnPicture OnRow h weak Later (λ w z t u e l. e)
 
-  -- the block of the other side
+  -- setting of the block of the other side
   abbrev beside : BlockSetting → BlockSetting
   beside b = record b { overflow = g b.overflow }
 
@@ -91,14 +92,14 @@ module _ {S A : Type 0} (d : Decoration S A) (settings : LayoutSettings) (g : Bo
       (shown_after (by_stacks d) definition.ending (λ (r : Defined S A). r.names) t (empty_state d settings decorator (beside b)))
   names-shown t decorator b on = shown-beside (λ a b. b ≡ a) (λ (r : Defined S A). r.names) t decorator b on (λ r u k. refl)
 
--- where what is there with overflow off is there with overflow on, each answer is that
+-- if overflow on gives what overflow off gives, each result is that of overflow off, where there is one
 pub same_answer : {L : Type 0} (f : Bool → Option L) → IfSome (f false) (λ lines. f true ≡ Some lines) → (o : Bool) (lines : L) →
     f o ≡ Some lines → IfSome (f false) (λ others. lines ≡ others)
 same_answer f h true lines e = IfSome_then (f false) h (λ others k. same_Some lines others (sym e ∙ k))
 same_answer f h false lines e = subst (λ p. IfSome p (λ others. lines ≡ others)) (sym e) refl
 
 module _ {S A : Type 0} (d : Decoration S A) (settings : LayoutSettings) where
-  -- with overflow off, and closing lines that are cut, no line passes the width
+  -- with overflow off, and closing lines cut, no line passes the width
   pub layout_within : (t : Forest RenderNode) (decorator : S) (b : BlockSetting) → settings.wrap_links ≡ true →
       IfSome (layout_lines d settings t decorator (record b { overflow = false })) (λ lines. AllWithinWidth b.width lines)
   layout_within t decorator b wrapped =
@@ -113,7 +114,7 @@ module _ {S A : Type 0} (d : Decoration S A) (settings : LayoutSettings) where
       first (Some a) None k = absurd k
       first (Some a) (Some c) k = k.1
 
-  -- with overflow on it is never too narrow, but at width 0
+  -- with overflow on, only width 0 is too narrow
   pub layout_succeeds : (t : Forest RenderNode) (decorator : S) (b : BlockSetting) → 0 < b.width →
       IsSome (layout_lines d settings t decorator (record b { overflow = true }))
   layout_succeeds t decorator b h =
@@ -133,7 +134,7 @@ module _ {S A : Type 0} (d : Decoration S A) (settings : LayoutSettings) where
   same_shown R is false (Some a) None k = absurd k
   same_shown R is false (Some a) (Some b) k = ap Some (is a b k)
 
-  -- where there are lines with overflow off, they are the lines with overflow on
+  -- lines with overflow off are the lines with overflow on
   pub layout_same : (t : Forest RenderNode) (decorator : S) (b : BlockSetting) →
       IfSome (layout_lines d settings t decorator (record b { overflow = false })) (λ lines.
       layout_lines d settings t decorator (record b { overflow = true }) ≡ Some lines)
@@ -142,7 +143,7 @@ module _ {S A : Type 0} (d : Decoration S A) (settings : LayoutSettings) where
       (lines-shown d settings (λ o. true) (Unit {0}) (Unit {0}) (λ x. x) (λ cut. Unit {0}) (λ o. Unit {0}) (λ v s. Unit {0}) (λ v ls. Unit {0})
       (λ v ws p. Unit {0}) (λ v r. Unit {0}) (refines (List A)) tt (estimated d settings decorator t) decorator (record b { overflow = false }) tt)
 
-  -- and so are the names of their marks
+  -- names of marks with overflow off are those with overflow on
   pub names_same : (t : Forest RenderNode) (decorator : S) (b : BlockSetting) →
       IfSome (mark_names d settings t decorator (record b { overflow = false })) (λ names.
       mark_names d settings t decorator (record b { overflow = true }) ≡ Some names)

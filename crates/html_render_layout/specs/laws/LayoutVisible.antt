@@ -1,4 +1,4 @@
--- A layout loses no visible character of the texts that it visits, and leaves the texts that follow and the decorator as they were.
+-- A layout loses no visible character of the texts that it visits, and restores the treatment of texts and the decorator.
 use Rattle.std.specs.Fmt.{decimal}
 use Rattle.std.specs.Str.{chars}
 use Rattle.std.proofs.Common.{◌≡◌, ℕ, ◌+◌, ◌≤◌, ◌==◌, false, List, [], ◌∷◌, ◌++◌, length, codes, Option, Some, None, option_and_then}
@@ -42,34 +42,34 @@ use Rattle.html_render_layout_states.specs.Layout.{annotated, struck, on_block, 
 use Rattle.html_render_layout_states.specs.Layout.{block_place, cell_place, shape_layout, kind_layout, layout_of, Defined, defined, by_stacks, empty_state, estimated, layout_lines}
 use Rattle.html_render_layout_states.specs.Ending.{closing_texts, ended}
 
--- whatever there is
+-- a claim about all values of f holds of a mapped option
 whatever : {X Y : Type 0} (Q : Y → Type 0) (o : Option X) (f : X → Y) → ((x : X) → Q (f x)) → IfSome (option_map f o) Q
 whatever Q None f k = tt
 whatever Q (Some x) f k = k x
 
--- what v counts in a block grows by what w counts in a text, and nothing counts less; w counts no less in a text that is
--- struck out
+-- v counts in a block, and w in a text. Adding a text adds at least its count, and no operation lowers a count. w counts no
+-- less in a struck-out text than in the text.
 module _ {S A K T B : Type 0} (m : Means S A K T B) (v : B → ℕ) (w : List ℕ → ℕ) (h : Counts v w m.operations) (empty : w [] ≡ 0)
     (no_less : (cs : List ℕ) → w cs ≤ w (struck cs)) where
   abbrev State : Type 0
   State = LayoutState S K T B
 
-  -- what is counted in a state, and in a node
+  -- counts of a state, and of a node
   abbrev pub counted : State → ℕ
   counted s = v s.block
 
   abbrev pub node_count : RenderNode → ℕ
   node_count n = w (node_characters n.kind)
 
-  -- the decorator is this one, and n or more is counted
+  -- whether the decorator is d and the count is at least n
   abbrev Has : S → ℕ → State → Type 0
   Has d n r = (r.decorator ≡ d) × (n ≤ counted r)
 
-  -- and the texts and the decorator are those of s
+  -- whether the treatment of texts and the decorator are those of s, and the count is at least n
   abbrev Left : State → ℕ → State → Type 0
   Left s n r = (r.text ≡ s.text) × Has s.decorator n r
 
-  -- the decorator stays, and no less is counted than before
+  -- whether f keeps the decorator, and lowers no count
   abbrev Keeps : (State → Option State) → Type 0
   Keeps f = (d : S) (n : ℕ) (r : State) → Has d n r → IfSome (f r) (Has d n)
 
@@ -116,7 +116,8 @@ module _ {S A K T B : Type 0} (m : Means S A K T B) (v : B → ℕ) (w : List �
   steps-keep b (x ∷ []) d n r a = step-keeps b x d n r a
   steps-keep b (x ∷ (y ∷ xs)) d n r a = bind_some _ _ _ (perform m b x r) (step-keeps b x d n r a) (steps-keep b (y ∷ xs) d n)
 
-  -- the texts of the state, the decorator of s, and all that is counted in both
+  -- whether f, of a state in a sub-block of s, keeps the treatment of texts, restores the decorator of s, and adds both
+  -- counts
   abbrev Joins : State → (State → Option State) → Type 0
   Joins s f = (r : State) → IfSome (f r) (λ t. (t.text ≡ r.text) × Has s.decorator (counted s + counted r) t)
 
@@ -130,7 +131,7 @@ module _ {S A K T B : Type 0} (m : Means S A K T B) (v : B → ℕ) (w : List �
       map_if _ _ _ (m.operations.append b r.block s.text.tag (chars prefix) (chars prefix)) (h.append _ _ _ _ _)
       (λ c a. omega (arith, h.end_block c)))) (λ b a. (refl, (refl, a)))
 
-  -- what a place adds to s: what is counted of a node in it, unless that is skipped
+  -- whether a place keeps the treatment of texts of s and lowers no count
   abbrev PlaceAdds : State → Place State → Type 0
   PlaceAdds s Bare = Unit {0}
   PlaceAdds s (Skipped t) = Left s (counted s) t
@@ -139,7 +140,7 @@ module _ {S A K T B : Type 0} (m : Means S A K T B) (v : B → ℕ) (w : List �
   abbrev PlacesAdd : Places State → Type 0
   PlacesAdd places = (number : ℕ) (s : State) → PlaceAdds s (places number s)
 
-  -- what P says of a number holds behind a node's layout: of n or more, and what its children add
+  -- whether P holds after a visit, of the number n, or of n and the count that the children add
   abbrev Adds : (ℕ → State → Type 0) → ℕ → Visit State → Type 0
   Adds P n (Leaf behind) = IfSome behind (P n)
   Adds P n (Inner before places after) =
@@ -155,7 +156,7 @@ module _ {S A K T B : Type 0} (m : Means S A K T B) (v : B → ℕ) (w : List �
   followed-adds P Q k n (Inner before places after) next so a =
       (IfSome_then before a.0 (λ q f i r b. bind_some (P (k + i)) (Q (n + i)) next (after r) (f i r b) (so i)), a.1)
 
-  -- a visit in a block inside that of s
+  -- a visit in a sub-block of s
   inside-adds : (s : State) (before : Option State) (after : State → Option State) (visit : State → Visit State) → Joins s after →
       ((q : State) → Adds (Has q.decorator) (counted q) (visit q)) → Adds (Has s.decorator) (counted s) (placed (Within before after) visit s)
   inside-adds s None after visit k adds = tt
@@ -169,7 +170,7 @@ module _ {S A K T B : Type 0} (m : Means S A K T B) (v : B → ℕ) (w : List �
   block-adds (Prefixed prefix least) s visit adds = inside-adds s _ _ visit (block-joins s prefix) adds
   block-adds (Indented prefix columns least) s visit adds = inside-adds s _ _ visit (appended-joins s prefix columns) adds
 
-  -- a node's shape adds no less than there is; and a text what is counted in it
+  -- a shape lowers no count
   shape-adds : (x : Shape S A) (s : State) → Adds (Has s.decorator) (counted s) (shape_layout m x s)
   shape-adds (Steps xs) s = steps-keep s xs s.decorator (counted s) s (refl, omega arith)
   shape-adds (Around xs ys) s = (
@@ -215,7 +216,7 @@ module _ {S A K T B : Type 0} (m : Means S A K T B) (v : B → ℕ) (w : List �
           (kind_layout m n.kind n.estimate trees q) _
           (λ k r b. (refl, (b.0 ∙ a.0, omega (arith, a.1, b.1)))) (kind-adds n.kind n.estimate trees q)
 
-  -- what is counted of a node in its place
+  -- nodes that count in a place: the node, unless it is skipped
   abbrev own : Place State → RenderNode → List RenderNode
   own p n = if not (is_skipped p) then n ∷ [] else []
 
@@ -229,7 +230,7 @@ module _ {S A K T B : Type 0} (m : Means S A K T B) (v : B → ℕ) (w : List �
       (layout_of m n trees q) after (λ k r b. IfSome_then (after r) (a.1 r) (λ t c.
       (c.0 ∙ b.0 ∙ a.0, (c.1.0, omega (arith, b.1.1, c.1.1))))) (node-adds n trees q)
 
-  -- over its children, that add what is counted of these nodes
+  -- through a visit, with the counts of these nodes among its children
   through_visit-adds : (children : Places State → State → Option State) (nodes : Places State × State → List RenderNode) →
       ((places : Places State) → PlacesAdd places → (q : State) →
       IfSome (children places q) (Has q.decorator (counted q + sum_by node_count (nodes (places, q))))) → (s : State) (n : ℕ) (l : Visit State) →
@@ -281,13 +282,13 @@ module _ {S A K T B : Type 0} (m : Means S A K T B) (v : B → ℕ) (w : List �
         ),
       ))
 
-  -- the texts and the decorator are left as they were, and what is counted grows by what is counted in the texts that are visited and
-  -- aren't skipped
+  -- the treatment of texts and the decorator are restored, and the count grows at least by that of the texts that are
+  -- visited and not skipped
   pub layout-grows : (t : Forest RenderNode) (s : State) → IfSome (run (layout_of m) t s) (λ r. (r.text ≡ s.text) × ((r.decorator ≡ s.decorator) ×
       (v s.block + sum_by (λ (n : RenderNode). w (node_characters n.kind)) (nodes_at false (layout_of m) bare 0 t s) ≤ v r.block)))
   layout-grows t s = trees-grow t bare (λ number q. tt) 0 s
 
--- ---- how often a character stands in texts
+-- ---- how often a character is in texts
 
 abbrev text_characters : List RenderNode → List ℕ
 text_characters nodes = flat_map (λ n. node_characters n.kind) nodes
@@ -301,11 +302,11 @@ texts_count c (n ∷ ns) =
     ∙ count-append c (visible_in_text own) (visible_in_text (text_characters ns)) ∙ ap (λ m. text_count c own + m) (texts_count c ns)
     ∙ sym (sum_by-cons (λ (n : RenderNode). text_count c (node_characters n.kind)) n ns)
 
--- a character more, in front of a text
+-- count of a text with one more character at its front
 text_count-cons : (c x : ℕ) (cs : List ℕ) → text_count c (x ∷ cs) ≡ count c (if_visible x) + text_count c cs
 text_count-cons c x cs = count-append c (if_visible x) (visible_in_text cs)
 
--- a visible character stands in a text that is struck out as often as in the text, or more often
+-- a visible character is in a struck-out text at least as often as in the text
 struck-count : (c : ℕ) (cs : List ℕ) → text_count c cs ≤ text_count c (struck cs)
 struck-count c [] = omega arith
 struck-count c (x ∷ cs) =
@@ -314,20 +315,20 @@ struck-count c (x ∷ cs) =
     if_cases (λ l. text_count c (x ∷ cs) ≤ text_count c l) (is_collapsible x) _ _ (λ _. omega (arith, text_count-cons c x (struck cs)))
     (λ _. omega (arith, text_count-cons c x (822 ∷ struck cs), text_count-cons c 822 (struck cs)))
 
--- a law for each character
+-- a claim for each character holds of all characters
 for_each : {X : Type 0} (P : ℕ → X → Type 0) (o : Option X) → ((c : ℕ) → IfSome o (P c)) → IfSome o (λ x. (c : ℕ) → P c x)
 for_each P None h = tt
 for_each P (Some x) h = h
 
 module _ {S A : Type 0} (d : Decoration S A) where
-  -- trees that are laid out leave the texts that follow, with their annotations, and the decorator as they were
+  -- trees that are laid out restore the treatment of texts, with its tag, and the decorator
   pub layout_leaves : (t : Forest RenderNode) (s : Defined S A) →
       IfSome (run (defined d) t s) (λ r. (r.text ≡ s.text) × (r.decorator ≡ s.decorator))
   layout_leaves t s =
       IfSome_then (run (defined d) t s)
       (layout-grows (by_stacks d) (visible_count 0) (text_count 0) (operations_keep_visible 0) refl (struck-count 0) t s) (λ r k. (k.0, k.1.0))
 
-  -- THE LAW: each visible character of the texts that are visited stands in the lines as often, or more often
+  -- THE LAW: each visible character of the texts that are visited and not skipped is in the lines at least as often
   pub layout_keeps_texts : (settings : LayoutSettings) (t : Forest RenderNode) (decorator : S) (block : BlockSetting) →
       IfSome (layout_lines d settings t decorator block) (KeepsTexts (visited_nodes d settings t decorator block))
   layout_keeps_texts settings t decorator block =

@@ -1,5 +1,5 @@
--- THE THEOREM: what the code does, on blocks that are fed character by character, is what is defined, on whole lists and
--- stacks: with tags that are numbers, and without any.
+-- THE THEOREM: the code's layout, on blocks that are fed character by character, is the definition's, on whole lists and
+-- annotation stacks: with tags that are indices, and without tags.
 use Rattle.std.proofs.Common.{◌≡◌, ◌≢◌, ◌==◌, ℕ, Bool, true, false, cond, [], ◌∷◌, ◌++◌, length, List, Option, Some, None, Result}
 use Rattle.std.proofs.Common.{refl, sym, ap, ◌∙◌, subst, append_assoc, append-nil, option_map}
 use Rattle.std.proofs.lemmas.Bool.{ne_eqb}
@@ -56,27 +56,27 @@ module _ {T M : Type 0} (f : T → T) (same : (t : T) → f t ≡ t) where
   mapped-same (Some ls) = ap Some (lines-same ls)
 
 module _ {S A : Type 0} (d : Decoration S A) (settings : LayoutSettings) where
-  -- what is defined of measured trees, from an empty block
+  -- lines of the definition for measured trees, from an empty block; none where it is too narrow
   abbrev wanted : Forest RenderNode → S → BlockSetting → Option (List (Line (List A) ℕ))
   wanted t decorator block =
       shown_after (by_stacks d) definition.ending (λ (r : Defined S A). r.block.lines) t (empty_state d settings decorator block)
 
-  -- what is shown in a width that isn't 0
+  -- in a width that isn't 0, a view of the layout is one of the measured trees
   shown-wide : {X : Type 0} (view : Defined S A → X) (t : Forest RenderNode) (decorator : S) (block : BlockSetting) → block.width ≢ 0 →
       shown_after (by_stacks d) definition.ending view (estimated d settings decorator t) (empty_state d settings decorator block)
       ≡ layout d settings view t decorator block
   shown-wide view t decorator block wide = sym (if_false (block.width == 0) None _ (ne_eqb block.width 0 wide))
 
-  -- ---- tags that are numbers
+  -- ---- tags that are indices of stacks
 
-  -- stacks were pushed
+  -- whether l is k with more stacks pushed
   abbrev Pushed : List (List A) → List (List A) → Type 0
   Pushed k l = (more : List (List A)) × (l ≡ k ++ more)
 
   Pushed-goes : (k l m : List (List A)) → Pushed k l → Pushed l m → Pushed k m
   Pushed-goes k l m a b = (a.0 ++ b.0, b.1 ∙ ap (λ x. x ++ b.0) a.1 ∙ append_assoc k a.0 b.0)
 
-  -- the stack that was pushed last
+  -- the tag of a pushed annotation refers to its stack, also after later pushes
   tag_pushed : (k : List (List A)) (t : ℕ) (a : A) (stack : List A) → ((l : List (List A)) → Pushed k l → stack_at l t ≡ stack) →
       (l : List (List A)) → Pushed (tabled k t a).0 l → stack_at l (tabled k t a).1 ≡ stack ++ a ∷ []
   tag_pushed k t a stack h l g =
@@ -84,7 +84,7 @@ module _ {S A : Type 0} (d : Decoration S A) (settings : LayoutSettings) where
       ∙ get_or-append_seam k (stack_at k t ++ a ∷ []) g.0 []
       ∙ ap (λ x. x ++ a ∷ []) (h k ([], sym (append-nil k)))
 
-  -- the tag of what lines are padded under, if they are, and its stack
+  -- tags of padding, if there are any, are related if these tags are
   padded_alike : {W T V : Type 0} (shown : W → T → V) (seen : List A → V) (Later : W → W → Type 0) (stays : (w : W) → Later w w)
       (goes : (w v u : W) → Later w v → Later v u → Later w u) (w : W) (tag : T) (stack : List A) → Tags shown seen Later stays goes w tag stack →
       OptionTags (Tags shown seen Later stays goes) w (padding settings tag) (padding settings stack)
@@ -98,12 +98,12 @@ module _ {S A : Type 0} (d : Decoration S A) (settings : LayoutSettings) where
   empty_worked decorator block =
       begin_with settings (d.subblock decorator) ([] ∷ []) 0 (empty_block machine block (padding settings 0))
 
-  -- what differs in the state by stacks
+  -- parts in which the definition's state differs
   abbrev stacked : BlockSetting → Other (Unit {0}) (List A) (DefinedBlock (List A) ℕ)
   stacked block =
       record { stacks = tt; tag = []; blank = []; block = empty_block definition block (padding settings []) }
 
-  -- the table of stacks, beside nothing
+  -- table of stacks, with nothing on the other side
   abbrev Tabled : Type 0
   Tabled = List (List A) × Unit {0}
 
@@ -132,7 +132,7 @@ module _ {S A : Type 0} (d : Decoration S A) (settings : LayoutSettings) where
       (begins decorator block)
       ∙ mapped-same (λ (s : List A). s) (λ s. refl) (wanted t decorator block)
 
-  -- from an empty block of a width that isn't 0, what the code does with the measured trees makes the lines of the tree
+  -- from an empty block of a width that isn't 0, the code's lines of the measured trees are the definition's of the tree
   pub layout_lines-works : (t measured : Forest RenderNode) (decorator : S) (block : BlockSetting) (s : Worked S A) → block.width ≢ 0 →
       measured ≡ with_needed_sizes (estimated d settings decorator t) → s ≡ empty_worked decorator block → work_lines d measured s ≡ layout_lines d settings t decorator block
   layout_lines-works t measured decorator block s wide m e =
@@ -141,7 +141,7 @@ module _ {S A : Type 0} (d : Decoration S A) (settings : LayoutSettings) where
       (estimated d settings decorator t) (empty_worked decorator block)
       ∙ work_lines-wanted (estimated d settings decorator t) decorator block ∙ shown-wide (λ (r : Defined S A). r.block.lines) t decorator block wide
 
-  -- and so are the names of its marks
+  -- from an empty block of a width that isn't 0, the code's names of marks are the definition's
   pub mark_names-works : (t measured : Forest RenderNode) (decorator : S) (block : BlockSetting) (s : Worked S A) → block.width ≢ 0 →
       measured ≡ with_needed_sizes (estimated d settings decorator t) → s ≡ empty_worked decorator block → work_names d measured s ≡ mark_names d settings t decorator block
   mark_names-works t measured decorator block s wide m e =
@@ -153,7 +153,7 @@ module _ {S A : Type 0} (d : Decoration S A) (settings : LayoutSettings) where
       (stacked block) (begins decorator block)
       ∙ shown-wide (λ (r : Defined S A). r.names) t decorator block wide
 
-  -- and it visits what the definition visits, with as many open at once
+  -- the code's walk visits the nodes that the definition visits, with the same most nodes open at once
   pub counts-work : {X : Type 0} (r : Result X Error) (t measured : Forest RenderNode) (decorator : S) (block : BlockSetting)
       (s : Worked S A) (old other new : Meter) → measured ≡ with_needed_sizes (estimated d settings decorator t) → s ≡ empty_worked decorator block →
       other.probes ≡ old.probes → CountsNodes r (layout_of (by_tags d tabled)) measured s other new →
@@ -190,7 +190,7 @@ module _ {S A : Type 0} (d : Decoration S A) (settings : LayoutSettings) where
         ),
       )
 
-  -- the same, without what the characters are annotated with
+  -- from an empty block of a width that isn't 0, the code's lines without tags are the definition's without annotations
   pub untagged_lines-works : {K : Type 0} (t measured : Forest RenderNode) (decorator : S) (block : BlockSetting) (k : K)
       (s : Untagged S K) → block.width ≢ 0 → measured ≡ with_needed_sizes (estimated d settings decorator t) → s ≡ empty_untagged k decorator block →
       untagged_work d measured s ≡ option_map unannotated (layout_lines d settings t decorator block)

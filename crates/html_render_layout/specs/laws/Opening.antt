@@ -1,4 +1,4 @@
--- What the walk does at a node is what is defined.
+-- The walk's machine at a node is the definition's visit of it.
 use Rattle.std.specs.Prelude.{◌≡◌, ℕ, List, [], ◌∷◌, map, Option, Some, None, option_and_then, option_map, refl}
 use Rattle.std.proofs.Common.{ap, sym, subst, ◌∙◌}
 use Rattle.std.specs.Str.{chars}
@@ -28,7 +28,7 @@ use Rattle.html_render_layout_states.specs.Images.{shown_title}
 use Rattle.html_render_layout_states.specs.Opening.{interrupted, continued, keeping, block_begun, block_kept, kind_kept, kind_opened, kind_closed, child_block, kind_below}
 use Rattle.html_render_layout_states.specs.Opening.{opened_in, text_opened, cell_opened, block_opened, opened_below, opened, below, closed}
 
--- nothing done behind a visit
+-- a visit followed by nothing is the visit
 module _ {S : Type 0} where
   some : (x : Option S) → option_and_then (λ r. Some r) x ≡ x
   some None = refl
@@ -42,7 +42,7 @@ module _ {S A K T B : Type 0} (m : Means S A K T B) where
   abbrev State : Type 0
   State = LayoutState S K T B
 
-  -- what is kept of a node stands for the places of its children, and for what is done after them
+  -- whether a closing action agrees with a visit: in the places of the children, and in the action after them
   abbrev StandsFor : KindClosing S T B → Visit State → Type 0
   StandsFor kept (Leaf behind) = Unit {0}
   StandsFor kept (Inner before places after) = (places ≡ kind_below m kept) × ((r : State) → after r ≡ kind_closed m kept r)
@@ -52,7 +52,7 @@ module _ {S A K T B : Type 0} (m : Means S A K T B) where
   superscript-stands None e s = (refl, λ r. some (kind_closed m (kind_kept m NoBlock Superscript e s) r))
   superscript-stands (Some digits) e s = tt
 
-  -- what the node interrupts with a block of its own, in the state q
+  -- block that a node of this kind suspends with a block of its own, in the state q
   abbrev own : NodeKind → Estimate → (q : State) → Interruption S T B
   own k e q = block_kept m (block_of m.decoration q.settings q.decorator k e) q
 
@@ -71,7 +71,7 @@ module _ {S A K T B : Type 0} (m : Means S A K T B) where
   kind-stands (Table grid) e trees q s = (refl, λ r. refl)
   kind-stands k e trees q s = (refl, λ r. some (kind_closed m (kind_kept m (own k e q) k e s) r))
 
-  -- and a leaf interrupts nothing
+  -- a superscript is opened alike with nothing done after it
   superscript-opened : (digits : Option (List ℕ)) (kept : KindClosing S T B) (s : State) →
       opened_with (followed (shape_layout m (superscript m.decoration digits) s) (λ r. Some r)) kept
       ≡ opened_with (shape_layout m (superscript m.decoration digits) s) kept
@@ -93,7 +93,7 @@ module _ {S A K T B : Type 0} (m : Means S A K T B) where
   abbrev Opened : Visit State → Option (Way State (Closing S T B)) → Type 0
   Opened n w = IsOpened (below m) (closed m) n w
 
-  -- from what is kept of its kind to what is kept of the node, in its place, with texts treated behind it as before it
+  -- from the closing action of a kind to the pending work of a node in its place, which restores the treatment of texts
   kept-opened : (n : Visit State) (kept : KindClosing S T B) (item : Interruption S T B) (text : TextContext T) → StandsFor kept n →
       Opened (followed (followed n (λ r. Some (record r { text = text }))) (continued m item))
       (option_and_then (λ w. keeping m item text w) (opened_with n kept))
@@ -114,7 +114,7 @@ module _ {S A K T B : Type 0} (m : Means S A K T B) where
       closes None = refl
       closes (Some t) = refl
 
-  -- in a block inside that of s, if there is one; around is what a visit stands in besides
+  -- in a sub-block of s, if there is one; `around` is the context of the visit
   nested-opened : (own : Interruption S T B) (c : Option B) (s : State) (visit : State → Visit State) (around : Visit State → Visit State) →
       around (Leaf None) ≡ Leaf None → (f : State → Option (Way State (Closing S T B))) →
       ((q : State) → Opened (around (followed (visit q) (continued m own))) (f q)) →
@@ -123,7 +123,7 @@ module _ {S A K T B : Type 0} (m : Means S A K T B) where
   nested-opened own None s visit around same f h = subst (λ v. Opened v None) (sym same) (record { told = λ children. refl; asked = refl })
   nested-opened own (Some e) s visit around same f h = h (within m e s)
 
-  -- in a block of its own, if it has one
+  -- in a node's block, whichever it is
   in-block : (b : OwnBlock) (s : State) (visit : State → Visit State) (around : Visit State → Visit State) → around (Leaf None) ≡ Leaf None →
       (f : State → Option (Way State (Closing S T B))) →
       ((q : State) → Opened (around (followed (visit q) (continued m (block_kept m b s)))) (f q)) →
@@ -135,7 +135,7 @@ module _ {S A K T B : Type 0} (m : Means S A K T B) where
   in-block (Indented prefix columns least) s visit around same f h =
       nested-opened (interruption.Indented (interrupted m s prefix columns)) (m.operations.sub_block s.block columns least) s visit around same f h
 
-  -- a node in its place
+  -- a node is opened as its visit in its place says
   node-kept : (n : RenderNode) (trees : Forest RenderNode) (item : Interruption S T B) (s : State) →
       Opened (followed (layout_of m n trees s) (continued m item)) (opened_in m item n trees s)
   node-kept n trees item s = by (perform_all m s (style_steps m.decoration n.style) s)
@@ -156,7 +156,7 @@ module _ {S A K T B : Type 0} (m : Means S A K T B) where
           (option_and_then (λ w. keeping m item s.text w) w)) (kind-opened n.kind n.estimate trees q p kept)
           (kept-opened visit kept item s.text (kind-stands n.kind n.estimate trees q p)))
 
-  -- a node is opened once its style, its block and its kind are, with whatever its block interrupts
+  -- a node is opened by its style, its block and its kind, with what the block suspends
   pub opened-by : (item before : Interruption S T B) (n : RenderNode) (trees : Forest RenderNode) (s q p : State) (b : OwnBlock) →
       perform_all m s (style_steps m.decoration n.style) s ≡ Some q → b ≡ block_of m.decoration q.settings q.decorator n.kind n.estimate →
       block_begun m b q ≡ Some p → before ≡ block_kept m b q →
@@ -171,7 +171,7 @@ module _ {S A K T B : Type 0} (m : Means S A K T B) where
       ∙ ap (λ (c : OwnBlock). option_and_then (λ p. next (block_kept m c q) p) (block_begun m c q)) (sym block)
       ∙ ap (option_and_then (λ p. next (block_kept m b q) p)) begun ∙ ap (λ i. next i p) (sym kept)
 
-  -- a text keeps nothing
+  -- a text has no pending work
   pub texts_pass : (n : RenderNode) (t : List ℕ) (trees : Forest RenderNode) (s : State) → n.kind ≡ Text t →
       opened_in m NoBlock n trees s ≡ text_opened m t n.style s
   texts_pass n t trees s is =
@@ -199,7 +199,7 @@ module _ {S A K T B : Type 0} (m : Means S A K T B) where
   cell-opened n trees s None = record { told = λ children. refl; asked = refl }
   cell-opened n trees s (Some cell) = node-kept n trees (Cell (record { decorator = s.decorator; block = s.block })) (within m cell s)
 
-  -- THE LAW: a node is opened so in its place, its children come, and it is closed
+  -- THE LAW: a node is opened in its place, its children follow, and it is closed, as its visit says
   pub layout-opened : (parent : Option (Closing S T B)) (number : ℕ) (n : RenderNode) (trees : Forest RenderNode) (s : State) →
       Opened (placed (places_in (below m) parent number s) (layout_of m n trees) s) (opened m parent number n trees s)
   layout-opened None number n trees s = block-opened Shared n trees s

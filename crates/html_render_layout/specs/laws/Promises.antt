@@ -1,4 +1,4 @@
--- The lines of a layout are what is promised of them.
+-- The lines of a layout keep their promises.
 use Rattle.std.proofs.Common.{◌≡◌, ◌≢◌, ℕ, ◌<◌, Bool, true, false, List, Option, Some, None, Result, Ok, Err}
 use Rattle.std.proofs.Common.{IfErr, IfSome, IsSome, option_map, refl, sym, ap, ◌∙◌, subst, arith}
 use Rattle.std.proofs.lemmas.Option.{same_Some}
@@ -19,7 +19,7 @@ use Rattle.html_render_layout.specs.laws.LayoutVisible.{layout_keeps_texts, layo
 
 module _ {S A : Type 0} (d : Decoration S A) (settings : LayoutSettings) (tree : Forest RenderNode) (decorator : S)
     (block : BlockSetting) where
-  -- the lines with overflow on or off
+  -- lines with overflow on or off
   abbrev in_overflow : Bool → Option (List (Line (List A) ℕ))
   in_overflow o = layout_lines d settings tree decorator (record block { overflow = o })
 
@@ -43,14 +43,14 @@ module _ {S A : Type 0} (d : Decoration S A) (settings : LayoutSettings) (tree :
       by None are = tt
       by (Some lines) are = are lines refl
 
-  -- the names of their marks, where overflow off gives names
+  -- names of marks are those of overflow off, where that gives any
   pub same-names : (names : List (List ℕ)) → mark_names d settings tree decorator block ≡ Some names →
       IfSome (mark_names d settings tree decorator (record block { overflow = false })) (λ others. names ≡ others)
   same-names names e =
       same_answer (λ o. mark_names d settings tree decorator (record block { overflow = o })) (names_same d settings tree decorator block)
       block.overflow names e
 
-  -- the lines of those without annotations
+  -- lines without annotations are those of lines with all promises
   pub unannotated-are-lines : (bare : List (Line (Unit {0}) ℕ)) →
       option_map unannotated (layout_lines d settings tree decorator block) ≡ Some bare →
       Lines d settings tree decorator block (λ lines. bare ≡ unannotated lines)
@@ -62,12 +62,12 @@ module _ {S A : Type 0} (d : Decoration S A) (settings : LayoutSettings) (tree :
       by None are e = cc
       by (Some lines) are e = (lines, are lines refl, sym (same_Some (unannotated lines) bare e))
 
-  -- with overflow on there are lines
+  -- with overflow on there are lines at each width from 1
   pub lines_there : HasLines d settings tree decorator block
   lines_there on some =
       subst (λ o. IsSome (in_overflow o)) (sym on) (layout_succeeds d settings tree decorator block (omega (arith, some)))
 
-  -- so it isn't too narrow
+  -- with overflow on and a width from 1, the result isn't `TooNarrow`
   pub wide_enough : {X : Type 0} (r : Result X Error) → IfErr r (λ e. Refuses e (layout_lines d settings tree decorator block)) →
       0 < block.width → block.overflow ≡ true → r ≢ Err TooNarrow
   wide_enough (Ok v) h positive on e = cc
@@ -82,12 +82,12 @@ module _ {S A : Type 0} (d : Decoration S A) (settings : LayoutSettings) (tree :
       by None k e = cc
       by (Some p) k e = cc
 
--- an error says the same of lines and of what is made of them
+-- an error that a mapped option allows is one that the option allows
 pub refuses-mapped : {L M : Type 0} (f : L → M) (e : Error) (o : Option L) → Refuses e (option_map f o) → Refuses e o
 refuses-mapped f TooNarrow None h = refl
 refuses-mapped f TooNarrow (Some ls) h = cc
 refuses-mapped f e o h = h
 
--- every tree leaves the texts that follow
+-- every tree restores the treatment of texts and the decorator
 pub texts_left : {S A : Type 0} (d : Decoration S A) → LeavesTexts d
 texts_left d t s = layout_leaves d t s

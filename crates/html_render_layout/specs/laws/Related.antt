@@ -1,5 +1,4 @@
--- THE THEOREM: two layouts whose tags and blocks are related, and whose operations on blocks keep them so, stay related through
--- each node.
+-- THE THEOREM: two layouts whose tags and blocks are related, with operations that keep them related, end in related states.
 use Rattle.std.specs.Prelude.{codes, if◌then◌else◌}
 use Rattle.std.specs.Fmt.{decimal}
 use Rattle.std.proofs.Common.{◌≡◌, ℕ, ◌+◌, ◌||◌, ◌&&◌, not, Bool, true, false, List, [], ◌∷◌, ◌++◌, length, map}
@@ -29,18 +28,18 @@ use Rattle.html_render_layout_states.specs.Layout.{Cells, spaces, padded, block_
 use Rattle.html_render_layout_states.specs.Layout.{text_style, add_styled, write, annotated, fence, perform, perform_all, within, nested, joined, appended}
 use Rattle.html_render_layout_states.specs.Layout.{appended_block, block_place, cell_place, shape_layout, kind_layout, layout_of, shown_after}
 
--- how texts are treated, under another tag
+-- treatment of texts under another tag
 abbrev pub context : {T U : Type 0} → TextContext T → U → TextContext U
 context text tag = record { tag = tag; mode = text.mode; preformatted = text.preformatted; struck_out = text.struck_out }
 
--- what differs between the two: the stacks, the tags and the block
+-- parts in which the two states differ: stacks, tags and block
 pub record Other (L U C : Type 0) : Type 0 where
   pub stacks : L
   pub tag : U
   pub blank : U
   pub block : C
 
--- the state with these instead of its own
+-- state with the stacks, tags and block of the other side
 abbrev pub with_other : {S K T B L U C : Type 0} → LayoutState S K T B → Other L U C → LayoutState S L U C
 with_other s v =
     record {
@@ -55,8 +54,8 @@ with_other s v =
       names = s.names;
     }
 
--- m and n are the means of the two sides, which answer for the same decorators; Tags says which tags are related, and Blocks which
--- blocks, with these stacks; Later says how stacks may go on, with which both stay so
+-- m and n are the means of the two sides, with one decoration. Tags relates tags and Blocks relates blocks, with the stacks
+-- of both sides. Later relates stacks to later ones, with which tags and blocks stay related.
 module _ {S A K T B L U C I : Type 0} (m : Means S A K T B) (pull : L → U → A → L × U) (p : Operations C U ℕ) (N M : Type 0) (weak : M → N)
     (Later : K × L → K × L → Type 0) (stays : (w : K × L) → Later w w)
     (goes : (w v u : K × L) → Later w v → Later v u → Later w u)
@@ -67,7 +66,7 @@ module _ {S A K T B L U C I : Type 0} (m : Means S A K T B) (pull : L → U → 
     (tag_pushed : (k : K) (l : L) (t : T) (u : U) (a : A) → Tags (k, l) t u →
     Tags ((m.push k t a).0, (pull l u a).0) (m.push k t a).1 (pull l u a).1)
     (h : Relates m.operations p N M Later Tags Blocks) where
-  -- the other side's means
+  -- means of the other side
   abbrev n : Means S A L U C
   n = record { decoration = m.decoration; push = pull; operations = p }
 
@@ -83,32 +82,32 @@ module _ {S A K T B L U C I : Type 0} (m : Means S A K T B) (pull : L → U → 
   abbrev stacks_of : State → Different → K × L
   stacks_of s v = (s.stacks, v.stacks)
 
-  -- the state is related to itself with what differs
+  -- whether a state is related to the one that differs in these parts
   abbrev Holds : I → State → Different → Type 0
   Holds i s v = Tags (stacks_of s v) s.text.tag v.tag × (Tags (stacks_of s v) s.blank v.blank × Blocks i (stacks_of s v) s.block v.block)
 
-  -- a state that is reached with the stacks w is related to the other side's
+  -- whether a state that is reached from the stacks w is related to the other side's
   pub record Reached (i : I) (w : K × L) (r : State) (e : OtherState) : Type 0 where
     pub other : Different
     pub is : e ≡ with_other r other
     pub later : Later w (stacks_of r other)
     pub holds : Holds i r other
 
-  -- with an i of its own
+  -- whether a reached state is related at some index, as in a sub-block
   abbrev Deeper : K × L → State → OtherState → Type 0
   Deeper w q e = (j : I) × Reached j w q e
 
-  -- nothing is done
+  -- a state that isn't changed is reached
   here : (i : I) (s : State) (v : Different) → Holds i s v → Reached i (stacks_of s v) s (with_other s v)
   here i s v k = record { other = v; is = refl; later = stays (stacks_of s v); holds = k }
 
-  -- since earlier stacks
+  -- a state that is reached from later stacks is reached from earlier ones
   abbrev since : (i : I) (w : K × L) (q : State) (u : Different) (r : State) (e : OtherState) → Later w (stacks_of q u) →
       Reached i (stacks_of q u) r e → Reached i w r e
   since i w q u r e l z =
       record { other = z.other; is = z.is; later = goes w (stacks_of q u) (stacks_of r z.other) l z.later; holds = z.holds }
 
-  -- one step after another
+  -- one operation after another
   then_reached : (i j : I) (w : K × L) (a : Option State) (b : Option OtherState) (f : State → Option State) (g : OtherState → Option OtherState) →
       Both N M (Reached j w) a b →
       ((q : State) (u : Different) → Later w (stacks_of q u) → Holds j q u → Both N M (Reached i (stacks_of q u)) (f q) (g (with_other q u))) →
@@ -128,7 +127,7 @@ module _ {S A K T B L U C I : Type 0} (m : Means S A K T B) (pull : L → U → 
 
   -- ---- steps
 
-  -- texts have an annotation more, if there is one
+  -- adding an annotation, if there is one
   annotated-related : (a : Option A) (i : I) (s : State) (v : Different) → Holds i s v →
       Reached i (stacks_of s v) (annotated m a s) (annotated n a (with_other s v))
   annotated-related None i s v k = here i s v k
@@ -183,7 +182,7 @@ module _ {S A K T B L U C I : Type 0} (m : Means S A K T B) (pull : L → U → 
           (tags_later (x.0, y.0) (x'.0, y'.0) x.1 y.1 (tag_pushed s.stacks v.stacks s.text.tag v.tag a k.0) second)
           (tag_pushed x.0 y.0 s.text.tag v.tag b tag) s.block v.block z.1.1)) (λ r e f. since i (stacks_of s v) q u r e both f)
 
-  -- a step that is taken, or not
+  -- a step that is done or not
   if-related : (z : Bool) (a : Option State) (b : Option OtherState) (i : I) (s : State) (v : Different) → Holds i s v →
       Both N M (Reached i (stacks_of s v)) a b →
       Both N M (Reached i (stacks_of s v)) (if z then a else Some s) (if z then b else Some (with_other s v))
@@ -199,7 +198,7 @@ module _ {S A K T B L U C I : Type 0} (m : Means S A K T B) (pull : L → U → 
       (h.add_inline_text i (stacks_of s v) Normal s.blank s.blank v.blank v.blank (codes "```") k.1.0 k.1.0 s.block v.block k.1.1))
       (λ q u l z. on_block-related m.operations.new_line p.new_line i q u z (h.new_line i (stacks_of q u) q.block u.block z.1.1))
 
-  -- each step, at a node that was come to in a state that is related too
+  -- each step, at nodes whose steps began in related states
   step-related : (x : Step S A) (b : State) (e : Different) (i : I) (s : State) (v : Different) → Tags (stacks_of s v) b.text.tag e.tag →
       Holds i s v → Both N M (Reached i (stacks_of s v)) (perform m b x s) (perform n (with_other b e) x (with_other s v))
   step-related (Write text) b e i s v t k = write-related (text s.decorator) i s v k
@@ -246,7 +245,7 @@ module _ {S A K T B L U C I : Type 0} (m : Means S A K T B) (pull : L → U → 
       then_reached i i (stacks_of s v) _ _ _ _ (step-related x b e i s v t k) (λ q u l z.
       steps-related (y ∷ xs) b e i q u (tags_later (stacks_of s v) (stacks_of q u) b.text.tag e.tag t l) z)
 
-  -- ---- blocks in blocks
+  -- ---- sub-blocks
 
   nested-related : (prefix least : ℕ) (i : I) (s : State) (v : Different) → Holds i s v →
       Both N M (Deeper (stacks_of s v)) (nested m prefix least s) (nested n prefix least (with_other s v))
@@ -255,7 +254,7 @@ module _ {S A K T B L U C I : Type 0} (m : Means S A K T B) (pull : L → U → 
       (p.sub_block v.block prefix least) (h.sub_block i (stacks_of s v) prefix least s.block v.block k.1.1) (λ b c z.
       (z.0, here z.0 (within m b s) (record v { block = c }) (k.0, (k.1.0, z.1))))
 
-  -- behind a node in a block inside that of s
+  -- whether f and g keep blocks related, as they make them of outer blocks and sub-blocks
   abbrev JoinRelated : I → State → Different → (B → B → Option B) → (C → C → Option C) → Type 0
   JoinRelated i s v f g = (j : I) (w : K × L) → Later (stacks_of s v) w → Blocks i w s.block v.block → (b : B) (c : C) → Blocks j w b c →
       Both N M (Blocks i w) (f s.block b) (g v.block c)
@@ -284,13 +283,13 @@ module _ {S A K T B L U C I : Type 0} (m : Means S A K T B) (pull : L → U → 
 
   -- ---- visits
 
-  -- what is done behind the nodes below a node, in a block with an i of its own
+  -- whether states are related inside a node, and states after its children lead to related states after the node
   abbrev After : I → K × L → State → OtherState → (State → Option State) → (OtherState → Option OtherState) → Type 0
   After i w q e f g =
       (j : I) × ((z : Reached j w q e) × ((r : State) (u : Different) → Later (stacks_of q z.other) (stacks_of r u) → Holds j r u →
       Both N M (Reached i (stacks_of r u)) (f r) (g (with_other r u))))
 
-  -- places, from a state
+  -- whether two places are related, from the stacks w
   abbrev PlaceRelated : I → K × L → Place State → Place OtherState → Type 0
   PlaceRelated i w Bare Bare = Unit {0}
   PlaceRelated i w (Skipped t) (Skipped e) = Reached i w t e
@@ -307,7 +306,7 @@ module _ {S A K T B L U C I : Type 0} (m : Means S A K T B) (pull : L → U → 
   Related i w (Inner a x f) (Leaf b) = ⊥
   Related i w (Inner a x f) (Inner b y g) = Both N M (λ q e. After i w q e f g) a b × PlacesRelated x y
 
-  -- none, and whatever the other side has
+  -- none is related to whatever the other side has
   none-both : (i : I) (w : K × L) (b : Option OtherState) → M → Both N M (Reached i w) None b
   none-both i w None x = weak x
   none-both i w (Some e) x = x
@@ -364,7 +363,7 @@ module _ {S A K T B L U C I : Type 0} (m : Means S A K T B) (pull : L → U → 
     k.1,
   )
 
-  -- a node that is visited alike wherever it stands, in its place
+  -- a visit that is related in all related states is so in related places
   placed-related : (f : State → Visit State) (g : OtherState → Visit OtherState) →
       ((j : I) (q : State) (u : Different) → Holds j q u → Related j (stacks_of q u) (f q) (g (with_other q u))) →
       (x : Place State) (y : Place OtherState) (i : I) (s : State) (v : Different) → Holds i s v → PlaceRelated i (stacks_of s v) x y →
@@ -381,9 +380,9 @@ module _ {S A K T B L U C I : Type 0} (m : Means S A K T B) (pull : L → U → 
       (followed-related i c.0 (stacks_of q t.other) (f q) (g (with_other q t.other)) a b (same c.0 q t.other t.holds) (λ r u l d. c.1.1 r u l d)))
   placed-related f g same x y i s v k c = absurd c
 
-  -- ---- each shape
+  -- ---- shapes
 
-  -- in the same block, and in one inside it
+  -- actions before and after children in the same block, and in a sub-block
   around-related : (i : I) (w : K × L) (a : Option State) (b : Option OtherState) (f : State → Option State)
       (g : OtherState → Option OtherState) → Both N M (Reached i w) a b →
       ((r : State) (u : Different) → Later w (stacks_of r u) → Holds i r u →
@@ -465,7 +464,7 @@ module _ {S A K T B L U C I : Type 0} (m : Means S A K T B) (pull : L → U → 
         cell-related j r u z (m.operations.cell_block r.block) (p.cell_block u.block) (h.cell j (stacks_of r u) r.block u.block z.1.1),
   )
 
-  -- ---- each node
+  -- ---- nodes
 
   kind-related : (kind : NodeKind) (e : Estimate) (trees : Forest RenderNode) (i : I) (s : State) (v : Different) → Holds i s v →
       Related i (stacks_of s v) (kind_layout m kind e trees s) (kind_layout n kind e trees (with_other s v))
@@ -515,7 +514,7 @@ module _ {S A K T B L U C I : Type 0} (m : Means S A K T B) (pull : L → U → 
       placed-related (layout_of m x children) (layout_of n x children) (layout-related x children) (a number s) (b number (with_other s v)) i s v k
       (same number i s v k)
 
-  -- THE THEOREM: trees that are laid out leave related states
+  -- THE THEOREM: trees laid out from related states end in related states
   run_at-related : (t : Forest RenderNode) (a : Places State) (b : Places OtherState) → PlacesRelated a b → (number : ℕ) (i : I) (s : State)
       (v : Different) → Holds i s v →
       Both N M (Reached i (stacks_of s v)) (run_at (layout_of m) a number t s) (run_at (layout_of n) b number t (with_other s v))
@@ -532,10 +531,10 @@ module _ {S A K T B L U C I : Type 0} (m : Means S A K T B) (pull : L → U → 
       Both N M (Reached i (stacks_of s v)) (run (layout_of m) t s) (run (layout_of n) t (with_other s v))
   run-related t i s v k = run_at-related t bare bare bare-related 0 i s v k
 
-  -- ---- what is visited
+  -- ---- visited nodes
 
   module _ (there : N) (never : M → ⊥) where
-    -- what is made of related answers is the same
+    -- functions that are equal on related values are equal on related partial values
     made-related : {X Y Z : Type 0} (R : X → Y → Type 0) (f : X → Z) (g : Y → Z) (otherwise : Z) (a : Option X) (b : Option Y) → Both N M R a b →
         ((x : X) (y : Y) → R x y → f x ≡ g y) → option_map_or f a otherwise ≡ option_map_or g b otherwise
     made-related R f g otherwise None None k same = refl
@@ -543,7 +542,7 @@ module _ {S A K T B L U C I : Type 0} (m : Means S A K T B) (pull : L → U → 
     made-related R f g otherwise (Some x) None k same = absurd k
     made-related R f g otherwise (Some x) (Some y) k same = same x y k
 
-    -- the states inside related visits, with their places
+    -- whether states inside related visits are related, with their places
     abbrev InnerRelated : K × L → Places State × State → Places OtherState × OtherState → Type 0
     InnerRelated w x y = PlacesRelated x.0 y.0 × Deeper w x.1 y.1
 
@@ -555,7 +554,7 @@ module _ {S A K T B L U C I : Type 0} (m : Means S A K T B) (pull : L → U → 
     inside-related i w (Inner a x f) (Inner b y g) k =
         Both-map N M (λ q e. After i w q e f g) (InnerRelated w) _ _ a b k.0 (λ q e c. (k.1, (c.0, c.1.0)))
 
-    -- the same of a state as of its other side
+    -- functions that are equal on related states are equal on reached states
     at-related : {X : Type 0} (f : State → X) (g : OtherState → X) (i : I) (w : K × L) (q : State) (e : OtherState) → Reached i w q e →
         ((u : Different) → Holds i q u → f q ≡ g (with_other q u)) → f q ≡ g e
     at-related f g i w q e z same = same z.other z.holds ∙ ap g (sym z.is)
@@ -594,7 +593,7 @@ module _ {S A K T B L U C I : Type 0} (m : Means S A K T B) (pull : L → U → 
         (behind-related x children a b same number i s v k) (λ q e z.
         at-related next other_next i w q e z (λ u d. nodes-related beside a b same (number + 1) i q u d)))
 
-    -- and as many of them stand open at once
+    -- the most nodes open at once are equal
     open-related : (t : Forest RenderNode) (a : Places State) (b : Places OtherState) → PlacesRelated a b → (number : ℕ) (i : I) (s : State)
         (v : Different) → Holds i s v → open_at (layout_of m) a number t s ≡ open_at (layout_of n) b number t (with_other s v)
     open-related none a b same number i s v k = refl
@@ -620,7 +619,7 @@ module _ {S A K T B L U C I : Type 0} (m : Means S A K T B) (pull : L → U → 
         (visited (layout_of m) t s ≡ visited (layout_of n) t (with_other s v)) × (most_open (layout_of m) t s ≡ most_open (layout_of n) t (with_other s v))
     walked-related t i s v k = (nodes-related t bare bare bare-related 0 i s v k, open-related t bare bare bare-related 0 i s v k)
 
-  -- ---- what is shown
+  -- ---- views of the end
 
   module _ (end : DocumentEnd B T) (other_end : DocumentEnd C U) (Cut : Bool → Type 0) (ends : RelatesEnds end other_end N M Cut Tags Blocks) where
     ended-related : (footnotes cut : Bool) (tag : T) (other_tag : U) (i : I) (s : State) (v : Different) → Cut cut →
@@ -635,7 +634,7 @@ module _ {S A K T B L U C I : Type 0} (m : Means S A K T B) (pull : L → U → 
         (other_end.add_closing_lines e cut other_tag texts) (ends.add_closing_lines i w cut tag other_tag texts c t b e c') (λ x f d.
         record { other = record v { block = f }; is = refl; later = stays w; holds = (k.0, (k.1.0, d)) }))
 
-    -- what is shown of related states is so related
+    -- views that are related on related states are related after the layout of a document
     pub shown-related : {X Y : Type 0} (R : X → Y → Type 0) (view : State → X) (wanted : OtherState → Y) (i : I) →
         ((r : State) (u : Different) → Holds i r u → R (view r) (wanted (with_other r u))) →
         (t : Forest RenderNode) (s : State) (v : Different) → Cut s.settings.wrap_links → Holds i s v →

@@ -1,4 +1,5 @@
--- THE THEOREM: a layout whose characters carry tags represents the layout by stacks.
+-- THE THEOREM: a layout whose characters carry tags represents the definition's layout, whose characters carry annotation
+-- stacks.
 use Rattle.std.proofs.Common.{◌≡◌, ℕ, List, ◌∷◌, [], ◌++◌, Option, Some, None, refl, ap, ◌∙◌, option_map}
 use Rattle.std.proofs.lemmas.Iterator.Adapters.{option_map_id}
 use Rattle.html_render_dom_values.specs.Forest.{Forest}
@@ -18,8 +19,8 @@ use Rattle.html_render_layout_states.specs.Layout.{by_stacks, layout_of, shown_a
 use Rattle.html_render_layout_states.specs.Working.{by_tags}
 use Rattle.html_render_layout.specs.laws.Related.{Other, with_other, walked-related, shown-related}
 
--- push puts an annotation onto a tag of what is kept, shown is what is seen of a tag and seen of a stack; Later says how
--- what is kept may go on, and what is seen of a tag that was pushed is what is seen of the stack, from then on
+-- `push` adds an annotation on top of a tag, in a store K; `shown` is the view of a tag and `seen` that of a stack. Later
+-- relates a store to later ones: in all of them a pushed tag has the view of the pushed stack.
 module _ {S A K T V : Type 0} (d : Decoration S A) (push : K → T → A → K × T) (shown : K → T → V) (seen : List A → V)
     (Later : K → K → Type 0) (stays : (k : K) → Later k k) (goes : (k l m : K) → Later k l → Later l m → Later k m)
     (pushed : (k : K) (t : T) (a : A) → Later k (push k t a).0)
@@ -31,7 +32,7 @@ module _ {S A K T V : Type 0} (d : Decoration S A) (push : K → T → A → K �
   abbrev Stacked : Type 0
   Stacked = Other (Unit {0}) (List A) (DefinedBlock (List A) ℕ)
 
-  -- what is kept, beside nothing
+  -- store, with nothing on the other side
   abbrev Kept : Type 0
   Kept = K × Unit {0}
 
@@ -47,7 +48,7 @@ module _ {S A K T V : Type 0} (d : Decoration S A) (push : K → T → A → K �
   abbrev ShowsBlock : ℕ → Kept → MachineBlock T ℕ → DefinedBlock (List A) ℕ → Type 0
   ShowsBlock = Blocks (λ (w : Kept) t. shown w.0 t) seen GoesOn (λ w. stays w.0) Going
 
-  -- the state of tags represents the same state with stacks, and will
+  -- whether a state with tags represents the state with stacks, now and with every later store
   abbrev pub Represents : ℕ → Worked → Stacked → Type 0
   Represents i s v =
       ShowsTag (s.stacks, v.stacks) s.text.tag v.tag
@@ -59,7 +60,7 @@ module _ {S A K T V : Type 0} (d : Decoration S A) (push : K → T → A → K �
   tag_shown : (k : K) (l : Unit {0}) (t : T) (u : List A) (a : A) → ShowsTag (k, l) t u → ShowsTag ((push k t a).0, l) (push k t a).1 (u ++ a ∷ [])
   tag_shown k l t u a x = λ m g. tag_pushed k t a u (λ n b. x (n, tt) b) m.0 g
 
-  -- the code's walk visits what the definition visits, and keeps as many of them open at once
+  -- the code's walk visits the nodes that the definition visits, with the same most nodes open at once
   pub walk-represented : (t : Forest RenderNode) (i : ℕ) (s : Worked) (v : Stacked) → Represents i s v →
       (visited (layout_of (by_tags d push)) t s ≡ visited (defined d) t (with_other s v))
       × (most_open (layout_of (by_tags d push)) t s ≡ most_open (defined d) t (with_other s v))
@@ -68,7 +69,7 @@ module _ {S A K T V : Type 0} (d : Decoration S A) (push : K → T → A → K �
       ShowsBlock (λ i w v b c k l. later-seen (λ (w : Kept) t. shown w.0 t) seen GoesOn (λ w. stays w.0) Going i w v b c k l)
       (λ k l t u a x. pushed k t a) tag_shown (operations-seen (λ (w : Kept) t. shown w.0 t) seen GoesOn (λ w. stays w.0) Going) tt (λ x. x) t i s v h
 
-  -- what is shown of a state that represents another
+  -- views of a state that represents another are related
   shown-represented : {X Y : Type 0} (R : X → Y → Type 0) (view : Worked → X) (wanted : Defined S A → Y) (i : ℕ) →
       ((r : Worked) (u : Stacked) → Represents i r u → R (view r) (wanted (with_other r u))) →
       (t : Forest RenderNode) (s : Worked) (v : Stacked) → Represents i s v →
@@ -81,14 +82,14 @@ module _ {S A K T V : Type 0} (d : Decoration S A) (push : K → T → A → K �
       machine.ending definition.ending (λ cut. Unit {0}) (ends-seen (λ (w : Kept) t. shown w.0 t) seen GoesOn (λ w. stays w.0) Going)
       R view wanted i related t s v tt h
 
-  -- two answers that are related by a map
+  -- partial values that are related by a map
   mapped : {X Y : Type 0} (f : Y → X) (x : Option X) (y : Option Y) → Both (Unit {0}) ⊥ (λ x y. x ≡ f y) x y → x ≡ option_map f y
   mapped f None None h = refl
   mapped f None (Some y) h = absurd h
   mapped f (Some x) None h = absurd h
   mapped f (Some x) (Some y) h = ap Some h
 
-  -- the lines, with what is seen of their tags, are those of the definition with what is seen of their stacks
+  -- the lines with the views of their tags are the definition's lines with the views of their stacks
   pub lines-represented : (view : Worked → List (Line V ℕ)) → ((r : Worked) → view r ≡ lines_with (shown r.stacks) r.block.lines) →
       (t : Forest RenderNode) (i : ℕ) (s : Worked) (v : Stacked) → Represents i s v → shown_after (by_tags d push) machine.ending view t s
       ≡ option_map (lines_with seen) (shown_after (by_stacks d) definition.ending (λ (r : Defined S A). r.block.lines) t (with_other s v))
@@ -97,7 +98,7 @@ module _ {S A K T V : Type 0} (d : Decoration S A) (push : K → T → A → K �
       (shown-represented (λ x y. x ≡ lines_with seen y) view (λ (r : Defined S A). r.block.lines) i (λ r u m.
       is r ∙ lines-seen (λ (w : Kept) t. shown w.0 t) seen GoesOn (λ w. stays w.0) Going i (r.stacks, u.stacks) r.block u.block m.1.1) t s v h)
 
-  -- and marks have the same names
+  -- marks have the same names
   pub names-represented : (t : Forest RenderNode) (i : ℕ) (s : Worked) (v : Stacked) → Represents i s v →
       shown_after (by_tags d push) machine.ending (λ (r : Worked). r.names) t s
       ≡ shown_after (by_stacks d) definition.ending (λ (r : Defined S A). r.names) t (with_other s v)

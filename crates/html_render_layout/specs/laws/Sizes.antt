@@ -1,4 +1,4 @@
--- Sizes that are left out: trees without a table are laid out the same without them, as tables alone ask for sizes.
+-- Preferred widths left out: only tables use them, so trees without a table are laid out alike without them.
 use Rattle.std.proofs.Common.{◌≡◌, ◌||◌, true, false, ℕ, ◌+◌, max, length, Option, Some, Result, OnOk, option_and_then}
 use Rattle.std.proofs.Common.{refl, ap, ◌≤◌, subst, arith, length-append}
 use Rattle.std.proofs.lemmas.Bool.{or_parts, true≢false}
@@ -20,7 +20,7 @@ use Rattle.html_render_layout_estimates.specs.declared.settings.LayoutSettings.{
 use Rattle.html_render_layout_states.specs.Layout.{Means, digits_of, superscript, block_of, shape_of, style_steps, perform_all, block_place, shape_layout}
 use Rattle.html_render_layout_states.specs.Layout.{kind_layout, layout_of, shown_after}
 
--- a node without its size
+-- node without its preferred width
 abbrev unsized : RenderNode → RenderNode
 unsized n = record n { estimate = without_size n.estimate }
 
@@ -42,7 +42,7 @@ module _ {S A K T B : Type 0} (m : Means S A K T B) where
   abbrev State : Type 0
   State = LayoutState S K T B
 
-  -- ---- each node
+  -- ---- nodes
 
   kind-same : (settings : LayoutSettings) (kind : NodeKind) (e : Estimate) (trees : Forest RenderNode) → is_table kind ≡ false →
       shape_of m.decoration settings kind (without_size e) (without_sizes trees) ≡ shape_of m.decoration settings kind e trees
@@ -76,7 +76,7 @@ module _ {S A K T B : Type 0} (m : Means S A K T B) where
   abbrev behind : Forest RenderNode → Places State → State → Option State
   behind t places s = run_at (layout_of m) places 0 t s
 
-  -- the state behind a node, where its children leave the same
+  -- the states after a node are equal if those after its children are
   behind-same : (p : Place State) (n : RenderNode) (children : Forest RenderNode) (s : State) → is_table n.kind ≡ false →
       ((places : Places State) (q : State) → behind (without_sizes children) places q ≡ behind children places q) →
       through_visit (placed p (layout_of m (unsized n) (without_sizes children)) s) (behind (without_sizes children))
@@ -92,7 +92,7 @@ module _ {S A K T B : Type 0} (m : Means S A K T B) where
       λ i. option_and_then (λ q. run-same beside places (number + 1) q rest.1 i)
       (behind-same (places number s) n children s front.0 (λ below q. run-same children below 0 q rest.0) i)
 
-  -- what is counted of the nodes below a node, and of those beside it
+  -- counts of the children of a node and of its later siblings are equal
   below-same : (f g : Places State × State → ℕ) (p : Place State) (n : RenderNode) (children : Forest RenderNode) (s : State) →
       is_table n.kind ≡ false → ((x : Places State × State) → f x ≡ g x) →
       count_from f (inside (placed p (layout_of m (unsized n) (without_sizes children)) s)) ≡ count_from g (inside (placed p (layout_of m n children) s))
@@ -101,7 +101,7 @@ module _ {S A K T B : Type 0} (m : Means S A K T B) where
   beside-same : (f g : State → ℕ) (o p : Option State) → ((s : State) → f s ≡ g s) → o ≡ p → count_from f o ≡ count_from g p
   beside-same f g o p same e = λ i. count_from (λ q. same q i) (e i)
 
-  -- how many nodes are visited
+  -- number of visited nodes
   abbrev visits : Places State → ℕ → Forest RenderNode → State → ℕ
   visits places number t s = length (nodes_at true (layout_of m) places number t s)
 
@@ -132,7 +132,7 @@ module _ {S A K T B : Type 0} (m : Means S A K T B) where
             (behind-same (places number s) n children s front.0 (λ below q. run-same children below 0 q rest.0)),
       )
 
-  -- and how many of them stand open at once
+  -- the most nodes open at once are equal
   opens-same : (t : Forest RenderNode) (places : Places State) (number : ℕ) (s : State) → has_table t ≡ false →
       open_at (layout_of m) places number (without_sizes t) s ≡ open_at (layout_of m) places number t s
   opens-same none places number s plain = refl
@@ -143,17 +143,17 @@ module _ {S A K T B : Type 0} (m : Means S A K T B) where
       (count_from (λ q. opens-same beside places (number + 1) q rest.1 i)
       (behind-same (places number s) n children s front.0 (λ below q. run-same children below 0 q rest.0) i))
 
-  -- ---- all trees, with the sizes that are needed
+  -- ---- all trees, with preferred widths if there is a table
 
   run-needed : (t : Forest RenderNode) (s : State) → run (layout_of m) (with_needed_sizes t) s ≡ run (layout_of m) t s
   run-needed t s = if_cases (λ x. run (layout_of m) x s ≡ run (layout_of m) t s) (has_table t) _ _ (λ _. refl) (λ e. run-same t bare 0 s e)
 
-  -- THE LAW: they show the same
+  -- THE LAW: trees with and without unused preferred widths show the same
   pub shown-needed : {L : Type 0} (end : DocumentEnd B T) (shown : State → L) (t : Forest RenderNode) (s : State) →
       shown_after m end shown (with_needed_sizes t) s ≡ shown_after m end shown t s
   shown-needed end shown t s = ap (option_and_then _) (run-needed t s)
 
-  -- and as many nodes are visited, with as many open at once
+  -- counts of visited nodes, and of nodes open at once, are equal
   pub counts-needed : {X E : Type 0} (r : Result X E) (t : Forest RenderNode) (s : State) (old new : Meter) →
       CountsNodes r (layout_of m) (with_needed_sizes t) s old new → CountsNodes r (layout_of m) t s old new
   counts-needed r t s old new =

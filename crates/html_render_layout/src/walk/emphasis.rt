@@ -1,4 +1,4 @@
-//! Parts of a line between what the decorator writes round them.
+//! Decorated parts of a text: emphasis, struck-out parts and superscripts.
 
 ghost use Rattle.std.specs.Prelude.{◌≡◌, Some, OnOk, IfOk, IfErr, string_bytes};
 ghost use Rattle.std.specs.Str.{chars};
@@ -14,7 +14,7 @@ use html_render_layout_states::working::State;
 use html_render_parts_decorators::decorate::TextDecorator;
 use std::alloc::Global;
 
-/// What is written before an emphasis, and its annotation.
+/// Returns the decorator's text before an emphasis, and the annotation of the emphasis.
 fn start_of<D: TextDecorator>(
     alloc: Global,
     decorator: &D,
@@ -31,7 +31,7 @@ fn start_of<D: TextDecorator>(
     }
 }
 
-/// What is written behind an emphasis.
+/// Returns the decorator's text after an emphasis.
 ///
 /// # Errors
 ///
@@ -51,11 +51,12 @@ pub fn end_of<D: TextDecorator>(
     }
 }
 
-/// What is written under an annotation begins: the texts that come have it too, and this is the first.
+/// Begins a decorated part: adds its annotation to the texts that follow, and then the decorator's text before the part as
+/// the first of these.
 ///
 /// # Errors
 ///
-/// As where a text is added.
+/// `TooNarrow` and `OutOfMemory`, as for [`add_text`].
 #[tactic(auto, using(html_render_dom_values::specs::laws::Outcome::refusals))]
 pub fn begin<D: TextDecorator, G: Tagging<D::Annotation>>(
     alloc: Global,
@@ -72,11 +73,11 @@ pub fn begin<D: TextDecorator, G: Tagging<D::Annotation>>(
     add_text(alloc, text.as_str(), state)
 }
 
-/// An emphasis begins.
+/// Begins an emphasis.
 ///
 /// # Errors
 ///
-/// As where a text is added.
+/// `TooNarrow` and `OutOfMemory`, as for [`add_text`].
 #[tactic(auto, using(html_render_dom_values::specs::laws::Outcome::refusals))]
 pub fn begin_emphasis<D: TextDecorator, G: Tagging<D::Annotation>>(
     alloc: Global,
@@ -90,11 +91,11 @@ pub fn begin_emphasis<D: TextDecorator, G: Tagging<D::Annotation>>(
     begin(alloc, start, state)
 }
 
-/// A part that is struck out begins.
+/// Begins a struck-out part: its annotation, and the decorator's text before it.
 ///
 /// # Errors
 ///
-/// As where a text is added.
+/// `TooNarrow` and `OutOfMemory`, as for [`add_text`].
 #[tactic(auto, using(html_render_dom_values::specs::laws::Outcome::refusals))]
 pub fn begin_strikeout<D: TextDecorator, G: Tagging<D::Annotation>>(
     alloc: Global,
@@ -107,11 +108,11 @@ pub fn begin_strikeout<D: TextDecorator, G: Tagging<D::Annotation>>(
     begin(alloc, start, state)
 }
 
-/// A superscript begins.
+/// Begins a superscript that isn't of digits alone.
 ///
 /// # Errors
 ///
-/// As where a text is added.
+/// `TooNarrow` and `OutOfMemory`, as for [`add_text`].
 #[tactic(auto, using(html_render_dom_values::specs::laws::Outcome::refusals))]
 pub fn begin_superscript<D: TextDecorator, G: Tagging<D::Annotation>>(
     alloc: Global,

@@ -1,4 +1,4 @@
-//! The end of a document: what its block is closed with.
+//! The closing lines of a document.
 
 ghost use Rattle.std.specs.Prelude.{◌≡◌, ◌++◌, [], Some, codes, map, string_bytes, if◌then◌else◌};
 ghost use Rattle.std.specs.Fmt.{decimal};
@@ -14,10 +14,10 @@ use html_render_layout_states::working::State;
 use html_render_parts_decorators::decorate::TextDecorator;
 use std::alloc::{AllocError, Global};
 
-/// As many bytes as the number of a link takes in a footnote, with what is round it.
+/// Most bytes of a footnote before its target: a number of 20 digits, `[` and `]: `.
 const NUMBER_ROOM: usize = 24;
 
-/// The number of a link and its target.
+/// Returns a footnote: the number of a link in brackets, and its target.
 #[tactic(auto, using(crate::proofs::Ending::joined))]
 fn footnote(alloc: Global, number: usize, target: &Text) -> Result<String, AllocError>
     ensures { IfOk result (λ text. string_bytes text ≡ codes "[" ++ decimal number ++ codes "]: " ++ target.now) }
@@ -29,7 +29,7 @@ fn footnote(alloc: Global, number: usize, target: &Text) -> Result<String, Alloc
     Ok(text)
 }
 
-/// One for each link, from 1.
+/// Returns a footnote for each target, numbered from 1.
 fn footnotes(alloc: Global, targets: &[Text]) -> Result<Vec<String>, AllocError>
     ensures { IfOk result (λ texts. map string_bytes texts.items ≡ footnotes 1 targets.now) }
 {
@@ -41,7 +41,7 @@ fn footnotes(alloc: Global, targets: &[Text]) -> Result<Vec<String>, AllocError>
     Ok(texts)
 }
 
-/// The footnotes, if they are chosen.
+/// Returns a footnote for each target if `link_footnotes` is set, and otherwise none.
 fn chosen_footnotes(
     alloc: Global,
     link_footnotes: bool,
@@ -55,7 +55,7 @@ fn chosen_footnotes(
     Ok(Vec::new(alloc))
 }
 
-/// What closes a document with links to these targets: the footnotes, and what the decorator answers.
+/// Returns the texts of a document's closing lines: the footnotes, and then what the decorator returns for all targets.
 fn closing_texts<D: TextDecorator>(
     alloc: Global,
     link_footnotes: bool,
@@ -71,13 +71,13 @@ fn closing_texts<D: TextDecorator>(
     Ok(texts)
 }
 
-/// Finishes the block of a document, and closes it under a tag: by a line for each link with `link_footnotes`, and by what
-/// the decorator answers for all of them. The lines are cut at the block's width with `wrap_links`.
+/// Finishes the block of a document, and appends its closing lines under a tag: a footnote for each link if `link_footnotes`
+/// is set, and then what the decorator returns for all targets. If `wrap_links` is set, they are cut at the block's width.
 ///
 /// # Errors
 ///
-/// `TooNarrow`, as where a paragraph is finished, and where a character of a line that is cut is wider than the block,
-/// with overflow off. `OutOfMemory`.
+/// `TooNarrow` if overflow is off and a character of the open paragraph is wider than a line, or one of a closing line that
+/// is cut is wider than the block. `OutOfMemory`.
 #[tactic(auto, using(html_render_dom_values::specs::laws::Outcome::refusals))]
 pub fn end<D: TextDecorator, G: Tagging<D::Annotation>>(
     alloc: Global,

@@ -1,4 +1,4 @@
-//! What stands in the place of an image.
+//! Images and drawings, and the title that each is shown with.
 
 ghost use Rattle.std.specs.Prelude.{◌≡◌, Some, OnOk, IfErr, option_map};
 ghost use Rattle.html_render_dom_values.specs.Outcome.{Refuses};
@@ -14,7 +14,7 @@ use html_render_layout_states::working::State;
 use html_render_parts_decorators::decorate::TextDecorator;
 use std::alloc::Global;
 
-/// The part of an address behind its last slash, and the whole where it has none.
+/// Returns the part of an address after its last slash, or the whole address if it has none.
 fn file_name(address: &str) -> &str
     ensures { result.now ≡ file_name address.now }
 {
@@ -29,7 +29,7 @@ fn file_name(address: &str) -> &str
     address
 }
 
-/// The title that an image is shown with; none where it isn't shown.
+/// Returns the title that an image is shown with, or `None` if it isn't shown. Only for an empty title the mode decides.
 fn shown_title<'a>(mode: &'a ImageRenderMode, source: &'a str, title: &'a str) -> Option<&'a str>
     ensures { option_map (λ title. title.now) result ≡ shown_title mode.now source.now title.now }
 {
@@ -47,11 +47,11 @@ fn shown_title<'a>(mode: &'a ImageRenderMode, source: &'a str, title: &'a str) -
     }
 }
 
-/// Adds what stands in the place of an image, under the annotation that the decorator gives it.
+/// Adds the decorator's text for an image under the image's annotation, or nothing if the image isn't shown.
 ///
 /// # Errors
 ///
-/// As where a text is added.
+/// `TooNarrow` and `OutOfMemory`, as for [`add_text`](super::texts::add_text).
 #[tactic(auto, using(html_render_dom_values::specs::laws::Outcome::refusals))]
 pub fn add_image<D: TextDecorator, G: Tagging<D::Annotation>>(
     alloc: Global,

@@ -1,4 +1,4 @@
-//! Links with their numbers, and marks, which links lead to.
+//! Links with their numbers, and fragment marks.
 
 ghost use Rattle.std.specs.Prelude.{◌≡◌, ◌∷◌, Some, OnOk, IfErr};
 ghost use Rattle.html_render_dom_values.specs.Outcome.{Refuses};
@@ -16,7 +16,7 @@ use html_render_layout_states::working::State;
 use html_render_parts_decorators::decorate::TextDecorator;
 use std::alloc::Global;
 
-/// Adds the mark of this name.
+/// Adds a fragment mark to the open paragraph, and its name to the state's names.
 ///
 /// # Errors
 ///
@@ -32,11 +32,11 @@ pub fn add_mark<D: TextDecorator, G: Tagging<D::Annotation>>(
     state.names.push(name)
 }
 
-/// A link to this target begins: it has the next number.
+/// Begins a link: adds its target, which gives it the next number, its annotation, and the decorator's text before it.
 ///
 /// # Errors
 ///
-/// As where a text is added.
+/// `TooNarrow` and `OutOfMemory`, as for [`add_text`].
 #[tactic(auto, using(html_render_dom_values::specs::laws::Outcome::refusals))]
 pub fn begin_link<D: TextDecorator, G: Tagging<D::Annotation>>(
     alloc: Global,
@@ -53,7 +53,7 @@ pub fn begin_link<D: TextDecorator, G: Tagging<D::Annotation>>(
     begin(alloc, start, state)
 }
 
-/// The number of a link, if there are footnotes.
+/// Adds the number of a link in brackets, if links have footnotes.
 #[tactic(auto, using(html_render_dom_values::specs::laws::Outcome::refusals))]
 fn add_number<D: TextDecorator, G: Tagging<D::Annotation>>(
     alloc: Global,
@@ -70,11 +70,12 @@ fn add_number<D: TextDecorator, G: Tagging<D::Annotation>>(
     add_text(alloc, number.as_str(), state)
 }
 
-/// The link of this number is over; texts were treated so before it.
+/// Ends a link: adds the decorator's text after it, restores the treatment of texts to `text`, and adds the link's number in
+/// brackets if links have footnotes.
 ///
 /// # Errors
 ///
-/// As where a text is added.
+/// `TooNarrow` and `OutOfMemory`, as for [`add_text`].
 #[tactic(auto, using(html_render_dom_values::specs::laws::Outcome::refusals))]
 pub fn close_link<D: TextDecorator, G: Tagging<D::Annotation>>(
     alloc: Global,

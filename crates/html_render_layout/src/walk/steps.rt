@@ -1,4 +1,4 @@
-//! What a layout does as it opens and closes a node.
+//! Opening and closing of nodes, kind by kind.
 
 ghost use Rattle.std.specs.Prelude.{◌≡◌, ◌+◌, ◌-◌, ◌++◌, ◌∷◌, [], length, Some, OnOk, IfOk, IfErr, option_copied};
 ghost use Rattle.html_render_dom_values.specs.Outcome.{Refuses};
@@ -37,14 +37,14 @@ use html_render_layout_states::working::{Kept, KindKept, State};
 use html_render_parts_decorators::decorate::TextDecorator;
 use std::alloc::Global;
 
-/// The columns that a node needs behind its prefix.
+/// Returns the minimum width of a node without its prefix, in columns.
 fn inner_least(estimate: &Estimate) -> usize
     ensures { result ≡ estimate.now.least - estimate.now.prefix }
 {
     estimate.least.saturating_sub(estimate.prefix)
 }
 
-/// The items of an unordered list come.
+/// Opens an unordered list. Returns its closing action, by which its children become items.
 fn open_bullets<D: TextDecorator, G: Tagging<D::Annotation>>(
     alloc: Global,
     decorator: &D,
@@ -61,7 +61,8 @@ fn open_bullets<D: TextDecorator, G: Tagging<D::Annotation>>(
     }))
 }
 
-/// The items of an ordered list come.
+/// Opens an ordered list, whose first item has the number `first`. Returns its closing action, by which its children become
+/// items.
 fn open_numbers<D: TextDecorator, G: Tagging<D::Annotation>>(
     alloc: Global,
     decorator: &D,
@@ -80,7 +81,7 @@ fn open_numbers<D: TextDecorator, G: Tagging<D::Annotation>>(
     }))
 }
 
-/// A term of a description list begins on a line of its own, stressed.
+/// Begins a term of a list of descriptions: a new line, and then emphasis.
 #[tactic(auto, using(html_render_dom_values::specs::laws::Outcome::refusals))]
 fn begin_term<D: TextDecorator, G: Tagging<D::Annotation>>(
     alloc: Global,
@@ -93,7 +94,7 @@ fn begin_term<D: TextDecorator, G: Tagging<D::Annotation>>(
     begin_emphasis(alloc, Emphasis::Em, state)
 }
 
-/// A part that is struck out begins.
+/// Begins a struck-out part. If `unicode_strikeout` is on, U+0336 then follows the characters of texts.
 #[tactic(auto, using(html_render_dom_values::specs::laws::Outcome::refusals))]
 fn strike<D: TextDecorator, G: Tagging<D::Annotation>>(
     alloc: Global,
@@ -109,7 +110,7 @@ fn strike<D: TextDecorator, G: Tagging<D::Annotation>>(
     Ok(())
 }
 
-/// A superscript begins; one of digits is done.
+/// Opens a superscript: adds one of digits whole and returns `None`, and begins any other one.
 #[tactic(auto, using(html_render_dom_values::specs::laws::Outcome::refusals))]
 fn open_superscript<D: TextDecorator, G: Tagging<D::Annotation>>(
     alloc: Global,
@@ -135,7 +136,7 @@ fn open_superscript<D: TextDecorator, G: Tagging<D::Annotation>>(
     }
 }
 
-/// A link begins.
+/// Opens a link. Returns its closing action.
 #[tactic(auto, using(html_render_dom_values::specs::laws::Outcome::refusals))]
 fn open_link<D: TextDecorator, G: Tagging<D::Annotation>>(
     alloc: Global,
@@ -153,7 +154,7 @@ fn open_link<D: TextDecorator, G: Tagging<D::Annotation>>(
     Ok(Some(KindClosing::EndLink(text, state.targets.len())))
 }
 
-/// A table begins.
+/// Opens a table, where `own` is the block that it suspends. Returns its closing action.
 #[inline(never)]
 #[tactic(auto, using(html_render_dom_values::specs::laws::Outcome::refusals))]
 fn open_table<D: TextDecorator, G: Tagging<D::Annotation>>(
@@ -172,7 +173,7 @@ fn open_table<D: TextDecorator, G: Tagging<D::Annotation>>(
     Ok(Some(KindClosing::EndTable(own, in_table)))
 }
 
-/// The next row of a table begins.
+/// Opens the next row of a table. Returns its closing action.
 fn open_row<D: TextDecorator, G: Tagging<D::Annotation>>(
     state: &mut State<D, G>,
 ) -> Result<Option<KindKept<D, G>>, Error>
@@ -184,7 +185,7 @@ fn open_row<D: TextDecorator, G: Tagging<D::Annotation>>(
     Ok(Some(KindClosing::EndRow))
 }
 
-/// The block in which a node of a kind stands.
+/// Returns the block that a node of a kind is laid out into.
 #[inline(always)]
 fn block_of<D: TextDecorator, G: Tagging<D::Annotation>>(
     alloc: Global,
@@ -214,8 +215,8 @@ fn block_of<D: TextDecorator, G: Tagging<D::Annotation>>(
     }
 }
 
-/// Opens a node of a kind over these trees, in its block, which interrupts this if it is its own. With nothing kept the state
-/// becomes the one behind it.
+/// Opens a node of a kind in its block, where `own` is the block that this suspends. Returns its closing action. Returns
+/// `None` if the node is finished: the state is then the one after it, and its children are skipped.
 #[tactic(auto, using(html_render_dom_values::specs::laws::Outcome::refusals))]
 fn open_kind<D: TextDecorator, G: Tagging<D::Annotation>>(
     alloc: Global,
@@ -296,7 +297,7 @@ fn open_kind<D: TextDecorator, G: Tagging<D::Annotation>>(
     }
 }
 
-/// A block that a node interrupts goes on.
+/// Resumes a suspended block, if there is one.
 #[inline(never)]
 #[tactic(auto, using(html_render_dom_values::specs::laws::Outcome::refusals))]
 fn end_block<D: TextDecorator, G: Tagging<D::Annotation>>(
@@ -315,7 +316,7 @@ fn end_block<D: TextDecorator, G: Tagging<D::Annotation>>(
     }
 }
 
-/// What a node interrupts goes on. Most nodes interrupt nothing.
+/// Resumes a suspended block, if there is one. Most nodes suspend none: they take no call.
 #[inline(always)]
 fn go_on<D: TextDecorator, G: Tagging<D::Annotation>>(
     alloc: Global,
@@ -331,7 +332,7 @@ fn go_on<D: TextDecorator, G: Tagging<D::Annotation>>(
     end_block(alloc, interrupted, state)
 }
 
-/// Does what is left of a node of a kind.
+/// Does the closing action of a kind of node.
 #[tactic(auto, using(html_render_dom_values::specs::laws::Outcome::refusals))]
 fn close_kind<D: TextDecorator, G: Tagging<D::Annotation>>(
     alloc: Global,
@@ -377,8 +378,8 @@ fn close_kind<D: TextDecorator, G: Tagging<D::Annotation>>(
     }
 }
 
-/// Opens a node in its style and in its block, which stands in the state's, and keeps what it interrupts, and how texts were
-/// treated before it.
+/// Opens a node in its style and its block, where `item` is the block that it suspends as an item or as a cell. Returns its
+/// pending work. Returns `None` if the node is finished: the state is then the one after it, and its children are skipped.
 #[inline]
 #[tactic(auto, using(html_render_dom_values::specs::laws::Outcome::refusals))]
 fn open_in<D: TextDecorator, G: Tagging<D::Annotation>>(
@@ -407,7 +408,8 @@ fn open_in<D: TextDecorator, G: Tagging<D::Annotation>>(
     }
 }
 
-/// Opens a text, in its style. Nothing is kept of it: the state becomes the one behind it.
+/// Opens a text in its style, in the block of its siblings. Returns `None`: a text has no pending work, and the state is the
+/// one after it.
 #[inline(always)]
 #[tactic(auto, using(html_render_dom_values::specs::laws::Outcome::refusals))]
 fn open_text<D: TextDecorator, G: Tagging<D::Annotation>>(
@@ -425,7 +427,7 @@ fn open_text<D: TextDecorator, G: Tagging<D::Annotation>>(
     Ok(None)
 }
 
-/// Opens a node among others in the state's block. Most nodes are texts, which take a shorter way.
+/// Opens a node in the block of its siblings. Most nodes are texts, which take a shorter path.
 #[inline(always)]
 #[tactic(auto, using(html_render_dom_values::specs::laws::Outcome::refusals))]
 fn open_shared<D: TextDecorator, G: Tagging<D::Annotation>>(
@@ -446,7 +448,7 @@ fn open_shared<D: TextDecorator, G: Tagging<D::Annotation>>(
     open_in(alloc, Interruption::NoBlock, node, children, state)
 }
 
-/// The block for the next cell of a row; none where that is skipped.
+/// Returns the block for the next cell of a row; `None` if the cell is skipped.
 #[inline(always)]
 fn next_cell<D: TextDecorator, G: Tagging<D::Annotation>>(
     state: &mut State<D, G>,
@@ -458,7 +460,7 @@ fn next_cell<D: TextDecorator, G: Tagging<D::Annotation>>(
     state.block.cell_block()
 }
 
-/// Opens a node as the next cell of a row. Where that is skipped, so is all that stands in it.
+/// Opens a node as the next cell of a row. If the cell is skipped, so are all nodes in it.
 #[inline(never)]
 #[tactic(auto, using(html_render_dom_values::specs::laws::Outcome::refusals))]
 fn open_cell<D: TextDecorator, G: Tagging<D::Annotation>>(
@@ -482,9 +484,9 @@ fn open_cell<D: TextDecorator, G: Tagging<D::Annotation>>(
     open_in(alloc, Interruption::Cell(outer), node, children, state)
 }
 
-/// Opens a node as the child of this number of a list, whose kind keeps this.
+/// Opens a node as the child number `number`, from 0, of a list with this closing action.
 ///
-/// Almost every node is none, so this is a function of its own, which only the nodes of a list come to.
+/// Few nodes are children of lists, so this is a function of its own.
 #[inline(never)]
 #[tactic(auto, using(html_render_dom_values::specs::laws::Outcome::refusals))]
 fn open_listed<D: TextDecorator, G: Tagging<D::Annotation>>(
@@ -506,13 +508,15 @@ fn open_listed<D: TextDecorator, G: Tagging<D::Annotation>>(
     open_in(alloc, item, node, children, state)
 }
 
-/// Opens a node, as what it stands below says, and keeps how texts were treated before it: the state becomes that of its
-/// children, or, with nothing kept, the one behind it.
+/// Opens a node as the child number `number`, from 0, of the open node with the pending work `parent`, or as a root.
+///
+/// Returns its pending work, and the state becomes that of its children. Returns `None` if the node is finished: the state
+/// is then the one after it, and its children are skipped.
 ///
 /// # Errors
 ///
-/// `TooNarrow`, where a block is flushed for which a character is too wide, or there is no room behind a prefix.
-/// `OutOfMemory`.
+/// `TooNarrow` if overflow is off and a character of a paragraph that is flushed is wider than a line, a prefix leaves too
+/// few columns, or a line with its prefix is wider than its block. `OutOfMemory`.
 #[tactic(auto, using(html_render_dom_values::specs::laws::Outcome::refusals))]
 pub fn open<D: TextDecorator, G: Tagging<D::Annotation>>(
     alloc: Global,
@@ -539,12 +543,12 @@ pub fn open<D: TextDecorator, G: Tagging<D::Annotation>>(
     open_shared(alloc, node, children, state)
 }
 
-/// Closes a node: the state becomes the one behind it.
+/// Closes a node with this pending work: the state becomes the one after it.
 ///
 /// # Errors
 ///
-/// `TooNarrow`, where a block is flushed for which a character is too wide, or a line is too wide behind its prefix.
-/// `OutOfMemory`.
+/// `TooNarrow` if overflow is off and a character of a paragraph that is flushed is wider than a line, or a line with its
+/// prefix is wider than its block. `OutOfMemory`.
 #[tactic(auto, using(html_render_dom_values::specs::laws::Outcome::refusals))]
 pub fn close<D: TextDecorator, G: Tagging<D::Annotation>>(
     alloc: Global,

@@ -1,4 +1,4 @@
-//! Superscripts of digits, which have characters of their own.
+//! Superscripts of digits, as Unicode's superscript characters.
 
 ghost use Rattle.std.specs.Prelude.{◌≡◌, Some, None, MatchOption, OnOk, IfOk, IfErr, map, option_map, string_bytes};
 ghost use Rattle.std.specs.Char.{is_ascii_digit};
@@ -17,10 +17,10 @@ use html_render_layout_states::working::State;
 use html_render_parts_decorators::decorate::TextDecorator;
 use std::alloc::{AllocError, Global};
 
-/// The superscripts of the digits from 0 to 9.
+/// Superscript characters of the digits 0 to 9.
 const SUPERSCRIPTS: [char; 10] = ['⁰', '¹', '²', '³', '⁴', '⁵', '⁶', '⁷', '⁸', '⁹'];
 
-/// The node of these trees, where they are one without children.
+/// Returns the node of these trees, if they are a single node.
 fn only_node(nodes: &[Entry<RenderNode>]) -> Option<&RenderNode>
     requires { flatten (forest_of nodes.now) ≡ nodes.now }
     ensures { MatchOption result (digits_of (forest_of nodes.now) ≡ None) (λ node. digits_of (forest_of nodes.now) ≡ digits_of_kind node.now.kind) }
@@ -32,14 +32,14 @@ fn only_node(nodes: &[Entry<RenderNode>]) -> Option<&RenderNode>
     }
 }
 
-/// Whether a text is of ASCII digits alone.
+/// Whether a text has ASCII digits alone. An empty text does.
 fn is_digits(text: &str) -> bool
     ensures { result ≡ list_all is_ascii_digit text.now }
 {
     text.as_bytes().iter().all(|byte| byte.is_ascii_digit())
 }
 
-/// The digits that a node is, if it is a text of ASCII digits alone.
+/// Returns the digits of a text of ASCII digits alone; `None` for any other node.
 fn digits_of_kind(kind: &NodeKind) -> Option<&str>
     ensures { option_map (λ digits. digits.now) result ≡ digits_of_kind kind.now }
 {
@@ -49,7 +49,7 @@ fn digits_of_kind(kind: &NodeKind) -> Option<&str>
     }
 }
 
-/// The digits of a superscript over these trees, if they are one text, of ASCII digits alone.
+/// Returns the digits of a superscript with these children; `None` unless they are a single text of ASCII digits alone.
 pub fn digits_of(children: &[Entry<RenderNode>]) -> Option<&str>
     requires { flatten (forest_of children.now) ≡ children.now }
     ensures { option_map (λ digits. digits.now) result ≡ digits_of (forest_of children.now) }
@@ -58,7 +58,7 @@ pub fn digits_of(children: &[Entry<RenderNode>]) -> Option<&str>
     digits_of_kind(&child.kind)
 }
 
-/// A digit as a superscript.
+/// Returns the superscript character of an ASCII digit.
 fn raised(digit: u8) -> char
     ensures { result ≡ raised digit }
 {
@@ -69,7 +69,7 @@ fn raised(digit: u8) -> char
     }
 }
 
-/// Digits as superscripts.
+/// Returns digits as superscript characters.
 fn raised_text(alloc: Global, digits: &str) -> Result<String, AllocError>
     ensures { IfOk result (λ text. chars (string_bytes text) ≡ map raised digits.now) }
 {
@@ -80,11 +80,11 @@ fn raised_text(alloc: Global, digits: &str) -> Result<String, AllocError>
     Ok(text)
 }
 
-/// Adds digits as superscripts, under the tag of what comes.
+/// Adds digits as superscript characters, under the tag of the texts that follow.
 ///
 /// # Errors
 ///
-/// As where a text is added.
+/// `TooNarrow` and `OutOfMemory`, as for [`add_text`].
 #[tactic(auto, using(html_render_dom_values::specs::laws::Outcome::refusals))]
 pub fn write_raised<D: TextDecorator, G: Tagging<D::Annotation>>(
     alloc: Global,

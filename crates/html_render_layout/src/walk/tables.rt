@@ -1,4 +1,4 @@
-//! Tables: how one begins and ends, with the fences round it, and where its cells are laid out.
+//! Tables: beginning and ending one, with its fences, and the blocks of its cells.
 
 ghost use Rattle.std.specs.Prelude.{◌≡◌, [], ◌∷◌, Some, OnOk, IfOk, IfErr, codes};
 ghost use Rattle.std.specs.Str.{chars};
@@ -19,7 +19,7 @@ use html_render_parts_decorators::decorate::TextDecorator;
 use std::alloc::Global;
 use std::mem;
 
-/// What stands before a table that is fenced, and behind it.
+/// Returns the text of a fence.
 #[tactic(auto, using(crate::proofs::Fences::chars_fence))]
 fn fence_text() -> &'static str
     ensures { chars result.now ≡ codes "```" }
@@ -27,7 +27,7 @@ fn fence_text() -> &'static str
     "```"
 }
 
-/// The style of a fence.
+/// Returns the style of a fence: white space `Normal`, under this tag.
 fn fence_style<T: Copy>(tag: T) -> TextStyle<T>
     ensures { result ≡ record { mode = WhiteSpace.Normal; tag = tag; continuation_tag = tag } }
 {
@@ -38,7 +38,7 @@ fn fence_style<T: Copy>(tag: T) -> TextStyle<T>
     }
 }
 
-/// Adds a fence.
+/// Adds a fence, and begins a new line.
 #[tactic(auto, using(html_render_dom_values::specs::laws::Outcome::refusals))]
 fn write_fence<D: TextDecorator, G: Tagging<D::Annotation>>(
     state: &mut State<D, G>,
@@ -52,7 +52,7 @@ fn write_fence<D: TextDecorator, G: Tagging<D::Annotation>>(
     Ok(())
 }
 
-/// Adds a fence, where tables are fenced and the state stands in none.
+/// Adds a fence, if tables are fenced and no table is open.
 #[tactic(auto, using(html_render_dom_values::specs::laws::Outcome::refusals))]
 fn add_fence<D: TextDecorator, G: Tagging<D::Annotation>>(
     state: &mut State<D, G>,
@@ -69,11 +69,11 @@ fn add_fence<D: TextDecorator, G: Tagging<D::Annotation>>(
     write_fence(state)
 }
 
-/// A table begins on a grid.
+/// Begins a table: starts a block, adds a fence if tables are fenced and no table is open, and begins the table on its grid.
 ///
 /// # Errors
 ///
-/// `TooNarrow`, where a block is flushed for which a character is too wide. `OutOfMemory`.
+/// `TooNarrow` if overflow is off and a character of a paragraph that is flushed is wider than a line. `OutOfMemory`.
 #[tactic(auto, using(html_render_dom_values::specs::laws::Outcome::refusals))]
 pub fn begin_table<D: TextDecorator, G: Tagging<D::Annotation>>(
     grid: &Grid,
@@ -97,11 +97,11 @@ pub fn begin_table<D: TextDecorator, G: Tagging<D::Annotation>>(
     Ok(())
 }
 
-/// A table is over, where it stood in another one or didn't.
+/// Ends a table, and adds a fence if tables are fenced and this one isn't nested. `in_table` is whether it is nested.
 ///
 /// # Errors
 ///
-/// As where one begins.
+/// `TooNarrow` if overflow is off and a character of a paragraph that is flushed is wider than a line. `OutOfMemory`.
 #[tactic(auto, using(html_render_dom_values::specs::laws::Outcome::refusals))]
 pub fn end_table<D: TextDecorator, G: Tagging<D::Annotation>>(
     in_table: bool,
@@ -115,7 +115,7 @@ pub fn end_table<D: TextDecorator, G: Tagging<D::Annotation>>(
     add_fence(state)
 }
 
-/// A cell of a row begins in this block, and what it interrupts is answered.
+/// Begins a cell of a row in this block, and returns the block of the table, suspended.
 ///
 /// # Errors
 ///
@@ -137,11 +137,11 @@ pub fn begin_cell<D: TextDecorator, G: Tagging<D::Annotation>>(
     })
 }
 
-/// A cell is over: the block that it interrupted goes on with it.
+/// Ends a cell: resumes the block of the table, and adds the cell to the open row.
 ///
 /// # Errors
 ///
-/// As where a table begins.
+/// `TooNarrow` if overflow is off and a character of a paragraph that is flushed is wider than a line. `OutOfMemory`.
 #[inline(always)]
 #[tactic(auto, using(html_render_dom_values::specs::laws::Outcome::refusals))]
 pub fn end_cell<D: TextDecorator, G: Tagging<D::Annotation>>(

@@ -1,4 +1,4 @@
-//! Texts, as they are written.
+//! Texts: preformatted and struck-out ones, and all others.
 
 ghost use Rattle.std.specs.Prelude.{◌≡◌, [], ◌∷◌, ◌++◌, true, Some, OnOk, IfOk, IfErr, string_bytes, if◌then◌else◌};
 ghost use Rattle.std.specs.Str.{chars, encode_utf8_all};
@@ -14,10 +14,10 @@ use html_render_layout_states::working::State;
 use html_render_parts_decorators::decorate::TextDecorator;
 use std::alloc::{AllocError, Global};
 
-/// What stands behind a character that is struck out: the combining long stroke overlay.
+/// The combining long stroke overlay, which follows a struck-out character.
 const STROKE: char = '\u{336}';
 
-/// Adds a character as it is written where it is struck out.
+/// Appends a struck-out character: with a stroke after it, unless it is collapsible white space.
 fn push_struck(text: &mut String, c: char) -> Result<(), AllocError>
     ensures { OnOk result (string_bytes text.new ≡ string_bytes text.old ++ encode_utf8_all (struck (c ∷ []))) }
 {
@@ -28,7 +28,7 @@ fn push_struck(text: &mut String, c: char) -> Result<(), AllocError>
     Ok(())
 }
 
-/// A text with a stroke behind each character that isn't collapsible white space.
+/// Returns a text with a stroke after each character that isn't collapsible white space.
 fn struck(alloc: Global, text: &str) -> Result<String, AllocError>
     ensures { IfOk result (λ written. chars (string_bytes written) ≡ struck (chars text.now)) }
 {
@@ -39,9 +39,9 @@ fn struck(alloc: Global, text: &str) -> Result<String, AllocError>
     Ok(written)
 }
 
-/// Adds a text that is struck out.
+/// Adds a struck-out text to the block.
 ///
-/// Few texts are, so this is a function of its own.
+/// Few texts are struck out, so this is a function of its own.
 #[inline(never)]
 #[tactic(auto, using(html_render_dom_values::specs::laws::Outcome::refusals))]
 fn add_struck<D: TextDecorator, G: Tagging<D::Annotation>>(
@@ -57,7 +57,7 @@ fn add_struck<D: TextDecorator, G: Tagging<D::Annotation>>(
     state.block.held.add_inline_text(struck.as_str(), style)
 }
 
-/// Adds a text in a style.
+/// Adds a text in a style to the block, with strokes if texts are struck out.
 #[inline]
 fn add_styled<D: TextDecorator, G: Tagging<D::Annotation>>(
     alloc: Global,
@@ -77,7 +77,7 @@ fn add_styled<D: TextDecorator, G: Tagging<D::Annotation>>(
     }
 }
 
-/// The style of preformatted texts: one annotation more on top, and another one on continuation lines.
+/// Returns the style of preformatted texts: one more annotation on top, and another one on continuation lines.
 fn preformatted_style<D: TextDecorator, G: Tagging<D::Annotation>>(
     alloc: Global,
     state: &mut State<D, G>,
@@ -100,9 +100,9 @@ fn preformatted_style<D: TextDecorator, G: Tagging<D::Annotation>>(
     })
 }
 
-/// Adds a text that is preformatted.
+/// Adds a preformatted text to the block.
 ///
-/// Few texts are, so this is a function of its own.
+/// Few texts are preformatted, so this is a function of its own.
 #[inline(never)]
 #[tactic(auto, using(html_render_dom_values::specs::laws::Outcome::refusals))]
 fn add_preformatted<D: TextDecorator, G: Tagging<D::Annotation>>(
@@ -121,11 +121,12 @@ fn add_preformatted<D: TextDecorator, G: Tagging<D::Annotation>>(
     add_styled(alloc, text, style, state)
 }
 
-/// Adds a text under the tag of what comes.
+/// Adds a text to the block, treated as the state says.
 ///
 /// # Errors
 ///
-/// `TooNarrow`, where the text starts a block, and a character before it is too wide. `OutOfMemory`.
+/// `TooNarrow` if overflow is off, the text starts a block, and a character of the paragraph before it is wider than a line.
+/// `OutOfMemory`.
 #[inline]
 #[tactic(auto, using(html_render_dom_values::specs::laws::Outcome::refusals))]
 pub fn add_text<D: TextDecorator, G: Tagging<D::Annotation>>(

@@ -10,12 +10,12 @@ use Rattle.html_render_layout_tagged.specs.LaidOut.{laid_out}
 use Rattle.html_render_layout.proofs.walk.lay_out.Goals as goal
 use Rattle.html_render_layout.proofs.walk.lay_out.Given.{Over}
 
--- the state in which the layout begins
+-- the state in which the layout begins is the empty one
 empty : (g : Over) (c : goal.After-drop-own-2 g) →
     c.begin_with-state.result ≡ empty_worked g.D.TextDecorator.decoration c.args.settings.now c.args.decorator.now c.args.block
 empty g c = cc (c.begin_with-state.ensures, c.in_ok-own.ensures.settings, c.in_ok-own.ensures.decorator, c.new.ensures, c.in_ok-block.ensures.ok)
 
--- what the code does is what is defined
+-- the code's lines are the definition's
 works : (g : Over) (c : goal.After-drop-own-2 g) →
     work_lines g.D.TextDecorator.decoration c.in_ok-own.own.tree c.begin_with-state.result
     ≡ layout_lines g.D.TextDecorator.decoration c.args.settings.now c.args.tree c.args.decorator.now c.args.block
@@ -43,7 +43,7 @@ returns-clause-wide g c =
     wide_enough g.D.TextDecorator.decoration c.args.settings.now c.args.tree c.args.decorator.now c.args.block c.lines_from.result
     (returns-clause-err g c)
 
--- what was counted
+-- counts of the walk
 pub returns-clause-counts : goal.returns-clause-counts
 returns-clause-counts g c =
     counts-work g.D.TextDecorator.decoration c.args.settings.now c.lines_from.result c.args.tree _ c.args.decorator.now c.args.block

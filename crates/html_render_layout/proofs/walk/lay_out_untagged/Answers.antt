@@ -10,7 +10,7 @@ use Rattle.html_render_layout_states.specs.Working.{untagged_work}
 use Rattle.html_render_layout.proofs.walk.lay_out_untagged.Goals as goal
 use Rattle.html_render_layout.proofs.walk.lay_out_untagged.Given.{Over}
 
--- what the code does is what is defined, without annotations
+-- the code's lines are the definition's without annotations
 works : (g : Over) (c : goal.After-drop-own-2 g) →
     untagged_work {K = Nothing} g.D.TextDecorator.decoration c.in_ok-own.own.tree c.begin_with-state.result
     ≡ option_map unannotated

@@ -11,7 +11,7 @@ use Rattle.html_render_layout_states.specs.Opening.{child_block, block_opened, o
 use Rattle.html_render_layout_states.specs.Working.{by_tags}
 use Rattle.html_render_layout.proofs.walk.steps.open.Goals as goal
 
--- below a list a node is opened in a block of its own
+-- a child of a list is opened in its sub-block
 listed : {S A K T B : Type 0} (m : Means S A K T B) (kind : KindClosing S T B) (number : ℕ) (n : RenderNode) (trees : Forest RenderNode) (s : State m) →
     ((columns : ℕ) × (least : ℕ) × (kind ≡ Bullets columns least))
     ⊎ ((first : ℤ) × (columns : ℕ) × (least : ℕ) × (kind ≡ Numbers first columns least)) →
