@@ -1,7 +1,7 @@
--- which words are widths, and which bytes scripts
+-- words that are widths, and bytes that are scripts
 pub mod Numbers
 pub mod Scripts
--- how runs end
+-- the end of a run
 pub mod Runs
 -- the text of a document
 pub mod Renderings

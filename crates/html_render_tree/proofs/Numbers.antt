@@ -1,4 +1,4 @@
--- What the kit reads as a number of 64 bits is what the definition of a width says.
+-- Words that the kit reads as numbers of 64 bits are those that the definition takes as widths.
 use Rattle.std.proofs.Common.{◌≡◌, ℕ, ◌^◌, ◌<◌, true, List, Ok, Err, length, refl, ap}
 use Rattle.std.specs.Option.{ok_or}
 use Rattle.std.specs.Str.{all_ascii_digits}

@@ -1,4 +1,4 @@
--- The text of a document, from its render tree and from the lines of that.
+-- The text of a document, by its render tree and by the lines of that.
 use Rattle.std.proofs.Common.{◌≡◌, Option, Some, ok_or, option_map, Result, Ok, refl, ap, subst, sym}
 use Rattle.html_render_dom_values.specs.Outcome.{Refuses}
 use Rattle.html_render_dom_values.specs.declared.errors.Error.{Error}
@@ -19,7 +19,7 @@ use Rattle.html_render_tree.specs.Rendering.{Options}
 use Rattle.html_render_tree.specs.Sequence.{◌>>=◌}
 
 module _ {A B C : Type 0} (tree : Option A) (lines : A → Option B) (text : B → C) where
-  -- the text of a tree, if there is one
+  -- text of a tree's lines, or the fault of a conversion or of a width
   abbrev wanted : Result C Fault
   wanted = ok_or tree (Refused error.Fail) >>= λ a. ok_or (option_map text (lines a)) (Refused error.TooNarrow)
 

@@ -1,4 +1,4 @@
--- How runs end.
+-- The end of a run.
 use Rattle.std.proofs.Common.{◌≡◌, ℕ, Bool, List, [], Option, Some, None, ok_or, option_map, Result, Ok, Err, IfErr, append-nil, subst, sym}
 use Rattle.std.proofs.KnownBytes.{Keeps-refl}
 use Rattle.std.proofs.lemmas.Bool.{cond_both}

@@ -1,4 +1,4 @@
--- Which bytes are a script.
+-- Bytes that are a script.
 use Rattle.std.proofs.Common.{◌≡◌, ℕ, List, Ok, Err, IsUtf8}
 use Rattle.std.specs.Str.{is_utf8}
 use Rattle.std.proofs.lemmas.Bool.{cond-true, cond-false, false_from_ne_true}

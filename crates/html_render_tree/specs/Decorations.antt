@@ -1,4 +1,4 @@
--- The rules that decorate plain text: what stands before and after emphasis, terms, strong text and code.
+-- The rules that decorate plain text: texts before and after emphasis, terms, strong text and code.
 use Rattle.std.specs.Prelude.{ℕ, false, List, [], ◌∷◌, ◌++◌, codes, Some, None}
 use Rattle.html_render_dom_cascade.specs.declared.origins.StyleOrigin.TheVariants as origin
 use Rattle.html_render_dom_rules.specs.declared.rules.PseudoElement.{PseudoElement}
@@ -6,7 +6,7 @@ use Rattle.html_render_dom_rules.specs.declared.rules.PseudoElement.TheVariants.
 use Rattle.html_render_dom_cascade.specs.declared.specificities.Specificity.{Specificity}
 use Rattle.html_render_dom_rules.specs.Rules.{content, Rule}
 
--- a normal rule of the agent that puts a text at a place beside the children of each element of this name
+-- normal rule of the agent that puts a text before or after the contents of each element of this name
 abbrev pub decoration : (name text : List ℕ) → PseudoElement → Rule
 decoration name text place = record {
   origin = origin.Agent;
@@ -17,11 +17,11 @@ decoration name text place = record {
   declarations = record { important = false; style = content text } ∷ [];
 }
 
--- how specific such a rule is: it names an element and a pseudo-element
+-- specificity of a decoration: it names an element and a pseudo-element
 abbrev pub decoration_specificity : Specificity
 decoration_specificity = record { inline = false; id = 0; class = 0; typ = 2 }
 
--- a text before and after the children of each element of this name
+-- rules that put a text before and after the contents of each element of this name
 abbrev pub before_and_after : (name text : List ℕ) → List Rule
 before_and_after name text = decoration name text Before ∷ decoration name text After ∷ []
 

@@ -1,4 +1,4 @@
--- What a finished render tree is like where its tables stand.
+-- Good trees: finished render trees, with parts of tables in tables alone.
 use Rattle.std.specs.Prelude.{Bool, true, false, ◌&&◌, List, ◌∷◌, Option, Some, None, if◌then◌else◌}
 use Rattle.html_render_dom_values.specs.Forest.{Forest, none, node}
 use Rattle.html_render_parts.specs.declared.table.cells.GridCell.{GridCell}
@@ -6,21 +6,21 @@ use Rattle.html_render_layout_nodes.specs.declared.tree.NodeKind.{NodeKind}
 use Rattle.html_render_layout_nodes.specs.declared.tree.NodeKind.TheVariants.{Text, Break, Image, Svg, FragmentStart, Table, TableRow, TableCell}
 use Rattle.html_render_layout_nodes.specs.declared.tree.RenderNode.{RenderNode}
 
--- where trees stand: below a table of which these rows are still to come, below a row of which these cells are, below a node
--- that has no children, or anywhere else
+-- place of trees: in a table, with its remaining rows; in a row, with its remaining cells; in a node without children; or
+-- anywhere else
 pub data Place : Type 0 where
   Anywhere : Place
   Nowhere : Place
   InTable : (rows : List (List GridCell)) → Place
   InRow : (cells : List GridCell) → Place
 
--- whether nothing is still to come
+-- whether no row or cell remains
 abbrev pub is_over : Place → Bool
 is_over (InTable (cells ∷ rows)) = false
 is_over (InRow (cell ∷ cells)) = false
 is_over _ = true
 
--- texts, breaks, images, drawings and fragment marks have no children
+-- whether nodes of a kind have no children: texts, line breaks, images, drawings and fragment marks
 abbrev pub is_leaf : NodeKind → Bool
 is_leaf (Text text) = true
 is_leaf Break = true
@@ -29,7 +29,7 @@ is_leaf (Svg title) = true
 is_leaf (FragmentStart name) = true
 is_leaf _ = false
 
--- where the trees below a node of this kind stand, and those beside it; none where such a node doesn't stand there
+-- places around a node: of its children, and of its later siblings; none where a node of its kind isn't allowed
 pub record Around : Type 0 where
   pub below : Place
   pub beside : Place
@@ -43,8 +43,8 @@ around (InTable (cells ∷ rows)) TableRow = Some (record { below = InRow cells;
 around (InRow (cell ∷ cells)) TableCell = Some (record { below = Anywhere; beside = InRow cells })
 around _ _ = None
 
--- GOOD TREES: each table stands over as many rows as its grid has, each of these over as many cells, and no row, cell or other
--- part of a table stands anywhere else; and no node stands below a leaf
+-- GOOD TREES: each table has the number of rows of its grid, and each of these rows its number of cells. No row and no cell
+-- is anywhere else. Leaves have no children.
 abbrev pub are_good_below : (below beside : Place → Bool) → Option Around → Bool
 are_good_below below beside None = false
 are_good_below below beside (Some a) = below a.below && beside a.beside

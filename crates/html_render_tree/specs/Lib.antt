@@ -2,38 +2,38 @@
 pub mod Texts
 pub mod Decorations
 pub mod Rendering
--- the program: its words, its faults, its streams, and what it gives
+-- the program: its words, its faults, its streams, and its outcome
 pub mod Words
 pub mod Faults
 pub mod Streams
 pub mod Sequence
 pub mod Program
--- what a finished render tree is like where its tables stand
+-- finished render trees, with parts of tables in tables alone
 pub mod GoodTrees
--- which of its nodes a layout visits
+-- the nodes of a render tree that a layout visits
 pub mod Visited
 -- laws of the definitions
 pub mod laws
--- what a document is, for callers that keep handles
+-- documents, for callers that keep handles
 pub use Rattle.html_render_dom.specs.Dom
--- what the calls of the program's scripts make of a document
+-- documents that the calls of a script build
 pub use Rattle.html_render_tree_scripts.specs.Scripts
--- which render tree a document becomes
+-- the render tree that a document becomes
 pub use Rattle.html_render_tree_mapping.specs.Tables
 pub use Rattle.html_render_tree_mapping.specs.Conversion
 pub use Rattle.html_render_tree_mapping.specs.Results
--- what an error says of a definition
+-- the relation of an error to a definition
 pub use Rattle.html_render_parts.specs.Refusal
 -- tagged lines, their strings, and their text under a colour map
 pub use Rattle.html_render_layout_tagged.specs.TaggedLine
 pub use Rattle.html_render_layout_tagged.specs.Grouping
 pub use Rattle.html_render_layout_tagged.specs.Colouring
--- what is said of each kind of node, and what a render tree is displayed as
+-- properties of each kind of node, and the display of a render tree
 pub use Rattle.html_render_layout_nodes.specs.Kinds
 pub use Rattle.html_render_layout_nodes.specs.Dump
--- what a decorator answers, and what those of plain and of rich text do, for callers that implement one
+-- results of a decorator, and those of plain and of rich text, for callers that implement one
 pub use Rattle.html_render_parts_decorators.specs.Decoration
 pub use Rattle.html_render_parts_decorators.specs.Decorators
--- what a decorator answers that changes some answers of another one
+-- results of a decorator that changes some results of another one
 pub use Rattle.html_render_parts_decorators.specs.Alteration
 pub use Rattle.html_render_parts_decorators.specs.declared.decorate.place.Place

@@ -1,4 +1,4 @@
--- What a configuration makes of a render tree.
+-- The lines of a render tree under a configuration.
 use Rattle.std.specs.Prelude.{◌≡◌, ℕ, Bool, false, List, [], Option, Some, None, IfSome, map}
 use Rattle.std.specs.Cmp.Lexicographic.{pointwise}
 use Rattle.html_render_dom_values.specs.Forest.{Forest}
@@ -14,8 +14,8 @@ use Rattle.html_render_layout.specs.Promises.{Lines}
 use Rattle.html_render_layout_estimates.specs.Settings.{default_settings}
 use Rattle.html_render_layout_tagged.specs.Grouping.{Piece, grouped}
 
--- the settings of a configuration: its decorator, its rules in the order in which they were added, whether a character
--- that is wider than a line stands alone on its line, the columns of a paragraph's lines at most, and how nodes are laid out
+-- options of a configuration: decorator, rules in the order in which they were added, whether overflow is allowed, limit of
+-- the columns of a paragraph's lines, and settings of layout
 pub record Options (S : Type 0) : Type 0 where
   pub decorator : S
   pub rules : List Rule
@@ -23,38 +23,39 @@ pub record Options (S : Type 0) : Type 0 where
   pub max_wrap_width : Option ℕ
   pub settings : LayoutSettings
 
--- the settings that a configuration begins with
+-- options that a configuration begins with
 abbrev pub initial_options : {S : Type 0} → S → Options S
 initial_options decorator = record { decorator = decorator; rules = []; overflow = false; max_wrap_width = None; settings = default_settings }
 
--- the block that a document stands in, in a width
+-- setting of the block of a document in a width
 abbrev pub document_block : {S : Type 0} → Options S → (width : ℕ) → BlockSetting
 document_block options width = record { width = width; max_wrap_width = options.max_wrap_width; overflow = options.overflow }
 
 module _ {S A : Type 0} (d : Decoration S A) (options : Options S) (tree : Forest RenderNode) (width : ℕ) where
-  -- THE LINES of a render tree in a width, with these settings: each character with its annotations; none where it is too narrow
+  -- THE LINES of a render tree in a width, under these options: each character with its annotations; none where it is too
+  -- narrow
   abbrev pub rendered_lines : Option (List (Line (List A) ℕ))
   rendered_lines = layout_lines d options.settings tree options.decorator (document_block options width)
 
-  -- the names of the marks in them
+  -- names of the marks in these lines
   abbrev pub rendered_names : Option (List (List ℕ))
   rendered_names = mark_names d options.settings tree options.decorator (document_block options width)
 
-  -- the same lines as tagged strings, of characters whose annotations are equal one by one
+  -- lines as tagged strings, of characters whose annotations are equal one by one
   abbrev pub rendered_strings : (A → A → Bool) → Option (List (List (Piece (List A))))
   rendered_strings eq = do
     lines ← rendered_lines
     names ← rendered_names
     Some (map (grouped (pointwise eq) names) lines)
 
--- ---- what every call that renders promises
+-- ---- promises of the calls that render
 
--- what is promised of the lines that it answers, of which this holds
+-- lines that a call returns, with their promises and with `Shown` of them
 abbrev pub Rendered : {S A : Type 0} → Decoration S A → Options S → Forest RenderNode → (width : ℕ) → (List (Line (List A) ℕ) → Type 0) → Type 0
 Rendered d options tree width Shown = Lines d options.settings tree options.decorator (document_block options width) Shown
 
--- of tagged strings: they are the lines under the names of their marks, which are those of the tree in the width; where overflow off
--- gives names, they are these
+-- promises of tagged strings: they are the lines under the names of their marks; these are the names of the tree in the
+-- width, and those of overflow off where that gives any
 pub record AreStrings {S A : Type 0} (d : Decoration S A) (options : Options S) (tree : Forest RenderNode) (width : ℕ) (eq : A → A → Bool)
     (strings : List (List (Piece (List A)))) (lines : List (Line (List A) ℕ)) : Type 0 where
   pub names : List (List ℕ)

@@ -6,7 +6,7 @@ abbrev pub ◌>>=◌ : {A B E : Type 0} → Result A E → (A → Result B E) �
 Ok a >>= f = f a
 Err e >>= f = Err e
 
--- a result with its error as another one
+-- result with its error as another one
 abbrev pub with_error : {A D E : Type 0} → (D → E) → Result A D → Result A E
 with_error f (Ok a) = Ok a
 with_error f (Err d) = Err (f d)

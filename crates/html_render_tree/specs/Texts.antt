@@ -3,7 +3,7 @@ use Rattle.std.specs.Prelude.{ℕ, List, [], ◌∷◌, ◌++◌}
 use Rattle.std.specs.List.{flat_map}
 use Rattle.html_render_layout_lines.specs.Line.{Line, text_bytes}
 
--- a line's characters, and a newline
+-- characters of a line and a newline, in UTF-8
 abbrev pub line_bytes : {T M : Type 0} → Line T M → List ℕ
 line_bytes line = text_bytes line ++ 10 ∷ []
 

@@ -1,4 +1,4 @@
--- WHAT THE PROGRAM'S WORDS ASK FOR: `WIDTH [plain|rich|bare] [overflow]`.
+-- THE WORDS of the program: `WIDTH [plain|rich|bare] [overflow]`.
 use Rattle.std.specs.Prelude.{ℕ, ◌^◌, nat_eq, nat_lt, Bool, true, false, ◌&&◌, if◌then◌else◌, List, [], ◌∷◌, length, codes, Option, Some, None}
 use Rattle.std.specs.Cmp.Lexicographic.{pointwise}
 use Rattle.std.specs.Str.{all_ascii_digits}
@@ -8,11 +8,11 @@ use Rattle.html_render_tree.specs.declared.htree.words.Preset.{Preset}
 use Rattle.html_render_tree.specs.declared.htree.words.Preset.TheVariants.{Plain, Rich, Bare}
 use Rattle.html_render_tree.specs.declared.htree.words.Settings.{Settings}
 
--- whether two words are the same
+-- whether two words are equal
 abbrev pub is_word : List ℕ → List ℕ → Bool
 is_word = pointwise nat_eq
 
--- the preset that a word names
+-- preset that a word names
 abbrev pub preset_of : List ℕ → Option Preset
 preset_of word =
     if is_word word (codes "plain") then Some Plain
@@ -20,22 +20,22 @@ preset_of word =
     else if is_word word (codes "bare") then Some Bare
     else None
 
--- whether digits are a number below 2 ^ 64
+-- whether digits are a number below 2 ^ 64, with one digit at least
 abbrev pub is_number : List ℕ → Bool
 is_number digits = nat_lt 0 (length digits) && all_ascii_digits digits && nat_lt (digits_value 10 digits) (2 ^ 64)
 
--- the width that a word is: decimal digits, with or without a plus before them
+-- width that a word states: decimal digits, with an optional plus before them
 abbrev pub width_named : List ℕ → Option ℕ
 width_named word = let digits = without_leading_plus word in if is_number digits then Some (digits_value 10 digits) else None
 
--- the settings of a word for the width and one for the preset
+-- settings of a word for the width and one for the preset
 abbrev pub settings_with : (width preset : List ℕ) → (overflow : Bool) → Option Settings
 settings_with width preset overflow = do
   p ← preset_of preset
   w ← width_named width
   Some (record { width = w; preset = p; overflow = overflow })
 
--- the settings of the words; none where they are of no such form
+-- settings of the words; none for words of any other form
 abbrev pub settings_of : (words : List (List ℕ)) → Option Settings
 settings_of (width ∷ []) = settings_with width (codes "plain") false
 settings_of (width ∷ second ∷ []) =

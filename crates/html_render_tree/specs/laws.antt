@@ -1,9 +1,9 @@
 -- the lines of a configuration, their strings and their texts
 pub mod Rendering
--- where trees are good, which nodes have no children, results over good trees, and the render tree of a document, which is good
+-- good trees: their places, the kinds of nodes without children, results over good trees, and the render tree of a document
 pub mod GoodPlaces
 pub mod GoodKinds
 pub mod GoodResults
 pub mod GoodTrees
--- all nodes of a good tree are visited but those that a layout leaves out
+-- all nodes of a good tree are visited, except those that a layout leaves out
 pub mod Visited

@@ -1,7 +1,7 @@
-//! How a document is rendered: options, and the calls that render.
+//! Configurations: options of rendering, and the calls that render.
 //!
-//! `plain(alloc)?.allow_width_overflow()` is a configuration; its `dom_to_render_tree(alloc, &dom)?` is a document's
-//! render tree, and `render_to_string(alloc, tree, 80)?` the text of that, in 80 columns.
+//! `plain(alloc)?.allow_width_overflow()` is a configuration. Its `dom_to_render_tree(alloc, &dom)?` is a document's render
+//! tree, and `render_to_string(alloc, tree, 80)?` is the text of that in 80 columns.
 
 ghost use Rattle.std.specs.Prelude.{◌≡◌, ◌∷◌, ◌++◌, [], Some, true, false, IfOk, IfErr};
 ghost use Rattle.html_render_tree_mapping.specs.Results.{render_tree_of};
@@ -23,13 +23,13 @@ use html_render_tree_convert::convert;
 use std::alloc::Global;
 use std::marker::Model;
 
-/// How documents are rendered: with a decorator, by rules, and with settings of its own.
+/// A configuration: a decorator, style rules and settings, under which documents are rendered.
 ///
-/// Each call that takes a configuration and answers one changes what it names, and nothing else.
+/// A call that takes a configuration and returns one changes what its comment names, and nothing else.
 #[derive(Drop)]
 pub struct Config<D: TextDecorator> {
     decorator: D,
-    /// In the order in which they were added.
+    /// Style rules, in the order in which they were added.
     rules: Vec<StyleRule>,
     overflow: bool,
     max_wrap_width: Option<usize>,
@@ -52,7 +52,8 @@ impl<D: TextDecorator> Model for Config<D> {
     } };
 }
 
-/// Plain text with decorations, as [`Config::do_decorate`] adds them, and with footnotes for links; no overflow.
+/// Returns a configuration for plain text with decorations, as [`Config::do_decorate`] adds them, and with footnotes for
+/// links. Overflow is off.
 ///
 /// # Errors
 ///
@@ -68,21 +69,22 @@ pub fn plain(alloc: Global) -> Result<Config<PlainDecorator>, Error>
     Ok(config.link_footnotes(true))
 }
 
-/// Plain text without decorations: no rules, no overflow and no footnotes. It takes no memory.
+/// Returns a configuration for plain text without decorations: no rules, no overflow and no footnotes. Allocates nothing.
 pub fn plain_no_decorate(alloc: Global) -> Config<PlainDecorator>
     ensures { result ≡ initial_options result.decorator }
 {
     with_decorator(alloc, PlainDecorator::new())
 }
 
-/// Text with annotations that say what each part is: no rules, no overflow and no footnotes. It takes no memory.
+/// Returns a configuration for text with an annotation for each part: no rules, no overflow and no footnotes. Allocates
+/// nothing.
 pub fn rich(alloc: Global) -> Config<RichDecorator>
     ensures { result ≡ initial_options result.decorator }
 {
     with_decorator(alloc, RichDecorator::new())
 }
 
-/// Text with a decorator of the caller's: no rules, no overflow and no footnotes. It takes no memory.
+/// Returns a configuration with a decorator of the caller: no rules, no overflow and no footnotes. Allocates nothing.
 pub fn with_decorator<D: TextDecorator>(alloc: Global, decorator: D) -> Config<D>
     ensures { result ≡ initial_options decorator }
 {
@@ -96,13 +98,13 @@ pub fn with_decorator<D: TextDecorator>(alloc: Global, decorator: D) -> Config<D
 }
 
 impl<D: TextDecorator> Config<D> {
-    /// Ten rules are added behind those that are there: they put `*` before and after what stands in an `em` or a
-    /// `dt`, `**` in a `strong` or a `b`, and a backquote in a `code`. They are normal rules of the agent, each for an
-    /// element's name and a pseudo-element.
+    /// Appends ten rules to the rules: they put `*` before and after the contents of each `em` and `dt`, `**` those of each
+    /// `strong` and `b`, and a backquote those of each `code`. They are normal rules of the agent, each for an element's
+    /// name and a pseudo-element.
     ///
     /// # Errors
     ///
-    /// `OutOfMemory`. The configuration is then gone.
+    /// `OutOfMemory`. The configuration is then dropped.
     pub fn do_decorate(mut self, alloc: Global) -> Result<Config<D>, Error>
         ensures ok { IfOk result (λ config. config ≡ record self { rules = self.rules ++ decorations }) }
         ensures err { IfErr result (λ e. e ≡ Error.OutOfMemory) }
@@ -111,11 +113,11 @@ impl<D: TextDecorator> Config<D> {
         Ok(self)
     }
 
-    /// A rule is added behind those that are there.
+    /// Appends a rule to the rules.
     ///
     /// # Errors
     ///
-    /// `OutOfMemory`. The configuration and the rule are then gone.
+    /// `OutOfMemory`. The configuration and the rule are then dropped.
     pub fn add_style_rule(mut self, _alloc: Global, rule: StyleRule) -> Result<Config<D>, Error>
         ensures ok { IfOk result (λ config. config ≡ record self { rules = self.rules ++ rule_of rule ∷ [] }) }
         ensures err { IfErr result (λ e. e ≡ Error.OutOfMemory) }
@@ -124,7 +126,8 @@ impl<D: TextDecorator> Config<D> {
         Ok(self)
     }
 
-    /// A character that is wider than a line stands alone on its line, where it would be too narrow otherwise.
+    /// Allows overflow. A character that is wider than a line is then alone on its line, and a text keeps its minimum width
+    /// after a prefix, so that lines may pass the width. Without overflow, rendering is `TooNarrow` there.
     pub fn allow_width_overflow(self) -> Config<D>
         ensures { result ≡ record self { overflow = true } }
     {
@@ -134,8 +137,8 @@ impl<D: TextDecorator> Config<D> {
         }
     }
 
-    /// Whether each link has its number behind it, in brackets, and its target among the lines behind the document; links
-    /// are numbered in the order in which they start.
+    /// Sets whether links have footnotes: a link's number in brackets after it, and a closing line with its number and
+    /// target. Links are numbered from 1 in the order in which they start.
     pub fn link_footnotes(mut self, numbered: bool) -> Config<D>
         ensures { result ≡ record self { settings = record self.settings { link_footnotes = numbered } } }
     {
@@ -143,7 +146,8 @@ impl<D: TextDecorator> Config<D> {
         self
     }
 
-    /// The lines behind the document, as those of links' targets, aren't wrapped, and so may be wider than the width.
+    /// Leaves closing lines whole, among them those with links' targets, so that they may pass the width. Without this call
+    /// they are cut at the width.
     pub fn no_link_wrapping(mut self) -> Config<D>
         ensures { result ≡ record self { settings = record self.settings { wrap_links = false } } }
     {
@@ -151,7 +155,8 @@ impl<D: TextDecorator> Config<D> {
         self
     }
 
-    /// Whether U+0336, a stroke, is put behind each character of what is struck out that isn't collapsible white space.
+    /// Sets whether U+0336, a stroke, follows each character of struck-out text that isn't collapsible white space. Default
+    /// true.
     pub fn unicode_strikeout(mut self, strokes: bool) -> Config<D>
         ensures { result ≡ record self { settings = record self.settings { unicode_strikeout = strokes } } }
     {
@@ -159,7 +164,7 @@ impl<D: TextDecorator> Config<D> {
         self
     }
 
-    /// What stands in the place of an image whose title is empty.
+    /// Sets how images and drawings with an empty title are shown. By default they aren't.
     pub fn empty_img_mode(mut self, mode: ImageRenderMode) -> Config<D>
         ensures { result ≡ record self { settings = record self.settings { empty_images = mode } } }
     {
@@ -167,8 +172,9 @@ impl<D: TextDecorator> Config<D> {
         self
     }
 
-    /// Each line of a paragraph is filled with spaces up to the width of its block: that of the document, less what its lines
-    /// stand behind.
+    /// Pads each line of a paragraph with spaces up to the width of its block, which is that of the document without the
+    /// prefixes of the line. The spaces have no annotation. Lines that are empty because a block starts or a line break is
+    /// alone aren't padded, and neither are closing lines.
     pub fn pad_block_width(mut self) -> Config<D>
         ensures { result ≡ record self { settings = record self.settings { pad_block_width = true } } }
     {
@@ -176,8 +182,8 @@ impl<D: TextDecorator> Config<D> {
         self
     }
 
-    /// A line of a paragraph has no more columns than this, also where its block is wider. Prefixes aren't counted, and the
-    /// lines behind the document are as wide as the document.
+    /// Limits the lines of paragraphs to `columns` columns, or to the width of their block if that is less. Prefixes aren't
+    /// counted, and closing lines have the document's width.
     pub fn max_wrap_width(mut self, columns: usize) -> Config<D>
         ensures { result ≡ record self { max_wrap_width = Some columns } }
     {
@@ -185,8 +191,8 @@ impl<D: TextDecorator> Config<D> {
         self
     }
 
-    /// A text needs `columns` columns behind the prefix of its lines, unless its own are fewer; where they aren't there, the
-    /// width is too narrow, or the lines are wider than it with overflow. It is 3 where nothing is said.
+    /// Sets the minimum columns left for a text after prefixes, unless its own columns are fewer. With fewer left, rendering
+    /// is `TooNarrow`, or lines pass the width if overflow is on. Default 3.
     pub fn min_wrap_width(mut self, columns: usize) -> Config<D>
         ensures { result ≡ record self { settings = record self.settings { min_wrap_width = columns } } }
     {
@@ -194,8 +200,8 @@ impl<D: TextDecorator> Config<D> {
         self
     }
 
-    /// Whether the cells of every table stand one below another, and not side by side. Tables have no borders then, whatever is
-    /// said here.
+    /// Sets whether the cells of every table are stacked, and not side by side where they fit. Removes the borders of
+    /// tables, with `false` too.
     pub fn raw_mode(mut self, raw: bool) -> Config<D>
         ensures { result ≡ record self { settings = record self.settings { raw_mode = raw; table_borders = false } } }
     {
@@ -204,7 +210,7 @@ impl<D: TextDecorator> Config<D> {
         self
     }
 
-    /// Tables have no borders: cells side by side have a space between them, and cells one below another nothing.
+    /// Draws tables without borders. Cells side by side have a space between them, and stacked cells nothing.
     pub fn no_table_borders(mut self) -> Config<D>
         ensures { result ≡ record self { settings = record self.settings { table_borders = false } } }
     {
@@ -212,7 +218,7 @@ impl<D: TextDecorator> Config<D> {
         self
     }
 
-    /// A line of three backquotes stands before each table that is in no other one, and another behind it.
+    /// Puts each table that isn't nested between two fences, lines of three backquotes.
     pub fn fence_tables(mut self) -> Config<D>
         ensures { result ≡ record self { settings = record self.settings { fence_tables = true } } }
     {
@@ -220,13 +226,13 @@ impl<D: TextDecorator> Config<D> {
         self
     }
 
-    /// The render tree of a document.
+    /// Returns the render tree of a document.
     ///
     /// # Errors
     ///
-    /// `Fail`, where a part of a table, as a row or a cell, stands outside its place in the tree: a row that isn't among those
-    /// of a table, for example. A part that is dropped, as one in an ordered list beside its items, isn't in the tree. `Fail`
-    /// also, where the cells of a table would end past a column of 128 bits. `OutOfMemory`.
+    /// `Fail` if the tree would have a part of a table, such as a row or a cell, outside its place: for example a row that
+    /// isn't among those of a table. A part that is dropped, such as one beside the items of an ordered list, isn't in the
+    /// tree. `Fail` also if a cell of any table would end past column 2^128 - 1. `OutOfMemory`.
     #[tactic(auto, using(crate::specs::laws::GoodTrees::render_trees_are_good))]
     pub fn dom_to_render_tree(&self, alloc: Global, dom: &RcDom) -> Result<RenderTree, Error>
         ensures ok { IfOk result (λ tree. render_tree_of self.now.rules dom.now ≡ Some tree) }
@@ -237,11 +243,11 @@ impl<D: TextDecorator> Config<D> {
         RenderTree::new(alloc, nodes)
     }
 
-    /// The render tree of a document, which is dropped as soon as it isn't asked any more: the same tree in less memory.
+    /// Like [`Config::dom_to_render_tree`], but frees the document early, for a lower peak of memory.
     ///
     /// # Errors
     ///
-    /// As [`Config::dom_to_render_tree`].
+    /// Those of [`Config::dom_to_render_tree`].
     #[tactic(auto, using(crate::specs::laws::GoodTrees::render_trees_are_good))]
     pub fn dom_into_render_tree(&self, alloc: Global, dom: RcDom) -> Result<RenderTree, Error>
         ensures ok { IfOk result (λ tree. render_tree_of self.now.rules dom ≡ Some tree) }

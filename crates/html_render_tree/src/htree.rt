@@ -37,8 +37,8 @@ fn read_document<R: Read>(alloc: Global, input: &mut R) -> Result<RcDom, Fault>
     Ok(built(alloc, script.as_str())?)
 }
 
-/// Returns the text of the script in `input`, as the words ask for it. Words of another form are refused before anything
-/// is read.
+/// Returns the text of the script in `input`, as the words ask for it. Refuses words of another form before anything is
+/// read.
 fn text_of_input<R: Read>(alloc: Global, words: &[String], input: &mut R) -> Result<String, Fault>
     ensures words { settings_of (map string_bytes words.now) ≡ None → (result ≡ Err Fault.Arguments) × (input.new ≡ input.old) }
     ensures ok { IfOk result (λ text.
@@ -72,7 +72,7 @@ fn write_text<R: Read, O: Write>(
     }
 }
 
-/// How a run ends.
+/// End of a run.
 #[derive(Drop)]
 struct Ending {
     /// Exit status.
@@ -122,17 +122,21 @@ fn ended<R: Read, O: Write, F: Write>(
     }
 }
 
-/// Writes the text of the script in `input` to `output`, or one line on what is wrong to `faults`, and returns the
-/// program's exit status: 0 for a text; 1 with an [`Error`](crate::Error)'s text, where the document can't be rendered or
-/// memory is out; 2 with `htree: arguments` for words that are not `WIDTH [plain|rich|bare] [overflow]`, `htree: input`
-/// where `input` can't be read or isn't UTF-8, `htree: line N` (from 1) for a faulty line, `htree: output` where `output`
-/// can't be written or flushed. A failed write to `faults` changes no status.
+/// Writes the text of the script in `input` to `output`, or one line about a fault to `faults`. Returns the program's exit
+/// status.
 ///
-/// The words are those behind the program's name, and are looked at first; then the whole input is read. The width is
-/// a number of columns. `plain`, which is also the preset of words that name none, is text as
-/// [`plain`](crate::config::plain) renders it, `rich` as [`rich`](crate::config::rich) and `bare` as
-/// [`plain_no_decorate`](crate::config::plain_no_decorate); `overflow` stands for
-/// [`Config::allow_width_overflow`](crate::config::Config::allow_width_overflow).
+/// - 0: The text is written.
+/// - 1: The text of an [`Error`](crate::Error), if the document can't be rendered or memory is out.
+/// - 2: `htree: arguments` for words that are not `WIDTH [plain|rich|bare] [overflow]`, `htree: input` if `input` can't be
+///   read or isn't UTF-8, `htree: line N` (from 1) for a faulty line, `htree: output` if `output` can't be written or
+///   flushed.
+///
+/// A failed write to `faults` changes no status.
+///
+/// The words are those after the program's name, and are checked first; then the whole input is read. The width is a number
+/// of columns. `plain`, which is also the preset of words that name none, is text as [`plain`](crate::config::plain) renders
+/// it, `rich` as [`rich`](crate::config::rich) and `bare` as [`plain_no_decorate`](crate::config::plain_no_decorate).
+/// `overflow` is [`Config::allow_width_overflow`](crate::config::Config::allow_width_overflow).
 pub fn run<R: Read, O: Write, F: Write>(
     alloc: Global,
     words: &[String],
@@ -145,11 +149,11 @@ pub fn run<R: Read, O: Write, F: Write>(
         (result ≡ 2) × (input.new ≡ input.old) × (output.new ≡ output.old)
         × AppendsFront (F.contents faults.old) (F.contents faults.new) (line_of Fault.Arguments) }
 
-    // with 0, the text that the words ask for of all of the input is written to the output, and no fault is
+    // with 0, the text of all of the input, as the words ask for it, is written to the output, and no fault to the faults
     ensures text { result ≡ 0 → (faults.new ≡ faults.old)
         × Succeeds (map string_bytes words.now) (R.remaining input.old) (R.remaining input.new) (O.contents output.old) (O.contents output.new) }
 
-    // otherwise there is a fault of that status, and its line is written, or a front of it, if that fails
+    // otherwise there is a fault with this status, and its line is written, or a front of it if the write fails
     ensures fault { 1 ≤ result → IsSome (settings_of (map string_bytes words.now)) →
         (fault : Fault) × (result ≡ exit_status fault)
         × AppendsFront (F.contents faults.old) (F.contents faults.new) (line_of fault)
@@ -163,8 +167,8 @@ pub fn run<R: Read, O: Write, F: Write>(
     status
 }
 
-/// Ends a program whose words can't be read, for this error, as [`run`] ends: with 1 and `Out of memory` where memory is
-/// out, otherwise with 2 and `htree: arguments`.
+/// Ends a program whose words can't be read because of this error, as [`run`] ends: with status 1 and `Out of memory` if
+/// memory is out, and otherwise with 2 and `htree: arguments`.
 pub fn run_without_words<F: Write>(error: &io::Error, faults: &mut F) -> u8
     ensures status { result ≡ exit_status (words_fault (error_kind error.now)) }
     ensures line { AppendsFront (F.contents faults.old) (F.contents faults.new) (line_of (words_fault (error_kind error.now))) }

@@ -1,4 +1,4 @@
-//! Laws of what is rendered, each the contract of a function that does nothing.
+//! Laws of rendering, each the contract of an empty function.
 
 ghost use Rattle.std.specs.Prelude.{◌≡◌, ◌↔◌, None, IfSome, map, replicate};
 ghost use Rattle.html_render_dom_rules.specs.Selectors.{specificity_of};
@@ -16,13 +16,13 @@ use html_render_layout_estimates::settings::{ImageRenderMode, LayoutSettings};
 use html_render_layout_nodes::tree::RenderNode;
 use html_render_parts_decorators::decorate::{RichAnnotation, TextDecorator};
 
-/// The decorations are ten rules of the agent, each as specific as an element's name and a pseudo-element.
+/// The decorations are ten rules of the agent, each with the specificity of an element's name and a pseudo-element.
 fn decorations_are_ten_rules_of_the_agent()
     ensures origins { map (λ rule. rule.origin) decorations ≡ replicate 10 origin.Agent }
     ensures specificities { map specificity_of decorations ≡ replicate 10 decoration_specificity }
 {}
 
-/// Where a tree has lines in a block, they are what every call that renders promises of them.
+/// Where a tree has lines in a block, they keep the promises of every call that renders.
 #[tactic(auto, using(html_render_layout::specs::laws::Promises::lines_promised))]
 fn lines_are_promised<D: TextDecorator>()
     ensures { (settings : LayoutSettings) (tree : Forest RenderNode) (decorator : D) (block : BlockSetting) →
@@ -37,7 +37,7 @@ fn lines_and_names_are_there_together<D: TextDecorator>()
         ↔ (mark_names D.decoration settings tree decorator block ≡ None) }
 {}
 
-/// By default an image without a title isn't shown, and what stands in nothing has the annotation of that.
+/// By default an image without a title isn't shown, and an annotation of rich text is `Default`.
 fn defaults_are_the_plain_ones()
     ensures modes { (mode : ImageRenderMode) → ⟦<ImageRenderMode as Default>⟧.is_default mode ↔ (mode ≡ ImageRenderMode.IgnoreEmpty) }
     ensures annotations { (annotation : RichAnnotation) →

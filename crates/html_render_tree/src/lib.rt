@@ -1,7 +1,7 @@
-//! Documents as wrapped text: a DOM that is built by calls becomes a render tree, and that becomes lines.
+//! Documents as wrapped text: a DOM, which calls build, becomes a render tree, and that becomes lines.
 //!
-//! `config::plain_no_decorate(alloc)` renders plain text: its `dom_to_render_tree(alloc, &dom)?` is the render tree of
-//! the DOM `dom`, and `render_to_string(alloc, tree, 80)?` the text of that in 80 columns.
+//! `config::plain_no_decorate(alloc)` renders plain text: its `dom_to_render_tree(alloc, &dom)?` is the render tree of the
+//! DOM `dom`, and `render_to_string(alloc, tree, 80)?` is the text of that in 80 columns.
 #![tactic(auto)]
 
 pub mod config;
@@ -20,7 +20,7 @@ pub mod table {
     };
 }
 
-/// Documents that scripts build: texts whose lines are calls on a DOM.
+/// Documents that scripts build. Each line of a script is a call on a DOM.
 pub mod script {
     pub use html_render_tree_scripts::building::{ScriptError, built};
 }

@@ -7,7 +7,7 @@ use html_render_layout_lines::line::{Line, Parts};
 use html_render_layout_lines::tag::Tag;
 use std::alloc::{AllocError, Global};
 
-/// Adds a line's characters and a newline.
+/// Appends a line's characters and a newline.
 fn push_line<T: Tag, M: Copy>(text: &mut String, line: &Line<T, M>) -> Result<(), AllocError>
     ensures { OnOk result (string_bytes text.new ≡ string_bytes text.old ++ line_bytes line.now) }
 {
@@ -15,8 +15,8 @@ fn push_line<T: Tag, M: Copy>(text: &mut String, line: &Line<T, M>) -> Result<()
     text.push('\n')
 }
 
-/// About as many bytes as the string of some lines takes: those of each line's text, one for each character before that, and a
-/// newline.
+/// Returns about the number of bytes of the string of lines: those of each line's text, one for each character before that
+/// text, and a newline.
 fn room_for<T: Tag, M: Copy>(lines: &[Line<T, M>]) -> usize {
     let mut room = 0usize;
     for line in lines {
@@ -30,7 +30,7 @@ fn room_for<T: Tag, M: Copy>(lines: &[Line<T, M>]) -> usize {
     room
 }
 
-/// The string of some lines: each line's characters, and a newline.
+/// Returns the string of lines: each line's characters and a newline.
 pub fn string_of<T: Tag, M: Copy>(alloc: Global, lines: &[Line<T, M>]) -> Result<String, AllocError>
     ensures { IfOk result (λ text. string_bytes text ≡ text_of lines.now) }
 {

@@ -1,4 +1,4 @@
--- Which elements become nodes that have no children.
+-- Elements whose children are converted become nodes that may have children.
 use Rattle.std.proofs.Common.{◌≡◌, ℕ, Bool, true, false, not, if◌then◌else◌, List, Option, Some, None, refl}
 use Rattle.html_render_dom_values.specs.Forest.{Forest}
 use Rattle.html_render_dom_nodes.specs.Content.{Content, Property, Space, html, svg}
@@ -9,12 +9,12 @@ use Rattle.html_render_tree_mapping.specs.declared.mapping.Mapping.TheVariants.{
 use Rattle.html_render_tree_mapping.specs.Conversion.{element_mapping, link_mapping}
 use Rattle.html_render_tree.specs.GoodTrees.{is_leaf}
 
--- whether the node of this is one that may have children
+-- whether an element becomes a node that may have children
 abbrev pub is_inner : ElementKind → Bool
 is_inner (Node kind) = not (is_leaf kind)
 is_inner (Part p) = true
 
--- whether children are converted only where the node may have some
+-- whether a mapping converts children only for a node that may have some
 abbrev pub parents_inner : Mapping → Bool
 parents_inner Nothing = true
 parents_inner (Leaf kind) = true

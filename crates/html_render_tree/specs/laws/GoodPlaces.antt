@@ -1,4 +1,4 @@
--- Good trees beside each other, what is inserted into them, and which rows a grid has.
+-- Good trees beside each other, insertions into them, and the numbers of rows and cells of a grid.
 use Rattle.std.proofs.Common.{◌≡◌, ℕ, ◌+◌, ◌-◌, Bool, true, ◌&&◌, if◌then◌else◌, List, [], ◌∷◌, ◌++◌, map, refl, ap, ◌∙◌}
 use Rattle.std.proofs.lemmas.Bool.{and_from, and_parts}
 use Rattle.html_render_dom_values.specs.Forest.{none, node, followed_by}
@@ -14,25 +14,25 @@ use Rattle.html_render_tree_mapping.specs.Tables.{spanned, spanned_in, width_of}
 use Rattle.html_render_tree_mapping.specs.Results.{Nodes, in_first}
 use Rattle.html_render_tree.specs.GoodTrees.{Place, Anywhere, Nowhere, InTable, InRow, is_leaf, around, are_good_below, are_good}
 
--- two tests
+-- two tests, each of which follows from another
 and-map : {a b a' b' : Bool} → (a ≡ true → a' ≡ true) → (b ≡ true → b' ≡ true) → (a && b) ≡ true → (a' && b') ≡ true
 and-map {a} {b} {a'} {b'} inner outer h = let both = and_parts a b h in and_from a' b' (inner both.0) (outer both.1)
 
--- ---- rows of as many cells
+-- ---- rows with equal numbers of cells
 
 -- some cell of a grid
 abbrev pub some_cell : GridCell
 some_cell = record { rowspan = 0; first = 0; columns = 0 }
 
--- as many cells, whatever they are
+-- some cell for each of these
 abbrev pub cells_like : {X : Type 0} → List X → List GridCell
 cells_like {X} cells = map (λ (cell : X). some_cell) cells
 
--- as many rows, of as many cells
+-- some row of cells for each of these rows
 abbrev pub rows_like : {X : Type 0} → List (List X) → List (List GridCell)
 rows_like {X} rows = map (λ (cells : List X). cells_like cells) rows
 
--- what cells span, and the rows of a grid
+-- the number of cells doesn't depend on the cells, and that of a grid's rows not on spans
 cells_like-map : {X Y : Type 0} (f : X → Y) (cells : List X) → cells_like (map f cells) ≡ cells_like cells
 cells_like-map f [] = refl
 cells_like-map f (c ∷ cells) = ap (λ cs. some_cell ∷ cs) (cells_like-map f cells)
@@ -52,12 +52,12 @@ own_rows-alike edges row hung [] = refl
 own_rows-alike edges row hung (cells ∷ rows) =
     rw (own-alike edges row 0 hung cells, own_rows-alike edges (row + 1) (hanging (row + 1) (hung ++ own_from row 0 hung cells)) rows) refl
 
--- ---- a first tree and those beside it
+-- ---- a first tree and its later siblings
 
 abbrev pub good_over : Place → NodeKind → (children others : Nodes) → Bool
 good_over place kind children others = are_good_below (λ p. are_good p children) (λ p. are_good p others) (around place kind)
 
--- those beside it are good, and are others
+-- the later siblings may be others, if these are good
 at-anywhere : (kind : NodeKind) (t u u' : Nodes) → (are_good Anywhere u ≡ true → are_good Anywhere u' ≡ true) →
     good_over Anywhere kind t u ≡ true → good_over Anywhere kind t u' ≡ true
 at-anywhere (Table grid) t u u' outer h = and-map {a = are_good (InTable grid.cells.rows) t} (λ e. e) outer h
@@ -65,7 +65,7 @@ at-anywhere TableRow t u u' outer h = cc
 at-anywhere TableCell t u u' outer h = cc
 at-anywhere kind t u u' outer h = and-map {a = are_good (if is_leaf kind then Nowhere else Anywhere) t} (λ e. e) outer h
 
--- among cells, and among rows, those below it are others too
+-- in a row and in a table the children may be others too
 pub at-row : (kind : NodeKind) (c : GridCell) (cs ds : List GridCell) (t t' u u' : Nodes) →
     (are_good Anywhere t ≡ true → are_good Anywhere t' ≡ true) → (are_good (InRow cs) u ≡ true → are_good (InRow ds) u' ≡ true) →
     good_over (InRow (c ∷ cs)) kind t u ≡ true → good_over (InRow (c ∷ ds)) kind t' u' ≡ true
@@ -78,7 +78,7 @@ at-table : (kind : NodeKind) (c : List GridCell) (cs ds : List (List GridCell)) 
 at-table TableRow c cs ds t t' u u' inner outer h = and-map inner outer h
 at-table kind c cs ds t t' u u' inner outer h = cc
 
--- ---- good trees, and then others
+-- ---- good trees followed by good trees
 
 pub followed-anywhere : (t u : Nodes) → are_good Anywhere t ≡ true → are_good Anywhere u ≡ true → are_good Anywhere (followed_by t u) ≡ true
 followed-anywhere none u h k = k
@@ -93,7 +93,7 @@ followed-rows (c ∷ a) b (node n children others) u h k =
     at-table n.kind (cells_like c) (rows_like a) (rows_like (a ++ b)) children children others (followed_by others u)
     (λ e. e) (λ e. followed-rows a b others u e k) h
 
--- over as many cells, and over rows of as many
+-- trees are good in rows with equal numbers of cells, and in tables of such rows
 cells-good-same : (cs : List GridCell) (t : Nodes) → are_good (InRow (cells_like cs)) t ≡ are_good (InRow cs) t
 cells-good-same [] t = refl
 cells-good-same (c ∷ cs) none = refl

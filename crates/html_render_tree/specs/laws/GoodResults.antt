@@ -1,4 +1,4 @@
--- What is below a result is good where the result stands, and stays so with what is inserted.
+-- The trees below a result are good in its place, and stay good with insertions.
 use Rattle.std.proofs.Common.{◌≡◌, ℕ, Bool, true, false, ◌||◌, List, [], ◌∷◌, ◌++◌, filter, flat_map}
 use Rattle.std.proofs.Common.{Option, Some, None, option_map, IfSome, refl, sym, ap, ◌∙◌}
 use Rattle.std.specs.Prelude.{option_and_then, is_some, if◌then◌else◌}
@@ -30,11 +30,11 @@ a_result role n has_children below = record { role = role; node = n; has_childre
 abbrev a_node : NodeKind → NodeStyle → Estimate → RenderNode
 a_node kind style estimate = record { kind = kind; style = style; estimate = estimate }
 
--- a node that may have children, and is no table and no part of one
+-- whether a node may have children, and is no table and no part of one
 abbrev pub IsPlain : NodeKind → Type 0
 IsPlain kind = around Anywhere kind ≡ Some (record { below = Anywhere; beside = Anywhere })
 
--- where the trees below a result are good, by its role
+-- whether the trees below a result are good, by its role
 abbrev pub IsGood : Role → RenderNode → Nodes → Type 0
 IsGood Contents n t = are_good Anywhere (node n t none) ≡ true
 IsGood Caption n t = IsPlain n.kind × (are_good Anywhere t ≡ true)
@@ -51,15 +51,15 @@ IsGoodResult r = IsGoodIn r.role r.node r.below
 abbrev pub AllGood : List Result → Type 0
 AllGood = AllByRecursion IsGoodResult
 
--- and all of these roles
+-- whether all results are good and have these roles
 abbrev pub AllGoodOf : (Role → Bool) → List Result → Type 0
 AllGoodOf is = AllByRecursion (λ r. IsGoodResult r × (is r.role ≡ true))
 
--- trees, if there are any, that are good where they stand
+-- whether trees, if there are any, are good in a place
 abbrev pub AreGoodIn : Place → Option Nodes → Type 0
 AreGoodIn place o = IfSome o (λ t. are_good place t ≡ true)
 
--- results that are picked
+-- results that pass a test are good and pass it
 picked-good : (test : Result → Bool) (rs : List Result) → AllGood rs → AllByRecursion (λ r. IsGoodResult r × (test r ≡ true)) (filter test rs)
 picked-good test [] g = tt
 picked-good test (r ∷ rs) g =
@@ -90,7 +90,7 @@ all-good : (is : Role → Bool) (rs : List Result) → AllGood rs → list_all (
 all-good is [] g h = tt
 all-good is (r ∷ rs) g h = let both = and_parts (is r.role) (list_all (λ r. is r.role) rs) h in ((g.0, both.0), all-good is rs g.1 both.1)
 
--- what is there is good, and so is what follows from it
+-- a claim about an option carries over to what a function makes of it
 pub good-then : {X Y : Type 0} (P : X → Type 0) (Q : Y → Type 0) (f : X → Option Y) → ((x : X) → P x → IfSome (f x) Q) → (o : Option X) →
     IfSome o P → IfSome (option_and_then f o) Q
 good-then P Q f is None h = tt
@@ -112,12 +112,12 @@ beside-good is place last first (r ∷ rs) g =
     (λ t h. good-then (λ u. are_good (place rs) u ≡ true) (λ u. are_good (place (r ∷ rs)) u ≡ true) _ (λ u k. first r rs t u g.0.1 h k)
     (beside rs) (beside-good is place last first rs g.1)) r.below g.0.0
 
--- a plain node
+-- a plain node over good trees is good
 pub plain-good : (n : RenderNode) (t u : Nodes) → IsPlain n.kind → are_good Anywhere t ≡ true → are_good Anywhere u ≡ true →
     are_good Anywhere (node n t u) ≡ true
 plain-good n t u plain h k = ap (are_good_below (λ p. are_good p t) (λ p. are_good p u)) plain ∙ and_from _ _ h k
 
--- those that stand in no table
+-- results that need no table are good anywhere
 pub alone-good : (rs : List Result) → AllGoodOf stands_alone rs → AreGoodIn Anywhere (beside rs)
 alone-good = beside-good stands_alone (λ rs. Anywhere) refl (λ r rs t u alone h k. by r.role r.node t u alone h k)
   where
@@ -132,7 +132,7 @@ trees_of-good rs g =
     cond_both (list_all (λ r. stands_alone r.role) rs) (beside rs) None (AreGoodIn Anywhere)
     (λ e. alone-good rs (all-good stands_alone rs g e)) (λ e. tt)
 
--- cells, and rows
+-- cells are good in a row, and rows in a table
 abbrev cells_place : List Result → Place
 cells_place rs = InRow (cells_like (flat_map (λ r. cell_spans r.role) rs))
 
@@ -157,7 +157,7 @@ rows-good = beside-good is_row rows_place refl (λ r rs t u row h k. by r.role r
     by (Row cells) n rs t u row h k = followed-rows (cells ∷ []) (flat_map (λ r. row_spans r.role) rs) (node n t none) u h k
     by role n rs t u row h k = cc
 
--- the rows of a table's parts
+-- whether a role is that of rows of a table
 abbrev pub holds_rows : Role → Bool
 holds_rows (Rows behind rows) = true
 holds_rows _ = false
@@ -181,9 +181,9 @@ joined-good (r ∷ rs) g = by r.role r.below (joined rs) g.0.1 g.0.0 (joined-goo
         (ap (λ all. are_good (InTable all) t) (spanned_in-alike (greatest_width rows) rows) ∙ h) k
     by role o p part h k = cc
 
--- ---- what is inserted
+-- ---- insertions
 
--- what is good at a place is good below a result, where trees are
+-- trees that are good in a place are good below a result, if that follows for its role
 pub below-good : (place : Place) (role : Role) (n : RenderNode) → ((t : Nodes) → are_good place t ≡ true → IsGood role n t) →
     (o : Option Nodes) → AreGoodIn place o → IsGoodIn role n o
 below-good place role n is o h = IfSome_then o h is
@@ -254,7 +254,7 @@ module _ (front back : Nodes) (f : are_good Anywhere front ≡ true) (b : are_go
       changed-good (Cell span) (Cell span) n n (λ t. followed_by front (followed_by t back))
       (λ t k. into_cell-good front back f b (some_cell ∷ []) (node n t none) k) o h
 
--- an element's mark and its contents
+-- whether a result, if there is one, is good
 abbrev pub IsGoodIfAny : Option Result → Type 0
 IsGoodIfAny o = IfSome o IsGoodResult
 

@@ -1,4 +1,4 @@
--- THE RENDER TREE of a document is good where its tables stand.
+-- THE RENDER TREE of a document is good.
 use Rattle.std.proofs.Common.{◌≡◌, ℕ, Bool, true, false, not, ◌&&◌, if◌then◌else◌, List, [], ◌∷◌, ◌++◌, map, flat_map, filter, Option, Some, None}
 use Rattle.std.proofs.Common.{is_some, IfSome, option_map, option_to_list, refl, sym, ap, ◌∙◌, subst}
 use Rattle.std.specs.Prelude.{codes}
@@ -45,7 +45,7 @@ use Rattle.html_render_tree.specs.laws.GoodResults.{cells-good, rows-good, holds
 
 -- ---- tables
 
--- a table over its parts
+-- a table over its rows is good
 table_over-good : (style : NodeStyle) (grid : TableParts) (parts : List Result) → AllGoodOf holds_rows parts →
     rows_like grid.cells.rows ≡ rows_like (flat_map (λ r. spans_of r.role) parts) → IsGoodResult (table_over style grid parts)
 table_over-good style grid parts g a =
@@ -54,7 +54,7 @@ table_over-good style grid parts g a =
     (λ t h. and_from _ _ (sym (rows-good-same grid.cells.rows t) ∙ ap (λ all. are_good (InTable all) t) a ∙ h) refl)
     (joined parts) (joined-good parts g)
 
--- its captions as blocks
+-- captions become blocks, which are good anywhere
 blocks-good : (captions : List Result) → AllGoodOf is_caption captions → AllGoodOf stands_alone (map as_block captions)
 blocks-good [] g = tt
 blocks-good (r ∷ rs) g = by r.role r.node r.has_children r.below g.0.0 g.0.1 (blocks-good rs g.1)
@@ -103,7 +103,7 @@ table_of-good style captions parts c g = by (positions_fit (placed_rows spans))
         (λ e. captioned-good style grid captions parts c g alike) (λ e. table_over-good style grid parts g alike)
     by false = tt
 
--- the parts of a table that hold rows
+-- the bodies and feet of a table have rows
 with_rows-good : (rs : List Result) → AllGood rs → AllGoodOf holds_rows (of_role (are_rows false) rs ++ of_role (are_rows true) rs)
 with_rows-good rs g =
     AllGoodOf-append holds_rows (of_role (are_rows false) rs) (of_role (are_rows true) rs) (of_sort false) (of_sort true)
@@ -118,7 +118,7 @@ with_rows-good rs g =
 
 -- ---- elements
 
--- A NODE of a kind over results
+-- bodies and feet over rows are good, and rows over cells
 rows_over-good : (behind : Bool) (rs : List Result) → AllGoodOf is_row rs → IsGoodResult (rows_over behind rs)
 rows_over-good behind rs g =
     let spans = flat_map (λ r. row_spans r.role) rs in
@@ -141,7 +141,7 @@ plain-as-is (Svg title) m i = cc
 plain-as-is (FragmentStart name) m i = cc
 plain-as-is kind m i = refl
 
--- a node without children
+-- a node without children is good
 leaf-good : (style : NodeStyle) (kind : NodeKind) → stands_as_is kind ≡ true → IsGoodResult (over style kind [])
 leaf-good style (Table grid) m = cc
 leaf-good style TableRow m = cc
@@ -163,7 +163,7 @@ built-good caption foot if_empty (Part part.Caption) style rs m i g =
 built-good caption foot if_empty (Node kind) style rs m i g =
     over-good style kind (filter (λ r. keeps kind r.node.kind) rs) (plain-as-is kind m i) (filter-good (λ r. keeps kind r.node.kind) rs g)
 
--- what an element becomes, if that is known
+-- whether the result of an element, if there is any, is good
 abbrev IsGoodIfKnown : Option (Option Result) → Type 0
 IsGoodIfKnown o = IfSome o IsGoodIfAny
 

@@ -1,4 +1,4 @@
--- What follows for the lines of a configuration, their strings and their texts.
+-- Lines of a configuration with their promises, and their strings and texts.
 use Rattle.std.proofs.Common.{◌≡◌, ℕ, Bool, true, false, List, [], ◌∷◌, ◌++◌, Option, Some, None, ◌==◌, ◌↔◌, cond, option_map, option_and_then, refl}
 use Rattle.std.proofs.Common.{map, sym, ap, ◌∙◌}
 use Rattle.std.specs.Prelude.{encode_utf8}
@@ -27,14 +27,14 @@ module _ {T U : Type 0} (f : T → U) where
   bytes-with (Character c t ∷ es) = ap (λ bs. encode_utf8 c ++ bs) (bytes-with es)
   bytes-with (Mark m ∷ es) = bytes-with es
 
-  -- the text of lines doesn't tell their tags
+  -- the text of lines doesn't depend on their tags
   pub text-with : (ls : List (Line T ℕ)) → text_of (lines_with f ls) ≡ text_of ls
   text-with [] = refl
   text-with (l ∷ ls) = ap (λ bs. (bs ++ 10 ∷ []) ++ text_of (lines_with f ls)) (bytes-with l) ∙ ap (λ bs. line_bytes l ++ bs) (text-with ls)
 
 -- ---- lines and names
 
--- what two projections show of one answer is there for both, or for none
+-- two views of one state exist together or not at all
 together : {X Y L M : Type 0} (z : Bool) (o : Option X) (g : X → Option Y) (f : Y → L) (h : Y → M) →
     (cond z None (option_and_then (λ x. option_and_then (λ y. Some (f y)) (g x)) o) ≡ None)
     ↔ (cond z None (option_and_then (λ x. option_and_then (λ y. Some (h y)) (g x)) o) ≡ None)
@@ -53,20 +53,20 @@ none_together {S} {A} d settings tree decorator block =
     together {X = Defined S A} {Y = Defined S A} (block.width == 0) (run (defined d) (estimated d settings decorator tree) (empty_state d settings decorator block))
     _ (λ (s : Defined S A). s.block.lines) (λ (s : Defined S A). s.names)
 
--- ---- what is promised of lines
+-- ---- promises of lines
 
--- the text of lines, from that of the lines without annotations
+-- the text of lines is that of the lines without annotations
 pub text-rendered : {S A : Type 0} (d : Decoration S A) (options : Options S) (tree : Forest RenderNode) (width : ℕ)
     (bare : List (Line (Unit {0}) ℕ)) (bytes : List ℕ) → Rendered d options tree width (λ lines. bare ≡ unannotated lines) → bytes ≡ text_of bare →
     Rendered d options tree width (λ lines. bytes ≡ text_of lines)
 text-rendered {S} {A} d options tree width bare bytes h b = (h.0, h.1, b ∙ ap text_of h.2 ∙ text-with (λ (stack : List A). tt) h.0)
 
--- so it is the text of the lines that are there
+-- that text is the text of the definition's lines
 pub text-answered : {S A : Type 0} (d : Decoration S A) (options : Options S) (tree : Forest RenderNode) (width : ℕ) (bytes : List ℕ) →
     Rendered d options tree width (λ lines. bytes ≡ text_of lines) → option_map text_of (rendered_lines d options tree width) ≡ Some bytes
 text-answered d options tree width bytes h = ap (option_map text_of) h.1.are ∙ ap Some (sym h.2)
 
--- the strings of lines with the names of their marks
+-- strings are the lines under the names of their marks, with all promises
 pub strings-rendered : {S A : Type 0} (d : Decoration S A) (options : Options S) (tree : Forest RenderNode) (width : ℕ) (eq : A → A → Bool)
     (strings : List (List (Piece (List A)))) (lines : List (Line (List A) ℕ)) (names : List (List ℕ)) →
     AreLines d options.settings tree options.decorator (document_block options width) lines → rendered_names d options tree width ≡ Some names →
@@ -82,7 +82,7 @@ strings-rendered d options tree width eq strings lines names are there grouped =
   },
 )
 
--- so they are the strings that are there
+-- those strings are the definition's strings
 pub strings-answered : {S A : Type 0} (d : Decoration S A) (options : Options S) (tree : Forest RenderNode) (width : ℕ) (eq : A → A → Bool)
     (strings : List (List (Piece (List A)))) → Rendered d options tree width (AreStrings d options tree width eq strings) →
     rendered_strings d options tree width eq ≡ Some strings

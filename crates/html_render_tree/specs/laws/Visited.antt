@@ -1,4 +1,4 @@
--- All nodes of a good tree are visited, but those that a layout leaves out.
+-- All nodes of a good tree are visited, except those that a layout leaves out.
 use Rattle.std.proofs.Common.{◌≡◌, ℕ, ◌+◌, Bool, true, false, ◌||◌, ◌==◌, List, [], ◌∷◌, ◌++◌, length, Option, Some, None, option_and_then}
 use Rattle.std.proofs.Common.{IfSome, All, map, refl, sym, ap, ◌∙◌, subst, arith, length-append, inl, inr}
 use Rattle.std.specs.Prelude.{◌⊎◌, flat_map, sum_by, is_some, if◌then◌else◌}
@@ -68,7 +68,7 @@ good-bare p (node n children others) h = by p n.kind h (λ q k. good-bare q chil
 
 -- ---- visited nodes
 
--- what holds whatever is there
+-- a claim that holds anyway holds of an option
 always : {X : Type 0} (P : Type 0) (o : Option X) → P → IfSome o (λ x. P)
 always P None h = tt
 always P (Some x) h = h
@@ -81,7 +81,7 @@ map-from : {X K S : Type 0} (h : X → K) (nodes : S → List X) (o : Option S) 
 map-from h nodes None = refl
 map-from h nodes (Some s) = refl
 
--- they are those that are counted
+-- visited nodes are those that are counted
 module _ {K S : Type 0} (visits : Visits K S) where
   nodes-are : (t : Forest K) (places : Places S) (number : ℕ) (s : S) →
       nodes_at true visits places number t s ≡ map (λ v. v.node) (visits_at visits places number t s)
@@ -102,7 +102,7 @@ module _ {K S : Type 0} (visits : Visits K S) where
       ∙ ap (λ l. k ∷ (map (λ v. v.node) (from inner (inside visit)) ++ l)) after
       ∙ ap (λ l. k ∷ l) (sym (map-append (λ v. v.node) (from inner (inside visit)) (from later next)))
 
--- how many nodes there are
+-- number of all nodes
 all-count : {K : Type 0} (t : Forest K) → length (all_nodes t) ≡ count t
 all-count none = refl
 all-count (node k children beside) =
@@ -121,13 +121,14 @@ left-count (v ∷ vs) =
     let whole = ap length (flat_map-cons with_left_out v vs) in
     omega (arith, whole, length-append (with_left_out v) (flat_map with_left_out vs), one-count v, left-count vs, sum_by-cons left_out v vs)
 
--- ---- what a layout leaves out
+-- ---- nodes that a layout leaves out
 
 module _ {S A K T B : Type 0} (m : Means S A K T B) where
   abbrev State : Type 0
   State = LayoutState S K T B
 
-  -- a visit that goes past the nodes below leaves them out, or there are none; one that goes to them leaves out none
+  -- whether a visit agrees with `leaves`: if it goes past the children, they are left out or there are none; otherwise none
+  -- is left out
   abbrev Enters : (leaves : Bool) → Forest RenderNode → Visit State → Type 0
   Enters leaves children (Leaf behind) = IfSome behind (λ s. (leaves ≡ true) ⊎ (children ≡ none))
   Enters leaves children (Inner before places after) = leaves ≡ false
@@ -193,7 +194,7 @@ module _ {S A K T B : Type 0} (m : Means S A K T B) where
   place-enters (Within before after) n children s h =
       within-enters (is_raised n.kind children) children s before after (layout_of m n children) (λ q. node-enters n children q h)
 
-  -- all nodes below a node are visited, or left out
+  -- all nodes below a node are visited or left out
   past-all : (leaves : Bool) (children : Forest RenderNode) → (leaves ≡ true) ⊎ (children ≡ none) →
       all_nodes children ≡ (if leaves then all_nodes children else []) ++ flat_map with_left_out []
   past-all true children (inl e) = sym (append-nil (all_nodes children))
@@ -265,7 +266,7 @@ module _ {S A K T B : Type 0} (m : Means S A K T B) where
   is_row_kind TableRow = true
   is_row_kind kind = false
 
-  -- below a node none is skipped, but below a row
+  -- whether a visit skips children in a row alone
   abbrev SkipsBelow : (row : Bool) → Visit State → Type 0
   SkipsBelow row (Leaf behind) = Unit {0}
   SkipsBelow row (Inner before places after) = MayBeSkipped row places
@@ -285,7 +286,7 @@ module _ {S A K T B : Type 0} (m : Means S A K T B) where
   block-skips row (Prefixed prefix least) s visit h = within-skips row s _ _ visit h
   block-skips row (Indented prefix columns least) s visit h = within-skips row s _ _ visit h
 
-  -- a shape without cells
+  -- whether a shape has cells
   abbrev has_cells : Shape S A → Bool
   has_cells Cells = true
   has_cells x = false
@@ -335,7 +336,7 @@ module _ {S A K T B : Type 0} (m : Means S A K T B) where
   abbrev IsCellIfSkipped : VisitedNode RenderNode → Type 0
   IsCellIfSkipped v = v.skipped ≡ true → v.node.kind ≡ TableCell
 
-  -- what is good below a row, and beside a cell of it, are cells
+  -- a good node in a row is a cell
   row-cell : (p : GoodPlace) (kind : NodeKind) (children others : Forest RenderNode) →
       are_good_below (λ q. are_good q children) (λ q. are_good q others) (around p kind) ≡ true → is_row_place p ≡ true → kind ≡ TableCell
   row-cell (InRow (c ∷ cs)) TableCell children others h e = refl
@@ -343,7 +344,7 @@ module _ {S A K T B : Type 0} (m : Means S A K T B) where
   row-cell (InRow []) kind children others h e = cc
   row-cell p kind children others h e = cc
 
-  -- where the trees below and beside a node are good
+  -- the places in which a node's children and its later siblings are good
   pub places-good : (p : GoodPlace) (kind : NodeKind) (children others : Forest RenderNode) →
       are_good_below (λ q. are_good q children) (λ q. are_good q others) (around p kind) ≡ true →
       (below beside : GoodPlace) × ((are_good below children ≡ true) × (are_good beside others ≡ true)
@@ -427,7 +428,7 @@ module _ {D A : Type 0} (d : Decoration D A) (x : D) (settings : LayoutSettings)
       λ i. are_good_below (λ q. measured-good q children i) (λ q. measured-good q beside i)
       (around-measured p n.kind (measured d x settings children) i)
 
--- WHERE A GOOD TREE has lines, all of its nodes are visited, but those that are left out
+-- WHERE A GOOD TREE has lines, all of its nodes are visited, except those that are left out
 pub lines_visit_all : {S A : Type 0} (d : Decoration S A) (settings : LayoutSettings) (t : Forest RenderNode) (decorator : S) (block : BlockSetting) →
     are_good Anywhere t ≡ true →
     IfSome (layout_lines d settings t decorator block) (λ lines.

@@ -1,6 +1,6 @@
-//! The rules that decorate plain text.
+//! The decorations: style rules that decorate plain text.
 //!
-//! `add_all(alloc, &mut rules)?` adds ten rules, the first of which puts `*` before what stands in an `em`.
+//! `add_all(alloc, &mut rules)?` appends ten rules, the first of which puts `*` before the contents of an `em`.
 
 ghost use Rattle.std.specs.Prelude.{◌≡◌, ◌∷◌, ◌++◌, [], IfOk, OnOk, map};
 ghost use Rattle.html_render_dom_rules.specs.Rules.{rule_of};
@@ -10,7 +10,7 @@ ghost use Rattle.html_render_tree.specs.Decorations.{decoration, decoration_spec
 use html_render_dom::style::{Declaration, PseudoElement, Style, StyleOrigin, StyleRule};
 use std::alloc::{AllocError, Global};
 
-/// A rule that puts a text at a place beside the children of each element of a name.
+/// Returns a rule that puts a text before or after the contents of each element with this name, as `place` says.
 fn decoration(
     alloc: Global,
     name: &str,
@@ -29,7 +29,7 @@ fn decoration(
     Ok(StyleRule::for_element(alloc, StyleOrigin::Agent, name, Some(place), declarations))
 }
 
-/// Adds the rules that put a text before and after the children of each element of a name.
+/// Appends the rules that put a text before and after the contents of each element with this name.
 fn add_before_and_after(
     alloc: Global,
     rules: &mut Vec<StyleRule>,
@@ -43,7 +43,7 @@ fn add_before_and_after(
     Ok(())
 }
 
-/// Adds all decorations.
+/// Appends all decorations.
 pub(super) fn add_all(alloc: Global, rules: &mut Vec<StyleRule>) -> Result<(), AllocError>
     ensures { OnOk result (map rule_of rules.new.items ≡ map rule_of rules.old.items ++ decorations) }
 {

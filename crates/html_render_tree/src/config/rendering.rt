@@ -25,7 +25,7 @@ use html_render_parts_widths::Meter;
 use std::alloc::Global;
 
 impl<D: TextDecorator> Config<D> {
-    /// The block that a document stands in, in a width.
+    /// Returns the setting of the block of a document in `width` columns.
     fn block(&self, width: usize) -> BlockSetting
         ensures { result ≡ document_block self.now width }
     {
@@ -36,13 +36,13 @@ impl<D: TextDecorator> Config<D> {
         }
     }
 
-    /// The text of a render tree, wrapped to a width in columns: each line's characters and a newline. The tree is
-    /// consumed, also by a refusal.
+    /// Renders a tree as a text, wrapped to `width` columns: each line's characters and a newline. Consumes the tree, also
+    /// on an error.
     ///
     /// # Errors
     ///
-    /// `TooNarrow` at width 0, and, where overflow isn't allowed, where a character is wider than a line or a prefix
-    /// leaves too few columns; otherwise `OutOfMemory`.
+    /// `TooNarrow` at width 0. With overflow off, also if a character is wider than a line, a prefix leaves too few columns,
+    /// or a line with its prefix is wider than its block. `OutOfMemory`.
     #[tactic(auto, using(html_render_layout::specs::laws::Promises::lines_there, html_render_layout::specs::laws::Promises::texts_left))]
     pub fn render_to_string(
         &self,
@@ -50,15 +50,15 @@ impl<D: TextDecorator> Config<D> {
         tree: RenderTree,
         width: usize,
     ) -> Result<String, Error>
-        // the text is each line's characters and a newline; want of memory aside, it is too narrow exactly where there are no lines
+        // the text is that of the definition's lines; the result is `TooNarrow` exactly without them, unless memory runs out
         ensures ok { IfOk result (λ text. option_map text_of (rendered_lines D.decoration self.now tree width) ≡ Some (string_bytes text)) }
         ensures err { IfErr result (λ e. Refuses e (rendered_lines D.decoration self.now tree width)) }
         ensures no_width { width ≡ 0 → result ≡ Err Error.TooNarrow }
 
-        // what is promised of its lines: that they keep to the width, are those without overflow, and lose no visible character
+        // promises of the lines: they keep to the width, are those of overflow off, and lose no visible character
         ensures lines { IfOk result (λ text. Rendered D.decoration self.now tree width (λ lines. string_bytes text ≡ text_of lines)) }
 
-        // with overflow on nothing is too narrow but width 0; and a tree that is laid out leaves the texts that follow as they were
+        // with overflow on, only width 0 is too narrow; and after a tree texts are treated as before it
         ensures wide { self.now.overflow ≡ true → 1 ≤ width → result ≢ Err Error.TooNarrow }
         ensures there { HasLines D.decoration self.now.settings tree self.now.decorator (document_block self.now width) }
         ensures stacks { LeavesTexts D.decoration }
@@ -73,13 +73,13 @@ impl<D: TextDecorator> Config<D> {
         Ok(string_of(alloc, &lines)?)
     }
 
-    /// The lines of a render tree, wrapped to a width in columns, as tagged strings: the longest runs of characters whose
-    /// annotations are equal, one by one, with no mark between. A string's tag is the annotations of its first character,
-    /// the outermost one first. The tree is consumed, also by a refusal.
+    /// Renders a tree as tagged lines, wrapped to `width` columns. A line's strings are the longest runs of characters whose
+    /// annotations are equal, one by one, with no mark between them. A string's tag is the annotations of its first
+    /// character, the outermost first. Consumes the tree, also on an error.
     ///
     /// # Errors
     ///
-    /// As [`Config::render_to_string`].
+    /// Those of [`Config::render_to_string`].
     #[tactic(auto, using(html_render_layout::specs::laws::Promises::lines_there, html_render_layout::specs::laws::Promises::texts_left))]
     pub fn render_to_lines(
         &self,
@@ -87,12 +87,13 @@ impl<D: TextDecorator> Config<D> {
         tree: RenderTree,
         width: usize,
     ) -> Result<Vec<TaggedLine<Vec<D::Annotation>>>, Error>
-        // the lines as tagged strings; want of memory aside, it is too narrow exactly where there are no lines
+        // the strings are those of the definition's lines; the result is `TooNarrow` exactly without them, unless memory
+        // runs out
         ensures ok { IfOk result (λ lines. rendered_strings D.decoration self.now tree width D.Annotation.eq ≡ Some (lines_of lines.items)) }
         ensures err { IfErr result (λ e. Refuses e (rendered_lines D.decoration self.now tree width)) }
         ensures no_width { width ≡ 0 → result ≡ Err Error.TooNarrow }
 
-        // as for a text
+        // promises of the lines and of their strings, and the clauses of `render_to_string`
         ensures lines { IfOk result (λ answer. Rendered D.decoration self.now tree width
             (AreStrings D.decoration self.now tree width D.Annotation.eq (lines_of answer.items))) }
         ensures within { self.now.overflow ≡ false → self.now.settings.wrap_links ≡ true
@@ -105,13 +106,13 @@ impl<D: TextDecorator> Config<D> {
         self.render_to_lines_metered(alloc, tree, width, &mut meter)
     }
 
-    /// The same, and what the layout visits: `entered` and `left` count all nodes but those below a skipped cell or below a
-    /// superscript written in digits, and `frames` is the most nodes that were open at once. They count from 0,
-    /// also where the call refuses; `probes` stays.
+    /// Renders a tree like [`Config::render_to_lines`], and counts in `meter` the nodes that the layout visits. `entered`
+    /// and `left` count all nodes except those in a skipped cell or in a superscript written in digits. `frames` is the most
+    /// nodes that were open at once. They count from 0, also on an error; `probes` isn't changed.
     ///
     /// # Errors
     ///
-    /// As [`Config::render_to_string`].
+    /// Those of [`Config::render_to_string`].
     #[tactic(auto, using(html_render_layout::specs::laws::Promises::lines_there, html_render_layout::specs::laws::Promises::texts_left))]
     pub fn render_to_lines_metered(
         &self,
@@ -120,7 +121,7 @@ impl<D: TextDecorator> Config<D> {
         width: usize,
         meter: &mut Meter,
     ) -> Result<Vec<TaggedLine<Vec<D::Annotation>>>, Error>
-        // as without the meter
+        // the clauses of `render_to_lines`
         ensures ok { IfOk result (λ lines. rendered_strings D.decoration self.now tree width D.Annotation.eq ≡ Some (lines_of lines.items)) }
         ensures err { IfErr result (λ e. Refuses e (rendered_lines D.decoration self.now tree width)) }
         ensures no_width { width ≡ 0 → result ≡ Err Error.TooNarrow }
@@ -132,7 +133,7 @@ impl<D: TextDecorator> Config<D> {
         ensures there { HasLines D.decoration self.now.settings tree self.now.decorator (document_block self.now width) }
         ensures stacks { LeavesTexts D.decoration }
 
-        // what was counted, where there are lines, and where there are none
+        // counts of visited nodes and of nodes open at once, exact with lines and at most these without
         ensures counts { CountsNodes result (defined D.decoration)
             (estimated D.decoration self.now.settings self.now.decorator tree)
             (empty_state D.decoration self.now.settings self.now.decorator (document_block self.now width)) meter.old meter.new }
@@ -148,15 +149,16 @@ impl<D: TextDecorator> Config<D> {
         tagged_lines(alloc, laid_out)
     }
 
-    /// The text of a render tree, wrapped to a width in columns, under a colour map: for each line what `colour_map` answers
-    /// for each of its tagged strings, in order, then a newline. The map is given a string's annotations, the outermost one
-    /// first, and its text; it is called once for each string. The tree is consumed, also by a refusal.
+    /// Renders a tree as a text under a colour map, wrapped to `width` columns: for each line what `colour_map` returns for
+    /// each of its tagged strings, in order, and then a newline. The map is given a string's annotations, the outermost
+    /// first, and its text. It is called once for each string, and never for a mark. Consumes the tree, also on an error.
     ///
-    /// The map may be called on all annotations and all texts, and its only error is `OutOfMemory`.
+    /// The caller ensures that the map can be called with all annotations and texts, and that its only error is
+    /// `OutOfMemory`.
     ///
     /// # Errors
     ///
-    /// As [`Config::render_to_string`]; `OutOfMemory` also where the map answers it.
+    /// Those of [`Config::render_to_string`]. `OutOfMemory` also if the map returns it.
     #[tactic(auto, using(html_render_layout::specs::laws::Promises::lines_there, html_render_layout::specs::laws::Promises::texts_left))]
     pub fn render_coloured<F: Fn(&[D::Annotation], &str) -> Result<String, Error>>(
         &self,
@@ -168,14 +170,15 @@ impl<D: TextDecorator> Config<D> {
         requires callable { F.IsAlwaysCallable colour_map }
         requires memory { (tag : _) (string : _) (e : Error) → F.post colour_map tag string (Err e) → e ≡ Error.OutOfMemory }
 
-        // the text of the lines under the map; want of memory aside, it is too narrow exactly where there are no lines
+        // the text is that of the definition's strings under the map; the result is `TooNarrow` exactly without lines,
+        // unless memory runs out
         ensures ok { IfOk result (λ text. (lines : List (List (Piece (List D.Annotation))))
             × (rendered_strings D.decoration self.now tree width D.Annotation.eq ≡ Some lines)
             × IsColoured (F.post colour_map) lines (string_bytes text)) }
         ensures err { IfErr result (λ e. Refuses e (rendered_lines D.decoration self.now tree width)) }
         ensures no_width { width ≡ 0 → result ≡ Err Error.TooNarrow }
 
-        // as for a text
+        // promises of the lines and of their strings, and the clauses of `render_to_string`
         ensures lines { IfOk result (λ text. (strings : List (List (Piece (List D.Annotation))))
             × Rendered D.decoration self.now tree width (AreStrings D.decoration self.now tree width D.Annotation.eq strings)
             × IsColoured (F.post colour_map) strings (string_bytes text)) }

@@ -1,4 +1,4 @@
-//! Why a run of the program gives no text.
+//! Faults: reasons for a run of the program without a text.
 
 ghost use Rattle.std.specs.Prelude.{◌≡◌, Some};
 ghost use Rattle.std.specs.IoError.{error_kind};
@@ -9,7 +9,7 @@ use html_render_tree_scripts::building::ScriptError;
 use std::io::ErrorKind;
 use std::{fmt, io};
 
-/// Why there is no text.
+/// A reason for a run without a text.
 #[derive(Clone, Copy)]
 pub enum Fault {
     /// The document can't be converted or rendered, or memory is out.
@@ -35,7 +35,7 @@ impl Fault {
         }
     }
 
-    /// Returns the fault of an input that can't be read, for this error.
+    /// Returns the fault of an input that can't be read because of this error.
     pub fn of_read(error: &io::Error) -> Fault
         ensures { result ≡ read_fault (error_kind error.now) }
     {
@@ -45,7 +45,7 @@ impl Fault {
         }
     }
 
-    /// Returns the fault of a program whose words can't be read, for this error.
+    /// Returns the fault of a program whose words can't be read because of this error.
     pub fn of_words(error: &io::Error) -> Fault
         ensures { result ≡ words_fault (error_kind error.now) }
     {
@@ -75,7 +75,7 @@ impl From<Error> for Fault {
 
     ghost from_gives = { λ error fault. fault ≡ Refused error };
 
-    /// The document can't be converted or rendered, or memory is out.
+    /// Returns the fault of a document that can't be converted or rendered, or of a refused allocation.
     fn from(error: Error) -> Fault {
         Fault::Refused(error)
     }
@@ -86,7 +86,7 @@ impl From<ScriptError> for Fault {
 
     ghost from_gives = { λ error fault. fault ≡ script_fault error };
 
-    /// A line is faulty, or memory is out.
+    /// Returns the fault of a faulty line, or of a refused allocation.
     fn from(error: ScriptError) -> Fault {
         match error {
             ScriptError::Refused(error) => Fault::Refused(error),

@@ -21,7 +21,7 @@ pub fn read_bytes<R: Read>(alloc: Global, input: &mut R) -> io::Result<Vec<u8>>
     Ok(bytes)
 }
 
-/// Returns the script of the input's bytes. It takes no memory.
+/// Returns the script of the input's bytes, or `Input` if they aren't UTF-8. Allocates nothing.
 pub fn script_from(bytes: Vec<u8>) -> Result<String, Fault>
     ensures ok { IfOk result (λ script. script_of bytes.items ≡ Ok (string_bytes script)) }
     ensures err { IfErr result (λ fault. script_of bytes.items ≡ Err fault) }
@@ -32,7 +32,7 @@ pub fn script_from(bytes: Vec<u8>) -> Result<String, Fault>
     }
 }
 
-/// Writes all of the bytes.
+/// Writes all of the bytes. Repeats interrupted writes, and fails with `WriteZero` if a write takes none.
 fn write_bytes<W: Write>(bytes: &[u8], writer: &mut W) -> io::Result<()>
     ensures { Writes (W.contents writer.old) (W.contents writer.new) result bytes.now }
 {
@@ -62,7 +62,7 @@ pub fn write_text<W: Write>(text: &str, output: &mut W) -> io::Result<()>
     output.flush()
 }
 
-/// Returns the line of a fault. It takes no memory.
+/// Returns the line of a fault: its text and a newline. Allocates nothing.
 fn fault_line(fault: Fault) -> Result<ArrayString<64>, fmt::Error>
     ensures { IfOk result (λ line. line.bytes ≡ line_of fault) }
 {

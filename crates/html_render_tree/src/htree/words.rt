@@ -12,7 +12,7 @@ pub enum Preset {
     Plain,
     /// `rich`: with annotations, which a text doesn't show, and without decorations and footnotes.
     Rich,
-    /// `bare`: without any.
+    /// `bare`: without annotations, decorations and footnotes.
     Bare,
 }
 
@@ -30,7 +30,7 @@ impl Preset {
     }
 }
 
-/// Returns the width that a word is.
+/// Returns the width that a word states, in columns.
 fn read_width(word: &str) -> Result<usize, Fault>
     ensures { result ≡ ok_or (width_named word.now) Fault.Arguments }
 {

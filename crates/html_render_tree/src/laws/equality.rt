@@ -1,4 +1,4 @@
-//! Equality of public types, each law the contract of a function that does nothing.
+//! Equality of public types, each law the contract of an empty function.
 
 ghost use Rattle.std.specs.Prelude.{◌≡◌, ◌↔◌, true};
 

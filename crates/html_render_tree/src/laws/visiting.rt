@@ -1,4 +1,4 @@
-//! Which nodes a layout visits, each law the contract of a function that does nothing.
+//! The nodes that a layout visits, each law the contract of an empty function.
 
 ghost use Rattle.std.specs.Prelude.{◌≡◌, true, IfSome};
 ghost use Rattle.html_render_dom_values.specs.Forest.{Forest, count, depth};

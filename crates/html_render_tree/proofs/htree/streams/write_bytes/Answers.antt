@@ -4,7 +4,7 @@ use Rattle.std.proofs.KnownBytes.{Appends-trans, Appends-kept}
 use Rattle.html_render_tree.proofs.htree.streams.write_bytes.Goals.{in-Ok, in-Err+else-ne}
 use Rattle.html_render_tree.proofs.htree.streams.write_bytes.Goals as goal
 
--- the bytes that were taken now are among those that were appended
+-- the bytes that this write took follow those that were appended before
 moves_front : (all done rest : List ℕ) (n : ℕ) → all ≡ done ++ rest → all ≡ (done ++ take n rest) ++ take (length rest - n) (drop n rest)
 moves_front all done rest n e =
     e ∙ ap (λ l. done ++ l) (sym (take-append-drop n rest)) ∙ sym (append_assoc done (take n rest) (drop n rest)) ∙ ap (λ l. (done ++ take n rest) ++ l) (sym (take_rest rest n))

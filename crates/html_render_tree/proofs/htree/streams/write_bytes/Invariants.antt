@@ -1,4 +1,4 @@
--- What is gone from `rest` was appended.
+-- The bytes before `rest` were appended.
 use Rattle.std.proofs.Common.{◌≡◌, ℕ, List, ◌++◌}
 use Rattle.std.specs.Io.KnownBytes.{Appends}
 use Rattle.html_render_tree.proofs.htree.streams.write_bytes.Given as goal
