@@ -1,11 +1,11 @@
--- The calls of code as commands.
+-- Calls of the code as commands.
 use Rattle.std.specs.Prelude.{string_bytes}
 use Rattle.html_render_dom.specs.Edits.{html_name}
 use Rattle.html_render_tree_scripts.specs.Commands.{Command, append_comment, open_element, close_element, give_attribute, svg_name}
 use Rattle.html_render_tree_scripts.specs.declared.script.Call.{Call}
 use Rattle.html_render_tree_scripts.specs.declared.script.Call.TheVariants.{Open, OpenSvg, Attribute, Comment, Close}
 
--- a call, whose texts are resolved, as a command
+-- command of a call, whose texts are resolved
 abbrev pub command : Call → Command
 command (Open name) = open_element (html_name name.now)
 command (OpenSvg name) = open_element (svg_name name.now)

@@ -1,10 +1,10 @@
--- what a line of a script asks for
+-- commands of a script's lines
 pub mod Commands
--- what a script builds
+-- documents that scripts build
 pub mod Scripts
--- bytes that a text lacks, and texts put together
+-- bytes that a text lacks, and joined texts
 pub mod Plain
--- what the code's calls ask for
+-- commands of the code's calls
 pub mod Calls
--- what follows from that
+-- laws of the definitions
 pub mod laws

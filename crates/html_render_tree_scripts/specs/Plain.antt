@@ -1,11 +1,11 @@
--- Bytes that a text lacks, and texts put together.
+-- Bytes that a text lacks, and joined texts.
 use Rattle.std.specs.Prelude.{◌≡◌, ℕ, false, ◌==◌, List, ◌++◌, Option, option_map}
 use Rattle.std.specs.List.{All}
 
--- no byte of the text is this one
+-- whether no byte of a text is this one
 abbrev pub Lacks : (byte : ℕ) → List ℕ → Type 0
 Lacks byte bs = All (λ b. (b == byte) ≡ false) bs
 
--- a text with more text at its end, if there is any
+-- text with more text at its end; none if that is none
 abbrev pub with_more : List ℕ → Option (List ℕ) → Option (List ℕ)
 with_more bs more = option_map (λ cs. bs ++ cs) more

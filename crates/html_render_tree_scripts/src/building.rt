@@ -1,4 +1,4 @@
-//! A document, built from a script.
+//! The document that a script builds.
 //!
 //! `built(alloc, "<p\n\"text")?` is the DOM of a paragraph that holds `text`.
 
@@ -19,7 +19,7 @@ use html_render_dom::dom::{
 };
 use std::alloc::{AllocError, AllocFailed, Global};
 
-/// Why a script builds no document.
+/// A reason for a script without a document.
 #[derive(Clone, Copy, Debug)]
 pub enum ScriptError {
     /// A call on the DOM is refused: memory is out.
@@ -33,7 +33,7 @@ impl From<Error> for ScriptError {
 
     ghost from_gives = { λ error fault. fault ≡ Refused error };
 
-    /// A call on the DOM is refused.
+    /// Returns the error of a refused call on the DOM.
     fn from(error: Error) -> ScriptError {
         ScriptError::Refused(error)
     }
@@ -45,7 +45,7 @@ impl From<AllocError> for ScriptError {
 
     ghost from_gives = { λ _ fault. fault ≡ Refused OutOfMemory };
 
-    /// Memory is out.
+    /// Returns the error of a refused allocation.
     fn from(refusal: AllocError) -> ScriptError {
         ScriptError::Refused(Error::from(refusal))
     }
@@ -57,7 +57,7 @@ impl<T: Drop> From<AllocFailed<T>> for ScriptError {
 
     ghost from_gives = { λ _ fault. fault ≡ Refused OutOfMemory };
 
-    /// Memory is out; what could not be kept is dropped.
+    /// Returns the error of a refused allocation, and drops the value that wasn't stored.
     fn from(refusal: AllocFailed<T>) -> ScriptError {
         ScriptError::Refused(Error::from(refusal))
     }
@@ -124,8 +124,8 @@ fn append_comment(
     Ok(dom.append(alloc, current, NodeOrText::AppendNode(comment))?)
 }
 
-/// Makes a call, and returns the node that is then current, or `None` for an attribute of the document and for the document's
-/// end.
+/// Makes a call, and returns the node that is then current. Returns `None` for an attribute of the document, and for the end
+/// of the document.
 #[inline(always)]
 fn take_call(
     alloc: Global,
@@ -173,7 +173,7 @@ fn append_text(
     Ok(dom.append_str(alloc, current, text)?)
 }
 
-/// Appends the texts that wait to the current node, as one. Most lines find none.
+/// Appends the pending texts to the current node, as one. Most lines find none.
 #[inline(always)]
 fn append_texts(
     alloc: Global,
@@ -194,7 +194,7 @@ fn append_texts(
     Ok(())
 }
 
-/// Takes a line that is neither empty nor a text, and returns the node that is then current, or `None` where the line is faulty.
+/// Takes a line that is neither empty nor a text, and returns the node that is then current; `None` if the line is faulty.
 #[inline(always)]
 fn take_call_line(
     alloc: Global,
@@ -218,8 +218,8 @@ fn take_call_line(
     }
 }
 
-/// Takes one line of a script, and returns the node that is then current, or `None` where the line is faulty. Its text waits for
-/// those of the next lines, so that all are appended at once.
+/// Takes one line of a script, and returns the node that is then current; `None` if the line is faulty. The text of a line
+/// is kept in `texts` with those of the lines after it, so that all are appended at once.
 #[inline(always)]
 fn take_line(
     alloc: Global,
@@ -248,13 +248,13 @@ fn take_line(
     Ok(next)
 }
 
-/// The DOM that the lines of a script build. The script starts at the document. Empty lines do nothing, and a carriage
-/// return before a line feed is dropped.
+/// Returns the DOM that the lines of a script build. The script starts at the document. Empty lines do nothing, and a
+/// carriage return before a line feed is dropped.
 ///
 /// # Errors
 ///
-/// `FaultyLine` where a line is no call, or its call can't be made: an attribute for the document, or a document that
-/// is closed. Lines are taken in order, so it is the first such line. `Refused` where memory is out.
+/// `FaultyLine` with the number, from 1, of the first line that is no call, or whose call can't be made: an attribute of the
+/// document, or `>` on the document. `Refused` if memory is out.
 pub fn built(alloc: Global, script: &str) -> Result<RcDom, ScriptError>
     ensures ok { IfOk result (λ dom. document_of script.now ≡ Ok dom) }
     ensures err { IfErr result (λ e. IsScriptFault script.now e) }

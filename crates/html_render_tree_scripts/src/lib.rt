@@ -1,4 +1,4 @@
-//! Documents that scripts build: a script is a text whose lines are calls on a DOM.
+//! Documents that scripts build: texts whose lines are calls on a DOM.
 //!
 //! `building::built(alloc, "<p\n\"text")?` is the DOM of a paragraph that holds `text`.
 #![tactic(auto)]

@@ -10,24 +10,24 @@ use crate::splits::split_at_byte;
 use crate::texts::unescaped;
 use std::alloc::{AllocError, Global};
 
-/// What a line of a script asks for, if it is no text. Values are plain: their escapes are resolved.
+/// The call of a line that is neither empty nor a text. In values and comments escapes are resolved.
 #[derive(Drop)]
 pub enum Call<'a> {
-    /// `<name`: an HTML element is appended and becomes the current node.
+    /// `<name`: appends an HTML element, which becomes the current node.
     Open(&'a str),
-    /// `<svg:name`: the same in the SVG namespace.
+    /// `<svg:name`: appends an element of the SVG namespace, which becomes the current node.
     OpenSvg(&'a str),
-    /// `@name=value`: the current element gets an attribute, unless it has one of that name.
+    /// `@name=value`: gives the current element an attribute, unless it has one of that name.
     Attribute { name: &'a str, value: String },
-    /// `!comment`: a comment is appended.
+    /// `!comment`: appends a comment to the current node.
     Comment(String),
-    /// `>`: the parent becomes the current node.
+    /// `>`: makes the parent the current node.
     Close,
 }
 
 impl<'a> Call<'a> {
-    /// The call of a line that is neither empty nor a text, or `None` if it is faulty: another first character, an element or an
-    /// attribute without a name, an attribute without `=`, more after `>`, or an escape that isn't known.
+    /// Returns the call of a line that is neither empty nor a text. Returns `None` for a faulty line: another first
+    /// character, an element or an attribute without a name, an attribute without `=`, more after `>`, or an unknown escape.
     #[inline(always)]
     pub fn read(alloc: Global, line: &'a str) -> Result<Option<Call<'a>>, AllocError>
         ensures { IfOk result (λ call. option_map command call ≡ call_of line.now) }
@@ -47,7 +47,7 @@ impl<'a> Call<'a> {
         }
     }
 
-    /// The call of `name` or `svg:name`, or `None` without a name.
+    /// Returns the call of `name` or `svg:name`; `None` without a name.
     fn read_element(name: &'a str) -> Option<Call<'a>>
         ensures { option_map command result ≡ option_map open_element (element_name name.now) }
     {
@@ -57,7 +57,7 @@ impl<'a> Call<'a> {
         }
     }
 
-    /// The call of `>`, or `None` if more follows.
+    /// Returns the call of `>`; `None` if more follows it.
     fn read_close(more: &str) -> Option<Call<'a>>
         ensures { option_map command result ≡ (if length more.now == 0 then Some close_element else None) }
     {
@@ -68,7 +68,7 @@ impl<'a> Call<'a> {
         }
     }
 
-    /// The call of a comment, or `None` for an escape that isn't known.
+    /// Returns the call of a comment; `None` for an unknown escape.
     fn read_comment(alloc: Global, comment: &str) -> Result<Option<Call<'a>>, AllocError>
         ensures { IfOk result (λ call. option_map command call ≡ option_map append_comment (unescaped comment.now)) }
     {
@@ -78,7 +78,7 @@ impl<'a> Call<'a> {
         }
     }
 
-    /// The call of `name=value`, or `None` without a name or without `=`, or for an escape that isn't known.
+    /// Returns the call of `name=value`; `None` without a name, without `=`, or for an unknown escape.
     fn read_attribute(alloc: Global, attribute: &'a str) -> Result<Option<Call<'a>>, AllocError>
         ensures { IfOk result (λ call. option_map command call ≡ attribute_of attribute.now) }
     {
@@ -91,7 +91,7 @@ impl<'a> Call<'a> {
         }
     }
 
-    /// The call of an attribute of this name, or `None` for an empty one, or where an escape of the value isn't known.
+    /// Returns the call of an attribute with this name; `None` for an empty name, or for an unknown escape in the value.
     fn read_value(alloc: Global, name: &'a str, value: &str) -> Result<Option<Call<'a>>, AllocError>
         ensures { IfOk result (λ call. option_map command call ≡ attribute_given name.now value.now) }
     {
@@ -105,7 +105,7 @@ impl<'a> Call<'a> {
     }
 }
 
-/// A name, if it has a character.
+/// Returns a name that isn't empty; `None` for an empty one.
 fn named(name: &str) -> Option<&str>
     ensures { option_map (λ s. s.now) result ≡ named name.now }
 {

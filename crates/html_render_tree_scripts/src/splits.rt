@@ -1,4 +1,4 @@
-//! Parts of a script: its lines, and texts around a byte.
+//! Parts of a script: its lines, and the texts around a byte.
 
 ghost use Rattle.std.specs.Prelude.{◌≡◌, ◌==◌, ◌<◌, ◌-◌, ◌∷◌, ◌++◌, [], length, take, drop, true, MatchOption};
 ghost use Rattle.std.specs.List.{after_first, before_first, position_or_len};
@@ -8,7 +8,8 @@ ghost use Rattle.html_render_tree_scripts.specs.Plain.{Lacks};
 use memchr::memchr;
 use std::marker::Model;
 
-/// The text before the first byte of this value, an ASCII character, and the text after it; `None` if there is none.
+/// Returns the text before the first byte with this value, which is an ASCII character, and the text after that byte; `None`
+/// if there is no such byte.
 #[inline(always)]
 pub fn split_at_byte(byte: u8, text: &str) -> Option<(&str, &str)>
     requires { byte < 128 }
@@ -26,7 +27,7 @@ pub fn split_at_byte(byte: u8, text: &str) -> Option<(&str, &str)>
     }
 }
 
-/// A line without the carriage return at its end, if it has one.
+/// Returns a line without the carriage return at its end, if it has one.
 #[inline(always)]
 fn without_carriage_return(line: &str) -> &str
     ensures { result.now ≡ strip_carriage_return line.now }
@@ -37,14 +38,14 @@ fn without_carriage_return(line: &str) -> &str
     }
 }
 
-/// How many bytes of a script precede its first backslash.
+/// Returns the number of bytes of a script before its first backslash.
 fn plain_len(script: &str) -> usize
     ensures { Lacks 92 (take result script.now) }
 {
     memchr(b'\\', script.as_bytes()).unwrap_or(script.len())
 }
 
-/// The first line of a script, without its line feed and a carriage return before that, and the lines after it.
+/// Returns the first line of a script, without its line feed and a carriage return before that, and the lines after it.
 #[inline(always)]
 fn split_line(script: &str) -> (&str, &str)
     requires { 0 < length script.now }
@@ -59,12 +60,12 @@ fn split_line(script: &str) -> (&str, &str)
     }
 }
 
-/// The lines of a script that are still to be taken.
+/// The remaining lines of a script.
 #[derive(Drop)]
 pub struct Lines<'a> {
-    /// The script from its next line on.
+    /// The script from its next line.
     rest: &'a str,
-    /// A number of bytes at its start among which there is no backslash.
+    /// A number of bytes at the start of `rest` without a backslash among them.
     plain: usize,
 }
 
@@ -80,7 +81,7 @@ impl<'a> Model for Lines<'a> {
 }
 
 impl<'a> Lines<'a> {
-    /// All lines of a script.
+    /// Returns all lines of a script.
     pub fn new(script: &'a str) -> Lines<'a>
         ensures { result ≡ script.now }
     {
@@ -90,7 +91,7 @@ impl<'a> Lines<'a> {
         }
     }
 
-    /// The next line, and whether it is known to have no backslash.
+    /// Takes the next line. Returns it, and whether it is known to have no backslash.
     #[inline(always)]
     pub fn next_line(&mut self) -> Option<(&'a str, bool)>
         ensures { MatchOption result (self.old ≡ []) (λ x. (lines self.old ≡ x.0.now ∷ lines self.new) × (length self.new < length self.old) × (x.1 ≡ true → Lacks 92 x.0.now)) }
@@ -100,7 +101,7 @@ impl<'a> Lines<'a> {
             return None;
         }
         let (line, after) = split_line(script);
-        // so that the search for a backslash goes over no line twice
+        // so that no line is searched twice for a backslash
         let plain = if self.plain < line.len() {
             plain_len(script)
         } else {

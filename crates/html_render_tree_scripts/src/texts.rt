@@ -29,7 +29,7 @@ impl Model for Texts {
 }
 
 impl Texts {
-    /// No text.
+    /// Returns no text.
     pub fn new(alloc: Global) -> Texts
         ensures { result ≡ None }
     {
@@ -39,7 +39,7 @@ impl Texts {
         }
     }
 
-    /// Adds the text of a line with its escapes resolved, and returns whether all of them are known. A plain text has no
+    /// Adds the text of a line with its escapes resolved. Returns whether all of them are known. A plain text has no
     /// backslash.
     #[inline(always)]
     pub fn add(&mut self, text: &str, is_plain: bool) -> Result<bool, AllocError>
@@ -56,7 +56,7 @@ impl Texts {
         Ok(is_known)
     }
 
-    /// The texts as one, if there is any.
+    /// Returns the texts as one, if there are any.
     #[inline(always)]
     pub fn as_one(&self) -> Option<&str>
         ensures { option_map (λ s. s.now) result ≡ self.now }
@@ -68,7 +68,7 @@ impl Texts {
         }
     }
 
-    /// Leaves no text.
+    /// Removes all texts.
     #[inline(always)]
     pub fn clear(&mut self)
         ensures { self.new ≡ None }
@@ -78,8 +78,8 @@ impl Texts {
     }
 }
 
-/// The character of an escape by what follows its backslash, and the text after it: `n` for a line feed, or a backslash; `None`
-/// for any other.
+/// Returns the character of an escape, by the text after its backslash, and the text after the escape: `n` is a line feed,
+/// and a backslash is itself. Returns `None` for any other escape.
 fn escape_of(after: &str) -> Option<(char, &str)>
     ensures { MatchOption result (unescaped (92 ∷ after.now) ≡ None) (λ x. (x.0 < 128) × (length x.1.now < length after.now) × IsUtf8 x.1.now
         × (unescaped (92 ∷ after.now) ≡ with_more (x.0 ∷ []) (unescaped x.1.now))) }
@@ -93,7 +93,7 @@ fn escape_of(after: &str) -> Option<(char, &str)>
     }
 }
 
-/// Appends a text with its escapes resolved, and returns whether all of them are known.
+/// Appends a text with its escapes resolved. Returns whether all of them are known.
 fn push_unescaped(text: &str, plain: &mut String) -> Result<bool, AllocError>
     ensures { IfOk result (λ known. with_more (string_bytes plain.old) (unescaped text.now) ≡ (if known then Some (string_bytes plain.new) else None)) }
 {
@@ -110,7 +110,7 @@ fn push_unescaped(text: &str, plain: &mut String) -> Result<bool, AllocError>
     Ok(true)
 }
 
-/// A text with its escapes resolved, or `None` if one isn't known.
+/// Returns a text with its escapes resolved; `None` if one is unknown.
 pub fn unescaped(alloc: Global, text: &str) -> Result<Option<String>, AllocError>
     ensures { IfOk result (λ plain. option_map string_bytes plain ≡ unescaped text.now) }
 {

@@ -1,4 +1,4 @@
--- Which lines are calls.
+-- Lines that are calls.
 use Rattle.std.specs.Prelude.{◌≡◌, ◌≢◌, ◌==◌, ℕ, ◌<◌, List, [], ◌∷◌, length, Option, None, option_and_then, option_map}
 use Rattle.std.specs.List.{after_first, before_first, position_or_len}
 use Rattle.std.proofs.Common.{refl, sym, ap, ◌∙◌, arith}
@@ -7,7 +7,7 @@ use Rattle.html_render_dom.specs.Dom.{Dom}
 use Rattle.html_render_tree_scripts.specs.Commands.{Command, attribute_given, attribute_of, call_of, command_of}
 use Rattle.html_render_tree_scripts.specs.Scripts.{Cursor, line_taken, taken, texts_put}
 
--- a line that is neither empty nor a text
+-- the command of a line that is neither empty nor a text is its call
 pub command-call : (line : List ℕ) → ((rest : List ℕ) → line ≢ 34 ∷ rest) → 0 < length line → command_of line ≡ call_of line
 command-call [] quote some = absurd (omega arith)
 command-call (first ∷ rest) quote some = rw (ne_eqb first 34 (λ e. quote rest (ap (λ (x : ℕ). x ∷ rest) e))) refl
@@ -36,7 +36,7 @@ attribute-cut bs name value cut =
 abbrev cursor_at : Dom → (current : ℕ) → Cursor
 cursor_at dom current = record { dom = dom; current = current }
 
--- a call changes what the texts that wait have changed
+-- a call follows the pending texts
 pub call_line-taken : (waiting new : Option (List ℕ)) (b put : Cursor) (line : List ℕ) (next : Option ℕ) (dom : Dom) → ((rest : List ℕ) → line ≢ 34 ∷ rest) →
     0 < length line → new ≡ None → put ≡ texts_put waiting b →
     option_map (cursor_at dom) next ≡ option_and_then (taken put) (call_of line) →

@@ -1,4 +1,4 @@
--- How texts are cut at a byte, and a script into lines.
+-- Texts are cut at a byte, and scripts into lines.
 use Rattle.std.specs.Prelude.{◌≡◌, ◌≢◌, ◌==◌, ℕ, ◌+◌, ◌-◌, ◌<◌, List, [], ◌∷◌, ◌++◌, length, take, drop}
 use Rattle.std.specs.List.{after_first, before_first, position_or_len, slice_split}
 use Rattle.std.specs.Str.Lines.{lines, lines_of_parts, strip_carriage_return}
@@ -12,18 +12,18 @@ use Rattle.html_render_tree_scripts.specs.Plain.{Lacks}
 
 -- ---- a byte
 
--- before the first such byte there is none
+-- there is no such byte before the first one
 pub Lacks-before_first : (byte : ℕ) (bs : List ℕ) → position_or_len (λ b. b == byte) bs < length bs → Lacks byte (before_first (λ b. b == byte) bs)
 Lacks-before_first byte bs found = λ k d at.
     let n : ℕ = position_or_len (λ b. b == byte) bs in
     let short : k < n = omega (arith, at, length-take-le n bs (omega (arith, found))) in
     ap (λ (x : ℕ). x == byte) (get_or-take n bs k d short) ∙ fails_before_first (λ b. b == byte) bs k d short
 
--- where there is none, all bytes are others
+-- without such a byte all bytes are others
 pub Lacks-none : (byte : ℕ) (bs : List ℕ) → position_or_len (λ b. b == byte) bs ≡ length bs → Lacks byte bs
 Lacks-none byte bs none = λ k d at. fails_before_first (λ b. b == byte) bs k d (omega arith)
 
--- a text is what precedes the first such byte, that byte, and what follows it
+-- a text is the part before the first such byte, that byte, and the part after it
 pub cut_at_first : (byte : ℕ) (bs : List ℕ) → position_or_len (λ b. b == byte) bs < length bs →
     bs ≡ before_first (λ b. b == byte) bs ++ byte ∷ after_first (λ b. b == byte) bs
 cut_at_first byte bs found =
@@ -31,7 +31,7 @@ cut_at_first byte bs found =
     ∙ ap (λ (x : ℕ). before_first (λ b. b == byte) bs ++ x ∷ after_first (λ b. b == byte) bs)
     (eqb-true (get_or bs (position_or_len (λ b. b == byte) bs) 0) byte (passes_at_first (λ b. b == byte) bs 0 found))
 
--- the same, of parts that are known to be these
+-- parts that are the ones around the first such byte make up the text
 pub cut_parts : (byte : ℕ) (bs front back : List ℕ) →
     (position_or_len (λ b. b == byte) bs < length bs) × (front ≡ before_first (λ b. b == byte) bs) × (back ≡ after_first (λ b. b == byte) bs) →
     (bs ≡ front ++ byte ∷ back) × Lacks byte front × (length back < length bs)
@@ -44,7 +44,7 @@ cut_parts byte bs front back cut =
 
 -- ---- lines
 
--- only a carriage return at the end goes
+-- a line that doesn't end with a carriage return is left as it is
 pub strip-other : (line : List ℕ) → ((front : List ℕ) → line ≢ front ++ 13 ∷ []) → strip_carriage_return line ≡ line
 strip-other [] other = refl
 strip-other (b ∷ bs) other =

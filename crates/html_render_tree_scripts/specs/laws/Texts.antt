@@ -1,4 +1,4 @@
--- Texts that are put last one after another are one text.
+-- Two texts that are appended one after the other are one text.
 use Rattle.std.specs.Prelude.{◌≡◌, ℕ, ◌<◌, ◌+◌, ◌-◌, Bool, true, false, if◌then◌else◌, List, [], ◌∷◌, ◌++◌, length, slice_get, slice_set, Option, Some, None}
 use Rattle.std.specs.Prelude.{MatchOption, option_and_then, option_map, unwrap_or}
 use Rattle.std.specs.Bool.{then_some}
@@ -15,7 +15,7 @@ use Rattle.html_render_tree_scripts.specs.Commands.{append_text, unescaped}
 use Rattle.html_render_tree_scripts.specs.Plain.{with_more}
 use Rattle.html_render_tree_scripts.specs.Scripts.{Cursor, line_taken, taken, texts_put, with_text}
 
--- more text, put last after a text at the same place, is the same as both put at once
+-- whether a text appended after another one in the same place is the same as both appended at once
 abbrev Joins : (nodes : List Node) (parent : ℕ) (before : Option ℕ) (s t : List ℕ) → Type 0
 Joins nodes parent before s t =
     let put = text_put nodes parent before s in
@@ -117,7 +117,7 @@ new-twice nodes p s t at =
     ∙ set_at front child [] (child_node (text (s ++ t)) p) n as_long
     ∙ sym (attached_new-is nodes (text (s ++ t)) p at)
 
--- ---- both
+-- ---- any text
 
 joins-after : (nodes : List Node) (p : ℕ) (s t : List ℕ) → p < length nodes → (last : Option ℕ) →
     slice_get (node_in nodes p).children (length (node_in nodes p).children - 1) ≡ last → Joins nodes p (text_node nodes last) s t
@@ -146,7 +146,7 @@ text-taken None new b known at (Some t) h = rw (h.0, h.1) refl
 text-taken (Some s) new b known at (Some t) h =
     rw (h.0, h.1) (ap (λ (dom : Dom). Some (record b { dom = dom })) (sym (with_text-twice b.dom b.current s t at)))
 
--- a line of text adds to the texts that wait
+-- the text of a line joins the pending texts
 pub text_line-taken : (waiting new : Option (List ℕ)) (b : Cursor) (line more : List ℕ) (known : Bool) → line ≡ 34 ∷ more → IsNode b.dom b.current →
     MatchOption (with_more (unwrap_or waiting []) (unescaped more)) (known ≡ false) (λ all. (known ≡ true) × (new ≡ Some all)) →
     option_map (λ (node : ℕ). texts_put new (record b { current = node })) (then_some known b.current) ≡ line_taken (texts_put waiting b) line

@@ -4,7 +4,7 @@ use Rattle.html_render_dom.specs.Dom.{IsNode}
 use Rattle.html_render_tree_scripts.specs.Scripts.{document_of, outcome_of, texts_put}
 use Rattle.html_render_tree_scripts.proofs.building.built.Given as goal
 
--- what the lines ahead make of what is built, with the texts that wait, is what the script builds
+-- the lines ahead, after the pending texts, make the script's document of the one that is built
 abbrev pub invariant-loop-line : goal.invariant-loop-line
 invariant-loop-line l = record {
   is_node : IsNode l.dom l.current;

@@ -6,7 +6,7 @@ use Rattle.html_render_tree_scripts.specs.Commands.{unescaped}
 use Rattle.html_render_tree_scripts.specs.laws.Escapes.{unescaped-unknown}
 use Rattle.html_render_tree_scripts.proofs.texts.escape_of.Goals as goal
 
--- the text after a byte of ASCII
+-- the text after a byte of ASCII is UTF-8
 text_after : (after more : List ℕ) (c : ℕ) → c < 128 → IsUtf8 after → after ≡ c ∷ more → IsUtf8 more
 text_after after more c low text e =
     IsUtf8-past_char after more c text (e ∙ ap (λ (x : List ℕ). x ++ more) (sym (encode_ascii c low)))

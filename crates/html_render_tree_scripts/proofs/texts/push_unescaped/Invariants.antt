@@ -5,7 +5,7 @@ use Rattle.html_render_tree_scripts.specs.Commands.{unescaped}
 use Rattle.html_render_tree_scripts.specs.Plain.{with_more}
 use Rattle.html_render_tree_scripts.proofs.texts.push_unescaped.Given as goal
 
--- what is left, after what is put, is what is wanted
+-- the resolved text is the part that is appended, and then that of the rest
 abbrev pub invariant-loop-before : goal.invariant-loop-before
 invariant-loop-before l =
     shadow (Utf8 l.rest) × (with_more (string_bytes l.initial.plain) (unescaped l.text) ≡ with_more (string_bytes l.plain) (unescaped l.rest))

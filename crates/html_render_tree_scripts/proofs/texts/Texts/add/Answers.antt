@@ -4,7 +4,7 @@ use Rattle.html_render_tree_scripts.specs.Plain.{with_more}
 use Rattle.html_render_tree_scripts.specs.laws.Escapes.{unescaped-plain}
 use Rattle.html_render_tree_scripts.proofs.texts.Texts.add.Goals as goal
 
--- what is gathered, where nothing is gathered without a text
+-- the joined texts are those of the model, and none without a text
 gathered : (is_any : Bool) (bs : List ℕ) (texts : Option (List ℕ)) → (if is_any then Some bs else None) ≡ texts → (is_any ≡ false → bs ≡ []) → unwrap_or texts [] ≡ bs
 gathered true bs texts e empty = ap (λ (o : Option (List ℕ)). unwrap_or o []) (sym e)
 gathered false bs texts e empty = ap (λ (o : Option (List ℕ)). unwrap_or o []) (sym e) ∙ sym (empty refl)
