@@ -1,6 +1,6 @@
--- what a step is, and what steps make of a document
+-- steps, and the documents that they build
 pub mod Steps
--- why a step isn't taken
+-- faults of a step that isn't taken
 pub mod Faults
--- what follows from that
+-- laws of the definitions
 pub mod laws

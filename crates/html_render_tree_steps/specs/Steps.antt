@@ -1,5 +1,5 @@
--- WHAT STEPS MAKE OF A DOCUMENT. A step is a call as numbers, over one text: nodes have the numbers in which steps made them, the
--- document 0, and names and texts are pieces of that text.
+-- THE DOCUMENT that steps build. A step is a call as numbers over one text: nodes are numbered as steps made them, the
+-- document is 0, and names and texts are pieces of that text.
 use Rattle.std.specs.Prelude.{◌≡◌, ℕ, ◌+◌, ◌%◌, ◌/◌, ◌≤◌, ◌<◌, ◌==◌, if◌then◌else◌, List, [], ◌∷◌, ◌++◌, length, take, drop, get_or, slice_get}
 use Rattle.std.specs.Prelude.{Option, Some, None, IsSome, unwrap_or}
 use Rattle.std.specs.Str.{IsUtf8}
@@ -42,11 +42,11 @@ space flags =
 abbrev pub element_flags : (flags : ℕ) → ElementFlags
 element_flags flags = record { template = flags / 4 % 2 == 1; mathml_annotation_xml_integration_point = flags / 8 % 2 == 1 }
 
--- a piece of the text
+-- piece of a text
 abbrev pub piece : (text : List ℕ) → (start size : ℕ) → List ℕ
 piece text start size = take size (drop start text)
 
--- it is within the text, and in UTF-8
+-- whether a piece is within the text, and UTF-8
 abbrev pub IsPiece : (text : List ℕ) → (start size : ℕ) → Type 0
 IsPiece text start size = (start + size ≤ length text) × IsUtf8 (piece text start size)
 
@@ -63,7 +63,7 @@ value_in text step = piece text step.value step.value_length
 abbrev pub HasValue : (text : List ℕ) → Step → Type 0
 HasValue text step = IsPiece text step.value step.value_length
 
--- the document so far, and its nodes by their numbers in steps
+-- document so far, and its nodes by their numbers in steps
 pub record Built : Type 0 where
   pub dom : Dom
   pub made : List ℕ
@@ -77,26 +77,26 @@ HasNode b number = number < length b.made
 abbrev pub node_of : Built → (number : ℕ) → ℕ
 node_of b number = get_or b.made number 0
 
--- a node more has the next number
+-- document with one more numbered node
 abbrev pub with_node : Built → Dom → (node : ℕ) → Built
 with_node b dom node = record { dom = dom; made = b.made ++ node ∷ [] }
 
--- a text goes behind the children of a node
+-- document after a text is appended to a node
 abbrev pub with_text_in : Dom → (parent : ℕ) → List ℕ → Dom
 with_text_in dom parent more = record dom { nodes = text_put dom.nodes parent (last_text dom.nodes parent) more }
 
--- a text goes before a node that stands in a list
+-- document after a text is inserted before a node that has a parent
 abbrev pub with_text_before : Dom → (parent : Option ℕ) → (sibling : ℕ) → List ℕ → Dom
 with_text_before dom None sibling more = dom
 with_text_before dom (Some parent) sibling more =
     record dom { nodes = text_placed dom.nodes parent sibling (text_before dom.nodes parent sibling) more }
 
--- a text goes before a node, if that stands in a list, and else behind the children of another
+-- document after a text is inserted before a node that has a parent, or else appended to another one
 abbrev pub with_text_by_parent : Dom → (parent : Option ℕ) → (sibling other : ℕ) → List ℕ → Dom
 with_text_by_parent dom None sibling other more = with_text_in dom other more
 with_text_by_parent dom (Some parent) sibling other more = with_text_before dom (Some parent) sibling more
 
--- what a step of a kind makes of what was built before
+-- whether a step of a kind makes `new` of `old`, under the step's condition
 abbrev pub Does : (text : List ℕ) → Step → StepKind → (old new : Built) → Type 0
 Does text step MakeElement old new = HasName text step
     × (new ≡ with_node old (record old.dom { nodes = element_created old.dom.nodes (name_in text step) [] (element_flags step.flags) }) (node_count old.dom))
@@ -158,20 +158,20 @@ abbrev pub DoesKind : (text : List ℕ) → Step → Option StepKind → (old ne
 DoesKind text step None old new = ⊥
 DoesKind text step (Some kind) old new = Does text step kind old new
 
--- what steps make of what was built before, one after another
+-- whether steps, taken in order, make `new` of `old`
 abbrev pub Build : (text : List ℕ) → List Step → (old new : Built) → Type 0
 Build text [] old new = old ≡ new
 Build text (step ∷ steps) old new = (next : Built) × DoesKind text step (kind_of step.kind) old next × Build text steps next new
 
--- the document that steps build
+-- whether this is the document that the steps build
 abbrev pub AreStepsOf : (text : List ℕ) → List Step → Dom → Type 0
 AreStepsOf text steps dom = (made : List ℕ) × Build text steps begun (record { dom = dom; made = made })
 
--- there is something that a step makes of what was built before
+-- whether a step can be taken from what was built before
 abbrev pub CanTake : (text : List ℕ) → Step → Built → Type 0
 CanTake text step old = (new : Built) × DoesKind text step (kind_of step.kind) old new
 
--- the step of this number, from 0, can't be taken after all steps before it
+-- whether the step of this number, from 0, can't be taken after all steps before it
 pub record IsFaultyStep (text : List ℕ) (steps : List Step) (number : ℕ) : Type 0 where
   pub within : number < length steps
   pub built : Built
@@ -180,7 +180,7 @@ pub record IsFaultyStep (text : List ℕ) (steps : List Step) (number : ℕ) : T
   pub is_step : slice_get steps number ≡ Some step
   pub not_taken : ¬ CanTake text step built
 
--- why steps build no document: memory is out, or a step is faulty
+-- whether this is a reason for steps without a document: memory is out, or a step is faulty
 abbrev pub IsStepFault : (text : List ℕ) → List Step → StepError → Type 0
 IsStepFault text steps (Refused e) = e ≡ OutOfMemory
 IsStepFault text steps (Faulty number) = IsFaultyStep text steps number

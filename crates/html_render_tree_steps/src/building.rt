@@ -14,22 +14,22 @@ use html_render_dom::Error;
 use html_render_dom::dom::{Attribute, Handle, LocalName, NodeOrText, QualName, RcDom};
 use std::alloc::{AllocError, AllocFailed, Global};
 
-/// Why steps build no document.
+/// A reason for steps without a document.
 #[derive(Clone, Copy, Debug)]
 pub enum StepError {
     /// A call on the document is refused: memory is out.
     Refused(Error),
-    /// The step of this number, from 0, is the first that can't be taken: its kind is unknown, it names a node or a piece of the
-    /// text that isn't there, or the document doesn't allow it.
+    /// The step of this number, from 0, is the first that can't be taken: its kind is unknown, it names a node or a piece of
+    /// the text that isn't there, or the document doesn't allow it.
     Faulty(usize),
 }
 
-/// Why a step isn't taken.
+/// A reason for a step that isn't taken.
 #[derive(Clone, Copy, Debug)]
 enum Fault {
     /// Memory is out.
     Refused(Error),
-    /// It does nothing that there is.
+    /// The step can't be taken.
     Faulty,
 }
 
@@ -38,7 +38,7 @@ impl From<Error> for Fault {
 
     ghost from_gives = { λ error fault. fault ≡ Refused error };
 
-    /// A call on the document is refused.
+    /// Returns the fault of a refused call on the document.
     fn from(error: Error) -> Fault {
         Fault::Refused(error)
     }
@@ -50,7 +50,7 @@ impl From<AllocError> for Fault {
 
     ghost from_gives = { λ _ fault. fault ≡ Refused OutOfMemory };
 
-    /// Memory is out.
+    /// Returns the fault of a refused allocation.
     fn from(refusal: AllocError) -> Fault {
         Fault::Refused(Error::from(refusal))
     }
@@ -62,7 +62,7 @@ impl<T: Drop> From<AllocFailed<T>> for Fault {
 
     ghost from_gives = { λ _ fault. fault ≡ Refused OutOfMemory };
 
-    /// Memory is out; what could not be kept is dropped.
+    /// Returns the fault of a refused allocation, and drops the value that wasn't stored.
     fn from(refusal: AllocFailed<T>) -> Fault {
         Fault::Refused(Error::from(refusal))
     }
@@ -73,7 +73,7 @@ impl From<Error> for StepError {
 
     ghost from_gives = { λ error fault. fault ≡ Refused error };
 
-    /// A call on the document is refused.
+    /// Returns the error of a refused call on the document.
     fn from(error: Error) -> StepError {
         StepError::Refused(error)
     }
@@ -85,13 +85,13 @@ impl<T: Drop> From<AllocFailed<T>> for StepError {
 
     ghost from_gives = { λ _ fault. fault ≡ Refused OutOfMemory };
 
-    /// Memory is out; what could not be kept is dropped.
+    /// Returns the error of a refused allocation, and drops the value that wasn't stored.
     fn from(refusal: AllocFailed<T>) -> StepError {
         StepError::Refused(Error::from(refusal))
     }
 }
 
-/// A step over the text of which its names and texts are pieces.
+/// A step, with the text of which its names and texts are pieces.
 #[derive(Clone, Copy)]
 struct StepOver<'a> {
     step: &'a Step,
@@ -99,7 +99,7 @@ struct StepOver<'a> {
 }
 
 impl<'a> StepOver<'a> {
-    /// The step's text.
+    /// Returns the step's text; `Faulty` if it is no piece of the text.
     fn value(&self) -> Result<&'a str, Fault>
         ensures ok { IfOk result (λ s. (s.now ≡ steps.value_in self.now.text.now self.now.step.now) × HasValue self.now.text.now self.now.step.now) }
         ensures err { IfErr result (λ fault. Denies fault (HasValue self.now.text.now self.now.step.now)) }
@@ -112,7 +112,7 @@ impl<'a> StepOver<'a> {
         .ok_or(Fault::Faulty)
     }
 
-    /// A copy of it.
+    /// Returns a copy of the step's text; `Faulty` if it is no piece of the text.
     fn value_copied(&self, alloc: Global) -> Result<String, Fault>
         ensures ok { IfOk result (λ s. (string_bytes s ≡ steps.value_in self.now.text.now self.now.step.now) × HasValue self.now.text.now self.now.step.now) }
         ensures err { IfErr result (λ fault. Denies fault (HasValue self.now.text.now self.now.step.now)) }
@@ -121,7 +121,7 @@ impl<'a> StepOver<'a> {
         Ok(String::from_str(alloc, value)?)
     }
 
-    /// The step's name within its namespace.
+    /// Returns the step's name without its namespace; `Faulty` if it is no piece of the text.
     fn local_name(&self) -> Result<&'a str, Fault>
         ensures ok { IfOk result (λ s. (s.now ≡ (steps.name_in self.now.text.now self.now.step.now).local) × HasName self.now.text.now self.now.step.now) }
         ensures err { IfErr result (λ fault. Denies fault (HasName self.now.text.now self.now.step.now)) }
@@ -130,7 +130,7 @@ impl<'a> StepOver<'a> {
         piece_of(self.text, name, length).ok_or(Fault::Faulty)
     }
 
-    /// A copy of it.
+    /// Returns a copy of the step's name without its namespace; `Faulty` if it is no piece of the text.
     fn local_name_copied(&self, alloc: Global) -> Result<String, Fault>
         ensures ok { IfOk result (λ s. (string_bytes s ≡ (steps.name_in self.now.text.now self.now.step.now).local) × HasName self.now.text.now self.now.step.now) }
         ensures err { IfErr result (λ fault. Denies fault (HasName self.now.text.now self.now.step.now)) }
@@ -139,7 +139,7 @@ impl<'a> StepOver<'a> {
         Ok(String::from_str(alloc, name)?)
     }
 
-    /// The step's name.
+    /// Returns the step's name with its namespace; `Faulty` if it is no piece of the text.
     fn name(&self, alloc: Global) -> Result<QualName, Fault>
         ensures ok { IfOk result (λ n. (name_of n ≡ steps.name_in self.now.text.now self.now.step.now) × HasName self.now.text.now self.now.step.now) }
         ensures err { IfErr result (λ fault. Denies fault (HasName self.now.text.now self.now.step.now)) }
@@ -152,7 +152,8 @@ impl<'a> StepOver<'a> {
     }
 }
 
-/// Returns the node of this number. Only the contract reads `_dom`, the document that has all nodes of `made`.
+/// Returns the node of this number; `Faulty` if there is none. Only the contract reads `_dom`, the document that has all
+/// nodes of `made`.
 fn node_of(_dom: &RcDom, made: &[Handle], number: u32) -> Result<Handle, Fault>
     requires { All (IsNode _dom.now) made.now }
     ensures ok { IfOk result (λ h. (h ≡ steps.node_of (record { dom = _dom.now; made = made.now }) number) × (number < length made.now)) }
@@ -162,7 +163,8 @@ fn node_of(_dom: &RcDom, made: &[Handle], number: u32) -> Result<Handle, Fault>
     made.get(number as usize).copied().ok_or(Fault::Faulty)
 }
 
-/// Whether a node is another, or stands above it. Most nodes that are put somewhere have no children yet: no way up is gone then.
+/// Reports whether a node is another one or an ancestor of it. Most nodes that are inserted have no children yet, and then
+/// no ancestor is visited.
 #[tactic(auto, using(crate::specs::laws::Childless::childless, crate::specs::laws::Childless::above_itself))]
 fn is_above(dom: &RcDom, node: Handle, below: Handle) -> bool
     requires node { IsNode dom.now node }
@@ -172,12 +174,12 @@ fn is_above(dom: &RcDom, node: Handle, below: Handle) -> bool
     if !dom.child_list(node).is_empty() {
         return dom.is_inclusive_ancestor(node, below);
     }
-    // it says that the nodes are a forest
+    // the contract of this call states that the nodes are a forest
     let _ = dom.get_document();
     node == below
 }
 
-/// Makes an element.
+/// Creates an element.
 fn make_element(
     alloc: Global,
     dom: &mut RcDom,
@@ -196,7 +198,7 @@ fn make_element(
     Ok(())
 }
 
-/// Makes an element of HTML that is no template, and puts it last among the children of a node.
+/// Creates an element of HTML that is no template, and appends it to a node.
 #[inline]
 fn append_html(
     alloc: Global,
@@ -217,7 +219,7 @@ fn append_html(
     Ok(())
 }
 
-/// Makes an element, and puts it last among the children of a node.
+/// Creates an element, and appends it to a node.
 fn append_element(
     alloc: Global,
     dom: &mut RcDom,
@@ -241,7 +243,7 @@ fn append_element(
     Ok(())
 }
 
-/// Makes a comment.
+/// Creates a comment.
 fn make_comment(
     alloc: Global,
     dom: &mut RcDom,
@@ -283,7 +285,7 @@ fn add_attribute(
     Ok(())
 }
 
-/// Puts a node last among the children of another.
+/// Appends a node to another one.
 fn put_node(
     alloc: Global,
     dom: &mut RcDom,
@@ -304,7 +306,7 @@ fn put_node(
     Ok(())
 }
 
-/// Puts a text last among the children of a node.
+/// Appends a text to a node.
 fn put_text(
     alloc: Global,
     dom: &mut RcDom,
@@ -322,7 +324,7 @@ fn put_text(
     Ok(())
 }
 
-/// Puts a node directly before another.
+/// Inserts a node directly before another one.
 fn put_node_before(
     alloc: Global,
     dom: &mut RcDom,
@@ -343,7 +345,7 @@ fn put_node_before(
     Ok(())
 }
 
-/// Puts a text directly before a node.
+/// Inserts a text directly before a node.
 fn put_text_before(
     alloc: Global,
     dom: &mut RcDom,
@@ -364,7 +366,7 @@ fn put_text_before(
     Ok(())
 }
 
-/// Takes a node out of its list.
+/// Removes a node from its parent.
 fn remove(dom: &mut RcDom, made: &[Handle], given: StepOver<'_>) -> Result<(), Fault>
     requires made { All (IsNode dom.old) made.now }
     ensures ok { OnOk result (Does given.entry.text.now given.entry.step.now kind.Remove (record { dom = dom.old; made = made.now }) (record { dom = dom.new; made = made.now })) }
@@ -376,7 +378,7 @@ fn remove(dom: &mut RcDom, made: &[Handle], given: StepOver<'_>) -> Result<(), F
     Ok(())
 }
 
-/// Moves all children of a node behind those of another.
+/// Appends all children of a node to those of another one.
 fn reparent(
     alloc: Global,
     dom: &mut RcDom,
@@ -413,7 +415,7 @@ fn name_contents(dom: &mut RcDom, made: &mut Vec<Handle>, given: StepOver<'_>) -
     Ok(())
 }
 
-/// Makes a processing instruction.
+/// Creates a processing instruction.
 fn make_instruction(
     alloc: Global,
     dom: &mut RcDom,
@@ -432,7 +434,7 @@ fn make_instruction(
     Ok(())
 }
 
-/// Puts a node directly before another, or last among the children of a third.
+/// Inserts a node directly before another one that has a parent, or else appends it to a third one.
 fn put_node_by_parent(
     alloc: Global,
     dom: &mut RcDom,
@@ -458,7 +460,7 @@ fn put_node_by_parent(
     Ok(())
 }
 
-/// Puts a text directly before a node, or last among the children of another.
+/// Inserts a text directly before a node that has a parent, or else appends it to another one.
 fn put_text_by_parent(
     alloc: Global,
     dom: &mut RcDom,
@@ -477,7 +479,7 @@ fn put_text_by_parent(
     Ok(())
 }
 
-/// Puts a doctype last among the document's children.
+/// Appends a doctype to the document.
 fn put_doctype(
     alloc: Global,
     dom: &mut RcDom,
@@ -556,11 +558,12 @@ fn take(
     take_kind(alloc, dom, made, StepOver { step, text }, step.step_kind())
 }
 
-/// Takes steps over a text, in order, and returns the document that they build.
+/// Takes steps over a text, in order, and returns the document that they build. `text` is the buffer of which the steps'
+/// names and texts are pieces.
 ///
 /// # Errors
 ///
-/// `Faulty` with the number of the first step that can't be taken. `Refused` with `OutOfMemory`.
+/// `Faulty` with the number, from 0, of the first step that can't be taken. `Refused` with `OutOfMemory`.
 pub fn built(alloc: Global, text: &[u8], steps: &[Step]) -> Result<RcDom, StepError>
     ensures ok { IfOk result (λ dom. AreStepsOf text.now steps.now dom) }
     ensures err { IfErr result (λ e. IsStepFault text.now steps.now e) }

@@ -1,4 +1,4 @@
-//! Laws of what steps build, each the contract of a function that does nothing.
+//! Laws of the document that steps build, each the contract of an empty function.
 
 ghost use Rattle.std.specs.Prelude.{◌≡◌, ℕ, ◌<◌, List, Some, slice_get, take};
 ghost use Rattle.html_render_dom.specs.Dom.{Dom};
@@ -6,7 +6,7 @@ ghost use Rattle.html_render_tree_steps.specs.Steps.{AreStepsOf, Build, Built, C
 
 use crate::step::Step;
 
-/// Steps build one document at most.
+/// Steps build at most one document.
 fn steps_build_one_document()
     ensures { (text : List ℕ) (steps : List Step) (x y : Dom) → AreStepsOf text steps x → AreStepsOf text steps y → x ≡ y }
 {}
@@ -16,7 +16,7 @@ fn steps_of_a_document_are_not_faulty()
     ensures { (text : List ℕ) (steps : List Step) (dom : Dom) (number : ℕ) → AreStepsOf text steps dom → ¬ IsFaultyStep text steps number }
 {}
 
-/// One step is faulty at most: the first that can't be taken.
+/// At most one step is faulty: the first that can't be taken.
 fn one_step_is_faulty()
     ensures { (text : List ℕ) (steps : List Step) (x y : ℕ) → IsFaultyStep text steps x → IsFaultyStep text steps y → x ≡ y }
 {}

@@ -1,4 +1,5 @@
-//! Documents from steps: calls on a document as records of numbers over one buffer of text, as they come from other languages.
+//! Documents from steps: calls on a document as records of numbers over one buffer of text, as callers in other languages
+//! pass them.
 #![tactic(auto)]
 
 pub mod building;

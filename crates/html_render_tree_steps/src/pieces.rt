@@ -3,7 +3,7 @@
 ghost use Rattle.std.specs.Prelude.{◌≡◌, IfNone, IfSome};
 ghost use Rattle.html_render_tree_steps.specs.Steps.{IsPiece, piece};
 
-/// Returns a piece of a text; `None` if it isn't within the text, or isn't UTF-8.
+/// Returns a piece of a text, by its start and its size in bytes; `None` if it isn't within the text, or isn't UTF-8.
 pub fn piece_of(text: &[u8], start: usize, size: usize) -> Option<&str>
     ensures some { IfSome result (λ s. (s.now ≡ piece text.now start size) × IsPiece text.now start size) }
     ensures none { IfNone result (¬ IsPiece text.now start size) }

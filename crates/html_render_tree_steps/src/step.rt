@@ -1,4 +1,4 @@
-//! A call on a document, as numbers.
+//! Steps: calls on a document, as records of numbers.
 
 ghost use Rattle.std.specs.Prelude.{◌≡◌};
 ghost use Rattle.html_render_tree_steps.specs.Steps as steps;
@@ -8,73 +8,74 @@ use html_render_dom::dom::{ElementFlags, Namespace, QuirksMode};
 
 /// A call on a document.
 ///
-/// Nodes have numbers: the document is 0, and each step that makes a node gives it the next one. Texts are pieces of one
-/// buffer, each told by where it begins and its length, in bytes. What a step doesn't need it doesn't look at.
+/// Nodes have numbers: the document is 0, and each step that makes a node gives it the next one. Names and texts are pieces
+/// of one buffer, given by their start and length in bytes. A step ignores the fields that its kind doesn't use.
 #[repr(C)]
 #[derive(Clone, Copy, Debug, Default, PartialEq, Eq)]
 pub struct Step {
-    /// What is done: the number of a [`StepKind`].
+    /// Number of the call, a [`StepKind`].
     pub kind: u32,
-    /// Of an element's or an attribute's name the namespace, in the lowest two bits: 0 none, 1 HTML, 2 SVG, 3 MathML. Of an
-    /// element 4 beside that says that it is a template, 8 that it is an integration point of MathML's `annotation-xml`.
+    /// Of a name, in the lowest two bits, the namespace: 0 none, 1 HTML, 2 SVG, 3 MathML. Of an element also 4 for a
+    /// template, and 8 for an integration point of MathML's `annotation-xml`. Of [`StepKind::SetQuirks`] the mode.
     pub flags: u32,
-    /// The node that the step is about: a parent, a sibling, an element.
+    /// Number of the node that the step is about: a parent, a sibling, or an element.
     pub node: u32,
-    /// Another node.
+    /// Number of another node.
     pub other: u32,
-    /// The node that is put somewhere.
+    /// Number of the node that is inserted.
     pub child: u32,
-    /// Where a name begins.
+    /// Start of a name, in bytes of the buffer.
     pub name: u32,
-    /// The name's length.
+    /// Length of the name in bytes.
     pub name_length: u32,
-    /// Where a text begins.
+    /// Start of a text, in bytes of the buffer.
     pub value: u32,
-    /// The text's length.
+    /// Length of the text in bytes.
     pub value_length: u32,
 }
 
-/// What a step does.
+/// A call on a document. A step whose condition doesn't hold is faulty, as is one whose nodes or pieces of text aren't
+/// there.
 #[derive(Clone, Copy, Debug, PartialEq, Eq)]
 pub enum StepKind {
-    /// 1: makes an element of this name, without attributes, which hangs nowhere.
+    /// 1: Creates an element with this name, without attributes and without a parent.
     MakeElement,
-    /// 2: makes a comment of this text, which hangs nowhere.
+    /// 2: Creates a comment of this text, without a parent.
     MakeComment,
-    /// 3: makes a processing instruction of this target, the name, and this text, which hangs nowhere.
+    /// 3: Creates a processing instruction without a parent; the name is its target, and the text its contents.
     MakeInstruction,
-    /// 4: gives `node`, an element, an attribute of this name and text, unless it has one of that name.
+    /// 4: Gives `node`, which must be an element, an attribute of this name and text, unless it has one of that name.
     AddAttribute,
-    /// 5: puts `child`, which hangs nowhere, last among the children of `node`, which doesn't stand in it.
+    /// 5: Appends `child` to `node`. `child` must have no parent, and must not be `node` or an ancestor of it.
     PutNode,
-    /// 6: puts a text last among the children of `node`; it joins a text that stands there.
+    /// 6: Appends a text to `node`. It joins the last child if that is a text.
     PutText,
-    /// 7: takes `child` out of its list, if it stands in one, and puts it directly before `node`, which stands in a list, and not
-    /// in `child`.
+    /// 7: Removes `child` from its parent, if it has one, and inserts it directly before `node`. `node` must have a parent,
+    /// and `child` must not be `node` or an ancestor of it.
     PutNodeBefore,
-    /// 8: puts a text directly before `node`, which stands in a list; it joins a text that stands there.
+    /// 8: Inserts a text directly before `node`, which must have a parent. It joins a text node directly before that.
     PutTextBefore,
-    /// 9: as 7, where `node` stands in a list; else as 5 for the parent `other`.
+    /// 9: Does 7 if `node` has a parent, and otherwise 5 with the parent `other`.
     PutNodeByParent,
-    /// 10: as 8, where `node` stands in a list; else as 6 for the parent `other`.
+    /// 10: Does 8 if `node` has a parent, and otherwise 6 with the parent `other`.
     PutTextByParent,
-    /// 11: takes `node` out of its list, if it stands in one.
+    /// 11: Removes `node` from its parent, if it has one.
     Remove,
-    /// 12: moves all children of `node` behind those of `other`, which doesn't stand in it.
+    /// 12: Appends all children of `node` to those of `other`. `node` must not be `other` or an ancestor of it.
     Reparent,
-    /// 13: gives the contents of `node`, a template, the next number.
+    /// 13: Gives the contents of `node`, which must be a template, the next number.
     TemplateContents,
-    /// 14: puts a doctype of this name last among the children of the document; its public identifier is the text, its system
-    /// identifier is empty.
+    /// 14: Appends a doctype of this name to the document. Its public identifier is the text, and its system identifier is
+    /// empty.
     PutDoctype,
-    /// 15: sets the quirks mode, by the flags: 0 none, 1 limited quirks, 2 quirks.
+    /// 15: Sets the quirks mode by the flags: 0 none, 1 limited quirks, any other number quirks.
     SetQuirks,
-    /// 16: as 1, and puts the element last among the children of `node`.
+    /// 16: Creates an element as 1 does, and appends it to `node`.
     AppendElement,
 }
 
 impl Step {
-    /// What the step does, if that is anything.
+    /// Returns the call that the step is; `None` if its kind is unknown.
     #[inline]
     pub fn step_kind(&self) -> Option<StepKind>
         ensures { result ≡ steps.kind_of self.now.kind }
@@ -100,7 +101,7 @@ impl Step {
         }
     }
 
-    /// The quirks mode that it sets.
+    /// Returns the quirks mode that the step sets.
     #[inline]
     pub fn quirks_mode(&self) -> QuirksMode
         ensures { result ≡ steps.quirks_mode self.now.flags }
@@ -112,7 +113,7 @@ impl Step {
         }
     }
 
-    /// The namespace of its name.
+    /// Returns the namespace of the step's name.
     #[inline]
     pub fn namespace(&self) -> Namespace
         ensures { space_of result ≡ steps.space self.now.flags }
@@ -125,7 +126,7 @@ impl Step {
         }
     }
 
-    /// What a parser decided of its element.
+    /// Returns the flags of the step's element.
     #[inline]
     pub fn element_flags(&self) -> ElementFlags
         ensures { result ≡ steps.element_flags self.now.flags }

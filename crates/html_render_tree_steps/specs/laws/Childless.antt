@@ -1,4 +1,4 @@
--- A node without children stands above itself alone.
+-- A node without children is no ancestor of another one.
 use Rattle.std.specs.Prelude.{◌≡◌, ℕ, List, [], ◌∷◌, Some, Contains, length}
 use Rattle.std.proofs.Common.{refl, subst, sym, ap, ◌∙◌, arith}
 use Rattle.html_render_dom.specs.Dom.{Dom, IsForest, IsInclusiveAncestor, itself, above, children_at}

@@ -1,4 +1,4 @@
--- What steps build is determined: they build one document at most, and where a step is faulty none.
+-- Steps determine their result: they build at most one document, and none with a faulty step.
 use Rattle.std.specs.Prelude.{◌≡◌, ℕ, zero, suc, ◌<◌, List, [], ◌∷◌, take, slice_get, Option, Some, None, unwrap_or}
 use Rattle.std.proofs.Common.{inl, inr, refl, sym, ap, ◌∙◌, subst, arith}
 use Rattle.std.proofs.lemmas.Bool.{cases_order}
@@ -50,7 +50,7 @@ module _ (text : List ℕ) where
       let same = DoesKind-determined s (kind_of s.kind) old q p too does in
       Build-takes steps p new rest n step at before (subst (λ b. Build text (take n steps) b before) same g)
 
-  -- steps one of which is faulty build nothing
+  -- steps with a faulty step build nothing
   pub faulty-builds_none : (steps : List Step) (number : ℕ) → IsFaultyStep text steps number → (new : Built) → Build text steps begun new → ⊥
   faulty-builds_none steps number f new h = f.not_taken (Build-takes steps begun new h number f.step f.is_step f.built f.built_before)
 
@@ -66,13 +66,13 @@ module _ (text : List ℕ) where
   take-take (x ∷ xs) (suc n) zero h = refl
   take-take (x ∷ xs) (suc n) (suc m) h = ap (λ ys. x ∷ ys) (take-take xs n m (omega (arith, h)))
 
-  -- steps before a faulty one can be taken after those before them
+  -- each step before a faulty one can be taken after those before it
   pub faulty-takes : (steps : List Step) (number : ℕ) → IsFaultyStep text steps number → (n : ℕ) → n < number → (step : Step) →
       slice_get steps n ≡ Some step → (before : Built) → Build text (take n steps) begun before → CanTake text step before
   faulty-takes steps number f n lt step at before g = Build-takes (take number steps) begun f.built f.built_before n step
       (slice_get-take steps number n lt ∙ at) before (subst (λ xs. Build text xs begun before) (sym (take-take steps number n lt)) g)
 
-  -- so none of them is faulty
+  -- no step before a faulty one is faulty
   faulty-first : (steps : List Step) (m n : ℕ) → IsFaultyStep text steps m → IsFaultyStep text steps n → m < n → ⊥
   faulty-first steps m n f g lt = f.not_taken (faulty-takes steps n g m lt f.step f.is_step f.built f.built_before)
 

@@ -5,7 +5,7 @@ use Rattle.std.proofs.lemmas.List.{append-nil}
 use Rattle.html_render_tree_steps.specs.declared.step.Step.{Step}
 use Rattle.html_render_tree_steps.specs.Steps.{Build, Built, CanTake, DoesKind, IsFaultyStep, begun, kind_of}
 
--- what was built by the steps before those that are ahead
+-- whether `built` is built by the steps before those that are ahead
 pub record IsProgress (text : List ℕ) (steps ahead : List Step) (built : Built) : Type 0 where
   pub taken : List Step
   pub parts : steps ≡ taken ++ ahead
@@ -19,7 +19,7 @@ Build-push : (text : List ℕ) (steps : List Step) (step : Step) (old between ne
 Build-push text [] step old between new h does = (new, subst (λ b. DoesKind text step (kind_of step.kind) b new) (sym h) does, refl)
 Build-push text (s ∷ steps) step old between new (next, first, rest) does = (next, first, Build-push text steps step next between new rest does)
 
--- one step more is taken
+-- one more step is taken
 pub progress_step : (text : List ℕ) (steps ahead : List Step) (old : Built) (step : Step) (behind : List Step) (new : Built) →
     IsProgress text steps ahead old → ahead ≡ step ∷ behind → DoesKind text step (kind_of step.kind) old new → IsProgress text steps behind new
 progress_step text steps ahead old step behind new p first does = record {
@@ -52,7 +52,7 @@ progress_faulty text steps ahead old step behind p first not_taken =
       not_taken = not_taken;
     }
 
--- no step is left
+-- all steps are taken
 pub progress_done : (text : List ℕ) (steps ahead : List Step) (built : Built) → IsProgress text steps ahead built → length ahead ≡ 0 →
     Build text steps begun built
 progress_done text steps [] built p none = subst (λ xs. Build text xs begun built) (sym (p.parts ∙ append-nil p.taken)) p.build

@@ -3,7 +3,7 @@ use Rattle.html_render_dom.specs.Dom.{IsNode}
 use Rattle.html_render_tree_steps.specs.laws.Progress.{IsProgress}
 use Rattle.html_render_tree_steps.proofs.building.built.Given as goal
 
--- the steps that are taken built the document, and all nodes that have numbers are its nodes
+-- the steps taken so far built the document, and all nodes that have numbers are its nodes
 abbrev pub invariant-loop-step : goal.invariant-loop-step
 invariant-loop-step l = record {
   within : length l.rest ≤ length l.steps;
