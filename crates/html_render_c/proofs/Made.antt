@@ -45,7 +45,7 @@ module _ {S : Type 0} (text : List ℕ) where
         not_made = not_made;
       })
 
-  -- where the settings ahead are a faulty one and others
+  -- the settings ahead are a faulty one and others
   pub faulty-after : (settings done ahead rest : List Setting) (begin options : Options S) (setting : Setting)
       → settings ≡ done ++ ahead → ahead ≡ setting ∷ rest → configured text done begin ≡ Some options → with_setting text options setting ≡ None
       → IsFaultySetting text settings begin (length settings - length ahead)

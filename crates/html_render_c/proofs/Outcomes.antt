@@ -1,4 +1,4 @@
--- How the outcome of a document is that of a call: a fault on the way is the fault of the call.
+-- The outcome of a document is that of a call: a fault on the way is the fault of the call.
 use Rattle.std.proofs.Common.{◌≡◌, ℕ, ◌+◌, ◌-◌, List, [], ◌∷◌, length, Option, Some, Result, Ok, Err, IfOk, IfErr, Vec, ap, subst, ◌∙◌, arith, length-append}
 use Rattle.std.specs.Ptr.{Ptr}
 use Rattle.std.specs.Vec.{vec_ptr}
@@ -27,14 +27,14 @@ module _ {S : Type 0} (written : Options S → Forest RenderNode → Option (Lis
   outcome-from_document options made (fault.Step number) h = record { options = options; made = made; is = h }
   outcome-from_document options made fault.Decorator h = h
 
--- with a decorator, of which a configuration begins
+-- with the decorator that a configuration begins with
 module _ {S : Type 0} (written : Options S → Forest RenderNode → Option (List ℕ)) (over : List ℕ) (steps : List Step) (settings : List Setting) where
   pub begun : (begin : Options S) (d : S) → begin ≡ initial_options d → (given : Result (Vec ℕ Global) Fault) → Ends (IsOutcome written begin over steps settings) given
       → Ends (λ outcome. (decorator : S) × IsOutcome written (initial_options decorator) over steps settings outcome) given
   begun begin d is (Ok ended) h = (h.0, h.1, (d, subst (λ (o : Options S). IsOutcome written o over steps settings (Ok h.0)) is h.2))
   begun begin d is (Err f) h = (d, subst (λ (o : Options S). IsOutcome written o over steps settings (Err f)) is h)
 
--- ---- what the caller gets
+-- ---- result for the caller
 
 module _ (Is : Result (List ℕ) Fault → Type 0) (status size : ℕ) (old_place place : Ptr) where
   pub returned : (given : Result (Vec ℕ Global) Fault) → Ends Is given

@@ -1,4 +1,4 @@
--- The text of a record is a piece of the text over which it is, or there is none.
+-- The text of a record is a piece of the text, or there is none.
 use Rattle.std.proofs.Common.{◌≡◌, ℕ, Bool, true, false, cond, List, Bor, Option, Some, None, IfSome, IfNone, ap, sym, refl, ◌∙◌}
 use Rattle.std.specs.Option.{option_map}
 use Rattle.std.proofs.lemmas.Bool.{and_from, and_parts, le-leb, leb-true}

@@ -1,4 +1,4 @@
--- The characters of a string spell it.
+-- The characters of a string spell its bytes.
 use Rattle.std.proofs.Common.{◌≡◌, string_bytes, String}
 use Rattle.std.specs.Str.{chars, encode_utf8_all}
 use Rattle.std.proofs.lemmas.Str.{IsUtf8-string_bytes, encodes-chars}

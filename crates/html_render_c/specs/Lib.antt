@@ -1,8 +1,8 @@
--- what the caller gets where nothing is rendered
+-- the result of a call without bytes
 pub mod Faults
--- what the settings are that records make
+-- options that records of settings make
 pub mod Settings
 -- lines as records of bytes
 pub mod Records
--- what a call gives for a document of steps
+-- the outcome of a call for a document of steps
 pub mod Pages

@@ -1,4 +1,4 @@
--- LINES OF TAGGED STRINGS AS RECORDS OF BYTES: each record is a letter and what follows it.
+-- LINES OF TAGGED STRINGS AS RECORDS OF BYTES: each record is a letter and its contents.
 use Rattle.std.specs.Prelude.{ℕ, ◌-◌, ◌^◌, true, false, List, [], ◌∷◌, ◌++◌, length, min, codes}
 use Rattle.std.specs.Int.{w32, to_le_bytes}
 use Rattle.std.specs.List.{flat_map}
@@ -8,23 +8,23 @@ use Rattle.html_render_layout_tagged.specs.Grouping.{Piece, Str, FragmentStart}
 use Rattle.html_render_parts_decorators.specs.declared.decorate.rich.RichAnnotation.{RichAnnotation}
 use Rattle.html_render_parts_decorators.specs.declared.decorate.rich.RichAnnotation.TheVariants as rich
 
--- a number in 4 bytes, the lowest first; one of 2 ^ 32 or more is written as the greatest
+-- number in 4 bytes, the lowest first; one of 2 ^ 32 or more is written as the greatest
 abbrev pub number_bytes : ℕ → List ℕ
 number_bytes n = to_le_bytes w32 (min n (2 ^ 32 - 1))
 
--- a text in UTF-8, after its length in bytes
+-- text in UTF-8, after its length in bytes
 abbrev pub sized : (text : List ℕ) → List ℕ
 sized text = number_bytes (length text) ++ text
 
--- a colour in three bytes
+-- colour in three bytes
 abbrev pub colour_bytes : Colour → List ℕ
 colour_bytes c = c.r ∷ c.g ∷ c.b ∷ []
 
--- an annotation of plain text
+-- record of an annotation of plain text
 abbrev pub plain_record : List ℕ
 plain_record = codes "d"
 
--- an annotation of rich text
+-- record of an annotation of rich text
 abbrev pub rich_record : RichAnnotation → List ℕ
 rich_record rich.Default = codes "d"
 rich_record (rich.Link target) = codes "l" ++ sized target
@@ -40,7 +40,7 @@ rich_record (rich.BgColour c) = codes "g" ++ colour_bytes c
 
 -- parts of lines, where each annotation has a record
 module _ {A : Type 0} (annotation_record : A → List ℕ) where
-  -- a string under its annotations; or the name of a part of the document that begins there
+  -- record of a string with its annotations, or of a fragment mark with its name
   abbrev pub piece_record : Piece (List A) → List ℕ
   piece_record (Str text tag) = codes "S" ++ number_bytes (length tag) ++ flat_map annotation_record tag ++ sized (encode_utf8_all text)
   piece_record (FragmentStart name) = codes "F" ++ sized name
@@ -48,7 +48,7 @@ module _ {A : Type 0} (annotation_record : A → List ℕ) where
   abbrev pub pieces_record : List (Piece (List A)) → List ℕ
   pieces_record pieces = flat_map piece_record pieces
 
-  -- a line
+  -- record of a line, and those of its parts
   abbrev pub line_record : List (Piece (List A)) → List ℕ
   line_record pieces = codes "L" ++ pieces_record pieces
 

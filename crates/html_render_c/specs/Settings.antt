@@ -1,4 +1,4 @@
--- WHAT RECORDS OF SETTINGS MAKE of the options of a configuration, over the text of which their texts are pieces.
+-- THE OPTIONS that records of settings make of those of a configuration, over the text of which their texts are pieces.
 use Rattle.std.specs.Prelude.{◌≡◌, ℕ, ◌+◌, ◌==◌, ◌++◌, ◌/◌, ◌%◌, if◌then◌else◌, Bool, true, false, not, ◌&&◌, nat_le, List, [], ◌∷◌, length, take, slice_get}
 use Rattle.std.specs.Prelude.{Option, Some, None, option_map, option_and_then}
 use Rattle.std.specs.Str.{is_utf8}
@@ -23,23 +23,23 @@ use Rattle.html_render_c.specs.declared.faults.Fault.{Fault}
 use Rattle.html_render_c.specs.declared.faults.Fault.TheVariants as fault
 use Rattle.html_render_c.specs.declared.settings.Setting.{Setting}
 
--- the text of a record: a piece of the text over which it is; none where that leaves it, or isn't in UTF-8
+-- piece of a text; none if it isn't within the text, or isn't UTF-8
 abbrev pub text_at : (text : List ℕ) → (start size : ℕ) → Option (List ℕ)
 text_at text start size =
     if nat_le (start + size) (length text) && is_utf8 (piece text start size) then Some (piece text start size) else None
 
--- a text that a record may state: where it doesn't, where it begins and how long it is mean nothing
+-- text that a record may state; if it doesn't, its start and length mean nothing
 abbrev pub stated : (is_stated : Bool) → Option (List ℕ) → Option (Option (List ℕ))
 stated is_stated t = if is_stated then option_map Some t else Some None
 
--- 0xRRGGBB
+-- colour 0xRRGGBB
 abbrev pub rgb : ℕ → Colour
 rgb n = record { r = n / 65536 % 256; g = n / 256 % 256; b = n % 256 }
 
 abbrev pub treatment : ℕ → Option WhiteSpace
 treatment n = if n == 0 then Some Normal else if n == 1 then Some Pre else if n == 2 then Some PreWrap else None
 
--- what a rule declares
+-- declaration of a rule; none where the record declares nothing
 abbrev pub declared_in : (text : List ℕ) → Setting → Option StyleValue
 declared_in text s =
     if s.number == 0 then Some (colour (rgb s.value)) else if s.number == 1 then Some (bg_colour (rgb s.value))
@@ -53,7 +53,7 @@ origin_in flags =
 abbrev pub place_in : (flags : ℕ) → Option PseudoElement
 place_in flags = if flags / 8 % 2 == 1 then Some Before else if flags / 16 % 2 == 1 then Some After else None
 
--- the rule of a record; none where it declares nothing, or a text that it states is none
+-- rule of a record; none where it declares nothing, or states a text that is no piece
 abbrev pub rule_in : (text : List ℕ) → Setting → Option Rule
 rule_in text s = do
   value ← declared_in text s
@@ -69,13 +69,13 @@ rule_in text s = do
     declarations = record { important = s.flags / 4 % 2 == 1; style = value } ∷ [];
   })
 
--- what is shown in place of an image whose title is empty
+-- mode of images with an empty title; none where the record is faulty
 abbrev pub image_mode_in : (text : List ℕ) → Setting → Option ImageRenderMode
 image_mode_in text s =
     if s.number == 0 then Some IgnoreEmpty else if s.number == 1 then Some ShowAlways
     else if s.number == 2 then option_map Replace (text_at text s.text s.text_length) else if s.number == 3 then Some Filename else None
 
--- the options after a record; none where it is no setting
+-- options after a record; none where the record is faulty
 abbrev pub with_setting : {S : Type 0} → (text : List ℕ) → Options S → Setting → Option (Options S)
 with_setting text options s =
     if s.kind == 1 then Some (record options { overflow = true })
@@ -93,12 +93,12 @@ with_setting text options s =
     else if s.kind == 13 then option_map (λ rule. record options { rules = options.rules ++ rule ∷ [] }) (rule_in text s)
     else None
 
--- the options after records, one after another
+-- options after records, one after another; none where one is faulty
 abbrev pub configured : {S : Type 0} → (text : List ℕ) → List Setting → Options S → Option (Options S)
 configured text [] options = Some options
 configured text (s ∷ settings) options = option_and_then (configured text settings) (with_setting text options s)
 
--- the setting of this number is faulty: those before it make options, of which it makes none
+-- whether the setting of this number is faulty: those before it make options, and it makes none of these
 pub record IsFaultySetting {S : Type 0} (text : List ℕ) (settings : List Setting) (begin : Options S) (number : ℕ) : Type 0 where
   pub options : Options S
   pub made_before : configured text (take number settings) begin ≡ Some options
@@ -106,7 +106,7 @@ pub record IsFaultySetting {S : Type 0} (text : List ℕ) (settings : List Setti
   pub is_setting : slice_get settings number ≡ Some setting
   pub not_made : with_setting text options setting ≡ None
 
--- why settings make no options: one is faulty, or memory is out
+-- whether this is a reason for settings without options: one is faulty, or memory is out
 abbrev pub IsSettingFault : {S : Type 0} → (text : List ℕ) → List Setting → (begin : Options S) → Fault → Type 0
 IsSettingFault text settings begin (fault.Setting number) = IsFaultySetting text settings begin number
 IsSettingFault text settings begin (fault.Refused OutOfMemory) = Unit {0}

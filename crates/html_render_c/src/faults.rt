@@ -1,4 +1,4 @@
-//! Why nothing is rendered.
+//! Faults: reasons for a call without a result.
 
 ghost use Rattle.std.specs.Prelude.{◌≡◌, ◌≤◌};
 ghost use Rattle.html_render_c.specs.Faults.{code_of, record_of};
@@ -7,16 +7,16 @@ use html_render_tree::Error;
 use html_render_tree_steps::building::StepError;
 use std::alloc::{AllocError, AllocFailed};
 
-/// Why nothing is rendered.
+/// A reason for a call without a result.
 #[derive(Clone, Copy, Debug)]
 pub enum Fault {
-    /// The document can't be rendered, or memory is out.
+    /// The document can't be converted or rendered, or memory is out.
     Refused(Error),
-    /// The step of this number is faulty.
+    /// The step of this number, from 0, is faulty.
     Step(usize),
-    /// The setting of this number is faulty.
+    /// The setting of this number, from 0, is faulty.
     Setting(usize),
-    /// There is no such decorator.
+    /// There is no decorator of the given number.
     Decorator,
 }
 
@@ -25,7 +25,7 @@ impl From<Error> for Fault {
 
     ghost from_gives = { λ error fault. fault ≡ Refused error };
 
-    /// A call is refused.
+    /// Returns the fault of a refused call.
     fn from(error: Error) -> Fault {
         Fault::Refused(error)
     }
@@ -37,7 +37,7 @@ impl From<AllocError> for Fault {
 
     ghost from_gives = { λ _ fault. fault ≡ Refused OutOfMemory };
 
-    /// Memory is out.
+    /// Returns the fault of a refused allocation.
     fn from(refusal: AllocError) -> Fault {
         Fault::Refused(Error::from(refusal))
     }
@@ -49,7 +49,7 @@ impl<T: Drop> From<AllocFailed<T>> for Fault {
 
     ghost from_gives = { λ _ fault. fault ≡ Refused OutOfMemory };
 
-    /// Memory is out; what could not be kept is dropped.
+    /// Returns the fault of a refused allocation, and drops the value that wasn't stored.
     fn from(refusal: AllocFailed<T>) -> Fault {
         Fault::Refused(Error::from(refusal))
     }
@@ -60,7 +60,7 @@ impl From<StepError> for Fault {
 
     ghost from_gives = { λ error fault. fault ≡ fault_of error };
 
-    /// The document isn't built.
+    /// Returns the fault of steps that build no document.
     fn from(error: StepError) -> Fault {
         match error {
             StepError::Refused(error) => Fault::Refused(error),
@@ -70,7 +70,7 @@ impl From<StepError> for Fault {
 }
 
 impl Fault {
-    /// The number by which a caller is told.
+    /// Returns the status of the fault, from 1 to 6.
     pub fn code(self) -> u32
         ensures code { result ≡ code_of self }
         ensures range { (1 ≤ result) × (result ≤ 6) }
@@ -85,7 +85,7 @@ impl Fault {
         }
     }
 
-    /// The number of the record that is faulty, or 0.
+    /// Returns the number of the faulty record, or 0 if the fault has none.
     pub fn record(self) -> usize
         ensures { result ≡ record_of self }
     {

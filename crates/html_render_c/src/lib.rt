@@ -1,7 +1,8 @@
-//! The interface for C: a document as steps over one text, and what it is rendered to, by one call.
+//! The interface for C: one call renders a document, given as steps over one text, to a text or to records of lines.
 //!
-//! What the exports are told by numbers is tested, and refused where it means nothing. What no test can see is up to the caller:
-//! that pointers and lengths are those of arrays that nothing else changes, and that `malloc` and `free` are the program's own.
+//! The exports test all numbers that they are given, and refuse those without a meaning. The caller ensures what no test can
+//! see: that pointers and lengths are those of arrays that nothing else changes, and that `malloc` and `free` are the
+//! program's own.
 #![tactic(auto)]
 
 ghost use Rattle.std.specs.Prelude.{◌≡◌, ◌≤◌, ◌-◌, IfOk, IfErr, length};
@@ -22,7 +23,7 @@ use rendering::{Given, lines, text};
 use settings::Setting;
 use std::alloc::Global;
 
-/// Hands the memory of bytes over to the caller: `out` is their address, and they stay there until the caller frees them.
+/// Hands the memory of bytes over to the caller: sets `out` to their address, where they stay until the caller frees them.
 fn hand_over(bytes: Vec<u8>, out: &mut *mut u8) -> &'static mut [u8]
     ensures place { out.new ≡ vec_ptr bytes }
     ensures lent { result.now ≡ bytes.items }
@@ -32,8 +33,8 @@ fn hand_over(bytes: Vec<u8>, out: &mut *mut u8) -> &'static mut [u8]
     bytes.leak()
 }
 
-/// Returns the status of a result. Hands its bytes over, the last of which is a zero that `size` doesn't count; of a fault `size` is
-/// the number of the faulty record.
+/// Returns the status of a result. Hands its bytes over, the last of which is a zero that `size` doesn't count. For a fault
+/// it sets `size` to the number of the faulty record.
 fn give(given: Result<Vec<u8>, Fault>, out: &mut *mut u8, size: &mut usize) -> u32
     ensures ok { IfOk given (λ ended. (result ≡ 0) × (size.new ≡ length ended.items - 1) × (out.new ≡ vec_ptr ended)) }
     ensures err { IfErr given (λ fault. (result ≡ code_of fault) × (size.new ≡ record_of fault) × (out.new ≡ out.old)) }
@@ -51,18 +52,19 @@ fn give(given: Result<Vec<u8>, Fault>, out: &mut *mut u8, size: &mut usize) -> u
     }
 }
 
-/// Renders the document that steps build to its text, in `width` columns.
+/// Renders the document that steps build as a text, wrapped to `width` columns.
 ///
-/// The names and texts of steps and settings are pieces of `text`. `decorator` is 0 for that of plain text, and 1 for that of rich
-/// text. Returns a status:
+/// The names and texts of steps and settings are pieces of `text`. `decorator` is 0 for that of plain text, and 1 for that
+/// of rich text. Returns a status:
 ///
-/// - 0: `out` is the address of the text, in UTF-8, with a zero byte after it, and `size` its length without the zero. The caller
-///   frees it.
-/// - 3: out of memory.
-/// - Otherwise the first of these reasons: 6, there is no such decorator; 5, a setting is faulty, and 4, a step, of which `size` is
-///   the number of the first; 2, the document has no render tree; 1, the width is too narrow.
+/// - 0: `out` is the address of the text, in UTF-8, with a zero byte after it, and `size` is its length in bytes without the
+///   zero. The caller frees it.
+/// - 3: Memory is out, which is possible at any time.
+/// - Otherwise the first of these causes: 6, there is no such decorator; 5, a setting is faulty; 4, a step is faulty; 2, the
+///   document has no render tree; 1, the width is too narrow.
 ///
-/// With another status than 0 nothing is to be freed: `out` is as it was. With another than 0, 4 and 5 `size` is 0.
+/// Statuses 4 and 5 set `size` to the number of the first faulty record, from 0. Statuses 1, 2, 3 and 6 set it to 0. With
+/// any status but 0 there is nothing to free, and `out` isn't changed.
 #[unsafe(no_mangle)]
 pub extern "C" fn html_render_text(
     alloc: Global,
@@ -87,18 +89,23 @@ pub extern "C" fn html_render_text(
     give(rendering::text(alloc, given, decorator, width), out, size)
 }
 
-/// Renders the document that steps build to lines of tagged strings, in `width` columns.
+/// Renders the document that steps build as lines of tagged strings, wrapped to `width` columns.
 ///
-/// Returns what [`html_render_text`] does, with records in place of the text: each a letter and what follows it, numbers in 4 bytes,
-/// the lowest first, and the greatest such number for any that is greater:
+/// Returns a status as [`html_render_text`] does, with records of the lines instead of the text. A record is a letter and
+/// its contents:
 ///
-/// - `L`: a line begins.
-/// - `S`: a string: the number of its annotations, these, the length of its text in bytes, and that.
-/// - `F`: a part of the document begins here: the length of its name in bytes, and that.
+/// - `L`: the start of a line; no contents.
+/// - `S`: a string: the number of its annotations, their records, the length of its text in bytes, and the text.
+/// - `F`: a fragment mark: the length of its name in bytes, and the name.
 ///
-/// An annotation is a letter and what follows it: `d` none of its own; `l` a link and `i` an image, with the length of the target
-/// or source in bytes, and that; `e` emphasis, `b` strong text, `s` text struck out, `c` code, `p` preformatted text and `q` on a
-/// continuation line; `f` a colour and `g` a background, with the three parts. Under the decorator of plain text each is `d`.
+/// A number has 4 bytes, the lowest first; one above 2^32 - 1 is written as 2^32 - 1. The record of an annotation is also a
+/// letter and its contents. With the decorator of plain text it is always `d`.
+///
+/// - `d`: no meaning of its own (`Default`).
+/// - `l`, `i`: a link, an image: the length of its target or source in bytes, and the target or source.
+/// - `e`, `b`, `s`, `c`: emphasis, strong text, struck-out text, code.
+/// - `p`, `q`: preformatted text, the latter on a continuation line.
+/// - `f`, `g`: a colour, a background: red, green and blue, a byte each.
 #[unsafe(no_mangle)]
 pub extern "C" fn html_render_lines(
     alloc: Global,

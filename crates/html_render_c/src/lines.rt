@@ -11,14 +11,14 @@ use html_render_tree::decorate::RichAnnotation;
 use html_render_tree::style::Colour;
 use std::alloc::AllocError;
 
-/// An annotation that has a record.
+/// An annotation that can be written as a record.
 pub trait Written {
     ghost use Rattle.std.specs.Prelude.{List, ℕ};
 
-    // its record
+    // record of an annotation
     ghost annotation_record: { Self → List ℕ };
 
-    /// Appends its record to `bytes`.
+    /// Appends the record of the annotation to `bytes`.
     fn write(&self, bytes: &mut Vec<u8>) -> Result<(), AllocError>
         ensures { OnOk result (bytes.new.items ≡ bytes.old.items ++ annotation_record self.now) };
 }
@@ -57,7 +57,7 @@ fn write_colour(bytes: &mut Vec<u8>, letter: u8, colour: Colour) -> Result<(), A
     Ok(())
 }
 
-/// Appends a letter and a text after its length.
+/// Appends a letter, the length of a text in bytes, and the text.
 fn write_named(bytes: &mut Vec<u8>, letter: u8, text: &str) -> Result<(), AllocError>
     ensures { OnOk result (bytes.new.items ≡ bytes.old.items ++ letter ∷ sized text.now) }
 {
@@ -143,7 +143,7 @@ fn write_element<A: Written>(
     }
 }
 
-/// Appends the record of a line, with those of its elements.
+/// Appends the record of a line, and those of its elements.
 fn write_line<A: Written + Drop>(
     bytes: &mut Vec<u8>,
     line: &TaggedLine<Vec<A>>,
@@ -158,7 +158,7 @@ fn write_line<A: Written + Drop>(
     Ok(())
 }
 
-/// Appends the records of lines.
+/// Appends the records of lines, in order.
 pub fn write_lines<A: Written + Drop>(
     bytes: &mut Vec<u8>,
     lines: &[TaggedLine<Vec<A>>],

@@ -1,4 +1,4 @@
-//! What a document of steps is rendered to.
+//! Rendering of a document of steps, to a text or to records of lines.
 
 ghost use Rattle.std.specs.Prelude.{◌≡◌, ◌≤◌, ◌++◌, ◌∷◌, [], Some, Ok, Err, IfOk, IfErr, string_bytes};
 ghost use Rattle.html_render_c.specs.Pages.{Ends, IsDocumentOutcome, IsOutcome, IsPlainLines, IsPlainText, IsRichLines, IsRichText, IsTreeFault, IsTreeOf, records_written, text_written};
@@ -14,14 +14,14 @@ use html_render_tree_steps::building::built;
 use html_render_tree_steps::step::Step;
 use std::alloc::{AllocError, Global};
 
-/// What a caller gives: the steps of a document, and the settings, over one text.
+/// Arguments of a call: the steps of a document, and the settings, over one text.
 #[derive(Clone, Copy)]
 pub struct Given<'a> {
-    /// The steps that build the document.
+    /// Steps that build the document.
     pub steps: &'a [Step],
-    /// The text of which their names and texts are pieces.
+    /// Text of which the names and texts of steps and settings are pieces.
     pub text: &'a [u8],
-    /// The settings.
+    /// Settings of the configuration.
     pub settings: &'a [Setting],
 }
 
@@ -29,7 +29,7 @@ pub struct Given<'a> {
 ///
 /// # Errors
 ///
-/// `Setting` at the first record that is faulty; `OutOfMemory`.
+/// `Setting` with the number, from 0, of the first faulty record. `OutOfMemory`.
 fn with_settings<D: TextDecorator>(
     alloc: Global,
     config: Config<D>,
@@ -51,11 +51,11 @@ fn with_settings<D: TextDecorator>(
     Ok(config)
 }
 
-/// Returns the render tree of the document of the steps.
+/// Returns the render tree of the document that the steps build.
 ///
 /// # Errors
 ///
-/// `Step` at the first step that is faulty; `Fail`, where the document has no render tree; `OutOfMemory`.
+/// `Step` with the number, from 0, of the first faulty step. `Fail` if the document has no render tree. `OutOfMemory`.
 fn tree_of<D: TextDecorator>(
     alloc: Global,
     given: Given<'_>,
@@ -91,7 +91,7 @@ fn text_under<D: TextDecorator>(
     Ok(config.render_to_string(alloc, tree, width)?.into_bytes())
 }
 
-/// Returns the records of the lines of the document under a configuration.
+/// Returns the records of the document's lines under a configuration.
 fn records_under<D: TextDecorator>(
     alloc: Global,
     given: Given<'_>,
@@ -112,7 +112,7 @@ where
     Ok(bytes)
 }
 
-/// Returns the text of the document, with a zero byte after it, with a configuration that is still to be set.
+/// Applies the settings to a configuration, and returns the text of the document under it, with a zero byte after it.
 fn text_with<D: TextDecorator>(
     alloc: Global,
     given: Given<'_>,
@@ -126,7 +126,8 @@ fn text_with<D: TextDecorator>(
     Ok(ended(text)?)
 }
 
-/// Returns the records of the lines of the document, with a zero byte after them, with a configuration that is still to be set.
+/// Applies the settings to a configuration, and returns the records of the document's lines under it, with a zero byte after
+/// them.
 fn lines_with<D: TextDecorator>(
     alloc: Global,
     given: Given<'_>,
@@ -143,35 +144,35 @@ where
     Ok(ended(records)?)
 }
 
-/// Returns the text of the document under the decorator of plain text, with a zero byte after it.
+/// Returns the text of the document with the decorator of plain text, with a zero byte after it.
 fn plain_text(alloc: Global, given: Given<'_>, width: usize) -> Result<Vec<u8>, Fault>
     ensures { Ends (IsPlainText given.entry.text.now given.entry.steps.now given.entry.settings.now width) result }
 {
     text_with(alloc, given, plain_no_decorate(alloc), width)
 }
 
-/// Returns the text of the document under the decorator of rich text, with a zero byte after it.
+/// Returns the text of the document with the decorator of rich text, with a zero byte after it.
 fn rich_text(alloc: Global, given: Given<'_>, width: usize) -> Result<Vec<u8>, Fault>
     ensures { Ends (IsRichText given.entry.text.now given.entry.steps.now given.entry.settings.now width) result }
 {
     text_with(alloc, given, rich(alloc), width)
 }
 
-/// Returns the records of the lines of the document under the decorator of plain text, with a zero byte after them.
+/// Returns the records of the document's lines with the decorator of plain text, with a zero byte after them.
 fn plain_lines(alloc: Global, given: Given<'_>, width: usize) -> Result<Vec<u8>, Fault>
     ensures { Ends (IsPlainLines given.entry.text.now given.entry.steps.now given.entry.settings.now width) result }
 {
     lines_with(alloc, given, plain_no_decorate(alloc), width)
 }
 
-/// Returns the records of the lines of the document under the decorator of rich text, with a zero byte after them.
+/// Returns the records of the document's lines with the decorator of rich text, with a zero byte after them.
 fn rich_lines(alloc: Global, given: Given<'_>, width: usize) -> Result<Vec<u8>, Fault>
     ensures { Ends (IsRichLines ⟦<RichAnnotation as PartialEq>⟧.eq given.entry.text.now given.entry.steps.now given.entry.settings.now width) result }
 {
     lines_with(alloc, given, rich(alloc), width)
 }
 
-/// Returns the text of the document under the decorator of this number, with a zero byte after it.
+/// Returns the text of the document with the decorator of this number, with a zero byte after it.
 pub fn text(alloc: Global, given: Given<'_>, decorator: u32, width: usize) -> Result<Vec<u8>, Fault>
     ensures plain { decorator ≡ 0 → Ends (IsPlainText given.entry.text.now given.entry.steps.now given.entry.settings.now width) result }
     ensures rich { decorator ≡ 1 → Ends (IsRichText given.entry.text.now given.entry.steps.now given.entry.settings.now width) result }
@@ -184,7 +185,7 @@ pub fn text(alloc: Global, given: Given<'_>, decorator: u32, width: usize) -> Re
     }
 }
 
-/// Returns the records of the lines of the document under the decorator of this number, with a zero byte after them.
+/// Returns the records of the document's lines with the decorator of this number, with a zero byte after them.
 pub fn lines(
     alloc: Global,
     given: Given<'_>,

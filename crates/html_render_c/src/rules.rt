@@ -14,14 +14,14 @@ use html_render_tree::style::{
 use html_render_tree_steps::pieces::piece_of;
 use std::alloc::{AllocError, Global};
 
-/// Returns the text of a record: a piece of `text`, or `None` if it leaves that or isn't in UTF-8.
+/// Returns a piece of `text`, by its start and length in bytes; `None` if it isn't within the text, or isn't UTF-8.
 pub fn text_at(text: &[u8], start: u32, length: u32) -> Option<&str>
     ensures { option_map (λ piece. piece.now) result ≡ settings.text_at text.now start length }
 {
     piece_of(text, start as usize, length as usize)
 }
 
-/// Returns a copy of the text of a record, or `None` if it has none.
+/// Returns a copy of a piece of `text`; `None` if there is no such piece.
 fn copied(alloc: Global, text: &[u8], start: u32, length: u32) -> Result<Option<String>, AllocError>
     ensures { IfOk result (λ copy. option_map string_bytes copy ≡ settings.text_at text.now start length) }
 {
@@ -31,7 +31,8 @@ fn copied(alloc: Global, text: &[u8], start: u32, length: u32) -> Result<Option<
     }
 }
 
-/// Returns a copy of a text that a record may state, or `None` if it states what is none. What it doesn't state isn't looked at.
+/// Returns a copy of a text that a record may state: `Some(None)` if it doesn't state it, whatever its start and length are,
+/// and `None` if it states no piece of `text`.
 fn stated(
     alloc: Global,
     is_stated: bool,
@@ -50,7 +51,7 @@ fn stated(
     }
 }
 
-/// The colour 0xRRGGBB.
+/// Returns the colour 0xRRGGBB.
 fn colour_of(number: u32) -> Colour
     ensures { result ≡ rgb number }
 {
@@ -61,7 +62,7 @@ fn colour_of(number: u32) -> Colour
     }
 }
 
-/// How white space is treated, by its number.
+/// Returns the treatment of white space with this number; `None` if there is none.
 fn white_space_of(number: u32) -> Option<WhiteSpace>
     ensures { result ≡ treatment number }
 {
@@ -73,7 +74,7 @@ fn white_space_of(number: u32) -> Option<WhiteSpace>
     }
 }
 
-/// Returns what a rule declares, or `None` if that is nothing.
+/// Returns the declaration of a rule; `None` if the record declares nothing.
 fn style_of(alloc: Global, text: &[u8], setting: &Setting) -> Result<Option<Style>, AllocError>
     ensures { IfOk result (λ style. option_map style_value_of style ≡ declared_in text.now setting.now) }
 {
@@ -93,7 +94,7 @@ fn style_of(alloc: Global, text: &[u8], setting: &Setting) -> Result<Option<Styl
     }
 }
 
-/// Where a rule comes from.
+/// Returns the origin of a rule, by the flags.
 fn origin_of(flags: u32) -> StyleOrigin
     ensures { result ≡ origin_in flags }
 {
@@ -105,7 +106,7 @@ fn origin_of(flags: u32) -> StyleOrigin
     }
 }
 
-/// The place beside an element's children that a rule is for.
+/// Returns the pseudo-element that a rule is for, by the flags; `None` for a rule for elements.
 fn pseudo_of(flags: u32) -> Option<PseudoElement>
     ensures { result ≡ place_in flags }
 {
@@ -118,7 +119,7 @@ fn pseudo_of(flags: u32) -> Option<PseudoElement>
     }
 }
 
-/// Copies of the words of a text.
+/// Returns copies of the words of a text, between which there is ASCII white space.
 fn words_of(alloc: Global, text: &str) -> Result<Vec<String>, AllocError>
     ensures { IfOk result (λ copies. map string_bytes copies.items ≡ words text.now) }
 {
@@ -130,7 +131,7 @@ fn words_of(alloc: Global, text: &str) -> Result<Vec<String>, AllocError>
     Ok(copies)
 }
 
-/// Returns the selector of a record, as a rule that declares this, or `None` if a text that it states is none.
+/// Returns the rule of a record, with this declaration; `None` if the record states a text that is no piece of `text`.
 fn rule_with(
     alloc: Global,
     text: &[u8],
@@ -175,7 +176,7 @@ fn rule_with(
     }))
 }
 
-/// Returns the rule of a record over a text, or `None` if it is none.
+/// Returns the rule of a record, whose texts are pieces of `text`; `None` if the record is faulty.
 pub fn rule_of(alloc: Global, text: &[u8], setting: &Setting) -> Result<Option<StyleRule>, Error>
     ensures ok { IfOk result (λ rule. option_map rule_of rule ≡ rule_in text.now setting.now) }
     ensures err { IfErr result (λ e. e ≡ Error.OutOfMemory) }

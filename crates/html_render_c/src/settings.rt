@@ -1,4 +1,4 @@
-//! The settings of a configuration, as records of numbers.
+//! Settings of a configuration, as records of numbers.
 
 ghost use Rattle.std.specs.Prelude.{◌≡◌, IfOk, IfErr};
 ghost use Rattle.html_render_c.specs.Settings.{image_mode_in, with_setting};
@@ -12,44 +12,48 @@ use std::alloc::Global;
 
 /// A call that changes a configuration.
 ///
-/// Texts are pieces of one buffer, each told by where it begins and its length, in bytes. What a call doesn't need it doesn't look
-/// at.
+/// Texts are pieces of one buffer, given by their start and length in bytes. A setting ignores the fields that its call
+/// doesn't use.
 #[repr(C)]
 #[derive(Clone, Copy, Debug, Default, PartialEq, Eq)]
 pub struct Setting {
-    /// Which call: 1 `allow_width_overflow`, 2 `do_decorate`, 3 `link_footnotes`, 4 `no_link_wrapping`, 5 `unicode_strikeout`,
-    /// 6 `empty_img_mode`, 7 `pad_block_width`, 8 `max_wrap_width`, 9 `min_wrap_width`, 10 `raw_mode`, 11 `no_table_borders`,
-    /// 12 `fence_tables`, 13 `add_style_rule`.
+    /// Number of the call: 1 `allow_width_overflow`, 2 `do_decorate`, 3 `link_footnotes`, 4 `no_link_wrapping`,
+    /// 5 `unicode_strikeout`, 6 `empty_img_mode`, 7 `pad_block_width`, 8 `max_wrap_width`, 9 `min_wrap_width`,
+    /// 10 `raw_mode`, 11 `no_table_borders`, 12 `fence_tables`, 13 `add_style_rule`.
     pub kind: u32,
-    /// What it is given: 0 or 1, columns, or a mode: 0 `IgnoreEmpty`, 1 `ShowAlways`, 2 `Replace` by the text, 3 `Filename`. Of a
-    /// rule what it declares: 0 the colour and 1 the background `value`, 2 `display: none`, 3 white space by `value`: 0 `Normal`,
-    /// 1 `Pre`, 2 `PreWrap`; 4 the content, which is the text.
+    /// Argument of the call:
+    ///
+    /// - a switch: 0 for `false`, any other number for `true`
+    /// - a number of columns
+    /// - `empty_img_mode`: 0 `IgnoreEmpty`, 1 `ShowAlways`, 2 `Replace` with the text, 3 `Filename`
+    /// - `add_style_rule`: the declaration of the rule: 0 the colour `value`, 1 the background `value`, 2 `display: none`,
+    ///   3 white space by `value`, 4 the text as content
     pub number: u32,
-    /// Of a rule a colour, as 0xRRGGBB, or how white space is treated.
+    /// Of a rule: a colour as 0xRRGGBB, or white space: 0 `Normal`, 1 `Pre`, 2 `PreWrap`.
     pub value: u32,
-    /// Of a rule, in the lowest two bits, the origin: 0 none, 1 the agent, 2 the user, 3 the author. Beside that 4 says that it is
-    /// important, 8 that it is for the place before, 16 after the element's children; 32 that an element's name is stated, 64 an
-    /// id.
+    /// Of a rule, in the lowest two bits, the origin: 0 none, 1 the agent, 2 the user, 3 the author. Also 4 for an important
+    /// declaration, 8 for the pseudo-element `Before`, 16 for `After` (unless 8 is set), 32 if it states an element's name,
+    /// and 64 if it states an id.
     pub flags: u32,
-    /// Where a text begins.
+    /// Start of a text.
     pub text: u32,
-    /// The text's length.
+    /// Length of the text.
     pub text_length: u32,
-    /// Where a rule's element name begins.
+    /// Start of a rule's element name.
     pub element: u32,
-    /// The length of that.
+    /// Length of the element name.
     pub element_length: u32,
-    /// Where a rule's id begins.
+    /// Start of a rule's id.
     pub id: u32,
-    /// The length of that.
+    /// Length of the id.
     pub id_length: u32,
-    /// Where a rule's classes begin, words with a space between.
+    /// Start of a rule's classes, words separated by ASCII white space.
     pub classes: u32,
-    /// The length of these.
+    /// Length of the classes.
     pub classes_length: u32,
 }
 
-/// Returns what is shown in place of an image whose title is empty, or `None` if the record names nothing.
+/// Returns how images with an empty title are shown, by a record; `None` if the record is faulty.
 fn image_mode(
     alloc: Global,
     text: &[u8],
@@ -70,7 +74,7 @@ fn image_mode(
     }
 }
 
-/// Returns a configuration whose images without a title are shown as a record says, or `None` if it names nothing.
+/// Returns a configuration with the record's mode of images with an empty title; `None` if the record is faulty.
 fn with_images<D: TextDecorator>(
     alloc: Global,
     config: Config<D>,
@@ -87,7 +91,7 @@ fn with_images<D: TextDecorator>(
     }
 }
 
-/// Returns a configuration with the rule of a record after the others, or `None` if it is none.
+/// Returns a configuration with the record's rule after its other rules; `None` if the record is faulty.
 fn with_rule<D: TextDecorator>(
     alloc: Global,
     config: Config<D>,
@@ -104,7 +108,7 @@ fn with_rule<D: TextDecorator>(
     }
 }
 
-/// Returns a configuration after the call of a record over a text, or `None` if it is none.
+/// Returns a configuration after the call of a record, whose texts are pieces of `text`; `None` if the record is faulty.
 pub fn with_setting<D: TextDecorator>(
     alloc: Global,
     config: Config<D>,

@@ -1,4 +1,4 @@
--- What is given has the outcome of what is rendered.
+-- The result of the call has the outcome of the rendering.
 use Rattle.html_render_c.specs.Pages.{IsPlainLines, IsRichLines}
 use Rattle.html_render_c.proofs.Outcomes.{returned}
 use Rattle.html_render_c.proofs.html_render_lines.Goals as goal

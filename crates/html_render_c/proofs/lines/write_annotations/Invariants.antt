@@ -2,7 +2,7 @@ use Rattle.std.proofs.Common.{◌≡◌, ◌++◌, length}
 use Rattle.std.specs.List.{flat_map}
 use Rattle.html_render_c.proofs.lines.write_annotations.Given as goal
 
--- what is written, and the records that are left, are all
+-- the written records and those that remain are all
 abbrev pub invariant-loop-annotation : goal.invariant-loop-annotation
 invariant-loop-annotation g l =
     l.bytes.items ++ flat_map g.A.Written.annotation_record l.left ≡ l.initial.bytes.items ++ flat_map g.A.Written.annotation_record l.annotations

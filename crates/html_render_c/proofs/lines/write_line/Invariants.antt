@@ -3,7 +3,7 @@ use Rattle.html_render_c.specs.Records.{pieces_record}
 use Rattle.html_render_layout_tagged.specs.Grouping.{pieces_of}
 use Rattle.html_render_c.proofs.lines.write_line.Given as goal
 
--- what is written, and the records that are left, are all
+-- the written records and those that remain are all
 abbrev pub invariant-loop-element : goal.invariant-loop-element
 invariant-loop-element g l =
     l.bytes.items ++ pieces_record g.A.Written.annotation_record (pieces_of l.elements) ≡ l.initial.bytes.items ++ pieces_record g.A.Written.annotation_record (pieces_of l.line)

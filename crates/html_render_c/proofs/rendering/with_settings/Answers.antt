@@ -1,4 +1,4 @@
--- A setting that is made joins those that are done; one that isn't is the first that is faulty.
+-- A setting that is made joins those that are done; one that isn't is the first faulty one.
 use Rattle.std.proofs.Common.{◌∷◌, [], ◌++◌, List, append_assoc, ap, sym, ◌∙◌}
 use Rattle.html_render_c.proofs.Made.{configured-after, faulty-after}
 use Rattle.html_render_c.specs.declared.settings.Setting.{Setting}

@@ -3,7 +3,7 @@ use Rattle.html_render_c.specs.Settings.{configured}
 use Rattle.html_render_c.specs.declared.settings.Setting.{Setting}
 use Rattle.html_render_c.proofs.rendering.with_settings.Given as goal
 
--- the settings that are done make the configuration of the one at the beginning
+-- the settings that are done make this configuration of the first one
 abbrev pub invariant-loop-setting : goal.invariant-loop-setting
 invariant-loop-setting g l = (done : List Setting) × (l.settings ≡ done ++ l.rest) × (configured l.text done l.initial.config ≡ Some l.config)
 

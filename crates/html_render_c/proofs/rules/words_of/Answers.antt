@@ -1,4 +1,4 @@
--- Each turn copies one word more.
+-- Each turn copies one more word.
 use Rattle.std.proofs.Common.{◌≡◌, [], ◌∷◌, ◌++◌, append_assoc, ap, sym, ◌∙◌, map, string_bytes}
 use Rattle.std.proofs.lemmas.List.{append-nil, map-append}
 use Rattle.std.specs.Str.Iter.{split_ascii_whitespace_text}

@@ -3,7 +3,7 @@ use Rattle.std.specs.Str.Iter.{split_ascii_whitespace_text}
 use Rattle.html_render_dom_rules.specs.Selectors.{words}
 use Rattle.html_render_c.proofs.rules.words_of.Given as goal
 
--- what is copied, and the words that are left
+-- the copied words and those that remain are all
 abbrev pub invariant-loop-word : goal.invariant-loop-word
 invariant-loop-word l = map string_bytes l.copies.items ++ words (split_ascii_whitespace_text l.words) ≡ words l.text
 
