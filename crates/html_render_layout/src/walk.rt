@@ -255,8 +255,8 @@ pub fn lay_out<D: TextDecorator>(
     settings: &LayoutSettings,
     meter: &mut Meter,
 ) -> Result<LaidOut<D::Annotation>, Error>
-    // the lines are the definition's, with all promises; the result is `TooNarrow` exactly without them, unless memory runs
-    // out
+    // the lines are the definition's, with all promises; the result is `TooNarrow` exactly if there are none, unless memory
+    // runs out
     ensures ok { IfOk result (λ lines. AreLines D.decoration settings.now tree decorator.now block (laid_out lines)) }
     ensures names { IfOk result (λ lines. mark_names D.decoration settings.now tree decorator.now block ≡ Some lines.names) }
     ensures err { IfErr result (λ e. Refuses e (layout_lines D.decoration settings.now tree decorator.now block)) }

@@ -339,7 +339,7 @@ module _ {S A : Type 0} (d : Decoration S A) (settings : LayoutSettings) where
   abbrev pub estimated : S → Forest RenderNode → Forest RenderNode
   estimated decorator t = measured d (d.subblock (d.subblock decorator)) settings t
 
-  -- THE LAYOUT of a render tree in a block: what is shown of the state after it; none where it is too narrow, as at width 0
+  -- THE LAYOUT of a render tree in a block: a view of the state after it; none where it is too narrow, as at width 0
   abbrev pub layout : {L : Type 0} → (Defined S A → L) → Forest RenderNode → S → BlockSetting → Option L
   layout shown t decorator block =
       if block.width == 0 then None else shown_after (by_stacks d) definition.ending shown (estimated decorator t) (empty_state decorator block)

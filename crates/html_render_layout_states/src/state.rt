@@ -102,9 +102,9 @@ impl<D: Drop, T: Drop, B: Drop> Interrupted<D, T, B> {
 /// A block with an open row of a table, suspended by a cell of that row.
 #[derive(Drop)]
 pub struct OuterTable<D, B> {
-    /// The decorator of the block.
+    /// Decorator of the suspended block.
     pub decorator: D,
-    /// The block.
+    /// The suspended block.
     pub block: B,
 }
 
@@ -168,7 +168,7 @@ pub enum KindClosing<D, T, B> {
     /// have footnotes.
     EndLink(TextContext<T>, usize),
     /// Ends a table, and resumes the outer block if the table has a block of its own. The flag is whether the table is in
-    /// another one.
+    /// another one, so that it has no fences.
     EndTable(Interruption<D, T, B>, bool),
     /// Ends a row of a table. Each child is a cell.
     EndRow,

@@ -98,9 +98,9 @@ pub fn with_decorator<D: TextDecorator>(alloc: Global, decorator: D) -> Config<D
 }
 
 impl<D: TextDecorator> Config<D> {
-    /// Appends ten rules to the rules: they put `*` before and after the contents of each `em` and `dt`, `**` those of each
-    /// `strong` and `b`, and a backquote those of each `code`. They are normal rules of the agent, each for an element's
-    /// name and a pseudo-element.
+    /// Appends ten rules, which put a text before and after the contents of elements: `*` for `em` and `dt`, `**` for
+    /// `strong` and `b`, and a backquote for `code`. They are normal rules of the agent, each for an element's name and a
+    /// pseudo-element.
     ///
     /// # Errors
     ///

@@ -82,7 +82,7 @@ struct Ending {
 }
 
 impl Ending {
-    /// Writes the line of a fault, and returns how a run with that fault ends.
+    /// Writes the line of a fault, and returns the end of a run with that fault.
     fn with_fault<F: Write>(fault: Fault, faults: &mut F) -> Ending
         ensures status { result.status ≡ exit_status fault }
         ensures line { Writes (F.contents faults.old) (F.contents faults.new) result.reported (line_of fault) }

@@ -153,7 +153,7 @@ module _ {S A : Type 0} (d : Decoration S A) (settings : LayoutSettings) where
       (stacked block) (begins decorator block)
       ∙ shown-wide (λ (r : Defined S A). r.names) t decorator block wide
 
-  -- the code's walk visits the nodes that the definition visits, with the same most nodes open at once
+  -- the code's walk visits the nodes that the definition visits; the most nodes open at once are equal
   pub counts-work : {X : Type 0} (r : Result X Error) (t measured : Forest RenderNode) (decorator : S) (block : BlockSetting)
       (s : Worked S A) (old other new : Meter) → measured ≡ with_needed_sizes (estimated d settings decorator t) → s ≡ empty_worked decorator block →
       other.probes ≡ old.probes → CountsNodes r (layout_of (by_tags d tabled)) measured s other new →

@@ -573,7 +573,7 @@ module _ {S A K T B L U C I : Type 0} (m : Means S A K T B) (pull : L → U → 
         (λ below q. run_at (layout_of m) below 0 children q) (λ below q. run_at (layout_of n) below 0 children q)
         (node-related x children a b same number i s v k) (λ c d both j q u z. run_at-related children c d both 0 j q u z)
 
-    -- the same nodes are visited
+    -- both sides visit the same nodes
     nodes-related : (t : Forest RenderNode) (a : Places State) (b : Places OtherState) → PlacesRelated a b → (number : ℕ) (i : I) (s : State)
         (v : Different) → Holds i s v → nodes_at true (layout_of m) a number t s ≡ nodes_at true (layout_of n) b number t (with_other s v)
     nodes-related none a b same number i s v k = refl

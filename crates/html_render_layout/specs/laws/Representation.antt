@@ -60,7 +60,7 @@ module _ {S A K T V : Type 0} (d : Decoration S A) (push : K → T → A → K �
   tag_shown : (k : K) (l : Unit {0}) (t : T) (u : List A) (a : A) → ShowsTag (k, l) t u → ShowsTag ((push k t a).0, l) (push k t a).1 (u ++ a ∷ [])
   tag_shown k l t u a x = λ m g. tag_pushed k t a u (λ n b. x (n, tt) b) m.0 g
 
-  -- the code's walk visits the nodes that the definition visits, with the same most nodes open at once
+  -- the code's walk visits the nodes that the definition visits; the most nodes open at once are equal
   pub walk-represented : (t : Forest RenderNode) (i : ℕ) (s : Worked) (v : Stacked) → Represents i s v →
       (visited (layout_of (by_tags d push)) t s ≡ visited (defined d) t (with_other s v))
       × (most_open (layout_of (by_tags d push)) t s ≡ most_open (defined d) t (with_other s v))
@@ -98,7 +98,7 @@ module _ {S A K T V : Type 0} (d : Decoration S A) (push : K → T → A → K �
       (shown-represented (λ x y. x ≡ lines_with seen y) view (λ (r : Defined S A). r.block.lines) i (λ r u m.
       is r ∙ lines-seen (λ (w : Kept) t. shown w.0 t) seen GoesOn (λ w. stays w.0) Going i (r.stacks, u.stacks) r.block u.block m.1.1) t s v h)
 
-  -- marks have the same names
+  -- the names of marks are equal
   pub names-represented : (t : Forest RenderNode) (i : ℕ) (s : Worked) (v : Stacked) → Represents i s v →
       shown_after (by_tags d push) machine.ending (λ (r : Worked). r.names) t s
       ≡ shown_after (by_stacks d) definition.ending (λ (r : Defined S A). r.names) t (with_other s v)

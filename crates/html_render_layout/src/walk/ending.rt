@@ -14,7 +14,7 @@ use html_render_layout_states::working::State;
 use html_render_parts_decorators::decorate::TextDecorator;
 use std::alloc::{AllocError, Global};
 
-/// Most bytes of a footnote before its target: a number of 20 digits, `[` and `]: `.
+/// Greatest number of bytes of a footnote before its target: a number of 20 digits, `[` and `]: `.
 const NUMBER_ROOM: usize = 24;
 
 /// Returns a footnote: the number of a link in brackets, and its target.

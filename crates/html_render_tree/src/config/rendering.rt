@@ -50,7 +50,8 @@ impl<D: TextDecorator> Config<D> {
         tree: RenderTree,
         width: usize,
     ) -> Result<String, Error>
-        // the text is that of the definition's lines; the result is `TooNarrow` exactly without them, unless memory runs out
+        // the text is that of the definition's lines; the result is `TooNarrow` exactly if there are none, unless memory
+        // runs out
         ensures ok { IfOk result (λ text. option_map text_of (rendered_lines D.decoration self.now tree width) ≡ Some (string_bytes text)) }
         ensures err { IfErr result (λ e. Refuses e (rendered_lines D.decoration self.now tree width)) }
         ensures no_width { width ≡ 0 → result ≡ Err Error.TooNarrow }
@@ -87,8 +88,8 @@ impl<D: TextDecorator> Config<D> {
         tree: RenderTree,
         width: usize,
     ) -> Result<Vec<TaggedLine<Vec<D::Annotation>>>, Error>
-        // the strings are those of the definition's lines; the result is `TooNarrow` exactly without them, unless memory
-        // runs out
+        // the strings are those of the definition's lines; the result is `TooNarrow` exactly if there are none, unless
+        // memory runs out
         ensures ok { IfOk result (λ lines. rendered_strings D.decoration self.now tree width D.Annotation.eq ≡ Some (lines_of lines.items)) }
         ensures err { IfErr result (λ e. Refuses e (rendered_lines D.decoration self.now tree width)) }
         ensures no_width { width ≡ 0 → result ≡ Err Error.TooNarrow }
@@ -170,8 +171,8 @@ impl<D: TextDecorator> Config<D> {
         requires callable { F.IsAlwaysCallable colour_map }
         requires memory { (tag : _) (string : _) (e : Error) → F.post colour_map tag string (Err e) → e ≡ Error.OutOfMemory }
 
-        // the text is that of the definition's strings under the map; the result is `TooNarrow` exactly without lines,
-        // unless memory runs out
+        // the text is that of the definition's strings under the map; the result is `TooNarrow` exactly if there are no
+        // lines, unless memory runs out
         ensures ok { IfOk result (λ text. (lines : List (List (Piece (List D.Annotation))))
             × (rendered_strings D.decoration self.now tree width D.Annotation.eq ≡ Some lines)
             × IsColoured (F.post colour_map) lines (string_bytes text)) }
