@@ -2,28 +2,57 @@
 
 use html5ever::{local_name, LocalName};
 
-/// Names read last. A name of at most 8 bytes is a number, which has its place.
+/// Names read last. The end of a name is a number, which has its place.
 pub(crate) struct Names {
-    slots: [Slot; 1 << SLOT_BITS],
+    slots: [Known; 1 << SLOT_BITS],
+    is_asked: fn(&LocalName) -> bool,
 }
 
+/// A name, and what is known of it.
 #[derive(Clone)]
-struct Slot {
+pub(crate) struct Known {
     key: u64,
-    name: LocalName,
+    pub name: LocalName,
+    /// Whether attributes of this name are asked for.
+    pub is_asked: bool,
+    /// Whether an element of this name is reopened where its parent ends, and compared with others by all of its attributes.
+    pub is_formatting: bool,
+    /// Whether raw text follows the start tag of an element of this name.
+    is_raw: bool,
 }
 
-const SLOT_BITS: u32 = 7;
+const SLOT_BITS: u32 = 9;
 
 /// Maximum length of a name that is a number.
 const MAX_LENGTH: usize = 8;
 
-impl Default for Names {
-    fn default() -> Names {
-        // the empty name has the key 0
-        let empty = Slot { key: 0, name: local_name!("") };
-        Names { slots: [(); 1 << SLOT_BITS].map(|()| empty.clone()) }
-    }
+/// The bit of the numbers of longer names. A name is of ASCII.
+const IS_LONGER: u64 = 1 << 63;
+
+/// Whether html5ever's tree builder asks for attributes of a name.
+pub(crate) fn is_asked_by_builder(name: &LocalName) -> bool {
+    matches!(*name, local_name!("color") | local_name!("encoding") | local_name!("face") | local_name!("form") | local_name!("size") | local_name!("type"))
+}
+
+/// Whether html5ever's tree builder keeps an element of this name in its list of formatting elements.
+fn is_formatting(name: &LocalName) -> bool {
+    matches!(
+        *name,
+        local_name!("a")
+            | local_name!("b")
+            | local_name!("big")
+            | local_name!("code")
+            | local_name!("em")
+            | local_name!("font")
+            | local_name!("i")
+            | local_name!("nobr")
+            | local_name!("s")
+            | local_name!("small")
+            | local_name!("strike")
+            | local_name!("strong")
+            | local_name!("tt")
+            | local_name!("u")
+    )
 }
 
 /// Whether raw text follows the start tag of an element of this name.
@@ -44,45 +73,77 @@ fn is_raw(name: &LocalName) -> bool {
 }
 
 impl Names {
-    /// Returns the atom of a short name without zero bytes, whose bytes are the digits of `key`.
-    fn short(&mut self, key: u64, name: &str) -> LocalName {
-        let slot = &mut self.slots[(key.wrapping_mul(0x9e37_79b9_7f4a_7c15) >> (u64::BITS - SLOT_BITS)) as usize];
-        if slot.key != key {
-            *slot = Slot { key, name: LocalName::from(name) };
-        }
-        slot.name.clone()
-    }
-
-    /// Returns the atom of a name without zero bytes.
-    pub fn name(&mut self, name: &str) -> LocalName {
-        if name.len() > MAX_LENGTH {
-            return LocalName::from(name);
-        }
-        let key = name.bytes().fold(0, |key, byte| key << 8 | u64::from(byte));
-        self.short(key, name)
+    /// Returns names of which none has been read. A function says which attributes are asked for, beside those that the tree builder
+    /// asks for.
+    pub fn new(is_asked: fn(&LocalName) -> bool) -> Names {
+        // the empty name has the key 0
+        let empty = Known { key: 0, name: local_name!(""), is_asked: false, is_formatting: false, is_raw: false };
+        Names { slots: [(); 1 << SLOT_BITS].map(|()| empty.clone()), is_asked }
     }
 
     /// Returns the name of a tag that begins at an offset, of small letters, and digits after the first, and where it ends; `None`
     /// where there is no such name, or raw text follows the tag.
-    pub fn tag_name(&mut self, text: &str, start: usize) -> Option<(LocalName, usize)> {
-        let mut key = 0;
-        let mut end = start;
-        for &byte in &text.as_bytes()[start..] {
-            if !(byte.is_ascii_lowercase() || byte.is_ascii_digit() && end > start) {
+    pub fn tag_name(&mut self, text: &str, start: usize) -> Option<(&Known, usize)> {
+        let written = Written::new(text, start, |at, byte| byte.is_ascii_lowercase() || byte.is_ascii_digit() && at > start)?;
+        let known = self.known(&written);
+        (!known.is_raw).then(|| (known, written.end))
+    }
+
+    /// Returns the name of an attribute that begins at an offset, of small letters and hyphens, and where it ends.
+    pub fn attribute_name(&mut self, text: &str, start: usize) -> Option<(&Known, usize)> {
+        let written = Written::new(text, start, |_, byte| byte.is_ascii_lowercase() || byte == b'-')?;
+        Some((self.known(&written), written.end))
+    }
+
+    #[inline]
+    fn known(&mut self, written: &Written<'_>) -> &Known {
+        let is_longer = written.length() > MAX_LENGTH;
+        let key = if is_longer { written.key | IS_LONGER } else { written.key };
+        let place = (key.wrapping_mul(0x9e37_79b9_7f4a_7c15) >> (u64::BITS - SLOT_BITS)) as usize;
+        let slot = &self.slots[place];
+        if slot.key != key || is_longer && *slot.name != *written.name() {
+            self.slots[place] = self.read(key, written.name());
+        }
+        &self.slots[place]
+    }
+
+    #[cold]
+    fn read(&self, key: u64, name: &str) -> Known {
+        let name = LocalName::from(name);
+        Known { key, is_asked: (self.is_asked)(&name) || is_asked_by_builder(&name), is_formatting: is_formatting(&name), is_raw: is_raw(&name), name }
+    }
+}
+
+/// A name of ASCII in a text.
+struct Written<'a> {
+    text: &'a str,
+    start: usize,
+    end: usize,
+    /// The number whose digits are its last bytes.
+    key: u64,
+}
+
+impl<'a> Written<'a> {
+    /// Returns the name that begins at an offset, unless it is empty. A function says which offsets and bytes are parts of it.
+    #[inline]
+    fn new(text: &'a str, start: usize, is_part: impl Fn(usize, u8) -> bool) -> Option<Written<'a>> {
+        let (mut key, mut end) = (0, start);
+        for &byte in text.as_bytes().get(start..)? {
+            if !is_part(end, byte) {
                 break;
             }
             key = key << 8 | u64::from(byte);
             end += 1;
         }
-        let name = match end - start {
-            0 => return None,
-            1..=MAX_LENGTH => self.short(key, &text[start..end]),
-            _ => LocalName::from(&text[start..end]),
-        };
-        if is_raw(&name) {
-            return None;
-        }
-        Some((name, end))
+        (end > start).then(|| Written { text, start, end, key })
+    }
+
+    fn length(&self) -> usize {
+        self.end - self.start
+    }
+
+    fn name(&self) -> &'a str {
+        &self.text[self.start..self.end]
     }
 }
 
@@ -92,20 +153,23 @@ mod tests {
 
     #[test]
     fn names_are_atoms() {
-        let mut names = Names::default();
+        let mut names = Names::new(|name| *name == local_name!("alt"));
         for _ in 0..2 {
-            for name in ["", "p", "td", "h1", "colspan", "longnames", "blockquote", "data-x"] {
-                assert_eq!(names.name(name), LocalName::from(name));
+            for name in ["alt", "p", "colspan", "longname", "blockquote", "clockquote", "data-x", "data-longname-x", "data-longname-y"] {
+                let (known, end) = names.attribute_name(name, 0).unwrap();
+                assert_eq!((&known.name, known.is_asked, end), (&LocalName::from(name), name == "alt", name.len()));
             }
         }
+        assert!(names.attribute_name("", 0).is_none() && names.attribute_name("a", 2).is_none());
     }
 
     #[test]
     fn names_of_tags() {
-        let mut names = Names::default();
-        let mut found = |text: &str| names.tag_name(text, 1).map(|(name, end)| (name.to_string(), end));
-        assert_eq!(found("<h1>"), Some(("h1".to_owned(), 3)));
-        assert_eq!(found("<blockquote "), Some(("blockquote".to_owned(), 11)));
+        let mut names = Names::new(|_| false);
+        let mut found = |text: &str| names.tag_name(text, 1).map(|(known, end)| (known.name.to_string(), known.is_formatting, end));
+        assert_eq!(found("<h1>"), Some(("h1".to_owned(), false, 3)));
+        assert_eq!(found("<b>"), Some(("b".to_owned(), true, 2)));
+        assert_eq!(found("<blockquote "), Some(("blockquote".to_owned(), false, 11)));
         assert_eq!(found("<1>"), None);
         assert_eq!(found("<P>"), None);
         assert_eq!(found("<style>"), None);

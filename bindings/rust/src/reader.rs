@@ -6,12 +6,12 @@
 //! state in which texts and tags are read, which HTML calls the data state.
 
 use crate::limits::{self, OpenElements, Refusal, FEW_ATTRIBUTES};
-use crate::names::Names;
+use crate::names::{is_asked_by_builder, Names};
 use crate::sink::{Sink, Wanted};
 use crate::tree::Id;
 use html5ever::tokenizer::{BufferQueue, Tag, TagKind, Token, TokenSink, TokenSinkResult, Tokenizer, TokenizerOpts, TokenizerResult};
 use html5ever::tree_builder::{TreeBuilder, TreeBuilderOpts};
-use html5ever::{local_name, namespace_url, ns, Attribute, LocalName, QualName};
+use html5ever::{namespace_url, ns, Attribute, LocalName, QualName};
 use memchr::{memchr, memchr2, memchr_iter, memmem};
 use tendril::StrTendril;
 
@@ -64,11 +64,6 @@ impl Watched {
     }
 }
 
-/// Whether html5ever's tree builder asks for attributes of a name.
-fn is_asked_by_builder(name: &LocalName) -> bool {
-    matches!(*name, local_name!("color") | local_name!("encoding") | local_name!("face") | local_name!("form") | local_name!("size") | local_name!("type"))
-}
-
 impl TokenSink for Watched {
     type Handle = Id;
 
@@ -100,6 +95,12 @@ impl TokenSink for Watched {
 /// Number of bytes of a page that its tendrils share, and the most that one token or call has.
 const WINDOW: usize = if cfg!(test) { 24 } else { 1 << 16 };
 
+/// Number of bytes that a tendril has without memory of its own.
+const INLINE: usize = 8;
+
+/// Number of attributes for which there is room in a tag that has one.
+const USUAL_ATTRIBUTES: usize = 4;
+
 /// A page, of which pieces become tendrils that share a copy of a part of it.
 struct Page<'a> {
     text: &'a str,
@@ -122,9 +123,35 @@ impl<'a> Page<'a> {
         (start + WINDOW - 3..=start + WINDOW).rev().find(|&at| self.text.is_char_boundary(at)).unwrap_or(end)
     }
 
+    /// Returns the number of bytes of a text that begins at an offset, up to a tag or what the tokenizer makes something else of.
+    fn text_length(&self, start: usize) -> usize {
+        let rest = &self.text.as_bytes()[start..];
+        self.find(b'<', rest).unwrap_or(rest.len())
+    }
+
+    /// Returns the number of bytes of a value that begins at an offset, up to its quotation mark; `None` where it is too long or the
+    /// tokenizer makes something else of a part of it.
+    fn value_length(&self, start: usize) -> Option<usize> {
+        let rest = &self.text.as_bytes()[start..];
+        self.find(b'"', rest).filter(|&length| rest[length] == b'"' && length <= WINDOW)
+    }
+
+    /// Returns where a byte is, or another one that the tokenizer makes something else of.
+    #[inline]
+    fn find(&self, end: u8, rest: &[u8]) -> Option<usize> {
+        if self.is_odd {
+            rest.iter().position(|&byte| byte == end || is_special(byte))
+        } else {
+            memchr2(end, b'&', rest)
+        }
+    }
+
     /// Returns a piece of at most `WINDOW` bytes.
     #[inline]
     fn piece(&mut self, start: usize, end: usize) -> StrTendril {
+        if end - start <= INLINE {
+            return StrTendril::from_slice(&self.text[start..end]);
+        }
         if start < self.start || end > self.start + self.window.len() {
             self.start = start;
             self.window = StrTendril::from_slice(&self.text[start..self.end(start, self.text.len())]);
@@ -147,11 +174,6 @@ pub(crate) struct Reader<'a> {
 struct PlainTag {
     tag: Tag,
     end: usize,
-}
-
-/// Returns the number of bytes from here on that the name of an attribute takes, of small letters and hyphens.
-fn attribute_length(text: &[u8]) -> usize {
-    text.iter().take_while(|byte| byte.is_ascii_lowercase() || **byte == b'-').count()
 }
 
 /// Whether the tokenizer makes something else of a byte of a text than the byte.
@@ -204,7 +226,7 @@ impl<'a> Reader<'a> {
             tokenizer: Tokenizer::new(watched, options),
             queue: BufferQueue::new(),
             page: Page::new(page),
-            names: Names::default(),
+            names: Names::new(wanted.is_asked),
             is_in_data: true,
         }
     }
@@ -339,8 +361,8 @@ impl<'a> Reader<'a> {
                 }
                 None => self.feed_in_data(start),
             },
-            text => {
-                let end = start + self.text_length(text);
+            _ => {
+                let end = start + self.page.text_length(start);
                 if end < bytes.len() && bytes[end] != b'<' {
                     return self.feed_in_data(start);
                 }
@@ -348,16 +370,6 @@ impl<'a> Reader<'a> {
                 end
             }
         }
-    }
-
-    /// Returns the number of bytes of a text up to a tag or what the tokenizer makes something else of.
-    fn text_length(&self, text: &[u8]) -> usize {
-        let length = if self.page.is_odd {
-            text.iter().position(|&byte| byte == b'<' || is_special(byte))
-        } else {
-            memchr2(b'<', b'&', text)
-        };
-        length.unwrap_or(text.len())
     }
 
     /// Gives the tree builder a text.
@@ -371,41 +383,47 @@ impl<'a> Reader<'a> {
         }
     }
 
-    /// Returns the attribute ` name="value"` that begins here, and where it ends.
-    fn plain_attribute(&mut self, start: usize) -> Option<(Attribute, usize)> {
+    /// Reads the attribute ` name="value"` that begins here into a tag's, if it is asked for. Returns where it ends; `None` where it is
+    /// written in another way, or the tag has one of that name.
+    fn plain_attribute(&mut self, start: usize, is_formatting: bool, attributes: &mut Vec<Attribute>) -> Option<usize> {
         let text = self.page.text.as_bytes();
-        let name = start + 1;
-        let name_end = name + attribute_length(text.get(name..)?);
-        if text[start] != b' ' || name_end == name || text.get(name_end..name_end + 2)? != b"=\"" {
+        let (known, name_end) = self.names.attribute_name(self.page.text, start + 1)?;
+        if text.get(name_end..name_end + 2)? != b"=\"" {
             return None;
         }
         let value = name_end + 2;
-        let value_end = value + text[value..].iter().position(|&byte| byte == b'"' || is_special(byte))?;
-        if text[value_end] != b'"' || value_end - value > WINDOW {
-            return None;
+        let end = value + self.page.value_length(value)?;
+        if known.is_asked || is_formatting {
+            if attributes.iter().any(|other| other.name.local == known.name) {
+                return None;
+            }
+            let name = QualName::new(None, ns!(), known.name.clone());
+            if attributes.capacity() == 0 {
+                attributes.reserve_exact(USUAL_ATTRIBUTES);
+            }
+            attributes.push(Attribute { name, value: self.page.piece(value, end) });
         }
-        let name = QualName::new(None, ns!(), self.names.name(&self.page.text[name..name_end]));
-        let value = self.page.piece(value, value_end);
-        Some((Attribute { name, value }, value_end + 1))
+        Some(end + 1)
     }
 
-    /// Returns the tag that begins here, where it is written in the plainest way and no raw text follows.
+    /// Returns the tag that begins here, where it is written in the plainest way and no raw text follows. It has the attributes that are
+    /// asked for; the tree builder compares formatting elements, and they have all.
     fn plain_tag(&mut self, start: usize) -> Option<PlainTag> {
         let text = self.page.text.as_bytes();
         let (kind, name) = match text.get(start + 1)? {
             b'/' => (TagKind::EndTag, start + 2),
             _ => (TagKind::StartTag, start + 1),
         };
-        let (name, name_end) = self.names.tag_name(self.page.text, name)?;
-        let mut attrs: Vec<Attribute> = Vec::new();
-        let mut end = name_end;
+        let (known, mut end) = self.names.tag_name(self.page.text, name)?;
+        let (name, is_formatting) = (known.name.clone(), known.is_formatting);
+        let mut attrs = Vec::new();
+        let mut count = 0;
         while *text.get(end)? == b' ' && kind == TagKind::StartTag {
-            let (attribute, after) = self.plain_attribute(end)?;
-            if attrs.len() >= FEW_ATTRIBUTES || attrs.iter().any(|other| other.name == attribute.name) {
+            if count == FEW_ATTRIBUTES {
                 return None;
             }
-            attrs.push(attribute);
-            end = after;
+            end = self.plain_attribute(end, is_formatting, &mut attrs)?;
+            count += 1;
         }
         if text[end] != b'>' {
             return None;
