@@ -25,9 +25,9 @@ pub(crate) fn is_control(c: char) -> bool {
 }
 
 /// Returns a number other than 0 if a byte can begin a character that a filter drops. It has no branches, so that many bytes are looked at
-/// at once.
+/// at once. The first byte is 0xc2 or 0xe2 of all that are longer than one byte.
 fn suspicion(byte: u8) -> u8 {
-    (u8::from(byte < 0x20) & u8::from(byte != b'\n') & u8::from(byte != b'\t')) | u8::from(byte == 0x7f) | u8::from(byte == 0xc2) | u8::from(byte == 0xe2)
+    (u8::from(byte < 0x20) & u8::from(byte != b'\n') & u8::from(byte != b'\t')) | u8::from(byte == 0x7f) | u8::from(byte | 0x20 == 0xe2)
 }
 
 /// Whether a text has a byte with which a dropped character can begin.

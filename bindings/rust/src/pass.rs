@@ -32,7 +32,7 @@ pub(crate) struct Entered {
     /// Text after the children.
     pub end: &'static str,
     /// The numbers of the children, if these are the items of an `ol`.
-    pub numbers: Option<Numbers>,
+    pub numbers: Option<Box<Numbers>>,
 }
 
 impl Entered {
@@ -57,7 +57,7 @@ struct Frame {
     place: Place,
     last: Last,
     items: Items,
-    numbers: Option<Numbers>,
+    numbers: Option<Box<Numbers>>,
     end: &'static str,
 }
 
@@ -118,30 +118,43 @@ impl<'a> Pass<'a> {
         }
     }
 
+    /// Records an element in the innermost one whose children are recorded. Returns where its own children are recorded, if they are.
     fn open(&mut self, node: Id, element: &'a Element) -> Option<Entered> {
-        let mut around = self.place_of(node, element)?;
-        if around.context.holds == Holds::Items && Holds::Items.takes(element) {
-            around.handle = self.list_of(Some(node));
+        let place = self.frames.last()?.place;
+        match place.context.holds {
+            Holds::Anything => self.record_element(node, element, place),
+            holds if holds.takes(element) => self.open_item(node, element, place),
+            _ => {
+                let place = self.place_of_other(node, element, place);
+                self.record_element(node, element, place)
+            }
         }
-        let frame = self.frames.last_mut()?;
+    }
+
+    /// Records an item of a list, or a term or a description.
+    fn open_item(&mut self, node: Id, element: &'a Element, mut place: Place) -> Option<Entered> {
+        if place.context.holds == Holds::Items {
+            place.handle = self.list_of(Some(node));
+        }
+        let entered = self.record_element(node, element, place)?;
+        self.frames.last_mut()?.items = Items { item: Some(entered.handle), loose: None };
+        Some(entered)
+    }
+
+    fn record_element(&mut self, node: Id, element: &'a Element, place: Place) -> Option<Entered> {
         let count = self.recorder.node_count();
         let entered = match &mut self.adapter {
-            Some(adapter) => adapter.open(&mut self.recorder, node, element, around),
+            Some(adapter) => adapter.open(&mut self.recorder, node, element, place),
             None => {
-                let handle = self.recorder.element(around.handle, record::space(&element.space), &element.name);
+                let handle = self.recorder.element(place.handle, record::space(&element.space), &element.name);
                 for attribute in self.tree.attributes_of(node) {
                     self.recorder.attribute(handle, &attribute.name, &attribute.value);
                 }
-                Some(Entered::new(handle, around.context))
+                Some(Entered::new(handle, place.context))
             }
         };
         if self.recorder.node_count() != count {
-            frame.last = Last::Other;
-        }
-        if around.context.holds != Holds::Anything && around.context.holds.takes(element) {
-            if let Some(Entered { handle, .. }) = entered {
-                frame.items = Items { item: Some(handle), loose: None };
-            }
+            self.frames.last_mut()?.last = Last::Other;
         }
         // nothing in a head is shown
         entered.filter(|_| element.name != local_name!("head") || element.space != ns!(html))
@@ -159,18 +172,14 @@ impl<'a> Pass<'a> {
         }
     }
 
-    /// Returns where an element is recorded: in one of its own, where it is directly in a list and isn't an item.
-    fn place_of(&mut self, node: Id, element: &Element) -> Option<Place> {
-        let Frame { place, items, .. } = *self.frames.last()?;
-        if place.context.holds == Holds::Anything {
-            return Some(place);
-        }
+    /// Returns where an element is recorded that is directly in a list and isn't an item: in an element of its own, if it is shown.
+    fn place_of_other(&mut self, node: Id, element: &Element, place: Place) -> Place {
         let text = &self.recorder.text;
-        if !self.adapter.as_mut().map_or(false, |adapter| adapter.is_loose(text, node, element, place.context.holds)) {
-            return Some(place);
+        if !self.adapter.as_mut().map_or(false, |adapter| adapter.is_loose(text, node, element)) {
+            return place;
         }
-        let handle = items.loose.unwrap_or_else(|| self.open_loose());
-        Some(Place { handle, context: place.context.in_loose() })
+        let loose = self.frames.last().and_then(|frame| frame.items.loose);
+        Place { handle: loose.unwrap_or_else(|| self.open_loose()), context: place.context.in_loose() }
     }
 
     /// Returns the node of the list that an item is put in: another one where the numbers of an `ol` jump.

@@ -53,9 +53,23 @@ impl Watched {
         if is_dropped || self.refusal.is_some() {
             return TokenSinkResult::Continue;
         }
+        self.give(token, line)
+    }
+
+    /// Gives the tree builder a token that is known to be within the limits.
+    #[inline]
+    fn give(&mut self, token: Token, line: u64) -> TokenSinkResult<Id> {
         let result = self.builder.process_token(token, line);
         self.look_at_size();
         result
+    }
+
+    /// Gives the tree builder a tag of few attributes, if there is room for its element.
+    #[inline]
+    fn give_tag(&mut self, tag: Tag) {
+        if self.open.takes(&tag, &self.builder) {
+            let _ = self.give(Token::TagToken(tag), 1);
+        }
     }
 
     #[inline]
@@ -231,11 +245,6 @@ impl<'a> Reader<'a> {
         }
     }
 
-    /// Gives the tree builder a token. None of these begins raw text, so its answer is to go on.
-    fn give(&mut self, token: Token) {
-        let _ = self.tokenizer.sink.take(token, 1);
-    }
-
     fn push(&mut self, piece: StrTendril) {
         self.queue.push_back(piece);
         while let TokenizerResult::Script(_) = self.tokenizer.feed(&mut self.queue) {}
@@ -346,17 +355,18 @@ impl<'a> Reader<'a> {
         }
     }
 
-    /// Reads a text, a tag or a comment that begins here in the data state. Returns its end.
+    /// Reads a text, a tag or a comment that begins here in the data state. Returns its end. No raw text follows what is given to the tree
+    /// builder, which then always says to go on.
     fn read_in_data(&mut self, start: usize) -> usize {
         let bytes = self.page.text.as_bytes();
         match &bytes[start..] {
             [b'<', b'!', b'-', b'-', content @ ..] => {
-                self.give(Token::CommentToken(StrTendril::new()));
+                let _ = self.tokenizer.sink.give(Token::CommentToken(StrTendril::new()), 1);
                 start + "<!--".len() + comment_length(content)
             }
             [b'<', ..] => match self.plain_tag(start) {
                 Some(PlainTag { tag, end }) => {
-                    self.give(Token::TagToken(tag));
+                    self.tokenizer.sink.give_tag(tag);
                     end
                 }
                 None => self.feed_in_data(start),
@@ -375,10 +385,10 @@ impl<'a> Reader<'a> {
     /// Gives the tree builder a text.
     fn give_text(&mut self, start: usize, end: usize) {
         let mut at = start;
-        while at < end {
+        while at < end && self.tokenizer.sink.refusal.is_none() {
             let next = self.page.end(at, end);
             let piece = self.page.piece(at, next);
-            self.give(Token::CharacterTokens(piece));
+            let _ = self.tokenizer.sink.give(Token::CharacterTokens(piece), 1);
             at = next;
         }
     }

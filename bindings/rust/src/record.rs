@@ -65,7 +65,7 @@ pub(crate) struct Recorder {
     /// Whether there is more than numbers of 32 bits can name, or memory is out.
     pub is_out_of_memory: bool,
     filter: Filter,
-    names: Vec<(LocalName, Piece)>,
+    names: Box<[(LocalName, Piece); NAMES]>,
     /// The longest horizontal line so far.
     rule: Piece,
     node_count: u32,
@@ -79,7 +79,7 @@ impl Recorder {
             text,
             is_out_of_memory: false,
             filter,
-            names: vec![(local_name!(""), (0, 0)); NAMES],
+            names: Box::new([(); NAMES].map(|()| (local_name!(""), (0, 0)))),
             rule: (0, 0),
             node_count: 0,
         }
@@ -115,15 +115,23 @@ impl Recorder {
         (start as u32, (self.text.len() - start) as u32)
     }
 
+    #[inline]
     fn keep_name(&mut self, name: &LocalName) -> Piece {
         let slot = name.get_hash() as usize % NAMES;
-        if self.names[slot].0 != *name {
-            let piece = self.keep_by(name, |name, to| Filter::default().append(name, to));
-            self.names[slot] = (name.clone(), piece);
+        match &self.names[slot] {
+            (kept, piece) if kept == name => *piece,
+            _ => self.keep_another_name(name, slot),
         }
-        self.names[slot].1
     }
 
+    #[cold]
+    fn keep_another_name(&mut self, name: &LocalName, slot: usize) -> Piece {
+        let piece = self.keep_by(name, |name, to| Filter::default().append(name, to));
+        self.names[slot] = (name.clone(), piece);
+        piece
+    }
+
+    #[inline]
     fn push(&mut self, step: Step) {
         if self.steps.len() == self.steps.capacity() && self.steps.try_reserve(1).is_err() {
             self.is_out_of_memory = true;

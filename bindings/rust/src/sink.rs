@@ -87,7 +87,7 @@ impl TreeSink for Sink {
 
     fn append(&mut self, parent: &Id, child: NodeOrText<Id>) {
         match child {
-            NodeOrText::AppendNode(node) => self.tree.insert(*parent, NONE, node),
+            NodeOrText::AppendNode(node) => self.tree.append(*parent, node),
             NodeOrText::AppendText(text) => match self.tree.element(*parent) {
                 // the text of a style sheet or a script isn't shown
                 Some(Element { name: local_name!("style"), space: ns!(html), .. }) => {

@@ -38,6 +38,13 @@ pub(crate) struct Element {
     pub is_integration_point: bool,
 }
 
+impl Element {
+    /// Returns an element with so many of the tree's attributes from one on.
+    fn new(name: QualName, attributes: usize, count: usize) -> Element {
+        Element { space: name.ns, name: name.local, attributes: attributes as u32, attribute_count: count as u16, is_integration_point: false }
+    }
+}
+
 /// What a node is.
 #[derive(Debug)]
 pub(crate) enum Data {
@@ -114,15 +121,12 @@ impl Tree {
     /// Adds an element that has no parent, with those of the attributes that are asked for.
     pub fn add_element(&mut self, name: QualName, attributes: Vec<Attribute>, is_asked: impl Fn(&LocalName) -> bool) -> Id {
         let start = self.attributes.len();
+        if attributes.is_empty() {
+            return self.add(Data::Element(Element::new(name, start, 0)));
+        }
         let asked = attributes.into_iter().filter(|attribute| is_asked(&attribute.name.local));
         self.attributes.extend(asked.take(MAX_ATTRIBUTES).map(|attribute| Attr { name: attribute.name.local, value: attribute.value }));
-        self.add(Data::Element(Element {
-            space: name.ns,
-            name: name.local,
-            attributes: start as u32,
-            attribute_count: (self.attributes.len() - start) as u16,
-            is_integration_point: false,
-        }))
+        self.add(Data::Element(Element::new(name, start, self.attributes.len() - start)))
     }
 
     /// Gives an element an attribute, unless it has one of that name or `MAX_ATTRIBUTES`.
@@ -203,18 +207,28 @@ impl Tree {
         0..self.nodes.len() as Id
     }
 
+    /// Appends a node, which has no parent, to the children of another.
+    pub fn append(&mut self, parent: Id, node: Id) {
+        let previous = std::mem::replace(&mut self.nodes[parent as usize].last, node);
+        let links = &mut self.nodes[node as usize];
+        (links.parent, links.previous) = (parent, previous);
+        match previous {
+            NONE => self.nodes[parent as usize].first = node,
+            _ => self.nodes[previous as usize].next = node,
+        }
+    }
+
     /// Appends a node, which has no parent, to the children of another, or inserts it before one of these.
     pub fn insert(&mut self, parent: Id, before: Id, node: Id) {
-        let previous = if before == NONE { self.nodes[parent as usize].last } else { self.nodes[before as usize].previous };
+        if before == NONE {
+            return self.append(parent, node);
+        }
+        let previous = std::mem::replace(&mut self.nodes[before as usize].previous, node);
         let links = &mut self.nodes[node as usize];
         (links.parent, links.previous, links.next) = (parent, previous, before);
         match previous {
             NONE => self.nodes[parent as usize].first = node,
             _ => self.nodes[previous as usize].next = node,
-        }
-        match before {
-            NONE => self.nodes[parent as usize].last = node,
-            _ => self.nodes[before as usize].previous = node,
         }
     }
 
@@ -258,6 +272,7 @@ impl Tree {
     }
 
     /// Appends a text to the children of a node, or inserts it before one of these. It joins a text directly before its place.
+    #[inline]
     pub fn insert_text(&mut self, parent: Id, before: Id, text: &str) {
         let (start, length) = self.keep(text);
         if length == 0 {

@@ -80,6 +80,8 @@ pub(crate) enum Part {
 /// Returns what becomes of an HTML element.
 pub(crate) fn change_of(name: &LocalName) -> Change {
     match *name {
+        // the most frequent ones
+        local_name!("a") | local_name!("br") | local_name!("div") | local_name!("i") | local_name!("img") | local_name!("li") | local_name!("p") | local_name!("span") => Change::Kept,
         local_name!("canvas") | local_name!("datalist") | local_name!("noembed") | local_name!("noframes") | local_name!("title") => Change::Dropped,
         local_name!("address")
         | local_name!("article")

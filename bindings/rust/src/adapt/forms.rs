@@ -1,6 +1,6 @@
 //! Fields and buttons of forms as texts.
 
-use super::{is_dropped, said_by};
+use super::is_dropped;
 use crate::tree::{Data, Id, Tree};
 use html5ever::{local_name, LocalName};
 
@@ -48,7 +48,7 @@ fn options(tree: &Tree, select: Id) -> Vec<Id> {
             _ => {}
         }
     }
-    found.retain(|&option| !is_dropped(&said_by(tree.attributes_of(option), true)));
+    found.retain(|&option| !is_dropped(tree.attributes_of(option), true));
     found
 }
 

@@ -4,21 +4,21 @@
 const RULE_IN_CELL: u32 = 3;
 
 /// Columns of the prefix of an item without a number.
-pub(super) const BULLET: u32 = 2;
+pub(super) const BULLET: u8 = 2;
 
 /// The prefixes around a place.
 #[derive(Clone, Copy, Debug, Default)]
 pub(crate) struct Margins {
     columns: u32,
     /// Columns of the prefix of the children of a list that is directly around.
-    of_items: u32,
+    of_items: u8,
     is_in_cell: bool,
 }
 
 impl Margins {
     /// Returns the margins in a child.
     pub fn inside(self) -> Margins {
-        Margins { columns: self.columns.saturating_add(self.of_items), of_items: 0, ..self }
+        Margins { columns: self.columns.saturating_add(self.of_items.into()), of_items: 0, ..self }
     }
 
     /// Adds a prefix.
@@ -27,7 +27,7 @@ impl Margins {
     }
 
     /// Adds the prefix that the items of a list have.
-    pub fn add_items(&mut self, columns: u32) {
+    pub fn add_items(&mut self, columns: u8) {
         self.of_items = columns;
     }
 

@@ -23,7 +23,8 @@ use html5ever::{local_name, namespace_url, ns, LocalName};
 use lists::Filled;
 use margins::{Margins, BULLET};
 use numbers::Plan;
-use style::InlineStyle;
+use style::{InlineStyle, Styles};
+use tendril::StrTendril;
 
 /// What is known of the elements around a place.
 #[derive(Clone, Copy, Debug, Default)]
@@ -104,6 +105,16 @@ struct Said {
     is_hidden: bool,
 }
 
+impl Said {
+    /// Whether nothing is shown of the element, nor of what is in it.
+    fn drops(&self) -> bool {
+        match &self.style {
+            Some(style) => style.drops(self.is_hidden),
+            None => self.is_hidden,
+        }
+    }
+}
+
 /// An element that is being recorded.
 struct Opened<'a> {
     node: Id,
@@ -120,12 +131,13 @@ pub(crate) struct Adapter<'a> {
     tree: &'a Tree,
     adaptation: Adaptation,
     filled: Filled,
+    styles: Styles,
     pub rules: PrivateRules,
 }
 
 impl<'a> Adapter<'a> {
     pub fn new(tree: &'a Tree, adaptation: Adaptation) -> Adapter<'a> {
-        Adapter { tree, adaptation, filled: Filled::default(), rules: PrivateRules::default() }
+        Adapter { tree, adaptation, filled: Filled::default(), styles: Styles::default(), rules: PrivateRules::default() }
     }
 
     /// Records what precedes the document: its title, if it is asked for.
@@ -141,11 +153,12 @@ impl<'a> Adapter<'a> {
     pub fn open(&mut self, recorder: &mut Recorder, node: Id, element: &'a Element, around: Place) -> Option<Entered> {
         let attributes = self.tree.attributes_of(node);
         let is_html = element.space == ns!(html);
-        let mut opened = Opened { node, element, attributes, parent: around.handle, said: said_by(attributes, is_html), start: None };
+        let said = self.said_by(attributes, is_html);
+        let mut opened = Opened { node, element, attributes, parent: around.handle, said, start: None };
         let change = if is_html { change_of(&element.name) } else { Change::Kept };
         let mut context = around.context.inside();
         self.hide_texts(&mut context, &opened.said, change);
-        if is_dropped(&opened.said) || context.is_invisible && is_picture(element) {
+        if opened.said.drops() || context.is_invisible && is_picture(element) {
             return None;
         }
         if is_html && around.context.holds == Holds::Descriptions && element.name == local_name!("div") {
@@ -183,7 +196,8 @@ impl<'a> Adapter<'a> {
                 context.margins.add_items(plan.columns);
                 opened.start = Some(plan.first).filter(|&first| first != 1);
                 let handle = self.record(recorder, &opened);
-                Some(Entered { numbers: Some(plan.numbers(around.handle)), ..Entered::new(handle, context) })
+                let numbers = Box::new(plan.numbers(around.handle));
+                Some(Entered { numbers: Some(numbers), ..Entered::new(handle, context) })
             }
             Change::Descriptions => {
                 context.holds = Holds::Descriptions;
@@ -197,29 +211,29 @@ impl<'a> Adapter<'a> {
         }
     }
 
-    /// Whether an element with something to show is directly in a list, and isn't an item of it.
-    pub fn is_loose(&mut self, text: &[u8], node: Id, element: &Element, holds: Holds) -> bool {
+    /// Whether an element that isn't an item of the list around it has something to show.
+    pub fn is_loose(&mut self, text: &[u8], node: Id, element: &Element) -> bool {
         let is_html = element.space == ns!(html);
         let attributes = self.tree.attributes_of(node);
         let is_shown = match change_of(&element.name) {
-            _ if holds.takes(element) => false,
             _ if !is_html => true,
             Change::Dropped => false,
             Change::Dialog => attributes.iter().any(|attribute| attribute.name == local_name!("open")),
             _ => true,
         };
-        is_shown && self.filled.has(self.tree, text, node) && !is_dropped(&said_by(attributes, is_html))
+        is_shown && self.filled.has(self.tree, text, node) && !self.said_by(attributes, is_html).drops()
     }
 
     /// Counts an item of an `ol`. Returns the list that it is put in, if its number isn't the next one: lists count upwards one by one.
     pub fn open_item(&mut self, recorder: &mut Recorder, list: Id, item: Option<Id>, numbers: &mut Numbers) -> Option<Handle> {
-        if item.map_or(false, |item| is_dropped(&said_by(self.tree.attributes_of(item), true))) {
+        if item.map_or(false, |item| self.said_by(self.tree.attributes_of(item), true).drops()) {
             return None;
         }
-        let start = numbers.count(item.and_then(|item| numbers::own_number(self.tree, item)));
+        let start = numbers.count(item.and_then(|item| numbers::own_number(self.tree, item)))?;
         let (element, attributes) = (self.tree.element(list)?, self.tree.attributes_of(list));
-        let part = Opened { node: list, element, attributes, parent: numbers.parent, said: said_by(attributes, true), start };
-        start.map(|_| self.record(recorder, &part))
+        let said = self.said_by(attributes, true);
+        let part = Opened { node: list, element, attributes, parent: numbers.parent, said, start: Some(start) };
+        Some(self.record(recorder, &part))
     }
 
     /// Records the element that shows what is directly in a list: a division of the item before it, or an item or a description.
@@ -335,6 +349,10 @@ impl<'a> Adapter<'a> {
         recorder.text(anchor, piece);
     }
 
+    fn said_by(&mut self, attributes: &[Attr], is_html: bool) -> Said {
+        said_by(attributes, is_html, |text| self.styles.of(text))
+    }
+
     /// Notes whether an element hides or shows the texts in it.
     fn hide_texts(&self, context: &mut Context, said: &Said, change: Change) {
         let style = said.style.as_ref();
@@ -394,12 +412,13 @@ fn names_contents(attributes: &[Attr]) -> bool {
     attributes.iter().any(|attribute| attribute.name == local_name!("data") && !attribute.value.trim().is_empty())
 }
 
-/// Reads what an element's attributes say of it; only HTML has `hidden`.
-fn said_by(attributes: &[Attr], is_html: bool) -> Said {
+/// Returns what an element's attributes say of it; only HTML has `hidden`. A function reads a `style`.
+#[inline]
+fn said_by(attributes: &[Attr], is_html: bool, mut read: impl FnMut(&StrTendril) -> InlineStyle) -> Said {
     let mut said = Said::default();
     for attribute in attributes {
         match attribute.name {
-            local_name!("style") => said.style = Some(InlineStyle::of(&attribute.value)),
+            local_name!("style") => said.style = Some(read(&attribute.value)),
             local_name!("hidden") => said.is_hidden = is_html,
             _ => {}
         }
@@ -407,12 +426,9 @@ fn said_by(attributes: &[Attr], is_html: bool) -> Said {
     said
 }
 
-/// Whether nothing is shown of an element, nor of what is in it.
-fn is_dropped(said: &Said) -> bool {
-    match &said.style {
-        Some(style) => style.drops(said.is_hidden),
-        None => said.is_hidden,
-    }
+/// Whether nothing is shown of an element of these attributes, nor of what is in it.
+fn is_dropped(attributes: &[Attr], is_html: bool) -> bool {
+    said_by(attributes, is_html, |text| InlineStyle::of(text)).drops()
 }
 
 /// Whether an element is an image or a drawing, which has a text of its own.

@@ -1,7 +1,7 @@
 //! Numbers of the items of an `ol`.
 
 use super::lists::{is_blank, Holds};
-use super::{is_dropped, said_by};
+use super::is_dropped;
 use crate::record::Handle;
 use crate::tree::{Data, Id, Tree};
 use html5ever::{local_name, LocalName};
@@ -22,7 +22,7 @@ pub(crate) struct Numbers {
 /// The first number of a list, the widest one, and how it counts.
 pub(crate) struct Plan {
     pub first: i64,
-    pub columns: u32,
+    pub columns: u8,
     step: i64,
 }
 
@@ -48,30 +48,37 @@ fn is_nothing(tree: &Tree, text: &[u8], node: Id) -> bool {
     }
 }
 
+/// Returns the number of columns of a number and the full stop and space after it.
+fn columns_of(number: i64) -> u8 {
+    number.to_string().len() as u8 + 2
+}
+
 impl Plan {
     /// Returns how the items of an `ol` are numbered. What precedes its first item without being one counts as an item.
     /// The texts of the tree are ranges of `text`.
     pub fn of(tree: &Tree, text: &[u8], node: Id) -> Plan {
         let is_item = |&child: &Id| matches!(tree.element(child), Some(element) if Holds::Items.takes(element));
-        let shown = |&item: &Id| !is_dropped(&said_by(tree.attributes_of(item), true));
+        let shown = |&item: &Id| !is_dropped(tree.attributes_of(item), true);
         let items = || tree.children(node).filter(is_item).filter(shown);
         let begins_loose = tree.children(node).find(|&child| !is_nothing(tree, text, child)).map_or(false, |first| !is_item(&first));
         let is_reversed = tree.attribute(node, &local_name!("reversed")).is_some();
-        let count = items().count() as i64;
+        let count = || items().count() as i64;
         let step = if is_reversed { -1 } else { 1 };
-        let start = number_of(tree, node, &local_name!("start")).unwrap_or(if is_reversed { count } else { 1 });
-        let columns = |number: i64| number.to_string().len() as u32 + 2;
-        let (mut next, mut first, mut widest) = (start, None, columns(start));
+        let start = number_of(tree, node, &local_name!("start")).unwrap_or_else(|| if is_reversed { count() } else { 1 });
+        let (mut least, mut most) = (start, start);
+        let mut widen = |number: i64| (least, most) = (least.min(number), most.max(number));
         if begins_loose {
-            widest = widest.max(columns(start + step * count));
+            widen(start + step * count());
         }
+        let (mut next, mut first) = (start, None);
         for item in items() {
-            let number = number_of(tree, item, &local_name!("value")).unwrap_or(next);
+            let number = own_number(tree, item).unwrap_or(next);
             first = first.or(Some(number));
-            widest = widest.max(columns(number));
+            widen(number);
             next = number + step;
         }
-        Plan { first: first.filter(|_| !begins_loose).unwrap_or(start), columns: widest, step }
+        let columns = columns_of(least).max(columns_of(most));
+        Plan { first: first.filter(|_| !begins_loose).unwrap_or(start), columns, step }
     }
 
     /// Returns the numbers of a list that is put in a node.

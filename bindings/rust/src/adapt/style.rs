@@ -5,6 +5,8 @@ use crate::lines::Colour;
 use cssparser::{
     parse_important, AtRuleParser, CowRcStr, DeclarationListParser, DeclarationParser, Parser, ParserInput, Token,
 };
+use std::collections::HashMap;
+use tendril::StrTendril;
 
 /// A value, and whether it is important.
 #[derive(Clone, Copy, Debug, PartialEq, Eq)]
@@ -14,7 +16,7 @@ pub(crate) struct Declared<T> {
 }
 
 /// The declarations of an attribute `style` that win over the others in it.
-#[derive(Debug, Default)]
+#[derive(Clone, Copy, Debug, Default)]
 pub(crate) struct InlineStyle {
     is_displayed: Option<Declared<bool>>,
     is_hidden_in_word: Option<Declared<bool>>,
@@ -25,6 +27,29 @@ pub(crate) struct InlineStyle {
     pub colour: Option<Declared<Colour>>,
     pub background: Option<Declared<Colour>>,
     pub white_space: Option<Declared<u32>>,
+}
+
+/// Maximum number of texts whose declarations are remembered.
+const MAX_REMEMBERED: usize = 1_000;
+
+/// Reads values of the attribute `style`. A value that is repeated is read once.
+#[derive(Default)]
+pub(crate) struct Styles {
+    read: HashMap<StrTendril, InlineStyle>,
+}
+
+impl Styles {
+    /// Returns what a value declares.
+    pub fn of(&mut self, text: &StrTendril) -> InlineStyle {
+        if let Some(style) = self.read.get(text) {
+            return *style;
+        }
+        let style = InlineStyle::of(text);
+        if self.read.len() < MAX_REMEMBERED {
+            self.read.insert(text.clone(), style);
+        }
+        style
+    }
 }
 
 /// A declaration, before it is known whether it wins.
@@ -248,6 +273,16 @@ mod tests {
             let read = InlineStyle::of(style);
             assert_eq!((read.is_visible(), read.has_size()), (visible, size), "{style}");
         }
+    }
+
+    #[test]
+    fn styles_are_remembered() {
+        let mut styles = Styles::default();
+        for number in (0..2 * MAX_REMEMBERED).chain(0..4) {
+            let text = format!("display: {}; font-size: {number}px", ["none", "block"][number % 2]);
+            assert_eq!(styles.of(&text.as_str().into()).drops(false), number % 2 == 0, "{text}");
+        }
+        assert_eq!(styles.read.len(), MAX_REMEMBERED);
     }
 
     #[test]
