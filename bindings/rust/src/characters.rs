@@ -25,14 +25,14 @@ pub(crate) fn is_control(c: char) -> bool {
 }
 
 /// Returns a number other than 0 if a byte can begin a character that a filter drops. It has no branches, so that many bytes are looked at
-/// at once. The first byte is 0xc2 or 0xe2 of all that are longer than one byte.
+/// at once. A dropped character of several bytes begins with 0xc2 or 0xe2.
 fn suspicion(byte: u8) -> u8 {
-    (u8::from(byte < 0x20) & u8::from(byte != b'\n') & u8::from(byte != b'\t')) | u8::from(byte == 0x7f) | u8::from(byte | 0x20 == 0xe2)
+    (u8::from(byte < 0x20) & u8::from(byte != b'\n') & u8::from(byte != b'\t')) | u8::from(byte == 0x7f) | u8::from((byte | 0x20) == 0xe2)
 }
 
 /// Whether a text has a byte with which a dropped character can begin.
 fn is_suspect(text: &str) -> bool {
-    const BLOCK: usize = 32;
+    const BLOCK: usize = 256;
     let found = |bytes: &[u8]| bytes.iter().fold(0, |found, &byte| found | suspicion(byte)) != 0;
     let mut blocks = text.as_bytes().chunks_exact(BLOCK);
     blocks.any(found) || found(blocks.remainder())
@@ -119,7 +119,7 @@ mod tests {
     fn each_dropped_character_is_suspect() {
         let all = Filter { keeps_controls: false, drops_soft_hyphens: true };
         for c in ('\0'..=char::MAX).filter(|&c| all.drops(c)) {
-            assert!(is_suspect(&c.to_string()) && is_suspect(&format!("{c:a>70}")), "{c:?}");
+            assert!(is_suspect(&c.to_string()) && is_suspect(&format!("{c:a>300}")), "{c:?}");
         }
     }
 }

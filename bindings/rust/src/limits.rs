@@ -102,15 +102,18 @@ pub(crate) struct OpenElements {
 
 impl OpenElements {
     /// Whether there is room for the element of a tag.
+    #[inline]
     pub fn takes(&mut self, tag: &Tag, builder: &TreeBuilder<Id, Sink>) -> bool {
         if tag.kind == TagKind::EndTag {
             self.forget();
             return true;
         }
         let nodes = builder.sink.tree.node_count();
-        if nodes < self.next_count {
-            return true;
-        }
+        nodes < self.next_count || self.has_room(nodes, tag, builder)
+    }
+
+    #[cold]
+    fn has_room(&mut self, nodes: usize, tag: &Tag, builder: &TreeBuilder<Id, Sink>) -> bool {
         if !self.is_full {
             let open = open_elements(builder);
             self.is_full = open >= MAX_OPEN;

@@ -95,7 +95,7 @@ impl Names {
         Some((self.known(&written), written.end))
     }
 
-    #[inline]
+    #[inline(always)]
     fn known(&mut self, written: &Written<'_>) -> &Known {
         let is_longer = written.length() > MAX_LENGTH;
         let key = if is_longer { written.key | IS_LONGER } else { written.key };
@@ -125,7 +125,7 @@ struct Written<'a> {
 
 impl<'a> Written<'a> {
     /// Returns the name that begins at an offset, unless it is empty. A function says which offsets and bytes are parts of it.
-    #[inline]
+    #[inline(always)]
     fn new(text: &'a str, start: usize, is_part: impl Fn(usize, u8) -> bool) -> Option<Written<'a>> {
         let (mut key, mut end) = (0, start);
         for &byte in text.as_bytes().get(start..)? {

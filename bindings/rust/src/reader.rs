@@ -409,7 +409,7 @@ impl<'a> Reader<'a> {
             }
             let name = QualName::new(None, ns!(), known.name.clone());
             if attributes.capacity() == 0 {
-                attributes.reserve_exact(USUAL_ATTRIBUTES);
+                *attributes = Vec::with_capacity(USUAL_ATTRIBUTES);
             }
             attributes.push(Attribute { name, value: self.page.piece(value, end) });
         }

@@ -246,11 +246,13 @@ impl<'a> Adapter<'a> {
     }
 
     /// Records an element under its own name, with its attributes.
+    #[inline]
     fn record(&mut self, recorder: &mut Recorder, opened: &Opened<'_>) -> Handle {
         self.record_as(recorder, opened, &opened.element.name, "")
     }
 
     /// Records an element under a name and a private class, with its attributes.
+    #[inline]
     fn record_as(&mut self, recorder: &mut Recorder, opened: &Opened<'_>, name: &LocalName, class: &str) -> Handle {
         let handle = recorder.element(opened.parent, record::space(&opened.element.space), name);
         if !opened.attributes.is_empty() || !class.is_empty() || opened.start.is_some() {
@@ -349,7 +351,11 @@ impl<'a> Adapter<'a> {
         recorder.text(anchor, piece);
     }
 
+    #[inline]
     fn said_by(&mut self, attributes: &[Attr], is_html: bool) -> Said {
+        if attributes.is_empty() {
+            return Said::default();
+        }
         said_by(attributes, is_html, |text| self.styles.of(text))
     }
 
