@@ -33,17 +33,32 @@ pub(crate) enum Refusal {
     OutOfMemory,
 }
 
-/// Looks at the size of a tree, and makes room for what a token makes.
-#[inline]
-pub(crate) fn look_at(tree: &mut Tree) -> Result<(), Refusal> {
-    let most = tree.node_count().max(tree.attribute_count());
-    if most <= MAX_NODES && tree.has_room(ROOM.0, ROOM.1) && !tree.is_out_of_memory {
-        Ok(())
-    } else if most > MAX_NODES {
-        Err(Refusal::TooLarge)
-    } else if tree.is_out_of_memory || !tree.make_room(ROOM.0, ROOM.1) {
-        Err(Refusal::OutOfMemory)
-    } else {
+/// The numbers of nodes and attributes up to which there is room for what a token makes.
+#[derive(Default)]
+pub(crate) struct Room {
+    nodes: usize,
+    attributes: usize,
+}
+
+impl Room {
+    /// Whether there is room in a tree.
+    #[inline]
+    pub fn is_enough(&self, tree: &Tree) -> bool {
+        tree.node_count() < self.nodes && tree.attribute_count() < self.attributes && !tree.is_out_of_memory
+    }
+
+    /// Makes room in a tree, if it may grow.
+    #[cold]
+    pub fn make(&mut self, tree: &mut Tree) -> Result<(), Refusal> {
+        if tree.node_count().max(tree.attribute_count()) > MAX_NODES {
+            return Err(Refusal::TooLarge);
+        }
+        if tree.is_out_of_memory || !tree.make_room(ROOM.0, ROOM.1) {
+            return Err(Refusal::OutOfMemory);
+        }
+        let (nodes, attributes) = tree.capacity();
+        self.nodes = (nodes - ROOM.0).min(MAX_NODES) + 1;
+        self.attributes = (attributes - ROOM.1).min(MAX_NODES) + 1;
         Ok(())
     }
 }

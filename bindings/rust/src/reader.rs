@@ -5,7 +5,7 @@
 //! through html5ever's tokenizer, up to the end of a tag, a comment or a doctype that doesn't begin raw text: there it is back in the
 //! state in which texts and tags are read, which HTML calls the data state.
 
-use crate::limits::{self, OpenElements, Refusal, FEW_ATTRIBUTES};
+use crate::limits::{self, OpenElements, Refusal, Room, FEW_ATTRIBUTES};
 use crate::names::{is_asked_by_builder, Names};
 use crate::sink::{Sink, Wanted};
 use crate::tree::Id;
@@ -20,6 +20,7 @@ struct Watched {
     builder: TreeBuilder<Id, Sink>,
     is_asked: fn(&LocalName) -> bool,
     open: OpenElements,
+    room: Room,
     refusal: Option<Refusal>,
     /// Whether the last token ends in the data state.
     is_at_end: bool,
@@ -74,7 +75,9 @@ impl Watched {
 
     #[inline]
     fn look_at_size(&mut self) {
-        self.refusal = limits::look_at(&mut self.builder.sink.tree).err();
+        if !self.room.is_enough(&self.builder.sink.tree) {
+            self.refusal = self.room.make(&mut self.builder.sink.tree).err();
+        }
     }
 }
 
@@ -184,12 +187,6 @@ pub(crate) struct Reader<'a> {
     is_in_data: bool,
 }
 
-/// A tag in the plainest form, and where it ends.
-struct PlainTag {
-    tag: Tag,
-    end: usize,
-}
-
 /// Whether the tokenizer makes something else of a byte of a text than the byte.
 fn is_special(byte: u8) -> bool {
     matches!(byte, b'&' | b'\r' | 0)
@@ -233,7 +230,7 @@ impl<'a> Reader<'a> {
 
     fn new(page: &'a str, sink: Sink, wanted: Wanted, options: TreeBuilderOpts) -> Reader<'a> {
         let builder = TreeBuilder::new(sink, options);
-        let watched = Watched { builder, is_asked: wanted.is_asked, open: OpenElements::default(), refusal: None, is_at_end: false, raw: None, #[cfg(test)] most_attributes: 0 };
+        let watched = Watched { builder, is_asked: wanted.is_asked, open: OpenElements::default(), room: Room::default(), refusal: None, is_at_end: false, raw: None, #[cfg(test)] most_attributes: 0 };
         // the tokenizer would drop a byte order mark before each piece that it is given
         let options = TokenizerOpts { discard_bom: false, ..TokenizerOpts::default() };
         Reader {
@@ -364,13 +361,7 @@ impl<'a> Reader<'a> {
                 let _ = self.tokenizer.sink.give(Token::CommentToken(StrTendril::new()), 1);
                 start + "<!--".len() + comment_length(content)
             }
-            [b'<', ..] => match self.plain_tag(start) {
-                Some(PlainTag { tag, end }) => {
-                    self.tokenizer.sink.give_tag(tag);
-                    end
-                }
-                None => self.feed_in_data(start),
-            },
+            [b'<', ..] => self.give_plain_tag(start).unwrap_or_else(|| self.feed_in_data(start)),
             _ => {
                 let end = start + self.page.text_length(start);
                 if end < bytes.len() && bytes[end] != b'<' {
@@ -416,9 +407,9 @@ impl<'a> Reader<'a> {
         Some(end + 1)
     }
 
-    /// Returns the tag that begins here, where it is written in the plainest way and no raw text follows. It has the attributes that are
-    /// asked for; the tree builder compares formatting elements, and they have all.
-    fn plain_tag(&mut self, start: usize) -> Option<PlainTag> {
+    /// Gives the tree builder the tag that begins here, where it is written in the plainest way and no raw text follows. Returns its end.
+    /// The tag has the attributes that are asked for; the tree builder compares formatting elements, and they have all.
+    fn give_plain_tag(&mut self, start: usize) -> Option<usize> {
         let text = self.page.text.as_bytes();
         let (kind, name) = match text.get(start + 1)? {
             b'/' => (TagKind::EndTag, start + 2),
@@ -438,8 +429,8 @@ impl<'a> Reader<'a> {
         if text[end] != b'>' {
             return None;
         }
-        let tag = Tag { kind, name, self_closing: false, attrs };
-        Some(PlainTag { tag, end: end + 1 })
+        self.tokenizer.sink.give_tag(Tag { kind, name, self_closing: false, attrs });
+        Some(end + 1)
     }
 }
 

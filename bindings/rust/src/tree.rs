@@ -100,10 +100,9 @@ impl Tree {
         self.attributes.len()
     }
 
-    /// Whether there is room for so many nodes and attributes.
-    #[inline]
-    pub fn has_room(&self, nodes: usize, attributes: usize) -> bool {
-        self.nodes.capacity() - self.nodes.len() >= nodes && self.attributes.capacity() - self.attributes.len() >= attributes
+    /// Returns the numbers of nodes and attributes that there is memory for.
+    pub fn capacity(&self) -> (usize, usize) {
+        (self.nodes.capacity(), self.attributes.capacity())
     }
 
     /// Makes room for so many nodes and attributes. Returns whether there is memory for them.
@@ -170,10 +169,13 @@ impl Tree {
 
     /// Returns the attributes that were asked for of an element; none of another node.
     pub fn attributes_of(&self, node: Id) -> &[Attr] {
-        match self.element(node) {
-            Some(element) => &self.attributes[element.attributes as usize..][..element.attribute_count as usize],
-            None => &[],
-        }
+        self.element(node).map_or(&[], |element| self.attributes(element))
+    }
+
+    /// Returns the attributes that were asked for of an element.
+    #[inline]
+    pub fn attributes(&self, element: &Element) -> &[Attr] {
+        &self.attributes[element.attributes as usize..][..element.attribute_count as usize]
     }
 
     /// Returns the value of an element's attribute.

@@ -151,7 +151,7 @@ impl<'a> Adapter<'a> {
 
     /// Records an element, and what of its contents isn't in the tree. Returns where its children are recorded, if they are.
     pub fn open(&mut self, recorder: &mut Recorder, node: Id, element: &'a Element, around: Place) -> Option<Entered> {
-        let attributes = self.tree.attributes_of(node);
+        let attributes = self.tree.attributes(element);
         let is_html = element.space == ns!(html);
         let said = self.said_by(attributes, is_html);
         let mut opened = Opened { node, element, attributes, parent: around.handle, said, start: None };
@@ -214,7 +214,7 @@ impl<'a> Adapter<'a> {
     /// Whether an element that isn't an item of the list around it has something to show.
     pub fn is_loose(&mut self, text: &[u8], node: Id, element: &Element) -> bool {
         let is_html = element.space == ns!(html);
-        let attributes = self.tree.attributes_of(node);
+        let attributes = self.tree.attributes(element);
         let is_shown = match change_of(&element.name) {
             _ if !is_html => true,
             Change::Dropped => false,
@@ -230,7 +230,8 @@ impl<'a> Adapter<'a> {
             return None;
         }
         let start = numbers.count(item.and_then(|item| numbers::own_number(self.tree, item)))?;
-        let (element, attributes) = (self.tree.element(list)?, self.tree.attributes_of(list));
+        let element = self.tree.element(list)?;
+        let attributes = self.tree.attributes(element);
         let said = self.said_by(attributes, true);
         let part = Opened { node: list, element, attributes, parent: numbers.parent, said, start: Some(start) };
         Some(self.record(recorder, &part))
