@@ -1,4 +1,4 @@
-/* Prints a document that calls build: a heading, a paragraph with a link, and a table. */
+/* Prints a document that calls build: a heading, a paragraph with a link and the content of a rule, and a table. */
 #include "html_render.h"
 
 #include <stdio.h>
@@ -10,10 +10,22 @@ static html_render_node element(html_render_recording *page, html_render_node pa
     return made;
 }
 
-static html_render_node text_element(html_render_recording *page, html_render_node parent, const char *name, const char *text) {
+static html_render_node text_element(html_render_recording *page, html_render_node parent, const char *name,
+                                     const char *text) {
     html_render_node made = element(page, parent, name);
     html_render_append_text(page, made, text, strlen(text));
     return made;
+}
+
+/* Adds the author's rule `p::after { content: "." }`. */
+static void end_paragraphs(html_render_recording *page) {
+    struct html_render_rule rule = {0};
+    rule.element = "p";
+    rule.declares = HTML_RENDER_CONTENT;
+    rule.content = ".";
+    rule.origin = HTML_RENDER_ORIGIN_AUTHOR;
+    rule.place = HTML_RENDER_PLACE_AFTER;
+    html_render_add_rule(page, &rule);
 }
 
 int main(void) {
@@ -37,6 +49,7 @@ int main(void) {
     text_element(page, row, "td", "20");
     html_render_set(page, HTML_RENDER_DO_DECORATE, 0, NULL);
     html_render_set(page, HTML_RENDER_LINK_FOOTNOTES, 1, NULL);
+    end_paragraphs(page);
     status = html_render_text_of(page, HTML_RENDER_PLAIN, 40, &text, &length);
     if (status == HTML_RENDER_OK)
         fwrite(text, 1, length, stdout);

@@ -1,28 +1,14 @@
+/* Records documents and settings for the library's two calls. */
 #include "html_render.h"
 #include "steps.h"
 
 #include <stdlib.h>
 #include <string.h>
 
-enum kind {
-    MAKE_ELEMENT = 1,
-    MAKE_COMMENT,
-    MAKE_INSTRUCTION,
-    ADD_ATTRIBUTE,
-    PUT_NODE,
-    PUT_TEXT,
-    PUT_NODE_BEFORE,
-    PUT_TEXT_BEFORE,
-    PUT_NODE_BY_PARENT,
-    PUT_TEXT_BY_PARENT,
-    REMOVE,
-    REPARENT,
-    TEMPLATE_CONTENTS,
-    PUT_DOCTYPE,
-    SET_QUIRKS
-};
-
-enum { ADD_STYLE_RULE = 13, IMPORTANT = 4, BEFORE = 8, AFTER = 16, HAS_ELEMENT = 32, HAS_ID = 64 };
+/* These compile only if the enumerations of a rule have 4 bytes, as they do in bindings of other languages. */
+typedef char properties_have_4_bytes[sizeof(enum html_render_property) == 4 ? 1 : -1];
+typedef char origins_have_4_bytes[sizeof(enum html_render_origin) == 4 ? 1 : -1];
+typedef char places_have_4_bytes[sizeof(enum html_render_place) == 4 ? 1 : -1];
 
 struct html_render_recording {
     struct html_render_step *steps;
@@ -31,11 +17,11 @@ struct html_render_recording {
     size_t setting_count, setting_room;
     uint8_t *text;
     size_t text_length, text_room;
-    html_render_node made;
-    int is_lost; /* memory was out */
+    html_render_node made; /* number of nodes made */
+    int is_lost;           /* whether memory was out */
 };
 
-/* A piece of the text. */
+/* A piece of the text: start and length in bytes. */
 struct piece {
     uint32_t start, length;
 };
@@ -53,7 +39,7 @@ void html_render_drop(html_render_recording *recording) {
     }
 }
 
-/* Answers an array with room for `more` items behind `count`, or NULL where memory is out; it is then as it was. */
+/* Returns an array with room for `more` items after `count`; NULL if memory is out, which leaves it as it is. */
 static void *with_room(void *items, size_t size, size_t count, size_t *room, size_t more) {
     size_t wanted = *room < 32 ? 64 : *room * 2;
     void *grown;
@@ -69,6 +55,7 @@ static void *with_room(void *items, size_t size, size_t count, size_t *room, siz
     return grown;
 }
 
+/* Appends a copy of a text to the text of the recording. Returns the piece. */
 static struct piece keep(html_render_recording *r, const char *text, size_t length) {
     struct piece none = {0, 0}, kept;
     uint8_t *grown;
@@ -87,10 +74,12 @@ static struct piece keep(html_render_recording *r, const char *text, size_t leng
     return kept;
 }
 
+/* Keeps a text that ends with a zero byte; an empty one for NULL. */
 static struct piece keep_word(html_render_recording *r, const char *text) {
     return keep(r, text, text ? strlen(text) : 0);
 }
 
+/* Appends a step. */
 static void put(html_render_recording *r, struct html_render_step step) {
     struct html_render_step *grown = with_room(r->steps, sizeof step, r->step_count, &r->step_room, 1);
     if (!grown) {
@@ -101,6 +90,7 @@ static void put(html_render_recording *r, struct html_render_step step) {
     r->steps[r->step_count++] = step;
 }
 
+/* Appends a step that makes a node. Returns the node's number. */
 static html_render_node make(html_render_recording *r, struct html_render_step step) {
     put(r, step);
     if (r->made == UINT32_MAX)
@@ -110,21 +100,26 @@ static html_render_node make(html_render_recording *r, struct html_render_step s
     return r->made;
 }
 
-static struct html_render_step about(enum kind kind, html_render_node node) {
+/* Returns a step of a kind, without names and texts. */
+static struct html_render_step about(enum html_render_step_kind kind, html_render_node node) {
     struct html_render_step step = {0};
     step.kind = kind;
     step.node = node;
     return step;
 }
 
-static struct html_render_step with_name(html_render_recording *r, struct html_render_step step, const char *name, size_t length) {
+/* Returns a step with a copy of a name. */
+static struct html_render_step with_name(html_render_recording *r, struct html_render_step step, const char *name,
+                                         size_t length) {
     struct piece piece = keep(r, name, length);
     step.name = piece.start;
     step.name_length = piece.length;
     return step;
 }
 
-static struct html_render_step with_value(html_render_recording *r, struct html_render_step step, const char *value, size_t length) {
+/* Returns a step with a copy of a text. */
+static struct html_render_step with_value(html_render_recording *r, struct html_render_step step, const char *value,
+                                          size_t length) {
     struct piece piece = keep(r, value, length);
     step.value = piece.start;
     step.value_length = piece.length;
@@ -132,82 +127,91 @@ static struct html_render_step with_value(html_render_recording *r, struct html_
 }
 
 html_render_node html_render_element(html_render_recording *r, uint32_t flags, const char *name, size_t length) {
-    struct html_render_step step = with_name(r, about(MAKE_ELEMENT, 0), name, length);
+    struct html_render_step step = with_name(r, about(HTML_RENDER_STEP_MAKE_ELEMENT, 0), name, length);
     step.flags = flags;
     return make(r, step);
 }
 
 html_render_node html_render_comment(html_render_recording *r, const char *text, size_t length) {
-    return make(r, with_value(r, about(MAKE_COMMENT, 0), text, length));
+    return make(r, with_value(r, about(HTML_RENDER_STEP_MAKE_COMMENT, 0), text, length));
 }
 
-html_render_node html_render_instruction(html_render_recording *r, const char *target, size_t target_length, const char *text, size_t length) {
-    return make(r, with_value(r, with_name(r, about(MAKE_INSTRUCTION, 0), target, target_length), text, length));
+html_render_node html_render_instruction(html_render_recording *r, const char *target, size_t target_length,
+                                         const char *text, size_t length) {
+    return make(r, with_value(r, with_name(r, about(HTML_RENDER_STEP_MAKE_INSTRUCTION, 0), target, target_length),
+                              text, length));
 }
 
 html_render_node html_render_template_contents(html_render_recording *r, html_render_node element) {
-    return make(r, about(TEMPLATE_CONTENTS, element));
+    return make(r, about(HTML_RENDER_STEP_TEMPLATE_CONTENTS, element));
 }
 
-void html_render_attribute(html_render_recording *r, html_render_node element, uint32_t name_space, const char *name, size_t name_length, const char *value, size_t length) {
-    struct html_render_step step = with_value(r, with_name(r, about(ADD_ATTRIBUTE, element), name, name_length), value, length);
+void html_render_attribute(html_render_recording *r, html_render_node element, uint32_t name_space, const char *name,
+                           size_t name_length, const char *value, size_t length) {
+    struct html_render_step step =
+        with_value(r, with_name(r, about(HTML_RENDER_STEP_ADD_ATTRIBUTE, element), name, name_length), value, length);
     step.flags = name_space;
     put(r, step);
 }
 
 void html_render_append(html_render_recording *r, html_render_node parent, html_render_node child) {
-    struct html_render_step step = about(PUT_NODE, parent);
+    struct html_render_step step = about(HTML_RENDER_STEP_PUT_NODE, parent);
     step.child = child;
     put(r, step);
 }
 
 void html_render_append_text(html_render_recording *r, html_render_node parent, const char *text, size_t length) {
-    put(r, with_value(r, about(PUT_TEXT, parent), text, length));
+    put(r, with_value(r, about(HTML_RENDER_STEP_PUT_TEXT, parent), text, length));
 }
 
 void html_render_append_before_sibling(html_render_recording *r, html_render_node sibling, html_render_node child) {
-    struct html_render_step step = about(PUT_NODE_BEFORE, sibling);
+    struct html_render_step step = about(HTML_RENDER_STEP_PUT_NODE_BEFORE, sibling);
     step.child = child;
     put(r, step);
 }
 
-void html_render_append_text_before_sibling(html_render_recording *r, html_render_node sibling, const char *text, size_t length) {
-    put(r, with_value(r, about(PUT_TEXT_BEFORE, sibling), text, length));
+void html_render_append_text_before_sibling(html_render_recording *r, html_render_node sibling, const char *text,
+                                            size_t length) {
+    put(r, with_value(r, about(HTML_RENDER_STEP_PUT_TEXT_BEFORE, sibling), text, length));
 }
 
-void html_render_append_based_on_parent_node(html_render_recording *r, html_render_node element, html_render_node other, html_render_node child) {
-    struct html_render_step step = about(PUT_NODE_BY_PARENT, element);
+void html_render_append_based_on_parent_node(html_render_recording *r, html_render_node element,
+                                             html_render_node other, html_render_node child) {
+    struct html_render_step step = about(HTML_RENDER_STEP_PUT_NODE_BY_PARENT, element);
     step.other = other;
     step.child = child;
     put(r, step);
 }
 
-void html_render_append_text_based_on_parent_node(html_render_recording *r, html_render_node element, html_render_node other, const char *text, size_t length) {
-    struct html_render_step step = with_value(r, about(PUT_TEXT_BY_PARENT, element), text, length);
+void html_render_append_text_based_on_parent_node(html_render_recording *r, html_render_node element,
+                                                  html_render_node other, const char *text, size_t length) {
+    struct html_render_step step = with_value(r, about(HTML_RENDER_STEP_PUT_TEXT_BY_PARENT, element), text, length);
     step.other = other;
     put(r, step);
 }
 
 void html_render_remove_from_parent(html_render_recording *r, html_render_node node) {
-    put(r, about(REMOVE, node));
+    put(r, about(HTML_RENDER_STEP_REMOVE, node));
 }
 
 void html_render_reparent_children(html_render_recording *r, html_render_node node, html_render_node new_parent) {
-    struct html_render_step step = about(REPARENT, node);
+    struct html_render_step step = about(HTML_RENDER_STEP_REPARENT, node);
     step.other = new_parent;
     put(r, step);
 }
 
-void html_render_doctype(html_render_recording *r, const char *name, size_t name_length, const char *public_id, size_t length) {
-    put(r, with_value(r, with_name(r, about(PUT_DOCTYPE, 0), name, name_length), public_id, length));
+void html_render_doctype(html_render_recording *r, const char *name, size_t name_length, const char *public_id,
+                         size_t length) {
+    put(r, with_value(r, with_name(r, about(HTML_RENDER_STEP_PUT_DOCTYPE, 0), name, name_length), public_id, length));
 }
 
 void html_render_quirks(html_render_recording *r, enum html_render_quirks_mode mode) {
-    struct html_render_step step = about(SET_QUIRKS, 0);
+    struct html_render_step step = about(HTML_RENDER_STEP_SET_QUIRKS, 0);
     step.flags = mode;
     put(r, step);
 }
 
+/* Appends a setting. */
 static void add_setting(html_render_recording *r, struct html_render_setting setting) {
     struct html_render_setting *grown = with_room(r->settings, sizeof setting, r->setting_count, &r->setting_room, 1);
     if (!grown) {
@@ -228,15 +232,34 @@ void html_render_set(html_render_recording *r, enum html_render_call call, uint3
     add_setting(r, setting);
 }
 
+/* Whether the origin and the place of a rule are of their enumerations. */
+static int has_origin_and_place(const struct html_render_rule *rule) {
+    return (uint32_t)rule->origin <= HTML_RENDER_ORIGIN_AUTHOR &&
+           (rule->place == HTML_RENDER_PLACE_ELEMENT || rule->place == HTML_RENDER_PLACE_BEFORE ||
+            rule->place == HTML_RENDER_PLACE_AFTER);
+}
+
+/* Returns the flags of a rule. */
+static uint32_t flags_of(const struct html_render_rule *rule) {
+    uint32_t flags = (uint32_t)rule->origin | (uint32_t)rule->place;
+    if (rule->important)
+        flags |= HTML_RENDER_RULE_IMPORTANT;
+    if (rule->element)
+        flags |= HTML_RENDER_RULE_HAS_ELEMENT;
+    if (rule->id)
+        flags |= HTML_RENDER_RULE_HAS_ID;
+    return flags;
+}
+
 void html_render_add_rule(html_render_recording *r, const struct html_render_rule *rule) {
     struct html_render_setting setting = {0};
     struct piece content = keep_word(r, rule->content), element = keep_word(r, rule->element);
     struct piece id = keep_word(r, rule->id), classes = keep_word(r, rule->classes);
-    setting.kind = ADD_STYLE_RULE;
+    /* kind 0 is no call, so that the setting is faulty */
+    setting.kind = has_origin_and_place(rule) ? HTML_RENDER_ADD_STYLE_RULE : 0;
     setting.number = rule->declares;
     setting.value = rule->value;
-    setting.flags = rule->origin % 4 + (rule->important ? IMPORTANT : 0) + (rule->element ? HAS_ELEMENT : 0) + (rule->id ? HAS_ID : 0);
-    setting.flags += rule->place == 1 ? BEFORE : rule->place == 2 ? AFTER : 0;
+    setting.flags = flags_of(rule);
     setting.text = content.start;
     setting.text_length = content.length;
     setting.element = element.start;
@@ -248,9 +271,13 @@ void html_render_add_rule(html_render_recording *r, const struct html_render_rul
     add_setting(r, setting);
 }
 
-typedef uint32_t render(const struct html_render_step *, size_t, const uint8_t *, size_t, const struct html_render_setting *, size_t, uint32_t, size_t, uint8_t **, size_t *);
+/* One of the library's two calls. */
+typedef uint32_t render(const struct html_render_step *, size_t, const uint8_t *, size_t,
+                        const struct html_render_setting *, size_t, uint32_t, size_t, uint8_t **, size_t *);
 
-static enum html_render_status rendered(render *by, const html_render_recording *r, uint32_t decorator, size_t width, char **given, size_t *length) {
+/* Renders a recording by a call. */
+static enum html_render_status rendered(render *by, const html_render_recording *r, uint32_t decorator, size_t width,
+                                        char **given, size_t *length) {
     static const struct html_render_step no_step;
     static const struct html_render_setting no_setting;
     static const uint8_t no_text;
@@ -260,19 +287,22 @@ static enum html_render_status rendered(render *by, const html_render_recording 
     *length = 0;
     if (r->is_lost)
         return HTML_RENDER_OUT_OF_MEMORY;
-    /* a slice of no items leads somewhere too */
-    status = by(r->step_count ? r->steps : &no_step, r->step_count, r->text_length ? r->text : &no_text, r->text_length,
-                r->setting_count ? r->settings : &no_setting, r->setting_count, decorator, width, &out, length);
+    /* a pointer to no items isn't NULL either */
+    status = by(r->step_count ? r->steps : &no_step, r->step_count, r->text_length ? r->text : &no_text,
+                r->text_length, r->setting_count ? r->settings : &no_setting, r->setting_count, decorator, width,
+                &out, length);
     if (status == HTML_RENDER_OK)
         *given = (char *)out;
     return (enum html_render_status)status;
 }
 
-enum html_render_status html_render_text_of(const html_render_recording *r, enum html_render_decorator decorator, size_t width, char **text, size_t *length) {
+enum html_render_status html_render_text_of(const html_render_recording *r, enum html_render_decorator decorator,
+                                            size_t width, char **text, size_t *length) {
     return rendered(html_render_text, r, decorator, width, text, length);
 }
 
-enum html_render_status html_render_lines_of(const html_render_recording *r, enum html_render_decorator decorator, size_t width, char **records, size_t *length) {
+enum html_render_status html_render_lines_of(const html_render_recording *r, enum html_render_decorator decorator,
+                                             size_t width, char **records, size_t *length) {
     return rendered(html_render_lines, r, decorator, width, records, length);
 }
 
