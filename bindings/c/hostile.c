@@ -1,6 +1,6 @@
-/* Gives the library what a hostile page could: a document 100,000 deep, a text of a billion bytes that isn't there, settings whose
- * texts leave the buffer; looks which of several faults a call names; and refuses each growth of memory in turn to a document that is
- * recorded and rendered, and looks that no block is lost.
+/* Gives the library what a hostile page could: a document 100,000 deep, a text of a billion bytes that isn't there,
+ * and settings whose texts leave the buffer. Checks which of several faults a call reports. Refuses each growth of
+ * memory in turn while a page is recorded and rendered, and checks that no block is lost.
  *
  * It is linked with --wrap for malloc, calloc, realloc, aligned_alloc, posix_memalign and free. */
 #include "html_render.h"
@@ -17,9 +17,9 @@ void *__real_aligned_alloc(size_t to, size_t size);
 int __real_posix_memalign(void **block, size_t to, size_t size);
 void __real_free(void *block);
 
-/* the growth that is refused, from 1; none at 0 */
+/* number of the first growth that is refused, from 1; 0 for none */
 static long refused_from;
-/* how many are refused: a list asks again at once for as much as it needs, so two or all */
+/* number of growths refused, two or all: a list asks again at once for exactly what it needs */
 static long refused_many;
 static long growths, blocks;
 
@@ -80,13 +80,15 @@ static html_render_node element(html_render_recording *page, html_render_node pa
 static void deep(void) {
     html_render_recording *page = html_render_new();
     html_render_node node = 0;
+    enum html_render_status status;
     char *text = NULL;
     size_t length;
     int i;
     for (i = 0; i < 100000; i++)
         node = element(page, node, "div");
     html_render_append_text(page, node, "x", 1);
-    expect(html_render_text_of(page, HTML_RENDER_PLAIN, 80, &text, &length) == HTML_RENDER_OK && !strcmp(text, "x\n"), "a deep document isn't rendered");
+    status = html_render_text_of(page, HTML_RENDER_PLAIN, 80, &text, &length);
+    expect(status == HTML_RENDER_OK && !strcmp(text, "x\n"), "a deep document isn't rendered");
     html_render_free(text);
     html_render_drop(page);
 }
@@ -97,9 +99,11 @@ static void billion(void) {
     const uint8_t text[1] = {0};
     uint8_t *out = NULL;
     size_t length = 0;
-    step.kind = 6;
+    uint32_t status;
+    step.kind = HTML_RENDER_STEP_PUT_TEXT;
     step.value_length = 1000000000;
-    expect(html_render_text(&step, 1, text, 1, &none, 0, 0, 80, &out, &length) == HTML_RENDER_BAD_STEP && !out && length == 0, "a text that isn't there is taken");
+    status = html_render_text(&step, 1, text, 1, &none, 0, HTML_RENDER_PLAIN, 80, &out, &length);
+    expect(status == HTML_RENDER_BAD_STEP && !out && length == 0, "a text that isn't there is taken");
 }
 
 /* Steps and settings over the text "ab\xC3\xA9", whose last two bytes are one character. */
@@ -110,13 +114,13 @@ struct given {
     uint32_t decorator;
 };
 
-/* A paragraph of the document with the text "ab", in 80 columns. */
+/* Returns the steps of an HTML element "a" with the text "ab", in 80 columns. */
 static struct given paragraph(void) {
     struct given g = {0};
-    g.steps[0].kind = 16; /* an element of HTML, "a", below the document */
+    g.steps[0].kind = HTML_RENDER_STEP_APPEND_ELEMENT;
     g.steps[0].flags = HTML_RENDER_HTML;
     g.steps[0].name_length = 1;
-    g.steps[1].kind = 6; /* a text below node 1 */
+    g.steps[1].kind = HTML_RENDER_STEP_PUT_TEXT;
     g.steps[1].node = 1;
     g.steps[1].value_length = 2;
     g.step_count = 2;
@@ -124,27 +128,35 @@ static struct given paragraph(void) {
     return g;
 }
 
-/* Expects a status and a size of both calls, and that only 0 gives anything. */
-static void expect_both(const struct given *g, enum html_render_status status, size_t size, const char *what) {
+/* One of the library's two calls. */
+typedef uint32_t render(const struct html_render_step *, size_t, const uint8_t *, size_t,
+                        const struct html_render_setting *, size_t, uint32_t, size_t, uint8_t **, size_t *);
+
+/* Expects a status of a call, and a size unless that is 0. */
+static void expect_status(render *by, const struct given *g, enum html_render_status status, size_t size,
+                          const char *what) {
     static const uint8_t text[4] = {'a', 'b', 0xC3, 0xA9};
     uint8_t *out = NULL;
     size_t length = 77;
-    uint32_t was = html_render_text(g->steps, g->step_count, text, sizeof text, g->settings, g->setting_count, g->decorator, g->width, &out, &length);
-    expect(was == status && (out != NULL) == (status == HTML_RENDER_OK) && (status == HTML_RENDER_OK || length == size), what);
-    html_render_free(out);
-    out = NULL;
-    length = 77;
-    was = html_render_lines(g->steps, g->step_count, text, sizeof text, g->settings, g->setting_count, g->decorator, g->width, &out, &length);
-    expect(was == status && (out != NULL) == (status == HTML_RENDER_OK) && (status == HTML_RENDER_OK || length == size), what);
-    expect(!out || out[length] == 0, "no zero byte follows the records");
+    uint32_t was = by(g->steps, g->step_count, text, sizeof text, g->settings, g->setting_count, g->decorator,
+                      g->width, &out, &length);
+    expect(was == status && (out != NULL) == (status == HTML_RENDER_OK), what);
+    expect(status == HTML_RENDER_OK || length == size, what);
+    expect(!out || out[length] == 0, "no zero byte ends what a call gives");
     html_render_free(out);
 }
 
-/* A style rule that hides what it selects, behind a setting that is none of a text's. */
+/* Expects a status of both calls, and a size unless that is 0. */
+static void expect_both(const struct given *g, enum html_render_status status, size_t size, const char *what) {
+    expect_status(html_render_text, g, status, size, what);
+    expect_status(html_render_lines, g, status, size, what);
+}
+
+/* Returns a paragraph with a style rule that hides what it selects, after a setting without a text. */
 static struct given with_rule(uint32_t flags) {
     struct given g = paragraph();
     g.settings[0].kind = HTML_RENDER_ALLOW_WIDTH_OVERFLOW;
-    g.settings[1].kind = 13;
+    g.settings[1].kind = HTML_RENDER_ADD_STYLE_RULE;
     g.settings[1].number = HTML_RENDER_DISPLAY_NONE;
     g.settings[1].flags = flags;
     g.setting_count = 2;
@@ -152,10 +164,9 @@ static struct given with_rule(uint32_t flags) {
 }
 
 static void settings_past_the_text(void) {
-    enum { HAS_ELEMENT = 32, HAS_ID = 64 };
     struct given g = paragraph();
     g.settings[0].kind = HTML_RENDER_EMPTY_IMG_MODE;
-    g.settings[0].number = 2;
+    g.settings[0].number = HTML_RENDER_IMAGE_REPLACE;
     g.settings[0].text_length = 4;
     g.setting_count = 1;
     expect_both(&g, HTML_RENDER_OK, 0, "a title that is all of the text is refused");
@@ -166,15 +177,15 @@ static void settings_past_the_text(void) {
     g.settings[0].text = UINT32_MAX;
     g.settings[0].text_length = UINT32_MAX;
     expect_both(&g, HTML_RENDER_BAD_SETTING, 0, "a title that begins past the text is taken");
-    g.settings[0].number = 3;
+    g.settings[0].number = HTML_RENDER_IMAGE_FILENAME;
     expect_both(&g, HTML_RENDER_OK, 0, "a title that isn't asked for is looked at");
 
     g = with_rule(0);
     g.settings[1].element = g.settings[1].id_length = g.settings[1].text = 5;
     expect_both(&g, HTML_RENDER_OK, 0, "texts that a rule doesn't state are looked at");
-    g.settings[1].flags = HAS_ELEMENT;
+    g.settings[1].flags = HTML_RENDER_RULE_HAS_ELEMENT;
     expect_both(&g, HTML_RENDER_BAD_SETTING, 1, "an element's name that leaves the text is taken");
-    g.settings[1].flags = HAS_ID;
+    g.settings[1].flags = HTML_RENDER_RULE_HAS_ID;
     expect_both(&g, HTML_RENDER_BAD_SETTING, 1, "an id that leaves the text is taken");
     g = with_rule(0);
     g.settings[1].classes_length = 5;
@@ -185,7 +196,7 @@ static void settings_past_the_text(void) {
     expect_both(&g, HTML_RENDER_BAD_SETTING, 1, "a content that leaves the text is taken");
 }
 
-/* The first of several faults counts. */
+/* Expects the first of several faults. */
 static void faults_in_order(void) {
     struct given g = paragraph();
     expect_both(&g, HTML_RENDER_OK, 0, "a paragraph isn't rendered");
@@ -194,10 +205,10 @@ static void faults_in_order(void) {
     g.steps[0].name = 2;
     expect_both(&g, HTML_RENDER_BAD_STEP, 0, "a name that ends in a character is taken");
     g.settings[0].kind = HTML_RENDER_PAD_BLOCK_WIDTH;
-    g.settings[1].kind = 14;
+    g.settings[1].kind = HTML_RENDER_ADD_STYLE_RULE + 1;
     g.setting_count = 2;
     expect_both(&g, HTML_RENDER_BAD_SETTING, 1, "a setting of no kind is taken");
-    g.decorator = 2;
+    g.decorator = HTML_RENDER_RICH + 1;
     expect_both(&g, HTML_RENDER_BAD_DECORATOR, 0, "a third decorator is taken");
     g = paragraph();
     g.steps[1].node = 2;
@@ -206,7 +217,7 @@ static void faults_in_order(void) {
     expect_both(&g, HTML_RENDER_BAD_STEP, 1, "a node that isn't there is taken");
 }
 
-/* Records and renders a page, and answers the status; 3 too where nothing can be recorded. */
+/* Records and renders a page. Returns the status; HTML_RENDER_OUT_OF_MEMORY too if there is no recording. */
 static int page_of(char **text, size_t *length) {
     static const char *const CELLS[] = {"To", "Minutes", "Lighthouse Point", "20"};
     html_render_recording *page = html_render_new();
@@ -231,7 +242,7 @@ static int page_of(char **text, size_t *length) {
     return status;
 }
 
-/* Refuses each growth in turn, until a run meets no refusal. */
+/* Refuses each growth in turn, and those after it up to a number, until a run meets no refusal. Returns the runs. */
 static long refusals(long many) {
     char *whole, *text;
     size_t whole_length, length;
@@ -243,7 +254,9 @@ static long refusals(long many) {
         growths = 0;
         refused_from++;
         status = page_of(&text, &length);
-        expect(status == HTML_RENDER_OUT_OF_MEMORY || (status == HTML_RENDER_OK && length == whole_length && !memcmp(text, whole, length)), "a refusal isn't told");
+        if (status != HTML_RENDER_OUT_OF_MEMORY)
+            expect(status == HTML_RENDER_OK && length == whole_length && !memcmp(text, whole, length),
+                   "a refusal isn't reported");
         html_render_free(text);
         expect(blocks == before, "a block is lost");
     } while (growths >= refused_from && !failed);
