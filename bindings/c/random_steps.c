@@ -83,7 +83,7 @@ static struct html_render_step random_step(uint32_t number) {
 /* Returns a setting. */
 static struct html_render_setting random_setting(int is_tame) {
     struct html_render_setting setting = {0};
-    setting.kind = 1 + wild(HTML_RENDER_FENCE_TABLES);
+    setting.kind = 1 + wild(HTML_RENDER_ADD_STYLE_RULE);
     setting.number = is_tame ? random_number(5) : wild(5);
     setting.value = wild(4);
     setting.flags = wild(128);
