@@ -1,12 +1,15 @@
-/* Refuses memory to a program that preloads this.
+/* Refuses growths of memory to a program that preloads this library. A growth is a call of malloc, calloc, realloc,
+ * aligned_alloc or posix_memalign.
  *
- * With REFUSED_GROWTH=N the program's N-th growth is refused, from 1, and the last line of its standard error is "refused N",
- * with how many were. Without it growths are counted between a line "call NAME" and a line "came ANSWER" that the program
- * writes to standard output: when a call is made first, its first growth is refused, then its second one, and so on, until a
- * call meets no refusal; "refused N" stands behind each "came". Nothing is refused to the call that UNREFUSED names: several of
- * its name may belong to one question, which is asked again from its first call on.
+ * With REFUSED_GROWTH=N, the program's N-th growth is refused, counted from 1. The last line of its standard error is then
+ * "refused N" with the number of refused growths.
  *
- * A list to which room is refused asks again at once, for as much as it needs. So the growth behind a refused one is refused
+ * Without REFUSED_GROWTH, growths are refused call by call. On standard output the program writes a line "call NAME" before a
+ * call, and a line "came RESULT" after it. It repeats a refused call. At first the call's first growth is refused, then its
+ * second one, and so on, until the call meets no refusal. A line "refused N" follows each "came". Calls whose names begin with
+ * UNREFUSED meet no refusal: several of them may belong to one question, which is repeated from its first call on.
+ *
+ * A list whose growth is refused asks again at once, for no more than it needs. So the growth after a refused one is refused
  * too or, with THE_REST_TOO=1, all that follow. */
 #define _GNU_SOURCE
 #include <errno.h>
