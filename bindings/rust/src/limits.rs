@@ -33,7 +33,7 @@ pub(crate) enum Refusal {
     OutOfMemory,
 }
 
-/// The numbers of nodes and attributes up to which there is room for what a token makes.
+/// Numbers of nodes and attributes of a tree that are below what it has memory for by more than a token makes.
 #[derive(Default)]
 pub(crate) struct Room {
     nodes: usize,
@@ -41,13 +41,13 @@ pub(crate) struct Room {
 }
 
 impl Room {
-    /// Whether there is room in a tree.
+    /// Whether a tree has room for what another token makes.
     #[inline]
     pub fn is_enough(&self, tree: &Tree) -> bool {
         tree.node_count() < self.nodes && tree.attribute_count() < self.attributes && !tree.is_out_of_memory
     }
 
-    /// Makes room in a tree, if it may grow.
+    /// Makes room in a tree for what another token makes. Fails where it may not grow, or memory is out.
     #[cold]
     pub fn make(&mut self, tree: &mut Tree) -> Result<(), Refusal> {
         if tree.node_count().max(tree.attribute_count()) > MAX_NODES {

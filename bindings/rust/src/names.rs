@@ -1,21 +1,21 @@
-//! Names of tags and attributes as html5ever's atoms, the last ones without a hash.
+//! Cache of the names of tags and attributes: html5ever's atoms, for which each name would be hashed.
 
 use html5ever::{local_name, LocalName};
 
-/// Names read last. The end of a name is a number, which has its place.
+/// Cache of recent names, with a slot for each key. The key of a name is a number of its last 8 bytes.
 pub(crate) struct Names {
     slots: [Known; 1 << SLOT_BITS],
     is_asked: fn(&LocalName) -> bool,
 }
 
-/// A name, and what is known of it.
+/// A name, and properties of the elements and attributes of that name.
 #[derive(Clone)]
 pub(crate) struct Known {
     key: u64,
     pub name: LocalName,
     /// Whether attributes of this name are asked for.
     pub is_asked: bool,
-    /// Whether an element of this name is reopened where its parent ends, and compared with others by all of its attributes.
+    /// Whether it is the name of a formatting element, which the tree builder reopens, and compares with others by all attributes.
     pub is_formatting: bool,
     /// Whether raw text follows the start tag of an element of this name.
     is_raw: bool,
@@ -23,10 +23,10 @@ pub(crate) struct Known {
 
 const SLOT_BITS: u32 = 9;
 
-/// Maximum length of a name that is a number.
+/// Maximum length of a name whose key has all of its bytes.
 const MAX_LENGTH: usize = 8;
 
-/// The bit of the numbers of longer names. A name is of ASCII.
+/// Bit of the keys of longer names, which others may have too. No byte of a name has its highest bit.
 const IS_LONGER: u64 = 1 << 63;
 
 /// Whether html5ever's tree builder asks for attributes of a name.
@@ -73,8 +73,7 @@ fn is_raw(name: &LocalName) -> bool {
 }
 
 impl Names {
-    /// Returns names of which none has been read. A function says which attributes are asked for, beside those that the tree builder
-    /// asks for.
+    /// Returns an empty cache. `is_asked` says which attributes are asked for, beside those that the tree builder asks for.
     pub fn new(is_asked: fn(&LocalName) -> bool) -> Names {
         // the empty name has the key 0
         let empty = Known { key: 0, name: local_name!(""), is_asked: false, is_formatting: false, is_raw: false };
@@ -114,17 +113,17 @@ impl Names {
     }
 }
 
-/// A name of ASCII in a text.
+/// A name in a text, of ASCII.
 struct Written<'a> {
     text: &'a str,
     start: usize,
     end: usize,
-    /// The number whose digits are its last bytes.
+    /// A number of its last 8 bytes.
     key: u64,
 }
 
 impl<'a> Written<'a> {
-    /// Returns the name that begins at an offset, unless it is empty. A function says which offsets and bytes are parts of it.
+    /// Returns the name that begins at an offset, as far as `is_part` accepts offsets and their bytes; `None` if it is empty.
     #[inline(always)]
     fn new(text: &'a str, start: usize, is_part: impl Fn(usize, u8) -> bool) -> Option<Written<'a>> {
         let (mut key, mut end) = (0, start);

@@ -57,7 +57,7 @@ impl Watched {
         self.give(token, line)
     }
 
-    /// Gives the tree builder a token that is known to be within the limits.
+    /// Gives the tree builder a token that is within the limits.
     #[inline]
     fn give(&mut self, token: Token, line: u64) -> TokenSinkResult<Id> {
         let result = self.builder.process_token(token, line);
@@ -112,10 +112,10 @@ impl TokenSink for Watched {
 /// Number of bytes of a page that its tendrils share, and the most that one token or call has.
 const WINDOW: usize = if cfg!(test) { 24 } else { 1 << 16 };
 
-/// Number of bytes that a tendril has without memory of its own.
+/// Maximum number of bytes that a tendril stores inline.
 const INLINE: usize = 8;
 
-/// Number of attributes for which there is room in a tag that has one.
+/// Number of attributes that memory is allocated for at a tag's first one.
 const USUAL_ATTRIBUTES: usize = 4;
 
 /// A page, of which pieces become tendrils that share a copy of a part of it.
@@ -140,20 +140,20 @@ impl<'a> Page<'a> {
         (start + WINDOW - 3..=start + WINDOW).rev().find(|&at| self.text.is_char_boundary(at)).unwrap_or(end)
     }
 
-    /// Returns the number of bytes of a text that begins at an offset, up to a tag or what the tokenizer makes something else of.
+    /// Returns the number of bytes of the text at an offset, up to a tag or a byte that the tokenizer changes.
     fn text_length(&self, start: usize) -> usize {
         let rest = &self.text.as_bytes()[start..];
         self.find(b'<', rest).unwrap_or(rest.len())
     }
 
-    /// Returns the number of bytes of a value that begins at an offset, up to its quotation mark; `None` where it is too long or the
-    /// tokenizer makes something else of a part of it.
+    /// Returns the number of bytes of the quoted value at an offset; `None` if it is longer than `WINDOW`, or the tokenizer changes a byte
+    /// of it.
     fn value_length(&self, start: usize) -> Option<usize> {
         let rest = &self.text.as_bytes()[start..];
         self.find(b'"', rest).filter(|&length| rest[length] == b'"' && length <= WINDOW)
     }
 
-    /// Returns where a byte is, or another one that the tokenizer makes something else of.
+    /// Returns the position of the first byte that is `end`, or that the tokenizer changes.
     #[inline]
     fn find(&self, end: u8, rest: &[u8]) -> Option<usize> {
         if self.is_odd {
@@ -187,7 +187,7 @@ pub(crate) struct Reader<'a> {
     is_in_data: bool,
 }
 
-/// Whether the tokenizer makes something else of a byte of a text than the byte.
+/// Whether the tokenizer changes a byte of a text or value: it begins a character reference, or is a carriage return or zero.
 fn is_special(byte: u8) -> bool {
     matches!(byte, b'&' | b'\r' | 0)
 }
