@@ -17,11 +17,11 @@ from pathlib import Path
 
 import html5lib
 
-from html_shown import ASKED, HTML, WHITE_SPACE, Around, Items, is_item, is_loose, loose_in, shown, takes, title_of, without_controls
+from html_shown import ASKED, HTML, SVG, WHITE_SPACE, Around, Items, is_item, is_loose, loose_in, shown, takes, title_of, without_controls
 
 __all__ = ["Error", "TooNarrow", "render"]
 
-_SPACES = {None: 0, HTML: 1, "http://www.w3.org/2000/svg": 2, "http://www.w3.org/1998/Math/MathML": 3}
+_SPACES = {None: 0, HTML: 1, SVG: 2, "http://www.w3.org/1998/Math/MathML": 3}
 _AUTHOR = 3
 _WHITE_SPACE = 3
 
@@ -151,8 +151,16 @@ class _Recording:
             for key, value in attributes.items():
                 if key in ASKED:
                     self._add_attribute(parent, key, value)
+        self._add_drawing(parent, found.titles)
         self.add_text(parent, found.before)
         return parent
+
+    def _add_drawing(self, parent, titles):
+        """Records a drawing of some titles, if there is one."""
+        if titles is not None:
+            drawing = self.add_element(parent, "svg", SVG)
+            for title in titles:
+                self.add_text(self.add_element(drawing, "title", SVG), self._kept(title, is_shown=True))
 
     def add_element(self, parent, name, space=HTML):
         """Records an element without attributes."""
@@ -204,7 +212,7 @@ def _bytes(text):
     return text.encode("utf-16", "surrogatepass").decode("utf-16", "replace").encode("utf-8")
 
 
-def _parse(html, charset):
+def parse(html, charset):
     """Returns html5lib's tree of a page. The encoding of bytes is that of a byte order mark, the one that is named or that the page
     declares, or UTF-8 if all of them are, or else windows-1252."""
     if isinstance(html, str):
@@ -235,7 +243,7 @@ def render(
     """
     if width < 0:
         raise ValueError("a width is at least 0")
-    tree = _parse(html, charset)
+    tree = parse(html, charset)
     with _Recording() as recording:
         if title and title_of(tree):
             recording.add_text(recording.add_element(0, "p"), without_controls(title_of(tree), is_shown=True))

@@ -6,8 +6,10 @@ records a tree asks `shown` for each of its elements, with the `Around` of its p
 
 import re
 from dataclasses import dataclass, replace
+from itertools import takewhile
 
 HTML = "http://www.w3.org/1999/xhtml"
+SVG = "http://www.w3.org/2000/svg"
 
 # classes that no page has: control characters aren't recorded
 WHITE_SPACE = {"pre": "\x01pre", "pre-wrap": "\x01pre-wrap", "break-spaces": "\x01pre-wrap"}
@@ -33,6 +35,8 @@ _SIZES = frozenset("xx-small x-small small medium large x-large xx-large xxx-lar
 _SYSTEM_FONTS = frozenset("caption icon menu message-box small-caption status-bar".split())
 _WHITE = " \t\n\f\r"
 _LENGTH = re.compile(r"([-+]?(?:\d+\.?\d*|\.\d+))(%|[a-z]*)")
+_HIDDEN_PARTS = frozenset("clipPath defs desc marker mask metadata pattern script style symbol title".split())
+_LABELS = frozenset("foreignObject text tspan".split())
 _ITEMS = frozenset(["li"])
 _DESCRIPTIONS = frozenset(["dd", "div", "dt"])
 _SHOWN_WITHOUT_TEXT = frozenset("audio embed frame hr iframe img input object video".split())
@@ -47,6 +51,7 @@ class Around:
 
     is_invisible: bool = False
     has_no_size: bool = False
+    is_in_drawing: bool = False
     quotations: int = 0
     part: str = None
     margin: int = 0
@@ -57,7 +62,7 @@ class Around:
     @property
     def hides_texts(self):
         """Whether texts aren't shown."""
-        return self.is_invisible or self.has_no_size
+        return self.is_invisible or self.has_no_size or self.is_in_drawing
 
     def inside(self):
         """Returns what is known in an element, before what the element itself changes."""
@@ -101,7 +106,8 @@ class Items:
 
 @dataclass
 class Shown:
-    """How an element is recorded: names and attributes, the outermost one first; texts before and after its children."""
+    """How an element is recorded: names and attributes, the outermost one first; texts before and after its children; the titles of a
+    drawing that is recorded before them."""
 
     elements: list
     around: Around
@@ -109,6 +115,7 @@ class Shown:
     after: str = ""
     has_children: bool = True
     numbers: Numbers = None
+    titles: list = None
 
 
 def without_controls(text, is_shown=False):
@@ -180,8 +187,8 @@ def _is_dropped(attributes, style):
 
 
 def _attributes_of(element):
-    """Returns the attributes of one of html5lib's elements."""
-    return dict(element.attributes.items())
+    """Returns the attributes of one of html5lib's elements; only HTML has `hidden`."""
+    return {name: value for name, value in element.attributes.items() if name != "hidden" or element.namespaceURI == HTML}
 
 
 def _style_of(attributes):
@@ -346,6 +353,39 @@ def shown(element, around, columns):
         return Shown([], replace(inside, holds=_DESCRIPTIONS))
     if is_html:
         return _changed_element(recorded, element, attributes, around, columns)
+    if element.namespaceURI == SVG:
+        return _in_drawing(recorded, element, attributes)
+    return recorded
+
+
+def _is_alternative(element):
+    """Whether an element in a `switch` of a drawing follows another, which is shown in its place."""
+    above, before = element.parentNode, element.previousSibling
+    while before is not None and before.nodeType != before.ELEMENT_NODE:
+        before = before.previousSibling
+    return before is not None and above.nodeType == above.ELEMENT_NODE and (above.tagName, above.namespaceURI) == ("switch", SVG)
+
+
+def _titles(drawing):
+    """Returns the texts of the titles at the start of a drawing, before any other element."""
+    elements = (it for it in drawing.childNodes if it.nodeType == it.ELEMENT_NODE)
+    titles = takewhile(lambda it: (it.tagName, it.namespaceURI) == ("title", SVG), elements)
+    return ["".join(text.data for text in it.childNodes if text.nodeType == text.TEXT_NODE) for it in titles]
+
+
+def _in_drawing(recorded, element, attributes):
+    """Returns how a drawing, or an element in one, is recorded: as one of HTML, so that rules count for all of it, with the labels in it;
+    groups dissolve."""
+    tag, inside = element.tagName, recorded.around
+    if tag == "svg" and not inside.is_in_drawing:
+        return Shown([(tag, HTML, attributes)], replace(inside, is_in_drawing=True), titles=_titles(element))
+    if tag in _HIDDEN_PARTS or _is_alternative(element):
+        return None
+    if tag not in _LABELS:
+        return Shown([], inside)
+    recorded.around = replace(inside, is_in_drawing=False)
+    if not recorded.around.hides_texts:
+        recorded.before = recorded.after = " "
     return recorded
 
 

@@ -39,7 +39,7 @@ pub(crate) struct Element {
 }
 
 impl Element {
-    /// Returns an element with so many of the tree's attributes from one on.
+    /// Returns an element whose attributes are `count` of the tree's, from the one at `attributes` on.
     fn new(name: QualName, attributes: usize, count: usize) -> Element {
         Element { space: name.ns, name: name.local, attributes: attributes as u32, attribute_count: count as u16, is_integration_point: false }
     }
@@ -100,7 +100,7 @@ impl Tree {
         self.attributes.len()
     }
 
-    /// Returns the numbers of nodes and attributes that there is memory for.
+    /// Returns the numbers of nodes and attributes that memory is allocated for.
     pub fn capacity(&self) -> (usize, usize) {
         (self.nodes.capacity(), self.attributes.capacity())
     }
@@ -183,6 +183,14 @@ impl Tree {
         self.attributes_of(node).iter().find(|attribute| attribute.name == *name).map(|attribute| &attribute.value)
     }
 
+    /// Returns the range of a text; `None` of another node.
+    pub fn piece(&self, node: Id) -> Option<Piece> {
+        match *self.data(node) {
+            Data::Text { start, length, .. } => Some((start, length)),
+            _ => None,
+        }
+    }
+
     pub fn first_child(&self, node: Id) -> Id {
         self.nodes[node as usize].first
     }
@@ -202,6 +210,12 @@ impl Tree {
             let next = self.next_sibling(child);
             (next != NONE).then(|| next)
         })
+    }
+
+    /// Returns the siblings that precede a node, the nearest one first.
+    pub fn siblings_before(&self, node: Id) -> impl Iterator<Item = Id> + '_ {
+        let before = move |node: Id| Some(self.nodes[node as usize].previous).filter(|&previous| previous != NONE);
+        std::iter::successors(before(node), move |&sibling| before(sibling))
     }
 
     /// Returns the nodes in the order in which they were made.

@@ -33,6 +33,8 @@ pub(crate) enum Change {
     Signed,
     /// A form's field, whose texts have a size of their own.
     Field(Field),
+    /// A drawing, or a part of one.
+    Drawing,
 }
 
 /// An element in which contents are recorded.

@@ -2,6 +2,7 @@
 //!
 //! `docs/HTML.md` has a row for each: the element, what a browser does, what is shown, and the option that changes it.
 
+mod drawings;
 mod elements;
 mod embedded;
 mod forms;
@@ -33,6 +34,8 @@ pub(crate) struct Context {
     is_invisible: bool,
     /// Whether texts have a size of 0.
     has_no_size: bool,
+    /// Whether only labels of a drawing are shown.
+    is_in_drawing: bool,
     /// Number of quotations around.
     quotations: u8,
     /// The part of a table that is directly around, as it is recorded.
@@ -54,7 +57,7 @@ impl Context {
 
     /// Whether texts aren't shown.
     pub fn hides_texts(&self) -> bool {
-        self.is_invisible || self.has_no_size
+        self.is_invisible || self.has_no_size || self.is_in_drawing
     }
 
     /// Returns the context in an element, before what the element itself changes.
@@ -155,7 +158,11 @@ impl<'a> Adapter<'a> {
         let is_html = element.space == ns!(html);
         let said = self.said_by(attributes, is_html);
         let mut opened = Opened { node, element, attributes, parent: around.handle, said, start: None };
-        let change = if is_html { change_of(&element.name) } else { Change::Kept };
+        let change = match element.space {
+            ns!(html) => change_of(&element.name),
+            ns!(svg) => Change::Drawing,
+            _ => Change::Kept,
+        };
         let mut context = around.context.inside();
         self.hide_texts(&mut context, &opened.said, change);
         if opened.said.drops() || context.is_invisible && is_picture(element) {
@@ -169,6 +176,7 @@ impl<'a> Adapter<'a> {
             Change::Signed if context.hides_texts() => Some(Entered::new(self.record_as(recorder, &opened, &local_name!("span"), ""), context)),
             Change::Kept | Change::Signed => Some(Entered::new(self.record(recorder, &opened), context)),
             Change::Field(field) => self.open_field(recorder, &opened, field, context),
+            Change::Drawing => self.open_in_drawing(recorder, &opened, context),
             Change::Dropped => None,
             Change::Within(inner) => Some(self.open_within(recorder, &opened, inner, context)),
             Change::Dialog => {
@@ -292,6 +300,48 @@ impl<'a> Adapter<'a> {
             Field::Lines => Some(Entered::new(recorder.element(handle, record::HTML, &local_name!("pre")), context)),
             Field::Input | Field::Select => None,
         }
+    }
+
+    /// Records a drawing, or a part of one. Groups dissolve.
+    fn open_in_drawing(&mut self, recorder: &mut Recorder, opened: &Opened<'_>, mut context: Context) -> Option<Entered> {
+        if opened.element.name == local_name!("svg") && !context.is_in_drawing {
+            return Some(self.open_drawing(recorder, opened, context));
+        }
+        match drawings::part_of(self.tree, opened.node, opened.element) {
+            drawings::Part::Hidden => None,
+            drawings::Part::Group => Some(Entered::new(opened.parent, context)),
+            drawings::Part::Label => {
+                context.is_in_drawing = false;
+                Some(self.open_label(recorder, opened, context))
+            }
+        }
+    }
+
+    /// Records a drawing as an element of HTML, so that rules count for all of it, and one of SVG in it, whose title the library shows.
+    fn open_drawing(&mut self, recorder: &mut Recorder, opened: &Opened<'_>, context: Context) -> Entered {
+        let name = &opened.element.name;
+        let handle = recorder.element(opened.parent, record::HTML, name);
+        self.record_attributes(recorder, handle, opened, "");
+        let space = record::space(&opened.element.space);
+        let drawing = recorder.element(handle, space, name);
+        for title in drawings::titles(self.tree, opened.node) {
+            let title_handle = recorder.element(drawing, space, &local_name!("title"));
+            for piece in self.tree.children(title).filter_map(|child| self.tree.piece(child)) {
+                recorder.text(title_handle, piece);
+            }
+        }
+        Entered::new(handle, Context { is_in_drawing: true, ..context })
+    }
+
+    /// Records an element between spaces, which part its texts from those around it.
+    fn open_label(&mut self, recorder: &mut Recorder, opened: &Opened<'_>, context: Context) -> Entered {
+        let handle = self.record(recorder, opened);
+        if context.hides_texts() {
+            return Entered::new(handle, context);
+        }
+        let space = recorder.keep(" ");
+        recorder.text(handle, space);
+        Entered { last: Last::Joined, end: " ", ..Entered::new(handle, context) }
     }
 
     /// Records a `q`, and the mark at its start.
@@ -419,7 +469,7 @@ fn names_contents(attributes: &[Attr]) -> bool {
     attributes.iter().any(|attribute| attribute.name == local_name!("data") && !attribute.value.trim().is_empty())
 }
 
-/// Returns what an element's attributes say of it; only HTML has `hidden`. A function reads a `style`.
+/// Returns what an element's attributes say of it; only HTML has `hidden`. `read` reads the value of a `style`.
 #[inline]
 fn said_by(attributes: &[Attr], is_html: bool, mut read: impl FnMut(&StrTendril) -> InlineStyle) -> Said {
     let mut said = Said::default();
