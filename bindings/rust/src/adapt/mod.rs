@@ -4,26 +4,40 @@
 
 mod elements;
 mod embedded;
+mod emphasis;
+mod flow;
 mod forms;
+mod inline;
+mod links;
 mod lists;
 mod margins;
 mod numbers;
 mod private;
 mod style;
+mod targets;
 
+pub(crate) use elements::Run;
+pub(crate) use emphasis::UNSIGNED_CLASS;
 pub(crate) use lists::{is_blank, Holds};
 pub(crate) use numbers::Numbers;
 pub(crate) use private::{PrivateRules, RULE_CLASS};
 
-use crate::pass::{Entered, Last, Place};
+use crate::hiding::Hiding;
+use crate::options::LinkMode;
+use crate::pass::{End, Entered, Last, Place};
 use crate::record::{self, Handle, Recorder};
-use crate::tree::{Attr, Element, Id, Tree, DOCUMENT};
+use crate::tree::{Attr, Data, Element, Id, Piece, Tree, DOCUMENT};
 use elements::{change_of, Change, Field, Inner, List, Part};
+use emphasis::{Signed, UNSIGNED_SUFFIX};
 use html5ever::{local_name, namespace_url, ns, LocalName};
+use inline::Inline;
+use links::Links;
 use lists::Filled;
 use margins::{Margins, BULLET};
 use numbers::Plan;
+use std::rc::Rc;
 use style::InlineStyle;
+use url::Url;
 
 /// What is known of the elements around a place.
 #[derive(Clone, Copy, Debug, Default)]
@@ -38,6 +52,8 @@ pub(crate) struct Context {
     part: Option<Part>,
     /// What the element directly around holds.
     pub holds: Holds,
+    /// Whether a drawing is around, whose texts aren't shown.
+    pub is_in_drawing: bool,
     margins: Margins,
 }
 
@@ -76,6 +92,33 @@ pub(crate) struct Adaptation {
     pub title: Option<String>,
     /// Whether the page is in quirks mode.
     pub is_quirky: bool,
+    /// Whether signs are written around emphasis.
+    pub has_signs: bool,
+    /// How targets of links are shown; `None` where links keep them.
+    pub links: Option<LinkMode>,
+    /// The address that the page was read from.
+    pub base: Option<Url>,
+    /// The rules of style sheets that hide elements.
+    pub hiding: Hiding,
+}
+
+/// What an adapted document needs beside its steps.
+#[derive(Default)]
+pub(crate) struct Adapted {
+    pub rules: PrivateRules,
+    /// Whether elements have the class of those without signs.
+    pub drops_signs: bool,
+    /// The targets of its links.
+    pub targets: Vec<Rc<str>>,
+}
+
+/// What is recorded of a link's target.
+#[derive(Default)]
+enum Href {
+    #[default]
+    Kept,
+    Dropped,
+    Resolved(String),
 }
 
 /// Whether an adaptation asks for attributes of a name.
@@ -113,6 +156,16 @@ struct Opened<'a> {
     said: Said,
     /// The number that an `ol` starts with, where it isn't 1.
     start: Option<i64>,
+    href: Href,
+    /// What follows the element's classes in the text.
+    after_classes: &'static str,
+}
+
+impl<'a> Opened<'a> {
+    fn new(node: Id, element: &'a Element, attributes: &'a [Attr], parent: Handle) -> Opened<'a> {
+        let said = said_by(attributes, element.space == ns!(html));
+        Opened { node, element, attributes, parent, said, start: None, href: Href::Kept, after_classes: "" }
+    }
 }
 
 /// Records elements as a browser shows them.
@@ -120,12 +173,43 @@ pub(crate) struct Adapter<'a> {
     tree: &'a Tree,
     adaptation: Adaptation,
     filled: Filled,
-    pub rules: PrivateRules,
+    inline: Inline,
+    rules: PrivateRules,
 }
 
 impl<'a> Adapter<'a> {
-    pub fn new(tree: &'a Tree, adaptation: Adaptation) -> Adapter<'a> {
-        Adapter { tree, adaptation, filled: Filled::default(), rules: PrivateRules::default() }
+    pub fn new(tree: &'a Tree, mut adaptation: Adaptation) -> Adapter<'a> {
+        let inline = Inline::new(Links::new(adaptation.links, adaptation.base.take()), adaptation.has_signs);
+        Adapter { tree, adaptation, filled: Filled::default(), inline, rules: PrivateRules::default() }
+    }
+
+    /// Returns what the recorded document needs beside its steps.
+    pub fn finish(self) -> Adapted {
+        let drops_signs = self.inline.emphasis.map_or(false, |emphasis| emphasis.drops_signs());
+        Adapted { rules: self.rules, drops_signs, targets: self.inline.links.into_targets() }
+    }
+
+    /// Notes a text of the tree before it is recorded. Returns what of it is recorded.
+    #[inline]
+    pub fn add_text(&mut self, recorder: &mut Recorder, piece: Piece) -> Piece {
+        self.inline.add_text(recorder, piece)
+    }
+
+    /// Ends a recorded element.
+    pub fn close(&mut self, recorder: &mut Recorder, handle: Handle, end: End) {
+        match end {
+            End::Inline => {}
+            End::Run(run) => self.inline.end(handle, run),
+            End::Text(text) => {
+                let piece = recorder.keep(text);
+                self.inline.record_text(recorder, handle, piece);
+            }
+            End::Signed => self.inline.close_signed(recorder),
+            End::Link => {
+                let tree = self.tree;
+                self.inline.close_link(recorder, handle, |image, link| embedded::image_name(tree, image, link));
+            }
+        }
     }
 
     /// Records what precedes the document: its title, if it is asked for.
@@ -141,20 +225,39 @@ impl<'a> Adapter<'a> {
     pub fn open(&mut self, recorder: &mut Recorder, node: Id, element: &'a Element, around: Place) -> Option<Entered> {
         let attributes = self.tree.attributes_of(node);
         let is_html = element.space == ns!(html);
-        let mut opened = Opened { node, element, attributes, parent: around.handle, said: said_by(attributes, is_html), start: None };
+        let opened = Opened::new(node, element, attributes, around.handle);
         let change = if is_html { change_of(&element.name) } else { Change::Kept };
         let mut context = around.context.inside();
         self.hide_texts(&mut context, &opened.said, change);
-        if is_dropped(&opened.said) || context.is_invisible && is_picture(element) {
+        if self.is_hidden(element, attributes, &opened.said) || context.is_invisible && is_picture(element) {
             return None;
         }
         if is_html && around.context.holds == Holds::Descriptions && element.name == local_name!("div") {
             context.holds = Holds::Descriptions;
             return Some(Entered::new(around.handle, context));
         }
+        let run = change.run();
+        self.inline.begin(recorder, run);
+        let mut entered = self.open_changed(recorder, opened, change, around, context)?;
+        if run != Run::Inline && matches!(entered.end, End::Inline) {
+            entered.end = End::Run(run);
+        }
+        Some(entered)
+    }
+
+    /// Records an element with what its name changes.
+    fn open_changed(&mut self, recorder: &mut Recorder, mut opened: Opened<'_>, change: Change, around: Place, mut context: Context) -> Option<Entered> {
+        let (node, attributes) = (opened.node, opened.attributes);
         match change {
-            Change::Signed if context.hides_texts() => Some(Entered::new(self.record_as(recorder, &opened, &local_name!("span"), ""), context)),
-            Change::Kept | Change::Signed => Some(Entered::new(self.record(recorder, &opened), context)),
+            Change::Kept if is_drawing(opened.element) => Some(self.open_drawing(recorder, &opened, context)),
+            Change::Kept | Change::Apart | Change::Block => Some(Entered::new(self.record(recorder, &opened), context)),
+            Change::Break => {
+                self.inline.add_break(recorder.steps.len());
+                Some(Entered::new(self.record(recorder, &opened), context))
+            }
+            Change::Signed => Some(self.open_signed(recorder, opened, context)),
+            Change::Link => Some(self.open_link(recorder, opened, context)),
+            Change::Image => Some(self.open_image(recorder, &opened, context)),
             Change::Field(field) => self.open_field(recorder, &opened, field, context),
             Change::Dropped => None,
             Change::Within(inner) => Some(self.open_within(recorder, &opened, inner, context)),
@@ -178,7 +281,7 @@ impl<'a> Adapter<'a> {
                 Some(Entered::new(self.record(recorder, &opened), context))
             }
             Change::List(List::Ordered) => {
-                let plan = Plan::of(self.tree, &recorder.text, node);
+                let plan = Plan::of(self.tree, &recorder.text, node, |item| !self.is_hidden_item(item));
                 context.holds = Holds::Items;
                 context.margins.add_items(plan.columns);
                 opened.start = Some(plan.first).filter(|&first| first != 1);
@@ -188,6 +291,10 @@ impl<'a> Adapter<'a> {
             Change::Descriptions => {
                 context.holds = Holds::Descriptions;
                 Some(Entered::new(self.record(recorder, &opened), context))
+            }
+            Change::Heading(columns) => {
+                context.margins.add(columns);
+                Some(self.open_heading(recorder, &opened, context))
             }
             Change::Prefixed(columns) => {
                 context.margins.add(columns);
@@ -208,17 +315,28 @@ impl<'a> Adapter<'a> {
             Change::Dialog => attributes.iter().any(|attribute| attribute.name == local_name!("open")),
             _ => true,
         };
-        is_shown && self.filled.has(self.tree, text, node) && !is_dropped(&said_by(attributes, is_html))
+        is_shown && self.filled.has(self.tree, text, node) && !self.is_hidden(element, attributes, &said_by(attributes, is_html))
+    }
+
+    /// Whether nothing of an element is shown, by its attributes or by a rule.
+    fn is_hidden(&self, element: &Element, attributes: &[Attr], said: &Said) -> bool {
+        let is_displayed = || said.style.as_ref().map_or(false, InlineStyle::is_displayed);
+        is_dropped(said) || self.adaptation.hiding.hides(&element.name, attributes, is_displayed)
+    }
+
+    fn is_hidden_item(&self, item: Id) -> bool {
+        let attributes = self.tree.attributes_of(item);
+        self.tree.element(item).map_or(false, |element| self.is_hidden(element, attributes, &said_by(attributes, true)))
     }
 
     /// Counts an item of an `ol`. Returns the list that it is put in, if its number isn't the next one: lists count upwards one by one.
     pub fn open_item(&mut self, recorder: &mut Recorder, list: Id, item: Option<Id>, numbers: &mut Numbers) -> Option<Handle> {
-        if item.map_or(false, |item| is_dropped(&said_by(self.tree.attributes_of(item), true))) {
+        if item.map_or(false, |item| self.is_hidden_item(item)) {
             return None;
         }
         let start = numbers.count(item.and_then(|item| numbers::own_number(self.tree, item)));
         let (element, attributes) = (self.tree.element(list)?, self.tree.attributes_of(list));
-        let part = Opened { node: list, element, attributes, parent: numbers.parent, said: said_by(attributes, true), start };
+        let part = Opened { start, ..Opened::new(list, element, attributes, numbers.parent) };
         start.map(|_| self.record(recorder, &part))
     }
 
@@ -268,10 +386,11 @@ impl<'a> Adapter<'a> {
             let shown = self.tree.filter.filtered(&shown);
             let piece = recorder.keep(&shown);
             recorder.text(handle, piece);
+            self.inline.add_object();
         }
         match field {
             Field::Button if context.hides_texts() => Some(Entered::new(handle, context)),
-            Field::Button => Some(Entered { last: Last::Joined, end: " ]", ..Entered::new(handle, context) }),
+            Field::Button => Some(Entered { last: Last::Joined, end: End::Text(" ]"), ..Entered::new(handle, context) }),
             Field::Lines => Some(Entered::new(recorder.element(handle, record::HTML, &local_name!("pre")), context)),
             Field::Input | Field::Select => None,
         }
@@ -286,8 +405,72 @@ impl<'a> Adapter<'a> {
         let (start, end) = quotation_marks(context.quotations);
         context.quotations = context.quotations.wrapping_add(1);
         let mark = recorder.keep(start);
-        recorder.text(handle, mark);
-        Entered { last: Last::Joined, end, ..Entered::new(handle, context) }
+        self.inline.record_text(recorder, handle, mark);
+        Entered { last: Last::Joined, end: End::Text(end), ..Entered::new(handle, context) }
+    }
+
+    /// Records emphasis: without signs if its texts are hidden, or if it is all that a `pre` has.
+    fn open_signed(&mut self, recorder: &mut Recorder, mut opened: Opened<'_>, context: Context) -> Entered {
+        if self.inline.emphasis.is_some() {
+            opened.after_classes = UNSIGNED_SUFFIX;
+        }
+        let step = recorder.steps.len();
+        let handle = self.record(recorder, &opened);
+        let signed = Signed { handle, parent: opened.parent, step, class_step: recorder.class_step(step), is_signed: true };
+        let is_signed = !context.hides_texts() && !is_all_of_pre(self.tree, &recorder.text, opened.node);
+        let is_noted = self.inline.open_signed(recorder, signed, is_signed);
+        Entered { end: if is_noted { End::Signed } else { End::Inline }, ..Entered::new(handle, context) }
+    }
+
+    /// Records an `a`, with its target in rich text alone.
+    fn open_link(&mut self, recorder: &mut Recorder, mut opened: Opened<'_>, context: Context) -> Entered {
+        let href = match opened.attributes.iter().find(|attribute| attribute.name == local_name!("href")) {
+            Some(href) => recorder.filtered(&href.value),
+            None => return Entered::new(self.record(recorder, &opened), context),
+        };
+        opened.href = self.recorded_href(&href);
+        let step = recorder.steps.len();
+        let handle = self.record(recorder, &opened);
+        self.inline.links.open(self.tree, opened.node, step, &href);
+        Entered { end: End::Link, ..Entered::new(handle, context) }
+    }
+
+    /// Returns what is recorded of a link's target.
+    fn recorded_href(&mut self, href: &str) -> Href {
+        if !self.inline.links.keeps_targets() {
+            return Href::Dropped;
+        }
+        self.inline.links.resolved(self.tree, href).map_or(Href::Kept, Href::Resolved)
+    }
+
+    /// Records an image. One without a text may be named where the link around it ends.
+    fn open_image(&mut self, recorder: &mut Recorder, opened: &Opened<'_>, context: Context) -> Entered {
+        let handle = self.record(recorder, opened);
+        let value = |name| opened.attributes.iter().find(|attribute| attribute.name == name).map_or("", |attribute| attribute.value.trim());
+        if value(local_name!("src")).is_empty() {
+        } else if value(local_name!("alt")).is_empty() {
+            self.inline.add_image(handle, opened.node);
+        } else {
+            self.inline.add_object();
+        }
+        Entered::new(handle, context)
+    }
+
+    /// Records a drawing. Of its texts the library shows a title alone.
+    fn open_drawing(&mut self, recorder: &mut Recorder, opened: &Opened<'_>, mut context: Context) -> Entered {
+        context.is_in_drawing = true;
+        let is_title = |&child: &Id| matches!(self.tree.element(child), Some(element) if element.name == local_name!("title"));
+        if self.tree.children(opened.node).any(|child| is_title(&child)) {
+            self.inline.add_object();
+        }
+        Entered::new(self.record(recorder, opened), context)
+    }
+
+    /// Records a heading. In rich text it is strong.
+    fn open_heading(&mut self, recorder: &mut Recorder, opened: &Opened<'_>, context: Context) -> Entered {
+        let handle = self.record(recorder, opened);
+        let inner = if self.adaptation.has_colours { recorder.element(handle, record::HTML, &local_name!("strong")) } else { handle };
+        Entered::new(inner, context)
     }
 
     /// Records a part of a table under its name if it is in its right place, and as a division if not: the library refuses a table's
@@ -328,11 +511,20 @@ impl<'a> Adapter<'a> {
             _ => return,
         };
         let parent = if *name == local_name!("frame") { recorder.element(handle, record::HTML, &local_name!("div")) } else { handle };
+        let step = recorder.steps.len();
         let anchor = recorder.element(parent, record::HTML, &local_name!("a"));
-        recorder.attribute(anchor, &local_name!("href"), &link.target);
+        let target = recorder.filtered(&link.target);
+        match self.recorded_href(&target) {
+            Href::Kept => recorder.attribute(anchor, &local_name!("href"), &target),
+            Href::Resolved(target) => recorder.attribute(anchor, &local_name!("href"), &target),
+            Href::Dropped => {}
+        }
+        self.inline.links.open(self.tree, opened.node, step, &target);
         let shown = self.tree.filter.filtered(&link.name);
         let piece = recorder.keep(&shown);
-        recorder.text(anchor, piece);
+        self.inline.record_text(recorder, anchor, piece);
+        self.close(recorder, anchor, End::Link);
+        self.inline.end(anchor, Run::Apart);
     }
 
     /// Notes whether an element hides or shows the texts in it.
@@ -369,9 +561,22 @@ impl<'a> Adapter<'a> {
                 (name @ &local_name!("class"), _) if !classes.is_empty() => {
                     let (start, length) = recorder.keep_filtered(&attribute.value);
                     let (_, more) = recorder.keep(&[" ", &classes].concat());
+                    recorder.keep(opened.after_classes);
                     recorder.attribute_of_piece(handle, name, (start, length + more));
                     classes.clear();
                 }
+                (name @ &local_name!("class"), _) => {
+                    let piece = recorder.keep_filtered(&attribute.value);
+                    recorder.keep(opened.after_classes);
+                    recorder.attribute_of_piece(handle, name, piece);
+                }
+                (name @ &local_name!("href"), _) => match &opened.href {
+                    Href::Kept => recorder.attribute(handle, name, &attribute.value),
+                    Href::Resolved(target) => recorder.attribute(handle, name, target),
+                    Href::Dropped => {}
+                },
+                // without it an image may be named later
+                (&local_name!("alt"), _) if attribute.value.trim().is_empty() => {}
                 (name @ &local_name!("alt"), _) => {
                     let shown = self.tree.filter.filtered(&attribute.value);
                     recorder.attribute(handle, name, &shown);
@@ -384,6 +589,7 @@ impl<'a> Adapter<'a> {
         }
         if !classes.is_empty() {
             let piece = recorder.keep(&classes);
+            recorder.keep(opened.after_classes);
             recorder.attribute_of_piece(handle, &local_name!("class"), piece);
         }
     }
@@ -417,7 +623,23 @@ fn is_dropped(said: &Said) -> bool {
 
 /// Whether an element is an image or a drawing, which has a text of its own.
 fn is_picture(element: &Element) -> bool {
-    element.name == local_name!("img") || element.name == local_name!("svg") && element.space == ns!(svg)
+    element.name == local_name!("img") || is_drawing(element)
+}
+
+fn is_drawing(element: &Element) -> bool {
+    element.name == local_name!("svg") && element.space == ns!(svg)
+}
+
+/// Whether a node and white space are all that is in a `pre`. The texts of the tree are ranges of `text`.
+fn is_all_of_pre(tree: &Tree, text: &[u8], node: Id) -> bool {
+    let pre = tree.parent(node);
+    let is_pre = matches!(tree.element(pre), Some(element) if element.name == local_name!("pre") && element.space == ns!(html));
+    let is_other = |&child: &Id| match *tree.data(child) {
+        Data::Text { start, length, .. } => !is_blank(text, (start, length)),
+        Data::Element(_) => child != node,
+        Data::Root | Data::Comment => false,
+    };
+    is_pre && !tree.children(pre).any(|child| is_other(&child))
 }
 
 /// Returns the marks around a quotation in so many others.
