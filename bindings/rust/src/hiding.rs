@@ -3,7 +3,7 @@
 use crate::css;
 use crate::records::Setting;
 use crate::tree::Attr;
-use html5ever::{local_name, LocalName};
+use html5ever::local_name;
 use std::collections::HashMap;
 
 /// The selector of a rule that hides elements.
@@ -18,6 +18,7 @@ struct Selector {
 /// The rules of style sheets that hide elements, each by one part of its selector.
 #[derive(Clone, Debug, Default)]
 pub(crate) struct Hiding {
+    has_rules: bool,
     of_ids: HashMap<String, Vec<Selector>>,
     of_classes: HashMap<String, Vec<Selector>>,
     of_elements: HashMap<String, Vec<Selector>>,
@@ -45,6 +46,7 @@ impl Hiding {
     }
 
     fn add(&mut self, selector: Selector) {
+        self.has_rules = true;
         let selectors = match &selector {
             Selector { id: Some(id), .. } => self.of_ids.entry(id.clone()).or_default(),
             Selector { classes, .. } if !classes.is_empty() => self.of_classes.entry(classes[0].clone()).or_default(),
@@ -54,17 +56,14 @@ impl Hiding {
         selectors.push(selector);
     }
 
-    fn is_empty(&self) -> bool {
-        self.of_ids.is_empty() && self.of_classes.is_empty() && self.of_elements.is_empty() && self.of_all.is_empty()
+    /// Whether there are any.
+    #[inline]
+    pub fn has_rules(&self) -> bool {
+        self.has_rules
     }
 
     /// Whether a rule hides an element; an important one, if the element's own style displays it.
-    #[inline]
-    pub fn hides(&self, name: &LocalName, attributes: &[Attr], is_displayed: impl FnOnce() -> bool) -> bool {
-        !self.is_empty() && self.selects(name, attributes, is_displayed())
-    }
-
-    fn selects(&self, name: &str, attributes: &[Attr], is_displayed: bool) -> bool {
+    pub fn hides(&self, name: &str, attributes: &[Attr], is_displayed: bool) -> bool {
         let value = |name| attributes.iter().find(|attribute| attribute.name == name).map(|attribute| &*attribute.value);
         let (id, class) = (value(local_name!("id")), value(local_name!("class")).unwrap_or(""));
         let has_class = |class_of_rule: &String| class.split_ascii_whitespace().any(|word| word == class_of_rule);

@@ -31,8 +31,10 @@ pub(crate) enum End {
     Inline,
     /// The text around it is interrupted.
     Run(Run),
-    /// A text is recorded.
-    Text(&'static str),
+    /// The end of a button is recorded.
+    Button,
+    /// The mark at the end of a quotation in so many others is recorded.
+    Quotation(u8),
     /// Its signs are looked at.
     Signed,
     /// Its number is recorded.
@@ -110,7 +112,8 @@ impl<'a> Pass<'a> {
             next = self.tree.next_sibling(node);
             match self.tree.data(node) {
                 Data::Text { start, length, continues } => {
-                    if frame.place.context.hides_texts() {
+                    let context = frame.place.context;
+                    if context.hides_texts() {
                         continue;
                     }
                     let is_apart = frame.last == Last::Text && !continues;
@@ -119,7 +122,11 @@ impl<'a> Pass<'a> {
                     if is_apart {
                         self.recorder.part_texts(parent);
                     }
-                    let piece = self.shown_text((*start, *length));
+                    // the texts of a drawing aren't shown
+                    let piece = match &mut self.adapter {
+                        Some(adapter) if !context.is_in_drawing => adapter.add_text(&mut self.recorder, (*start, *length)),
+                        _ => (*start, *length),
+                    };
                     if piece.1 > 0 {
                         self.recorder.text(parent, piece);
                     }
@@ -163,14 +170,6 @@ impl<'a> Pass<'a> {
         }
         // nothing in a head is shown
         entered.filter(|_| element.name != local_name!("head") || element.space != ns!(html))
-    }
-
-    /// Returns what of a text is recorded. The texts of a drawing aren't shown.
-    fn shown_text(&mut self, piece: Piece) -> Piece {
-        match (self.frames.last(), &mut self.adapter) {
-            (Some(frame), Some(adapter)) if !frame.place.context.is_in_drawing => adapter.add_text(&mut self.recorder, piece),
-            _ => piece,
-        }
     }
 
     /// Returns the node among whose children a text is put: one of its own, where it is directly in a list.
@@ -229,8 +228,9 @@ impl<'a> Pass<'a> {
 
     /// Ends the innermost element whose children are recorded.
     fn leave(&mut self) {
-        if let (Some(Frame { place, end, .. }), Some(adapter)) = (self.frames.pop(), &mut self.adapter) {
-            adapter.close(&mut self.recorder, place.handle, end);
+        match (self.frames.pop(), &mut self.adapter) {
+            (Some(Frame { end: End::Inline, .. }) | None, _) | (_, None) => {}
+            (Some(Frame { place, end, .. }), Some(adapter)) => adapter.close(&mut self.recorder, place.handle, end),
         }
     }
 }

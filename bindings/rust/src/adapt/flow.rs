@@ -16,30 +16,47 @@ pub(crate) struct Flow {
 const MAX_TRAILING: usize = 16;
 
 /// Whether a character shows nothing: white space, or without width.
+#[inline]
 pub(crate) fn is_blank_char(c: char) -> bool {
     c.is_whitespace() || matches!(c, '\u{34f}' | '\u{200b}'..='\u{200d}' | '\u{2060}' | '\u{feff}')
 }
 
 /// Whether a character is part of a word. Those of scripts that are written without spaces aren't, since any two of them would be.
 pub(crate) fn is_word_char(c: char) -> bool {
+    if c.is_ascii() {
+        return c.is_ascii_alphanumeric();
+    }
     let is_without_spaces = matches!(c, '\u{e00}'..='\u{eff}' | '\u{1000}'..='\u{109f}' | '\u{1780}'..='\u{17ff}' | '\u{2e80}'..='\u{a4cf}'
         | '\u{f900}'..='\u{faff}' | '\u{ff66}'..='\u{ff9f}' | '\u{20000}'..='\u{3ffff}');
     c.is_alphanumeric() && !is_without_spaces
 }
 
 /// Returns the first character of a text in UTF-8.
+#[inline]
 fn first_char(text: &[u8]) -> Option<char> {
-    let length = match text.first()? {
-        0..=0x7f => 1,
-        0x80..=0xdf => 2,
-        0xe0..=0xef => 3,
-        _ => 4,
-    };
+    match text.first()? {
+        &byte @ 0..=0x7f => Some(byte.into()),
+        0x80..=0xdf => first_of(text, 2),
+        0xe0..=0xef => first_of(text, 3),
+        _ => first_of(text, 4),
+    }
+}
+
+/// Returns the first character of a text, which takes so many bytes.
+fn first_of(text: &[u8], length: usize) -> Option<char> {
     std::str::from_utf8(text.get(..length)?).ok()?.chars().next()
 }
 
 /// Returns the last character of a text in UTF-8.
+#[inline]
 fn last_char(text: &[u8]) -> Option<char> {
+    match text.last()? {
+        &byte @ 0..=0x7f => Some(byte.into()),
+        _ => last_of(text),
+    }
+}
+
+fn last_of(text: &[u8]) -> Option<char> {
     let start = text.iter().rposition(|byte| byte & 0xc0 != 0x80)?;
     std::str::from_utf8(&text[start..]).ok()?.chars().next()
 }

@@ -11,19 +11,35 @@ use html5ever::local_name;
 /// Text as it is recorded.
 pub(crate) struct Inline {
     flow: Flow,
-    /// Emphasis; `None` where no signs are written around it.
-    pub emphasis: Option<Emphasis>,
+    /// Whether emphasis has signs.
+    has_signs: bool,
+    emphasis: Emphasis,
     pub links: Links,
 }
 
 impl Inline {
     /// Returns the start of a text whose emphasis may have signs.
     pub fn new(links: Links, has_signs: bool) -> Inline {
-        Inline { flow: Flow::default(), emphasis: has_signs.then(Emphasis::default), links }
+        Inline { flow: Flow::default(), has_signs, emphasis: Emphasis::default(), links }
+    }
+
+    pub fn has_signs(&self) -> bool {
+        self.has_signs
+    }
+
+    /// Whether an element has no signs.
+    pub fn drops_signs(&self) -> bool {
+        self.emphasis.drops_signs()
+    }
+
+    /// Whether what comes can change what is known of a link or an element with signs.
+    #[inline]
+    fn is_watching(&self) -> bool {
+        self.links.is_open() || self.emphasis.is_watching()
     }
 
     /// Notes a text before it is recorded. Returns what of it is recorded.
-    #[inline]
+    #[inline(always)]
     pub fn add_text(&mut self, recorder: &mut Recorder, piece: Piece) -> Piece {
         if self.is_watching() {
             self.add_watched_text(recorder, piece)
@@ -33,21 +49,16 @@ impl Inline {
         }
     }
 
+    #[inline(never)]
     fn add_watched_text(&mut self, recorder: &mut Recorder, piece: Piece) -> Piece {
         if self.links.is_open() {
             let text = flow::bytes(&recorder.text, piece);
             self.links.add_text(text, flow::blank_start(text) == text.len());
         }
-        let rest = match &mut self.emphasis {
-            Some(emphasis) => {
-                let rest = emphasis.add_text(recorder, &mut self.flow, piece);
-                if let Some(step) = emphasis.take_inserted() {
-                    self.links.shift(step);
-                }
-                rest
-            }
-            None => piece,
-        };
+        let rest = self.emphasis.add_text(recorder, &mut self.flow, piece);
+        if let Some(step) = self.emphasis.take_inserted() {
+            self.links.shift(step);
+        }
         if rest.1 > 0 {
             self.flow.add(recorder, rest);
         }
@@ -73,27 +84,29 @@ impl Inline {
     pub fn add_object(&mut self) {
         self.flow.interrupt();
         self.links.add_object();
-        if let Some(emphasis) = &mut self.emphasis {
-            emphasis.fill();
-        }
+        self.emphasis.fill();
     }
 
     /// Notes that an element begins.
     #[inline]
     pub fn begin(&mut self, recorder: &mut Recorder, run: Run) {
-        match run {
-            Run::Inline => return,
-            Run::Break => self.flow.end_word(),
-            Run::Apart => self.flow.interrupt(),
-            Run::Block => {
-                self.flow.interrupt();
-                self.links.begin_block();
+        if run != Run::Inline {
+            self.flow.end_word();
+            if self.is_watching() {
+                self.begin_watched(recorder, run);
             }
         }
-        match &mut self.emphasis {
-            Some(emphasis) if run == Run::Block => emphasis.add_block(recorder),
-            Some(emphasis) => emphasis.end_word(),
-            None => {}
+    }
+
+    #[inline(never)]
+    fn begin_watched(&mut self, recorder: &mut Recorder, run: Run) {
+        self.emphasis.end_word();
+        if run != Run::Break {
+            self.flow.interrupt();
+        }
+        if run == Run::Block {
+            self.links.begin_block();
+            self.emphasis.add_block(recorder);
         }
     }
 
@@ -104,41 +117,37 @@ impl Inline {
         }
     }
 
-    /// Whether what comes can change what is known of a link or an element with signs.
-    #[inline]
-    fn is_watching(&self) -> bool {
-        self.links.is_open() || matches!(&self.emphasis, Some(emphasis) if emphasis.is_watching())
-    }
-
     /// Notes that a recorded element ends.
+    #[inline(always)]
     pub fn end(&mut self, handle: Handle, run: Run) {
         self.flow.end_word();
+        if self.is_watching() {
+            self.end_watched(handle, run);
+        }
+    }
+
+    #[inline(never)]
+    fn end_watched(&mut self, handle: Handle, run: Run) {
+        self.emphasis.end_word();
         if run == Run::Block {
             self.links.end_block(handle);
         }
-        if let Some(emphasis) = &mut self.emphasis {
-            emphasis.end_word();
-        }
     }
 
-    /// Opens a recorded element with signs. Returns whether its end has to be noted.
-    pub fn open_signed(&mut self, recorder: &mut Recorder, mut signed: Signed, is_signed: bool) -> bool {
-        match &mut self.emphasis {
-            Some(emphasis) => {
-                if !is_signed {
-                    emphasis.drop_signs(recorder, &mut signed);
-                }
-                emphasis.open(signed);
-                true
+    /// Opens a recorded element with signs.
+    pub fn open_signed(&mut self, recorder: &mut Recorder, mut signed: Signed, is_signed: bool) {
+        if self.has_signs {
+            if !is_signed {
+                self.emphasis.drop_signs(recorder, &mut signed);
             }
-            None => false,
+            self.emphasis.open(signed);
         }
     }
 
     /// Ends the innermost element with signs.
     pub fn close_signed(&mut self, recorder: &mut Recorder) {
-        if let Some(emphasis) = &mut self.emphasis {
-            emphasis.close(recorder, &mut self.flow);
+        if self.has_signs {
+            self.emphasis.close(recorder, &mut self.flow);
         }
     }
 
@@ -150,9 +159,7 @@ impl Inline {
         };
         if let Some((image, node, link)) = link.image {
             recorder.attribute(image, &local_name!("alt"), &name_of(node, link));
-            if let Some(emphasis) = &mut self.emphasis {
-                emphasis.fill();
-            }
+            self.emphasis.fill();
         }
         if let (Some(step), false) = (link.empty_step, self.links.keeps_targets()) {
             // a link without text is nothing, and another element without text is nothing too

@@ -81,6 +81,9 @@ impl Links {
 
     /// Returns a target resolved against the page's address; `None` where it stays as it is.
     pub fn resolved(&mut self, tree: &Tree, target: &str) -> Option<String> {
+        if targets::has_scheme(target) {
+            return None;
+        }
         let page = self.page.as_ref();
         targets::resolved(target, self.base.get_or_insert_with(|| targets::base(tree, page)).as_ref())
     }

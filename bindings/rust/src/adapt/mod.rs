@@ -113,12 +113,11 @@ pub(crate) struct Adapted {
 }
 
 /// What is recorded of a link's target.
-#[derive(Default)]
+#[derive(Clone, Copy)]
 enum Href {
-    #[default]
     Kept,
     Dropped,
-    Resolved(String),
+    Resolved(Piece),
 }
 
 /// Whether an adaptation asks for attributes of a name.
@@ -157,14 +156,22 @@ struct Opened<'a> {
     /// The number that an `ol` starts with, where it isn't 1.
     start: Option<i64>,
     href: Href,
-    /// What follows the element's classes in the text.
-    after_classes: &'static str,
+    /// Whether the private class of elements without signs follows the element's classes in the text.
+    may_be_unsigned: bool,
 }
 
 impl<'a> Opened<'a> {
+    #[inline(always)]
     fn new(node: Id, element: &'a Element, attributes: &'a [Attr], parent: Handle) -> Opened<'a> {
         let said = said_by(attributes, element.space == ns!(html));
-        Opened { node, element, attributes, parent, said, start: None, href: Href::Kept, after_classes: "" }
+        Opened { node, element, attributes, parent, said, start: None, href: Href::Kept, may_be_unsigned: false }
+    }
+
+    /// Keeps what follows the element's classes in the text.
+    fn keep_after_classes(&self, recorder: &mut Recorder) {
+        if self.may_be_unsigned {
+            recorder.keep(UNSIGNED_SUFFIX);
+        }
     }
 }
 
@@ -185,24 +192,38 @@ impl<'a> Adapter<'a> {
 
     /// Returns what the recorded document needs beside its steps.
     pub fn finish(self) -> Adapted {
-        let drops_signs = self.inline.emphasis.map_or(false, |emphasis| emphasis.drops_signs());
-        Adapted { rules: self.rules, drops_signs, targets: self.inline.links.into_targets() }
+        Adapted { rules: self.rules, drops_signs: self.inline.drops_signs(), targets: self.inline.links.into_targets() }
     }
 
     /// Notes a text of the tree before it is recorded. Returns what of it is recorded.
-    #[inline]
+    #[inline(always)]
     pub fn add_text(&mut self, recorder: &mut Recorder, piece: Piece) -> Piece {
         self.inline.add_text(recorder, piece)
     }
 
     /// Ends a recorded element.
+    #[inline(always)]
     pub fn close(&mut self, recorder: &mut Recorder, handle: Handle, end: End) {
         match end {
             End::Inline => {}
             End::Run(run) => self.inline.end(handle, run),
-            End::Text(text) => {
-                let piece = recorder.keep(text);
+            _ => self.close_with_text(recorder, handle, end),
+        }
+    }
+
+    /// Ends a recorded element after whose contents a text may be recorded.
+    #[inline(never)]
+    fn close_with_text(&mut self, recorder: &mut Recorder, handle: Handle, end: End) {
+        match end {
+            End::Inline | End::Run(_) => {}
+            End::Button => {
+                let piece = recorder.keep(" ]");
                 self.inline.record_text(recorder, handle, piece);
+                self.inline.end(handle, Run::Apart);
+            }
+            End::Quotation(quotations) => {
+                let mark = recorder.keep(quotation_marks(quotations).1);
+                self.inline.record_text(recorder, handle, mark);
             }
             End::Signed => self.inline.close_signed(recorder),
             End::Link => {
@@ -225,7 +246,7 @@ impl<'a> Adapter<'a> {
     pub fn open(&mut self, recorder: &mut Recorder, node: Id, element: &'a Element, around: Place) -> Option<Entered> {
         let attributes = self.tree.attributes_of(node);
         let is_html = element.space == ns!(html);
-        let opened = Opened::new(node, element, attributes, around.handle);
+        let mut opened = Opened::new(node, element, attributes, around.handle);
         let change = if is_html { change_of(&element.name) } else { Change::Kept };
         let mut context = around.context.inside();
         self.hide_texts(&mut context, &opened.said, change);
@@ -238,69 +259,70 @@ impl<'a> Adapter<'a> {
         }
         let run = change.run();
         self.inline.begin(recorder, run);
-        let mut entered = self.open_changed(recorder, opened, change, around, context)?;
-        if run != Run::Inline && matches!(entered.end, End::Inline) {
-            entered.end = End::Run(run);
+        let mut entered = self.open_changed(recorder, &mut opened, change, around, context);
+        if let (Some(Entered { end: end @ End::Inline, .. }), true) = (&mut entered, run != Run::Inline) {
+            *end = End::Run(run);
         }
-        Some(entered)
+        entered
     }
 
     /// Records an element with what its name changes.
-    fn open_changed(&mut self, recorder: &mut Recorder, mut opened: Opened<'_>, change: Change, around: Place, mut context: Context) -> Option<Entered> {
+    #[inline(always)]
+    fn open_changed(&mut self, recorder: &mut Recorder, opened: &mut Opened<'_>, change: Change, around: Place, mut context: Context) -> Option<Entered> {
         let (node, attributes) = (opened.node, opened.attributes);
         match change {
-            Change::Kept if is_drawing(opened.element) => Some(self.open_drawing(recorder, &opened, context)),
-            Change::Kept | Change::Apart | Change::Block => Some(Entered::new(self.record(recorder, &opened), context)),
+            Change::Kept if is_drawing(opened.element) => Some(self.open_drawing(recorder, opened, context)),
+            Change::Kept | Change::Apart | Change::Block => Some(Entered::new(self.record(recorder, opened), context)),
             Change::Break => {
                 self.inline.add_break(recorder.steps.len());
-                Some(Entered::new(self.record(recorder, &opened), context))
+                Some(Entered::new(self.record(recorder, opened), context))
             }
             Change::Signed => Some(self.open_signed(recorder, opened, context)),
             Change::Link => Some(self.open_link(recorder, opened, context)),
-            Change::Image => Some(self.open_image(recorder, &opened, context)),
-            Change::Field(field) => self.open_field(recorder, &opened, field, context),
+            Change::Image => Some(self.open_image(recorder, opened, context)),
+            Change::Field(field) => self.open_field(recorder, opened, field, context),
             Change::Dropped => None,
-            Change::Within(inner) => Some(self.open_within(recorder, &opened, inner, context)),
+            Change::Within(inner) => Some(self.open_within(recorder, opened, inner, context)),
             Change::Dialog => {
                 let is_open = attributes.iter().any(|attribute| attribute.name == local_name!("open"));
-                is_open.then(|| self.open_within(recorder, &opened, Inner::Division, context))
+                is_open.then(|| self.open_within(recorder, opened, Inner::Division, context))
             }
             Change::Rule => {
-                self.record_rule(recorder, &opened, context);
+                self.record_rule(recorder, opened, context);
                 None
             }
-            Change::Quotation => Some(self.open_quotation(recorder, &opened, context)),
-            Change::Object if !names_contents(attributes) => Some(Entered::new(self.record(recorder, &opened), context)),
+            Change::Quotation => Some(self.open_quotation(recorder, opened, context)),
+            Change::Object if !names_contents(attributes) => Some(Entered::new(self.record(recorder, opened), context)),
             Change::Embedded | Change::Object => {
-                self.record_embedded(recorder, &opened, context);
+                self.record_embedded(recorder, opened, context);
                 None
             }
             Change::List(List::Unordered) => {
                 context.holds = Holds::Items;
                 context.margins.add_items(BULLET);
-                Some(Entered::new(self.record(recorder, &opened), context))
+                Some(Entered::new(self.record(recorder, opened), context))
             }
             Change::List(List::Ordered) => {
                 let plan = Plan::of(self.tree, &recorder.text, node, |item| !self.is_hidden_item(item));
                 context.holds = Holds::Items;
                 context.margins.add_items(plan.columns);
                 opened.start = Some(plan.first).filter(|&first| first != 1);
-                let handle = self.record(recorder, &opened);
+                let handle = self.record(recorder, opened);
                 Some(Entered { numbers: Some(plan.numbers(around.handle)), ..Entered::new(handle, context) })
             }
             Change::Descriptions => {
                 context.holds = Holds::Descriptions;
-                Some(Entered::new(self.record(recorder, &opened), context))
+                Some(Entered::new(self.record(recorder, opened), context))
             }
             Change::Heading(columns) => {
                 context.margins.add(columns);
-                Some(self.open_heading(recorder, &opened, context))
+                Some(self.open_heading(recorder, opened, context))
             }
             Change::Prefixed(columns) => {
                 context.margins.add(columns);
-                Some(Entered::new(self.record(recorder, &opened), context))
+                Some(Entered::new(self.record(recorder, opened), context))
             }
-            Change::Table(part) => Some(self.open_part(recorder, &opened, part, around.context.part, context)),
+            Change::Table(part) => Some(self.open_part(recorder, opened, part, around.context.part, context)),
         }
     }
 
@@ -319,9 +341,14 @@ impl<'a> Adapter<'a> {
     }
 
     /// Whether nothing of an element is shown, by its attributes or by a rule.
+    #[inline(always)]
     fn is_hidden(&self, element: &Element, attributes: &[Attr], said: &Said) -> bool {
-        let is_displayed = || said.style.as_ref().map_or(false, InlineStyle::is_displayed);
-        is_dropped(said) || self.adaptation.hiding.hides(&element.name, attributes, is_displayed)
+        is_dropped(said) || self.adaptation.hiding.has_rules() && self.is_hidden_by_rule(element, attributes, said)
+    }
+
+    fn is_hidden_by_rule(&self, element: &Element, attributes: &[Attr], said: &Said) -> bool {
+        let is_displayed = said.style.as_ref().map_or(false, InlineStyle::is_displayed);
+        self.adaptation.hiding.hides(&element.name, attributes, is_displayed)
     }
 
     fn is_hidden_item(&self, item: Id) -> bool {
@@ -390,7 +417,7 @@ impl<'a> Adapter<'a> {
         }
         match field {
             Field::Button if context.hides_texts() => Some(Entered::new(handle, context)),
-            Field::Button => Some(Entered { last: Last::Joined, end: End::Text(" ]"), ..Entered::new(handle, context) }),
+            Field::Button => Some(Entered { last: Last::Joined, end: End::Button, ..Entered::new(handle, context) }),
             Field::Lines => Some(Entered::new(recorder.element(handle, record::HTML, &local_name!("pre")), context)),
             Field::Input | Field::Select => None,
         }
@@ -402,45 +429,43 @@ impl<'a> Adapter<'a> {
         if context.hides_texts() {
             return Entered::new(handle, context);
         }
-        let (start, end) = quotation_marks(context.quotations);
+        let end = End::Quotation(context.quotations);
+        let mark = recorder.keep(quotation_marks(context.quotations).0);
         context.quotations = context.quotations.wrapping_add(1);
-        let mark = recorder.keep(start);
         self.inline.record_text(recorder, handle, mark);
-        Entered { last: Last::Joined, end: End::Text(end), ..Entered::new(handle, context) }
+        Entered { last: Last::Joined, end, ..Entered::new(handle, context) }
     }
 
     /// Records emphasis: without signs if its texts are hidden, or if it is all that a `pre` has.
-    fn open_signed(&mut self, recorder: &mut Recorder, mut opened: Opened<'_>, context: Context) -> Entered {
-        if self.inline.emphasis.is_some() {
-            opened.after_classes = UNSIGNED_SUFFIX;
-        }
+    fn open_signed(&mut self, recorder: &mut Recorder, opened: &mut Opened<'_>, context: Context) -> Entered {
+        opened.may_be_unsigned = self.inline.has_signs();
         let step = recorder.steps.len();
-        let handle = self.record(recorder, &opened);
+        let handle = self.record(recorder, opened);
         let signed = Signed { handle, parent: opened.parent, step, class_step: recorder.class_step(step), is_signed: true };
         let is_signed = !context.hides_texts() && !is_all_of_pre(self.tree, &recorder.text, opened.node);
-        let is_noted = self.inline.open_signed(recorder, signed, is_signed);
-        Entered { end: if is_noted { End::Signed } else { End::Inline }, ..Entered::new(handle, context) }
+        self.inline.open_signed(recorder, signed, is_signed);
+        Entered { end: End::Signed, ..Entered::new(handle, context) }
     }
 
     /// Records an `a`, with its target in rich text alone.
-    fn open_link(&mut self, recorder: &mut Recorder, mut opened: Opened<'_>, context: Context) -> Entered {
+    fn open_link(&mut self, recorder: &mut Recorder, opened: &mut Opened<'_>, context: Context) -> Entered {
         let href = match opened.attributes.iter().find(|attribute| attribute.name == local_name!("href")) {
             Some(href) => recorder.filtered(&href.value),
-            None => return Entered::new(self.record(recorder, &opened), context),
+            None => return Entered::new(self.record(recorder, opened), context),
         };
-        opened.href = self.recorded_href(&href);
+        opened.href = self.recorded_href(recorder, &href);
         let step = recorder.steps.len();
-        let handle = self.record(recorder, &opened);
+        let handle = self.record(recorder, opened);
         self.inline.links.open(self.tree, opened.node, step, &href);
         Entered { end: End::Link, ..Entered::new(handle, context) }
     }
 
     /// Returns what is recorded of a link's target.
-    fn recorded_href(&mut self, href: &str) -> Href {
+    fn recorded_href(&mut self, recorder: &mut Recorder, href: &str) -> Href {
         if !self.inline.links.keeps_targets() {
             return Href::Dropped;
         }
-        self.inline.links.resolved(self.tree, href).map_or(Href::Kept, Href::Resolved)
+        self.inline.links.resolved(self.tree, href).map_or(Href::Kept, |target| Href::Resolved(recorder.keep(&target)))
     }
 
     /// Records an image. One without a text may be named where the link around it ends.
@@ -514,16 +539,16 @@ impl<'a> Adapter<'a> {
         let step = recorder.steps.len();
         let anchor = recorder.element(parent, record::HTML, &local_name!("a"));
         let target = recorder.filtered(&link.target);
-        match self.recorded_href(&target) {
+        match self.recorded_href(recorder, &target) {
             Href::Kept => recorder.attribute(anchor, &local_name!("href"), &target),
-            Href::Resolved(target) => recorder.attribute(anchor, &local_name!("href"), &target),
+            Href::Resolved(target) => recorder.attribute_of_piece(anchor, &local_name!("href"), target),
             Href::Dropped => {}
         }
         self.inline.links.open(self.tree, opened.node, step, &target);
         let shown = self.tree.filter.filtered(&link.name);
         let piece = recorder.keep(&shown);
         self.inline.record_text(recorder, anchor, piece);
-        self.close(recorder, anchor, End::Link);
+        self.close_with_text(recorder, anchor, End::Link);
         self.inline.end(anchor, Run::Apart);
     }
 
@@ -561,18 +586,18 @@ impl<'a> Adapter<'a> {
                 (name @ &local_name!("class"), _) if !classes.is_empty() => {
                     let (start, length) = recorder.keep_filtered(&attribute.value);
                     let (_, more) = recorder.keep(&[" ", &classes].concat());
-                    recorder.keep(opened.after_classes);
+                    opened.keep_after_classes(recorder);
                     recorder.attribute_of_piece(handle, name, (start, length + more));
                     classes.clear();
                 }
                 (name @ &local_name!("class"), _) => {
                     let piece = recorder.keep_filtered(&attribute.value);
-                    recorder.keep(opened.after_classes);
+                    opened.keep_after_classes(recorder);
                     recorder.attribute_of_piece(handle, name, piece);
                 }
-                (name @ &local_name!("href"), _) => match &opened.href {
+                (name @ &local_name!("href"), _) => match opened.href {
                     Href::Kept => recorder.attribute(handle, name, &attribute.value),
-                    Href::Resolved(target) => recorder.attribute(handle, name, target),
+                    Href::Resolved(target) => recorder.attribute_of_piece(handle, name, target),
                     Href::Dropped => {}
                 },
                 // without it an image may be named later
@@ -589,7 +614,7 @@ impl<'a> Adapter<'a> {
         }
         if !classes.is_empty() {
             let piece = recorder.keep(&classes);
-            recorder.keep(opened.after_classes);
+            opened.keep_after_classes(recorder);
             recorder.attribute_of_piece(handle, &local_name!("class"), piece);
         }
     }

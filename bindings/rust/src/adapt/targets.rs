@@ -44,12 +44,14 @@ pub(crate) fn base(tree: &Tree, page: Option<&Url>) -> Option<Url> {
     own.or_else(|| page.cloned())
 }
 
-/// Returns a target resolved against an address; `None` where it has a scheme, or can't be resolved.
+/// Whether a target has a scheme, and so isn't resolved.
+pub(crate) fn has_scheme(target: &str) -> bool {
+    scheme(target).is_some()
+}
+
+/// Returns a target without a scheme resolved against an address; `None` where it can't be.
 pub(crate) fn resolved(target: &str, base: Option<&Url>) -> Option<String> {
-    match scheme(target) {
-        Some(_) => None,
-        None => Some(base?.join(target).ok()?.into()),
-    }
+    Some(base?.join(target).ok()?.into())
 }
 
 #[cfg(test)]
@@ -88,11 +90,10 @@ mod tests {
             ("d.html?e", Some("https://a.example/b/d.html?e")),
             ("/f", Some("https://a.example/f")),
             ("//g.example/", Some("https://g.example/")),
-            ("mailto:h", None),
-            ("HTTP://i", None),
         ] {
             assert_eq!(resolved(target, Some(&base)).as_deref(), wanted, "{target}");
         }
+        assert!(has_scheme("mailto:h") && has_scheme(" HTTP://i") && !has_scheme("a/b:c"));
         assert_eq!(resolved("a", None), None);
         assert_eq!(resolved("a", Url::parse("mailto:b").ok().as_ref()), None);
     }
