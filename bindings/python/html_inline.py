@@ -15,6 +15,8 @@ LINK_MODES = ("notes", "inline", "list", "none")
 
 _INVISIBLE = frozenset("\u034f\u200b\u200c\u200d\u2060\ufeff")
 _WITHOUT_SPACES = re.compile("[\u0e00-\u0eff\u1000-\u109f\u1780-\u17ff\u2e80-\ua4cf\uf900-\ufaff\uff66-\uff9f\U00020000-\U0003ffff]")
+# characters of a page's own base, which each target may repeat
+_MAX_BASE = 500
 _SCHEME = re.compile(r"\s*([A-Za-z][A-Za-z0-9+.-]*):")
 _UP_TO_SPACE = "".join(map(chr, range(0x21)))
 _TOLD_WITHOUT = ("http://", "https://", "mailto:")
@@ -53,7 +55,8 @@ def base_of(tree, page):
     href = next((it.getAttribute("href") for it in tree.getElementsByTagName("base") if it.hasAttribute("href")), None)
     if href is None or page is None and not scheme(href):
         return page
-    return resolved(href, page)
+    own = resolved(href, page)
+    return own if len(own) <= _MAX_BASE else page
 
 
 def _leads_out(target):
@@ -334,17 +337,17 @@ class Inline:
         """Moves white space and line breaks after the last visible character to the end of another node. Returns whether there are any."""
         if not self._trailing:
             return False
-        steps, self._trailing, spaces = self._trailing, [], []
+        steps, self._trailing, space = self._trailing, [], ""
         for step in steps:
-            if self._steps[step][0] == "text":
-                spaces.append(self._cut(step))
+            if self._steps[step][0] == "text" and _parted(self._steps[step][2])[1]:
+                space = self._cut(step)
             else:
                 self._steps[step][1] = parent
                 self._trailing.append(step)
         self._last = ""
-        if spaces:
+        if space and not self._trailing:
             self._trailing.append(len(self._steps))
-            self._steps.add_text(parent, spaces[0])
+            self._steps.add_text(parent, space)
         return True
 
     def _insert_before_break(self, text):

@@ -384,7 +384,7 @@ def _run_of(element):
 def _is_all_of_pre(element):
     """Whether an element and white space are all that is in a `pre`."""
     pre = element.parentNode
-    others = (it for it in pre.childNodes if it is not element and it.nodeType != it.COMMENT_NODE)
+    others = [it for it in pre.childNodes if it is not element]
     return pre.nodeName == "pre" and pre.namespaceURI == HTML and all(it.nodeType == it.TEXT_NODE and not it.data.strip(_WHITE) for it in others)
 
 

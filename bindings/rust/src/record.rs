@@ -184,11 +184,6 @@ impl Recorder {
         true
     }
 
-    /// Whether a step puts a text.
-    pub fn is_text(&self, number: usize) -> bool {
-        self.steps[number].kind == kind::PUT_TEXT
-    }
-
     /// Returns the node among whose children a step puts another or a text.
     pub fn parent(&self, number: usize) -> Handle {
         self.steps[number].node
@@ -199,14 +194,16 @@ impl Recorder {
         self.steps[number].node = parent;
     }
 
-    /// Returns the text of a step.
-    pub fn text_of_step(&self, number: usize) -> Piece {
-        (self.steps[number].value, self.steps[number].value_length)
+    /// Returns the number of bytes of a step's text.
+    pub fn text_length(&self, number: usize) -> u32 {
+        self.steps[number].value_length
     }
 
-    /// Cuts the text of a step down to a length.
-    pub fn shorten_text(&mut self, number: usize, length: u32) {
-        self.steps[number].value_length = length;
+    /// Takes so many bytes off the end of a step's text. Returns them.
+    pub fn cut_text(&mut self, number: usize, bytes: u32) -> Piece {
+        let step = &mut self.steps[number];
+        step.value_length -= bytes;
+        (step.value + step.value_length, bytes)
     }
 
     /// Adds what follows it in the text to the value of an attribute's step.

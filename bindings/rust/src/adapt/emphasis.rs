@@ -148,7 +148,7 @@ impl Emphasis {
         if recorder.insert_text(step, parent, space) {
             self.has_space_before = true;
             self.inserted = Some(step);
-            flow.add_space(step);
+            flow.add_space(step, space.1);
             for signed in &mut self.open[self.filled..] {
                 signed.step += 1;
                 signed.class_step = signed.class_step.map(|step| step + 1);

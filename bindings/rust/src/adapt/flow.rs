@@ -8,8 +8,16 @@ use crate::tree::Piece;
 pub(crate) struct Flow {
     /// The text recorded last; empty after anything else.
     last: Piece,
-    /// Numbers of the steps that are line breaks after the last visible character, or whose texts have white space after it.
-    trailing: Vec<usize>,
+    /// The line breaks and the white space after the last visible character.
+    trailing: Vec<Trailing>,
+}
+
+/// A step that is a line break, or whose text ends with white space.
+#[derive(Clone, Copy)]
+struct Trailing {
+    step: usize,
+    /// Number of bytes of white space; 0 for a line break.
+    blank: u32,
 }
 
 /// Maximum number of steps after the last visible character that are known.
@@ -105,21 +113,26 @@ impl Flow {
             self.trailing.clear();
         }
         if blank > 0 {
-            self.add_trailing(recorder.steps.len());
+            self.add_trailing(Trailing { step: recorder.steps.len(), blank: blank as u32 });
         }
     }
 
-    /// Notes a step that is a line break, or white space before an element without text.
-    pub fn add_space(&mut self, step: usize) {
-        self.last = (0, 0);
-        self.add_trailing(step);
+    /// Notes a line break that becomes a step.
+    pub fn add_break(&mut self, step: usize) {
+        self.add_trailing(Trailing { step, blank: 0 });
     }
 
-    fn add_trailing(&mut self, step: usize) {
+    /// Notes so many bytes of white space, which became a step before an element without text.
+    pub fn add_space(&mut self, step: usize, blank: u32) {
+        self.last = (0, 0);
+        self.add_trailing(Trailing { step, blank });
+    }
+
+    fn add_trailing(&mut self, trailing: Trailing) {
         if self.trailing.len() == MAX_TRAILING {
             self.trailing.clear();
         }
-        self.trailing.push(step);
+        self.trailing.push(trailing);
     }
 
     /// Notes something that isn't text, or the start of a block.
@@ -143,19 +156,20 @@ impl Flow {
         if self.trailing.is_empty() {
             return false;
         }
-        let steps = std::mem::take(&mut self.trailing);
         let mut space = None;
-        for step in steps {
-            if recorder.is_text(step) {
-                space = space.or(Some(cut(recorder, step)));
-            } else {
+        self.trailing.retain(|&Trailing { step, blank }| {
+            // that text alone has something visible which has white space after it
+            let is_moved = blank == 0 || recorder.text_length(step) == blank;
+            if is_moved {
                 recorder.set_parent(step, parent);
-                self.trailing.push(step);
+            } else {
+                space = Some(recorder.cut_text(step, blank));
             }
-        }
+            is_moved
+        });
         self.last = (0, 0);
-        if let Some(space) = space {
-            self.trailing.push(recorder.steps.len());
+        if let Some(space) = space.filter(|_| self.trailing.is_empty()) {
+            self.trailing.push(Trailing { step: recorder.steps.len(), blank: space.1 });
             recorder.text(parent, space);
         }
         true
@@ -164,8 +178,9 @@ impl Flow {
     /// Takes the white space after the last visible character out of the texts. Returns the first piece of it.
     pub fn cut_trailing(&mut self, recorder: &mut Recorder) -> Option<Piece> {
         let mut space = None;
-        for step in self.trailing.drain(..) {
-            space = space.or(Some(cut(recorder, step)));
+        for Trailing { step, blank } in self.trailing.drain(..) {
+            let cut = recorder.cut_text(step, blank);
+            space = space.or(Some(cut));
         }
         space
     }
@@ -173,27 +188,19 @@ impl Flow {
     /// Inserts a text before the first line break after the last visible character, without white space between. Returns whether there
     /// is such a break.
     pub fn insert_before_break(&mut self, recorder: &mut Recorder, text: Piece) -> bool {
-        let place = match self.trailing.iter().position(|&step| !recorder.is_text(step)) {
+        let place = match self.trailing.iter().position(|trailing| trailing.blank == 0) {
             Some(place) => place,
             None => return false,
         };
-        for step in self.trailing.drain(..place) {
-            cut(recorder, step);
+        for Trailing { step, blank } in self.trailing.drain(..place) {
+            recorder.cut_text(step, blank);
         }
-        let step = self.trailing[0];
+        let step = self.trailing[0].step;
         if recorder.insert_text(step, recorder.parent(step), text) {
-            self.trailing.iter_mut().for_each(|step| *step += 1);
+            self.trailing.iter_mut().for_each(|trailing| trailing.step += 1);
         }
         true
     }
-}
-
-/// Takes the white space at the end out of a step's text. Returns it.
-fn cut(recorder: &mut Recorder, step: usize) -> Piece {
-    let (start, length) = recorder.text_of_step(step);
-    let blank = blank_end(bytes(&recorder.text, (start, length))) as u32;
-    recorder.shorten_text(step, length - blank);
-    (start + length - blank, blank)
 }
 
 #[cfg(test)]

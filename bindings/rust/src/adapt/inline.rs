@@ -113,7 +113,7 @@ impl Inline {
     /// Notes a line break that was recorded as a step of this number.
     pub fn add_break(&mut self, step: usize) {
         if self.is_watching() {
-            self.flow.add_space(step);
+            self.flow.add_break(step);
         }
     }
 
@@ -246,7 +246,7 @@ mod tests {
         for (page, wanted) in [
             ("a<b> b </b>c", "a <b>b</> c"),
             ("<b><em> a </em></b>b", " <b><em>a</></> b"),
-            ("<b> <em>\n <i>a</i> </em> </b>", " <b><em><i>a</></></> "),
+            ("<b> <em>\n <i>a</i> </em> </b>", " <b><em><i>a</></></>  "),
             ("<b>a <em> </em></b>b", "<b>a<!em></></> b"),
             ("<b>a<br> </b>- <b><em>c<br></em></b>d", "<b>a</><br></> - <b><em>c</></><br></>d"),
             ("<b>\u{a0}a\u{a0}</b>", "\u{a0}<b>a</>\u{a0}"),

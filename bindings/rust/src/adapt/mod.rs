@@ -26,7 +26,7 @@ use crate::hiding::Hiding;
 use crate::options::LinkMode;
 use crate::pass::{End, Entered, Last, Place};
 use crate::record::{self, Handle, Recorder};
-use crate::tree::{Attr, Data, Element, Id, Piece, Tree, DOCUMENT};
+use crate::tree::{Attr, Data, Element, Id, Piece, Tree, DOCUMENT, NONE};
 use elements::{change_of, Change, Field, Inner, List, Part};
 use emphasis::{Signed, UNSIGNED_SUFFIX};
 use html5ever::{local_name, namespace_url, ns, LocalName};
@@ -659,12 +659,14 @@ fn is_drawing(element: &Element) -> bool {
 fn is_all_of_pre(tree: &Tree, text: &[u8], node: Id) -> bool {
     let pre = tree.parent(node);
     let is_pre = matches!(tree.element(pre), Some(element) if element.name == local_name!("pre") && element.space == ns!(html));
-    let is_other = |&child: &Id| match *tree.data(child) {
-        Data::Text { start, length, .. } => !is_blank(text, (start, length)),
-        Data::Element(_) => child != node,
-        Data::Root | Data::Comment => false,
+    // at most a text before it and one after it, so that few texts are looked at
+    let (first, next) = (tree.first_child(pre), tree.next_sibling(node));
+    let is_alone = (first == node || tree.next_sibling(first) == node) && (next == NONE || tree.next_sibling(next) == NONE);
+    let is_nothing = |child: Id| match *tree.data(child) {
+        Data::Text { start, length, .. } => is_blank(text, (start, length)),
+        _ => false,
     };
-    is_pre && !tree.children(pre).any(|child| is_other(&child))
+    is_pre && is_alone && (first == node || is_nothing(first)) && (next == NONE || is_nothing(next))
 }
 
 /// Returns the marks around a quotation in so many others.

@@ -33,6 +33,9 @@ pub(crate) fn is_told_by(text: &str, target: &str) -> bool {
     text == target || SCHEMES.iter().any(|scheme| target.strip_prefix(scheme) == Some(text))
 }
 
+/// Maximum number of bytes of a page's own base, which each target may repeat.
+const MAX_BASE: usize = 500;
+
 /// Returns the address that the targets of a page are resolved against: that of its first `base`, or else the one it was read from.
 pub(crate) fn base(tree: &Tree, page: Option<&Url>) -> Option<Url> {
     let is_base = |&node: &Id| matches!(tree.element(node), Some(element) if element.name == local_name!("base") && element.space == ns!(html));
@@ -41,7 +44,7 @@ pub(crate) fn base(tree: &Tree, page: Option<&Url>) -> Option<Url> {
         Some(page) => page.join(href).ok(),
         None => Url::parse(href).ok(),
     });
-    own.or_else(|| page.cloned())
+    own.filter(|own| own.as_str().len() <= MAX_BASE).or_else(|| page.cloned())
 }
 
 /// Whether a target has a scheme, and so isn't resolved.
@@ -57,6 +60,8 @@ pub(crate) fn resolved(target: &str, base: Option<&Url>) -> Option<String> {
 #[cfg(test)]
 mod tests {
     use super::*;
+    use crate::characters::Filter;
+    use html5ever::{Attribute, QualName};
 
     #[test]
     fn targets_that_lead_out() {
@@ -81,6 +86,21 @@ mod tests {
         for (text, target) in [("A.example", "http://a.example"), ("a", "http://b/a"), ("", "http://b"), ("http://a", "a")] {
             assert!(!is_told_by(text, target), "{text} {target}");
         }
+    }
+
+    #[test]
+    fn bases() {
+        let found = |href: &str, page: Option<&Url>| {
+            let mut tree = Tree::new(Filter::default());
+            let attribute = Attribute { name: QualName::new(None, ns!(), local_name!("href")), value: href.into() };
+            tree.add_element(QualName::new(None, ns!(html), local_name!("base")), vec![attribute], |_| true);
+            base(&tree, page).map(String::from)
+        };
+        let page = Url::parse("https://a.example/b").unwrap();
+        assert_eq!(found("c/", Some(&page)).as_deref(), Some("https://a.example/c/"));
+        assert_eq!(found("http://c", None).as_deref(), Some("http://c/"));
+        assert_eq!(found("c", None), None);
+        assert_eq!(found(&"c".repeat(MAX_BASE), Some(&page)).as_deref(), Some("https://a.example/b"));
     }
 
     #[test]
