@@ -6,7 +6,7 @@
     world
 
 html5lib parses the HTML as browsers do (Debian's python3-html5lib); its tree becomes the calls of which the library builds the
-document that it renders, with what a browser shows (html_shown.py). The library is the shared one that `bindings/build` makes, in bindings/out, or the file that the variable
+document that it renders, with what a browser shows (html_shown.py, html_inline.py). The library is the shared one that `bindings/build` makes, in bindings/out, or the file that the variable
 HTML_RENDER_LIB of the environment names.
 """
 
@@ -17,13 +17,32 @@ from pathlib import Path
 
 import html5lib
 
-from html_shown import ASKED, HTML, SVG, WHITE_SPACE, Around, Items, is_item, is_loose, loose_in, shown, takes, title_of, without_controls
+from html_inline import LINK_MODES, UNSIGNED, Inline, Steps, base_of, cut, scheme
+from html_shown import (
+    ASKED,
+    HTML,
+    SVG,
+    WHITE_SPACE,
+    Around,
+    Items,
+    is_item,
+    is_loose,
+    loose_in,
+    name_of_image,
+    shown,
+    takes,
+    title_of,
+    without_controls,
+)
 
 __all__ = ["Error", "TooNarrow", "render"]
 
 _SPACES = {None: 0, HTML: 1, SVG: 2, "http://www.w3.org/1998/Math/MathML": 3}
+_AGENT = 1
 _AUTHOR = 3
 _WHITE_SPACE = 3
+_CONTENT = 4
+_BEFORE_AND_AFTER = (1, 2)
 
 
 class Error(Exception):
@@ -81,6 +100,8 @@ class _Recording:
 
     def __init__(self):
         self._keeps_controls = False
+        self._steps = Steps()
+        self._inline = None
         self._recording = _library.html_render_new()
         if not self._recording:
             raise MemoryError
@@ -91,34 +112,37 @@ class _Recording:
     def __exit__(self, *_):
         _library.html_render_drop(self._recording)
 
-    def add_children(self, parent, tree, columns, keep_controls):
+    def add_children(self, parent, tree, columns, inline_of, keep_controls):
         """Records the nodes below one of html5lib's tree, whose own node is `parent`, as a browser shows them in lines of so many
-        columns. It doesn't recurse: documents may be deep."""
+        columns. A function returns the text of steps. It doesn't recurse: documents may be deep. Returns the lines after the text."""
         self._keeps_controls = keep_controls
-        ahead = [(parent, Around(), Items(), iter(tree.childNodes), "")]
+        self._inline = inline_of(self._steps)
+        ahead = [(parent, Around(), Items(), iter(tree.childNodes), None)]
         while ahead:
-            above, around, items, children, after = ahead[-1]
+            above, around, items, children, ending = ahead[-1]
             child = next(children, None)
             if child is None:
                 ahead.pop()
-                self.add_text(above, after)
+                self._end_element(above, ending)
             elif child.nodeType == child.TEXT_NODE and not around.hides_texts:
                 place = self._place_of(child, above, around, items)
-                self.add_text(above if place is None else place, self._kept(child.data, is_shown=True))
+                add_text = self.add_text if around.is_in_drawing else self._inline.add_text
+                add_text(above if place is None else place, self._kept(child.data, is_shown=True))
             elif child.nodeType == child.ELEMENT_NODE:
                 place = self._place_of(child, above, around, items)
                 found = shown(child, around if place is None else around.in_loose(), columns)
                 if found:
                     if is_item(child, around):
                         above = self._list_of(child, above, items)
-                    node = self._add_element(above if place is None else place, found)
+                    node = self._add_element(above if place is None else place, found, child)
                     if around.holds is not None and takes(around, child):
                         items.item, items.loose = node, None
                     below = child.childNodes if found.has_children and child.tagName not in ("head", "template", "script", "style") else ()
                     inner = Items(list=node)
                     if found.numbers:
                         inner = Items(list=node, parent=above if place is None else place, attributes=found.elements[0][2], numbers=found.numbers)
-                    ahead.append((node, found.around, inner, iter(below), found.after))
+                    ahead.append((node, found.around, inner, iter(below), found))
+        return self._inline.footnotes
 
     def _place_of(self, child, above, around, items):
         """Returns the node that shows a child of a list that isn't an item of it, or None for another child."""
@@ -144,15 +168,28 @@ class _Recording:
             return text.replace("\u00ad", "") if is_shown else text
         return without_controls(text, is_shown)
 
-    def _add_element(self, parent, found):
+    def _add_element(self, parent, found, element):
         """Records the elements that one is shown as, and the text before its children. Returns the innermost one."""
+        inline, outer = self._inline, parent
+        inline.begin(found.run)
+        step = len(self._steps)
         for name, space, attributes in found.elements:
-            parent = self.add_element(parent, name, space)
+            step, parent = len(self._steps), self.add_element(parent, name, space)
             for key, value in attributes.items():
-                if key in ASKED:
+                # an image without the empty attribute may be named later
+                if key in ASKED and (key != "alt" or value.strip()):
                     self._add_attribute(parent, key, value)
         self._add_drawing(parent, found.titles)
-        self.add_text(parent, found.before)
+        if found.kind == "signed":
+            inline.open_signed(parent, outer, step, found.is_signed)
+        elif found.kind == "image":
+            inline.add_image(parent, element)
+        elif found.kind == "object":
+            inline.add_object()
+        elif found.kind in ("link", "embedded"):
+            inline.open_link(element, step, self._kept(found.target))
+        if found.before:
+            (inline.add_text if found.run == "inline" or found.kind == "embedded" else self.add_text)(parent, found.before)
         return parent
 
     def _add_drawing(self, parent, titles):
@@ -160,32 +197,45 @@ class _Recording:
         if titles is not None:
             drawing = self.add_element(parent, "svg", SVG)
             for title in titles:
+                self._inline.add_object()
                 self.add_text(self.add_element(drawing, "title", SVG), self._kept(title, is_shown=True))
+
+    def _end_element(self, node, ending):
+        """Ends the innermost of the elements that one is shown as, of which the document has none."""
+        if ending is None:
+            return
+        if ending.after:
+            self._inline.add_text(node, ending.after)
+        if ending.kind == "signed":
+            self._inline.close_signed()
+        elif ending.kind in ("link", "embedded"):
+            self._inline.close_link(node, name_of_image)
+        self._inline.end(node, ending.run)
 
     def add_element(self, parent, name, space=HTML):
         """Records an element without attributes."""
-        name = _bytes(without_controls(name))
-        node = _library.html_render_element(self._recording, _SPACES.get(space, 0), name, len(name))
-        _library.html_render_append(self._recording, parent, node)
-        return node
+        return self._steps.add_element(parent, without_controls(name), _SPACES.get(space, 0))
 
     def _add_attribute(self, node, key, value):
         private = next((it for it in WHITE_SPACE.values() if key == "class" and value.endswith(" " + it)), "")
         value = self._kept(value[: len(value) - len(private)], is_shown=key == "alt")
-        name, data = _bytes(key), _bytes(value + private)
-        _library.html_render_attribute(self._recording, node, 0, name, len(name), data, len(data))
+        self._steps.add_attribute(node, key, value + private)
 
     def add_text(self, parent, text):
         """Records a text, unless it is empty."""
         if text:
-            data = _bytes(text)
-            _library.html_render_append_text(self._recording, parent, data, len(data))
+            self._steps.add_text(parent, text)
 
-    def add_white_space(self):
-        """Records the rules of the classes for white space."""
+    def add_rules(self, is_decorated):
+        """Records the rules of private classes, and that terms have no signs, if others have."""
         for value, space in ((1, "pre"), (2, "pre-wrap")):
-            rule = _Rule(classes=_bytes(WHITE_SPACE[space]), declares=_WHITE_SPACE, value=value, origin=_AUTHOR)
-            _library.html_render_add_rule(self._recording, ctypes.byref(rule))
+            self._add_rule(classes=_bytes(WHITE_SPACE[space]), declares=_WHITE_SPACE, value=value, origin=_AUTHOR)
+        for place in _BEFORE_AND_AFTER if is_decorated else ():
+            for selector in ({"element": b"dt"}, {"classes": _bytes(UNSIGNED)}):
+                self._add_rule(**selector, declares=_CONTENT, content=b"", origin=_AGENT, place=place)
+
+    def _add_rule(self, **parts):
+        _library.html_render_add_rule(self._recording, ctypes.byref(_Rule(**parts)))
 
     def set(self, call, number=0, text=None):
         """Records a call of the configuration."""
@@ -193,6 +243,8 @@ class _Recording:
 
     def text(self, decorator, width):
         """Returns the text of the document."""
+        for step in self._steps:
+            self._replay(*step)
         out, length = ctypes.c_void_p(), ctypes.c_size_t()
         status = _library.html_render_text_of(self._recording, decorator, width, ctypes.byref(out), ctypes.byref(length))
         if status == 0:
@@ -205,6 +257,18 @@ class _Recording:
         if status == 3:
             raise MemoryError
         raise Error(f"the document can't be rendered: status {status}, record {length.value}")
+
+
+    def _replay(self, kind, node, *rest):
+        """Makes the calls of a step."""
+        texts = [(data, len(data)) for data in (_bytes(it) for it in rest if isinstance(it, str))]
+        if kind == "element":
+            made = _library.html_render_element(self._recording, rest[1], *texts[0])
+            _library.html_render_append(self._recording, node, made)
+        elif kind == "attribute":
+            _library.html_render_attribute(self._recording, node, 0, *texts[0], *texts[1])
+        else:
+            _library.html_render_append_text(self._recording, node, *texts[0])
 
 
 def _bytes(text):
@@ -232,24 +296,54 @@ def parse(html, charset):
 
 
 def render(
-    html, width=80, *, charset=None, title=False, decorate=True, footnotes=True, overflow=True, raw_tables=False, borders=True, keep_controls=False
+    html,
+    width=80,
+    *,
+    charset=None,
+    title=False,
+    decorate=True,
+    footnotes=True,
+    links=None,
+    base=None,
+    wrap_links=False,
+    overflow=True,
+    raw_tables=False,
+    borders=True,
+    keep_controls=False,
 ):
     """Returns the plain text of HTML, a str or bytes, as a browser shows it, wrapped to `width` columns.
 
     `charset` names the encoding of bytes, as HTTP or a mail does. `title` shows the page's title above its text. `decorate` writes signs
-    around emphasis, `footnotes` numbers links and puts their targets at the end, `overflow` lets what is wider than a line stay so rather
-    than raise TooNarrow, `raw_tables` stacks the cells of tables, and without `borders` tables are drawn without lines.
-    `keep_controls` keeps control characters of the page, which can control a terminal.
+    around emphasis. `links` says how targets of links are shown: "notes" numbers links and puts the targets at the end, "inline" puts
+    them after each link, "list" at the end without numbers, "none" nowhere; without it that is "notes", or "none" without `footnotes`.
+    `base` is the page's address, against which targets are resolved; with `wrap_links` those at the end are cut at the width.
+    `overflow` lets what is wider than a line stay so rather than raise TooNarrow, `raw_tables` stacks the cells of tables, and without
+    `borders` tables are drawn without lines. `keep_controls` keeps control characters of the page, which can control a terminal.
+
+    >>> print(render("<a href=a>b</a>", base="https://c.example/"), end="")
+    b[1]
+    <BLANKLINE>
+    [1]: https://c.example/a
+    >>> print(render("<a href=a>b</a>", links="inline"), end="")
+    b <a>
     """
+    mode = links or ("notes" if footnotes else "none")
     if width < 0:
         raise ValueError("a width is at least 0")
+    if mode not in LINK_MODES:
+        raise ValueError(f"links are shown as one of {LINK_MODES}")
+    if base is not None and not scheme(base):
+        raise ValueError("the page's address is absolute")
     tree = parse(html, charset)
     with _Recording() as recording:
         if title and title_of(tree):
             recording.add_text(recording.add_element(0, "p"), without_controls(title_of(tree), is_shown=True))
-        recording.add_children(0, tree, width, keep_controls)
-        recording.add_white_space()
-        for call, wanted, number in ((2, decorate, 0), (3, footnotes, 1), (1, overflow, 0), (10, raw_tables, 1), (11, not borders, 0)):
+        address = base_of(tree, base)
+        notes = recording.add_children(0, tree, width, lambda steps: Inline(steps, decorate, mode, address), keep_controls)
+        for call, wanted, number in ((2, decorate, 0), (1, overflow, 0), (10, raw_tables, 1), (11, not borders, 0)):
             if wanted:
                 recording.set(call, number)
-        return recording.text(0, width)
+        recording.add_rules(decorate)
+        text = recording.text(0, width)
+    lines = [line for note in notes for line in (cut(note, width) if wrap_links else [note])]
+    return text + "\n" * bool(text and lines) + "".join(line + "\n" for line in lines)

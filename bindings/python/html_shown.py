@@ -8,6 +8,8 @@ import re
 from dataclasses import dataclass, replace
 from itertools import takewhile
 
+from html_inline import file_name
+
 HTML = "http://www.w3.org/1999/xhtml"
 SVG = "http://www.w3.org/2000/svg"
 
@@ -28,12 +30,14 @@ _WITHIN = {"dir": "ul", "menu": "ul", "listing": "pre", "plaintext": "pre", "xmp
 _EMBEDDED = frozenset("audio embed frame iframe object video".split())
 _FIELDS = frozenset("button input select textarea".split())
 _SIGNED = frozenset("b code em strong".split())
+_LINES = frozenset("blockquote body caption dd div dl dt frameset h1 h2 h3 h4 h5 h6 head hr html li ol p pre ul".split())
 _PREFIXES = {"blockquote": 2, "dd": 2, "h1": 2, "h2": 3, "h3": 4, "h4": 5, "h5": 6, "h6": 7}
 _PARTS = {"table": ("table", None), "tbody": ("section", "table"), "thead": ("section", "table"), "tfoot": ("section", "table")}
 _PARTS.update({"tr": ("row", "section"), "td": ("cell", "row"), "th": ("cell", "row")})
 _SIZES = frozenset("xx-small x-small small medium large x-large xx-large xxx-large initial".split())
 _SYSTEM_FONTS = frozenset("caption icon menu message-box small-caption status-bar".split())
 _WHITE = " \t\n\f\r"
+_WITHIN_PAGE = r"\s*(?:about|blob|data|javascript|vbscript):"
 _LENGTH = re.compile(r"([-+]?(?:\d+\.?\d*|\.\d+))(%|[a-z]*)")
 _HIDDEN_PARTS = frozenset("clipPath defs desc marker mask metadata pattern script style symbol title".split())
 _LABELS = frozenset("foreignObject text tspan".split())
@@ -106,8 +110,10 @@ class Items:
 
 @dataclass
 class Shown:
-    """How an element is recorded: names and attributes, the outermost one first; texts before and after its children; the titles of a
-    drawing that is recorded before them."""
+    """How an element is recorded: names and attributes, the outermost one first; texts before and after its children. `run` is what it
+    is to the text around it: inline, a line break, apart or a block; `kind` is that of a signed element, a link, an image, a link with
+    its text in `before`, or an object, which is shown without texts of the tree; `titles` are those
+    of a drawing that is recorded before the children."""
 
     elements: list
     around: Around
@@ -116,6 +122,10 @@ class Shown:
     has_children: bool = True
     numbers: Numbers = None
     titles: list = None
+    run: str = "inline"
+    kind: str = ""
+    is_signed: bool = True
+    target: str = ""
 
 
 def without_controls(text, is_shown=False):
@@ -232,10 +242,16 @@ def _link(element, attributes):
     if target is None and element.tagName in ("audio", "video"):
         sources = (it for it in element.childNodes if it.nodeType == it.ELEMENT_NODE and it.tagName == "source" and it.hasAttribute("src"))
         target = next((it.getAttribute("src") for it in sources), None)
-    if target is None or not target.strip() or re.match(r"\s*(?:about|blob|data|javascript|vbscript):", target, re.IGNORECASE):
+    if target is None or not target.strip() or re.match(_WITHIN_PAGE, target, re.IGNORECASE):
         return None
-    path = re.split("[?#]", target.strip())[0].rstrip("/")
-    return target, attributes.get("title", "").strip() or path.rpartition("/")[2] or target.strip()
+    return target, attributes.get("title", "").strip() or file_name(target)
+
+
+def name_of_image(image, link):
+    """Returns the name of an image in a link: that of its file, or else of the link's."""
+    source = image.getAttribute("src")
+    address = link.getAttribute("href") if re.match(_WITHIN_PAGE, source, re.IGNORECASE) else source
+    return without_controls(file_name(address), is_shown=True)
 
 
 def _input(attributes):
@@ -270,6 +286,7 @@ def _select(element, attributes):
 def _changed_field(recorded, element, attributes):
     """Returns how a form's field is recorded."""
     tag, hides_texts = element.tagName, recorded.around.hides_texts
+    recorded.run, recorded.kind = "apart", "" if tag == "textarea" or hides_texts else "object"
     if tag == "textarea":
         recorded.elements.append(("pre", HTML, {}))
         return recorded
@@ -348,7 +365,7 @@ def shown(element, around, columns):
         return None
     if style.get("white-space") in WHITE_SPACE:
         attributes["class"] = " ".join([attributes.get("class", ""), WHITE_SPACE[style["white-space"]]])
-    recorded = Shown([(tag, element.namespaceURI, attributes)], inside)
+    recorded = Shown([(tag, element.namespaceURI, attributes)], inside, run=_run_of(element) if is_html else "inline")
     if is_html and around.holds == _DESCRIPTIONS and element.tagName == "div":
         return Shown([], replace(inside, holds=_DESCRIPTIONS))
     if is_html:
@@ -389,6 +406,23 @@ def _in_drawing(recorded, element, attributes):
     return recorded
 
 
+def _run_of(element):
+    """Returns what one of HTML's elements is to the text around it."""
+    tag = element.tagName
+    if tag == "br":
+        return "break"
+    if tag == "sup" or tag in _EMBEDDED or tag in _FIELDS:
+        return "apart"
+    return "block" if tag in _LINES or tag in _WITHIN or tag in _PARTS else "inline"
+
+
+def _is_all_of_pre(element):
+    """Whether an element and white space are all that is in a `pre`."""
+    pre = element.parentNode
+    others = [it for it in pre.childNodes if it is not element]
+    return pre.nodeName == "pre" and pre.namespaceURI == HTML and all(it.nodeType == it.TEXT_NODE and not it.data.strip(_WHITE) for it in others)
+
+
 def _changed_element(recorded, element, attributes, around, columns):
     """Returns how one of HTML's elements is recorded, with what its name changes."""
     tag, inside = element.tagName, recorded.around
@@ -408,8 +442,13 @@ def _changed_element(recorded, element, attributes, around, columns):
         recorded.around = replace(inside, holds=_DESCRIPTIONS)
     elif tag in _PREFIXES:
         recorded.around = replace(inside, margin=inside.margin + _PREFIXES[tag])
-    elif tag in _SIGNED and inside.hides_texts:
-        recorded.elements[0] = ("span", HTML, attributes)
+    elif tag in _SIGNED:
+        recorded.kind, recorded.is_signed = "signed", not inside.hides_texts and not _is_all_of_pre(element)
+    elif tag == "a" and "href" in attributes:
+        recorded.kind, recorded.target = "link", attributes["href"]
+        recorded.elements[0] = (tag, HTML, {key: value for key, value in attributes.items() if key != "href"})
+    elif tag == "img" and attributes.get("src", "").strip():
+        recorded.kind = "object" if attributes.get("alt", "").strip() else "image"
     elif tag in _PARTS:
         part, place = _PARTS[tag]
         if place not in (None, around.part):
@@ -428,6 +467,7 @@ def _changed_element(recorded, element, attributes, around, columns):
         link = _link(element, attributes)
         recorded.has_children = False
         if link and not inside.hides_texts:
-            recorded.elements += [("div", HTML, {})] * (tag == "frame") + [("a", HTML, {"href": link[0]})]
+            recorded.elements += [("div", HTML, {})] * (tag == "frame") + [("a", HTML, {})]
+            recorded.kind, recorded.target = "embedded", link[0]
             recorded.before = without_controls(link[1], is_shown=True)
     return recorded

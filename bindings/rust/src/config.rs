@@ -1,19 +1,23 @@
 //! How a document is rendered: a builder with html2text's names.
 
-use crate::adapt::{self, Adaptation, PrivateRules};
+use crate::adapt::{self, Adaptation, Adapted, UNSIGNED_CLASS};
 use crate::characters::Filter;
-use crate::css::{self, Origin};
+use crate::css::{self, Origin, Unsigned};
 use crate::encoding;
 use crate::error::Error;
+use crate::footnotes::Footnotes;
+use crate::hiding::Hiding;
 use crate::limits::Refusal;
 use crate::lines::{self, RichAnnotation, TaggedLine, TaggedLineElement, TaggedString};
-use crate::options::Options;
+use crate::options::{LinkMode, Options};
 use crate::pass::Pass;
 use crate::reader::Reader;
 use crate::record::{self, Recorder};
+#[cfg(test)]
+use crate::records::Step;
 use crate::records::{self, Page, Setting};
 use crate::sink::{Sink, Wanted};
-use crate::tree::Tree;
+use crate::tree::{Piece, Tree};
 use html5ever::tree_builder::TreeBuilderOpts;
 use std::io::Read;
 use std::marker::PhantomData;
@@ -112,8 +116,16 @@ pub struct Config<D> {
 /// What is recorded of a page.
 struct Recorded {
     recorder: Recorder,
-    css: String,
-    rules: PrivateRules,
+    adapted: Adapted,
+    sheets: Sheets,
+}
+
+/// The settings of a configuration and of a page's style sheets, over a text.
+struct Sheets {
+    settings: Vec<Setting>,
+    text: String,
+    /// Number of classes of the rule that has most.
+    most_classes: usize,
 }
 
 /// Rich text: lines whose characters are annotated.
@@ -283,6 +295,21 @@ impl<D: Decorator> Config<D> {
         }
     }
 
+    /// Returns the settings of the configuration and of a page's style sheets.
+    fn sheets(&self, css: &str) -> Sheets {
+        let (mut settings, mut text) = (self.settings.clone(), self.text.clone());
+        let filter = Filter { keeps_controls: self.keeps_controls, ..Filter::default() };
+        let sheet = css::read(css, Origin::Author, filter, &mut settings, |piece| keep(&mut text, piece));
+        Sheets { settings, text, most_classes: self.most_classes.max(sheet.most_classes) }
+    }
+
+    /// Returns how targets of links are shown; `None` where links keep them.
+    fn link_mode(&self, options: &Options) -> Option<LinkMode> {
+        let has_footnotes = self.settings.iter().rev().find(|setting| setting.kind == call::LINK_FOOTNOTES).map_or(false, |setting| setting.number != 0);
+        let mode = options.links.unwrap_or(if has_footnotes { LinkMode::Notes } else { LinkMode::None });
+        (!D::HAS_COLOURS).then(|| mode)
+    }
+
     /// Parses a page, and records the document that it is.
     fn record(&self, input: impl Read, width: usize) -> Result<Recorded, Error> {
         let bytes = Self::bytes(input)?;
@@ -300,29 +327,53 @@ impl<D: Decorator> Config<D> {
         })?;
         drop(page);
         let Sink { mut tree, css, is_quirky, .. } = sink;
-        let adaptation = self.options.map(|options| Adaptation {
+        let mut sheets = self.sheets(&css);
+        let adaptation = self.options.as_ref().map(|options| Adaptation {
             columns: width.min(self.max_wrap_width.unwrap_or(usize::MAX)).min(u32::MAX as usize) as u32,
             has_colours: D::HAS_COLOURS,
             title: options.shows_title.then(|| adapt::title(&tree)).flatten(),
             is_quirky,
+            has_signs: self.settings.iter().any(|setting| setting.kind == call::DO_DECORATE),
+            links: self.link_mode(options),
+            base: options.base.clone(),
+            hiding: Hiding::take_from(&mut sheets.settings, &sheets.text),
         });
         let text = mem::take(&mut tree.text);
-        let (recorder, rules) = Pass::record(&tree, Recorder::new(text, Filter { drops_soft_hyphens: false, ..filter }), adaptation);
-        Ok(Recorded { recorder, css, rules })
+        let (recorder, adapted) = Pass::record(&tree, Recorder::new(text, Filter { drops_soft_hyphens: false, ..filter }), adaptation);
+        Ok(Recorded { recorder, adapted, sheets })
     }
 
-    /// Calls a function with the page of a document.
-    fn with_page<T>(&self, input: impl Read, width: usize, render: impl FnOnce(Page<'_>) -> Result<T, Error>) -> Result<T, Error> {
-        let Recorded { mut recorder, css, rules } = self.record(input, width)?;
-        let (start, _) = recorder.keep(&self.text);
-        let mut settings: Vec<Setting> = self.settings.iter().map(|setting| setting.moved(start)).collect();
-        let filter = Filter { keeps_controls: self.keeps_controls, ..Filter::default() };
-        let sheet = css::read(&css, Origin::Author, filter, &mut settings, |text| recorder.keep(text));
-        rules.push_settings(self.most_classes.max(sheet.most_classes), &mut settings, |text| recorder.keep(text));
+    /// Calls a function with the page of a document. Returns what it returns, and the footnotes of the document.
+    fn with_page<T>(&self, input: impl Read, width: usize, render: impl FnOnce(Page<'_>) -> Result<T, Error>) -> Result<(T, Footnotes), Error> {
+        let Recorded { mut recorder, adapted, sheets } = self.record(input, width)?;
+        let (start, _) = recorder.keep(&sheets.text);
+        let mut settings = Vec::with_capacity(sheets.settings.len());
+        for setting in sheets.settings {
+            settings.push(setting.moved(start));
+            if setting.kind == call::DO_DECORATE && self.options.is_some() {
+                push_rules_without_signs(adapted.drops_signs, &mut settings, |text| recorder.keep(text));
+            }
+        }
+        adapted.rules.push_settings(sheets.most_classes, &mut settings, |text| recorder.keep(text));
         if recorder.is_out_of_memory {
             return Err(Error::OutOfMemory);
         }
-        render(Page { steps: &recorder.steps, text: &recorder.text, settings: &settings, decorator: D::NUMBER, width })
+        let rendered = render(Page { steps: &recorder.steps, text: &recorder.text, settings: &settings, decorator: D::NUMBER, width })?;
+        Ok((rendered, self.footnotes(adapted, width)))
+    }
+
+    /// Returns the footnotes of an adapted document.
+    fn footnotes(&self, adapted: Adapted, width: usize) -> Footnotes {
+        let columns = self.options.as_ref().filter(|options| options.wraps_links).map(|_| width);
+        let are_numbered = self.options.as_ref().and_then(|options| self.link_mode(options)) == Some(LinkMode::Notes);
+        Footnotes { targets: adapted.targets, are_numbered, columns }
+    }
+
+    /// Returns the steps of a page's document, their text and its footnotes.
+    #[cfg(test)]
+    pub(crate) fn recorded(&self, page: &str) -> (Vec<Step>, Vec<u8>, Vec<String>) {
+        let Recorded { recorder, adapted, .. } = self.record(page.as_bytes(), 20).expect("a page that is recorded");
+        (recorder.steps, recorder.text, self.footnotes(adapted, 20).lines().collect())
     }
 
     /// Calls a function with the settings, whose texts begin a text.
@@ -338,7 +389,9 @@ impl<D: Decorator> Config<D> {
     ///
     /// `IoError` where the input can't be read; `TooNarrow`, `Fail`, `TooLarge` or `OutOfMemory` where it can't be rendered.
     pub fn string_from_read<R: Read>(self, input: R, width: usize) -> Result<String, Error> {
-        self.with_page(input, width, records::text)
+        let (mut text, footnotes) = self.with_page(input, width, records::text)?;
+        footnotes.append_to(&mut text)?;
+        Ok(text)
     }
 
     /// The lines of HTML that is read, wrapped to `width` columns.
@@ -347,8 +400,9 @@ impl<D: Decorator> Config<D> {
     ///
     /// As [`Config::string_from_read`].
     pub fn lines_from_read<R: Read>(self, input: R, width: usize) -> Result<Vec<TaggedLine<Vec<D::Annotation>>>, Error> {
-        let lines = self.with_page(input, width, |page| records::lines(page, lines::read))?;
-        let lines = lines.ok_or(Error::Fail)?;
+        let (lines, footnotes) = self.with_page(input, width, |page| records::lines(page, lines::read))?;
+        let mut lines = lines.ok_or(Error::Fail)?;
+        footnotes.append_to_lines(&mut lines);
         Ok(lines.into_iter().map(|line| line.map(annotated::<D>)).collect())
     }
 }
@@ -367,6 +421,15 @@ impl Config<RichDecorator> {
             text.push('\n');
         }
         Ok(text)
+    }
+}
+
+/// Adds the rules by which terms have no signs, nor the elements of the class of those without, if there are any. Texts are kept by a
+/// function.
+fn push_rules_without_signs(has_class: bool, settings: &mut Vec<Setting>, mut keep: impl FnMut(&str) -> Piece) {
+    settings.extend(css::without_signs(Unsigned::Element(keep("dt"))));
+    if has_class {
+        settings.extend(css::without_signs(Unsigned::Class(keep(UNSIGNED_CLASS))));
     }
 }
 

@@ -265,6 +265,41 @@ pub(crate) fn setting_of(rule: RuleOf) -> Setting {
     }
 }
 
+/// Whether a record is a rule by which elements aren't displayed.
+pub(crate) fn hides(setting: &Setting) -> bool {
+    setting.kind == ADD_STYLE_RULE && setting.number == DISPLAY_NONE && setting.flags & (Place::Before as u32 | Place::After as u32) == 0
+}
+
+pub(crate) fn has_element(rule: &Setting) -> bool {
+    rule.flags & HAS_ELEMENT != 0
+}
+
+pub(crate) fn has_id(rule: &Setting) -> bool {
+    rule.flags & HAS_ID != 0
+}
+
+pub(crate) fn is_important(rule: &Setting) -> bool {
+    rule.flags & IMPORTANT != 0
+}
+
+/// What an agent's rule is for.
+pub(crate) enum Unsigned {
+    Element(Piece),
+    Class(Piece),
+}
+
+/// Returns the records of the agent's rules that write nothing before and after what is in an element.
+pub(crate) fn without_signs(of: Unsigned) -> [Setting; 2] {
+    let (has_element, (element, element_length), classes) = match of {
+        Unsigned::Element(element) => (HAS_ELEMENT, element, (0, 0)),
+        Unsigned::Class(class) => (0, (0, 0), class),
+    };
+    [Place::Before, Place::After].map(|place| {
+        let rule = setting_of(RuleOf { origin: Origin::Agent, property: CONTENT, value: 0, is_important: false, id: None, classes });
+        Setting { flags: rule.flags | place as u32 | has_element, element, element_length, ..rule }
+    })
+}
+
 /// Returns the record of a declaration, whose texts are kept by a function. Content goes through a filter.
 fn setting(origin: Origin, selector: &Selector, declaration: &Declaration, filter: Filter, keep: &mut impl FnMut(&str) -> Piece) -> Setting {
     let (property, value, content) = match &declaration.value {

@@ -18,6 +18,8 @@ pub enum Error {
     CssParseError,
     /// There is no encoding of this label.
     UnknownCharset,
+    /// The address of the page isn't absolute.
+    NoAddress,
     /// The input can't be read.
     IoError(io::Error),
 }
@@ -31,6 +33,7 @@ impl fmt::Display for Error {
             Error::TooLarge => f.write_str("too large"),
             Error::CssParseError => f.write_str("A rule of the style sheet has no block."),
             Error::UnknownCharset => f.write_str("There is no such charset."),
+            Error::NoAddress => f.write_str("This is no absolute address."),
             Error::IoError(error) => error.fmt(f),
         }
     }

@@ -18,12 +18,16 @@ pub mod config;
 mod css;
 mod encoding;
 mod error;
+mod footnotes;
+mod hiding;
 mod limits;
 mod lines;
 #[cfg(test)]
 mod moves;
 mod names;
 mod options;
+#[cfg(test)]
+mod outline;
 mod pass;
 mod reader;
 mod record;
@@ -33,7 +37,7 @@ mod tree;
 
 pub use error::Error;
 pub use lines::{Colour, RichAnnotation, TaggedLine, TaggedLineElement, TaggedString};
-pub use options::Options;
+pub use options::{LinkMode, Options};
 pub use records::give_back_large_blocks;
 
 use std::io::Read;

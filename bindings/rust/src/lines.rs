@@ -82,6 +82,14 @@ impl<T> TaggedLine<T> {
     }
 }
 
+impl<A> TaggedLine<Vec<A>> {
+    /// Returns a line of a text without annotations.
+    pub(crate) fn of_text(text: String) -> TaggedLine<Vec<A>> {
+        let string = TaggedLineElement::Str(TaggedString { s: text, tag: Vec::new() });
+        TaggedLine { elements: vec![string] }
+    }
+}
+
 /// What is left of the records that the library gave.
 struct Records<'a> {
     rest: &'a [u8],

@@ -3,8 +3,24 @@
 use crate::encoding;
 use crate::error::Error;
 use encoding_rs::Encoding;
+use url::Url;
 
-/// How a page is read as a browser reads it: its encoding, and whether its title is shown. [`Config::as_shown`] takes it.
+/// How the targets of links are shown in plain text. Equal targets have one number. A target isn't shown if the link's text is the
+/// target, if it begins with `#`, or if its scheme is `javascript`.
+#[derive(Clone, Copy, Debug, PartialEq, Eq)]
+pub enum LinkMode {
+    /// A number after each link, and the targets at the end: `fares[1]`.
+    Notes,
+    /// After each link: `fares <https://ferries.example/fares>`.
+    Inline,
+    /// At the end, without numbers.
+    List,
+    /// Not at all.
+    None,
+}
+
+/// How a page is read as a browser reads it: its encoding and its address, and whether its title and the targets of its links are
+/// shown. [`Config::as_shown`] takes it.
 ///
 /// ```
 /// use html_render::{config, Options};
@@ -15,10 +31,13 @@ use encoding_rs::Encoding;
 /// ```
 ///
 /// [`Config::as_shown`]: crate::config::Config::as_shown
-#[derive(Clone, Copy, Debug, Default)]
+#[derive(Clone, Debug, Default)]
 pub struct Options {
     pub(crate) charset: Option<&'static Encoding>,
     pub(crate) shows_title: bool,
+    pub(crate) base: Option<Url>,
+    pub(crate) links: Option<LinkMode>,
+    pub(crate) wraps_links: bool,
 }
 
 impl Options {
@@ -42,5 +61,29 @@ impl Options {
     /// Shows the page's title above its text.
     pub fn title(self) -> Options {
         Options { shows_title: true, ..self }
+    }
+
+    /// Names the address of the page. Targets of links are resolved against it, or against the page's first `base`, which is resolved
+    /// against it.
+    ///
+    /// # Errors
+    ///
+    /// `NoAddress`, where it isn't an absolute address.
+    pub fn base(self, address: &str) -> Result<Options, Error> {
+        let base = Url::parse(address).map_err(|_| Error::NoAddress)?;
+        Ok(Options { base: Some(base), ..self })
+    }
+
+    /// Says how the targets of links are shown in plain text. Without the call, that is `Notes` under [`Config::link_footnotes`] and
+    /// else `None`. Rich text keeps the target of every link.
+    ///
+    /// [`Config::link_footnotes`]: crate::config::Config::link_footnotes
+    pub fn links(self, mode: LinkMode) -> Options {
+        Options { links: Some(mode), ..self }
+    }
+
+    /// Whether the targets at the end are cut at the width. Without the call they may pass it.
+    pub fn wrap_links(self, wraps: bool) -> Options {
+        Options { wraps_links: wraps, ..self }
     }
 }

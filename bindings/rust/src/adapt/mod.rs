@@ -5,27 +5,41 @@
 mod drawings;
 mod elements;
 mod embedded;
+mod emphasis;
+mod flow;
 mod forms;
+mod inline;
+mod links;
 mod lists;
 mod margins;
 mod numbers;
 mod private;
 mod style;
+mod targets;
 
+pub(crate) use elements::Run;
+pub(crate) use emphasis::UNSIGNED_CLASS;
 pub(crate) use lists::{is_blank, Holds};
 pub(crate) use numbers::Numbers;
 pub(crate) use private::{PrivateRules, RULE_CLASS};
 
-use crate::pass::{Entered, Last, Place};
+use crate::hiding::Hiding;
+use crate::options::LinkMode;
+use crate::pass::{End, Entered, Last, Place};
 use crate::record::{self, Handle, Recorder};
-use crate::tree::{Attr, Element, Id, Tree, DOCUMENT};
+use crate::tree::{Attr, Data, Element, Id, Piece, Tree, DOCUMENT, NONE};
 use elements::{change_of, Change, Field, Inner, List, Part};
+use emphasis::{Signed, UNSIGNED_SUFFIX};
 use html5ever::{local_name, namespace_url, ns, LocalName};
+use inline::Inline;
+use links::Links;
 use lists::Filled;
 use margins::{Margins, BULLET};
 use numbers::Plan;
+use std::rc::Rc;
 use style::{InlineStyle, Styles};
 use tendril::StrTendril;
+use url::Url;
 
 /// What is known of the elements around a place.
 #[derive(Clone, Copy, Debug, Default)]
@@ -80,6 +94,32 @@ pub(crate) struct Adaptation {
     pub title: Option<String>,
     /// Whether the page is in quirks mode.
     pub is_quirky: bool,
+    /// Whether signs are written around emphasis.
+    pub has_signs: bool,
+    /// How targets of links are shown; `None` where links keep them.
+    pub links: Option<LinkMode>,
+    /// The address that the page was read from.
+    pub base: Option<Url>,
+    /// The rules of style sheets that hide elements.
+    pub hiding: Hiding,
+}
+
+/// What an adapted document needs beside its steps.
+#[derive(Default)]
+pub(crate) struct Adapted {
+    pub rules: PrivateRules,
+    /// Whether elements have the class of those without signs.
+    pub drops_signs: bool,
+    /// The targets of its links.
+    pub targets: Vec<Rc<str>>,
+}
+
+/// What is recorded of a link's target.
+#[derive(Clone, Copy)]
+enum Href {
+    Kept,
+    Dropped,
+    Resolved(Piece),
 }
 
 /// Whether an adaptation asks for attributes of a name.
@@ -127,6 +167,23 @@ struct Opened<'a> {
     said: Said,
     /// The number that an `ol` starts with, where it isn't 1.
     start: Option<i64>,
+    href: Href,
+    /// Whether the private class of elements without signs follows the element's classes in the text.
+    may_be_unsigned: bool,
+}
+
+impl<'a> Opened<'a> {
+    #[inline(always)]
+    fn new(node: Id, element: &'a Element, attributes: &'a [Attr], parent: Handle, said: Said) -> Opened<'a> {
+        Opened { node, element, attributes, parent, said, start: None, href: Href::Kept, may_be_unsigned: false }
+    }
+
+    /// Keeps what follows the element's classes in the text.
+    fn keep_after_classes(&self, recorder: &mut Recorder) {
+        if self.may_be_unsigned {
+            recorder.keep(UNSIGNED_SUFFIX);
+        }
+    }
 }
 
 /// Records elements as a browser shows them.
@@ -135,12 +192,61 @@ pub(crate) struct Adapter<'a> {
     adaptation: Adaptation,
     filled: Filled,
     styles: Styles,
-    pub rules: PrivateRules,
+    inline: Inline,
+    rules: PrivateRules,
 }
 
 impl<'a> Adapter<'a> {
-    pub fn new(tree: &'a Tree, adaptation: Adaptation) -> Adapter<'a> {
-        Adapter { tree, adaptation, filled: Filled::default(), styles: Styles::default(), rules: PrivateRules::default() }
+    pub fn new(tree: &'a Tree, mut adaptation: Adaptation) -> Adapter<'a> {
+        let inline = Inline::new(Links::new(adaptation.links, adaptation.base.take()), adaptation.has_signs);
+        Adapter { tree, adaptation, filled: Filled::default(), styles: Styles::default(), inline, rules: PrivateRules::default() }
+    }
+
+    /// Returns what the recorded document needs beside its steps.
+    pub fn finish(self) -> Adapted {
+        Adapted { rules: self.rules, drops_signs: self.inline.drops_signs(), targets: self.inline.links.into_targets() }
+    }
+
+    /// Notes a text of the tree before it is recorded. Returns what of it is recorded.
+    #[inline(always)]
+    pub fn add_text(&mut self, recorder: &mut Recorder, piece: Piece) -> Piece {
+        self.inline.add_text(recorder, piece)
+    }
+
+    /// Ends a recorded element.
+    #[inline(always)]
+    pub fn close(&mut self, recorder: &mut Recorder, handle: Handle, end: End) {
+        match end {
+            End::Inline => {}
+            End::Run(run) => self.inline.end(handle, run),
+            _ => self.close_with_text(recorder, handle, end),
+        }
+    }
+
+    /// Ends a recorded element after whose contents a text may be recorded.
+    #[inline(never)]
+    fn close_with_text(&mut self, recorder: &mut Recorder, handle: Handle, end: End) {
+        match end {
+            End::Inline | End::Run(_) => {}
+            End::Button => {
+                let piece = recorder.keep(" ]");
+                self.inline.record_text(recorder, handle, piece);
+                self.inline.end(handle, Run::Apart);
+            }
+            End::Quotation(quotations) => {
+                let mark = recorder.keep(quotation_marks(quotations).1);
+                self.inline.record_text(recorder, handle, mark);
+            }
+            End::Label => {
+                let space = recorder.keep(" ");
+                self.inline.record_text(recorder, handle, space);
+            }
+            End::Signed => self.inline.close_signed(recorder),
+            End::Link => {
+                let tree = self.tree;
+                self.inline.close_link(recorder, handle, |image, link| embedded::image_name(tree, image, link));
+            }
+        }
     }
 
     /// Records what precedes the document: its title, if it is asked for.
@@ -157,7 +263,7 @@ impl<'a> Adapter<'a> {
         let attributes = self.tree.attributes(element);
         let is_html = element.space == ns!(html);
         let said = self.said_by(attributes, is_html);
-        let mut opened = Opened { node, element, attributes, parent: around.handle, said, start: None };
+        let mut opened = Opened::new(node, element, attributes, around.handle, said);
         let change = match element.space {
             ns!(html) => change_of(&element.name),
             ns!(svg) => Change::Drawing,
@@ -165,57 +271,80 @@ impl<'a> Adapter<'a> {
         };
         let mut context = around.context.inside();
         self.hide_texts(&mut context, &opened.said, change);
-        if opened.said.drops() || context.is_invisible && is_picture(element) {
+        if self.is_hidden(element, attributes, &opened.said) || context.is_invisible && is_picture(element) {
             return None;
         }
         if is_html && around.context.holds == Holds::Descriptions && element.name == local_name!("div") {
             context.holds = Holds::Descriptions;
             return Some(Entered::new(around.handle, context));
         }
+        let run = change.run();
+        self.inline.begin(recorder, run);
+        let mut entered = self.open_changed(recorder, &mut opened, change, around, context);
+        if let (Some(Entered { end: end @ End::Inline, .. }), true) = (&mut entered, run != Run::Inline) {
+            *end = End::Run(run);
+        }
+        entered
+    }
+
+    /// Records an element with what its name changes.
+    #[inline(always)]
+    fn open_changed(&mut self, recorder: &mut Recorder, opened: &mut Opened<'_>, change: Change, around: Place, mut context: Context) -> Option<Entered> {
+        let (node, attributes) = (opened.node, opened.attributes);
         match change {
-            Change::Signed if context.hides_texts() => Some(Entered::new(self.record_as(recorder, &opened, &local_name!("span"), ""), context)),
-            Change::Kept | Change::Signed => Some(Entered::new(self.record(recorder, &opened), context)),
-            Change::Field(field) => self.open_field(recorder, &opened, field, context),
-            Change::Drawing => self.open_in_drawing(recorder, &opened, context),
+            Change::Kept | Change::Apart | Change::Block => Some(Entered::new(self.record(recorder, opened), context)),
+            Change::Break => {
+                self.inline.add_break(recorder.steps.len());
+                Some(Entered::new(self.record(recorder, opened), context))
+            }
+            Change::Signed => Some(self.open_signed(recorder, opened, context)),
+            Change::Link => Some(self.open_link(recorder, opened, context)),
+            Change::Image => Some(self.open_image(recorder, opened, context)),
+            Change::Field(field) => self.open_field(recorder, opened, field, context),
+            Change::Drawing => self.open_in_drawing(recorder, opened, context),
             Change::Dropped => None,
-            Change::Within(inner) => Some(self.open_within(recorder, &opened, inner, context)),
+            Change::Within(inner) => Some(self.open_within(recorder, opened, inner, context)),
             Change::Dialog => {
                 let is_open = attributes.iter().any(|attribute| attribute.name == local_name!("open"));
-                is_open.then(|| self.open_within(recorder, &opened, Inner::Division, context))
+                is_open.then(|| self.open_within(recorder, opened, Inner::Division, context))
             }
             Change::Rule => {
-                self.record_rule(recorder, &opened, context);
+                self.record_rule(recorder, opened, context);
                 None
             }
-            Change::Quotation => Some(self.open_quotation(recorder, &opened, context)),
-            Change::Object if !names_contents(attributes) => Some(Entered::new(self.record(recorder, &opened), context)),
+            Change::Quotation => Some(self.open_quotation(recorder, opened, context)),
+            Change::Object if !names_contents(attributes) => Some(Entered::new(self.record(recorder, opened), context)),
             Change::Embedded | Change::Object => {
-                self.record_embedded(recorder, &opened, context);
+                self.record_embedded(recorder, opened, context);
                 None
             }
             Change::List(List::Unordered) => {
                 context.holds = Holds::Items;
                 context.margins.add_items(BULLET);
-                Some(Entered::new(self.record(recorder, &opened), context))
+                Some(Entered::new(self.record(recorder, opened), context))
             }
             Change::List(List::Ordered) => {
-                let plan = Plan::of(self.tree, &recorder.text, node);
+                let plan = Plan::of(self.tree, &recorder.text, node, |item| !self.is_hidden_item(item));
                 context.holds = Holds::Items;
                 context.margins.add_items(plan.columns);
                 opened.start = Some(plan.first).filter(|&first| first != 1);
-                let handle = self.record(recorder, &opened);
+                let handle = self.record(recorder, opened);
                 let numbers = Box::new(plan.numbers(around.handle));
                 Some(Entered { numbers: Some(numbers), ..Entered::new(handle, context) })
             }
             Change::Descriptions => {
                 context.holds = Holds::Descriptions;
-                Some(Entered::new(self.record(recorder, &opened), context))
+                Some(Entered::new(self.record(recorder, opened), context))
+            }
+            Change::Heading(columns) => {
+                context.margins.add(columns);
+                Some(self.open_heading(recorder, opened, context))
             }
             Change::Prefixed(columns) => {
                 context.margins.add(columns);
-                Some(Entered::new(self.record(recorder, &opened), context))
+                Some(Entered::new(self.record(recorder, opened), context))
             }
-            Change::Table(part) => Some(self.open_part(recorder, &opened, part, around.context.part, context)),
+            Change::Table(part) => Some(self.open_part(recorder, opened, part, around.context.part, context)),
         }
     }
 
@@ -229,19 +358,41 @@ impl<'a> Adapter<'a> {
             Change::Dialog => attributes.iter().any(|attribute| attribute.name == local_name!("open")),
             _ => true,
         };
-        is_shown && self.filled.has(self.tree, text, node) && !self.said_by(attributes, is_html).drops()
+        if !is_shown || !self.filled.has(self.tree, text, node) {
+            return false;
+        }
+        let said = self.said_by(attributes, is_html);
+        !self.is_hidden(element, attributes, &said)
+    }
+
+    /// Whether nothing of an element is shown, by its attributes or by a rule.
+    #[inline(always)]
+    fn is_hidden(&self, element: &Element, attributes: &[Attr], said: &Said) -> bool {
+        said.drops() || self.adaptation.hiding.has_rules() && self.is_hidden_by_rule(element, attributes, said)
+    }
+
+    fn is_hidden_by_rule(&self, element: &Element, attributes: &[Attr], said: &Said) -> bool {
+        let is_displayed = said.style.as_ref().map_or(false, InlineStyle::is_displayed);
+        self.adaptation.hiding.hides(&element.name, attributes, is_displayed)
+    }
+
+    fn is_hidden_item(&self, item: Id) -> bool {
+        self.tree.element(item).map_or(false, |element| {
+            let attributes = self.tree.attributes(element);
+            self.is_hidden(element, attributes, &said_by(attributes, true, |text| InlineStyle::of(text)))
+        })
     }
 
     /// Counts an item of an `ol`. Returns the list that it is put in, if its number isn't the next one: lists count upwards one by one.
     pub fn open_item(&mut self, recorder: &mut Recorder, list: Id, item: Option<Id>, numbers: &mut Numbers) -> Option<Handle> {
-        if item.map_or(false, |item| self.said_by(self.tree.attributes_of(item), true).drops()) {
+        if item.map_or(false, |item| self.is_hidden_item(item)) {
             return None;
         }
         let start = numbers.count(item.and_then(|item| numbers::own_number(self.tree, item)))?;
         let element = self.tree.element(list)?;
         let attributes = self.tree.attributes(element);
         let said = self.said_by(attributes, true);
-        let part = Opened { node: list, element, attributes, parent: numbers.parent, said, start: Some(start) };
+        let part = Opened { start: Some(start), ..Opened::new(list, element, attributes, numbers.parent, said) };
         Some(self.record(recorder, &part))
     }
 
@@ -293,10 +444,11 @@ impl<'a> Adapter<'a> {
             let shown = self.tree.filter.filtered(&shown);
             let piece = recorder.keep(&shown);
             recorder.text(handle, piece);
+            self.inline.add_object();
         }
         match field {
             Field::Button if context.hides_texts() => Some(Entered::new(handle, context)),
-            Field::Button => Some(Entered { last: Last::Joined, end: " ]", ..Entered::new(handle, context) }),
+            Field::Button => Some(Entered { last: Last::Joined, end: End::Button, ..Entered::new(handle, context) }),
             Field::Lines => Some(Entered::new(recorder.element(handle, record::HTML, &local_name!("pre")), context)),
             Field::Input | Field::Select => None,
         }
@@ -325,6 +477,7 @@ impl<'a> Adapter<'a> {
         let space = record::space(&opened.element.space);
         let drawing = recorder.element(handle, space, name);
         for title in drawings::titles(self.tree, opened.node) {
+            self.inline.add_object();
             let title_handle = recorder.element(drawing, space, &local_name!("title"));
             for piece in self.tree.children(title).filter_map(|child| self.tree.piece(child)) {
                 recorder.text(title_handle, piece);
@@ -340,8 +493,8 @@ impl<'a> Adapter<'a> {
             return Entered::new(handle, context);
         }
         let space = recorder.keep(" ");
-        recorder.text(handle, space);
-        Entered { last: Last::Joined, end: " ", ..Entered::new(handle, context) }
+        self.inline.record_text(recorder, handle, space);
+        Entered { last: Last::Joined, end: End::Label, ..Entered::new(handle, context) }
     }
 
     /// Records a `q`, and the mark at its start.
@@ -350,11 +503,63 @@ impl<'a> Adapter<'a> {
         if context.hides_texts() {
             return Entered::new(handle, context);
         }
-        let (start, end) = quotation_marks(context.quotations);
+        let end = End::Quotation(context.quotations);
+        let mark = recorder.keep(quotation_marks(context.quotations).0);
         context.quotations = context.quotations.wrapping_add(1);
-        let mark = recorder.keep(start);
-        recorder.text(handle, mark);
+        self.inline.record_text(recorder, handle, mark);
         Entered { last: Last::Joined, end, ..Entered::new(handle, context) }
+    }
+
+    /// Records emphasis: without signs if its texts are hidden, or if it is all that a `pre` has.
+    fn open_signed(&mut self, recorder: &mut Recorder, opened: &mut Opened<'_>, context: Context) -> Entered {
+        opened.may_be_unsigned = self.inline.has_signs();
+        let step = recorder.steps.len();
+        let handle = self.record(recorder, opened);
+        let signed = Signed { handle, parent: opened.parent, step, class_step: recorder.class_step(step), is_signed: true };
+        let is_signed = !context.hides_texts() && !is_all_of_pre(self.tree, &recorder.text, opened.node);
+        self.inline.open_signed(recorder, signed, is_signed);
+        Entered { end: End::Signed, ..Entered::new(handle, context) }
+    }
+
+    /// Records an `a`, with its target in rich text alone.
+    fn open_link(&mut self, recorder: &mut Recorder, opened: &mut Opened<'_>, context: Context) -> Entered {
+        let href = match opened.attributes.iter().find(|attribute| attribute.name == local_name!("href")) {
+            Some(href) => recorder.filtered(&href.value),
+            None => return Entered::new(self.record(recorder, opened), context),
+        };
+        opened.href = self.recorded_href(recorder, &href);
+        let step = recorder.steps.len();
+        let handle = self.record(recorder, opened);
+        self.inline.links.open(self.tree, opened.node, step, &href);
+        Entered { end: End::Link, ..Entered::new(handle, context) }
+    }
+
+    /// Returns what is recorded of a link's target.
+    fn recorded_href(&mut self, recorder: &mut Recorder, href: &str) -> Href {
+        if !self.inline.links.keeps_targets() {
+            return Href::Dropped;
+        }
+        self.inline.links.resolved(self.tree, href).map_or(Href::Kept, |target| Href::Resolved(recorder.keep(&target)))
+    }
+
+    /// Records an image. One without a text may be named where the link around it ends.
+    fn open_image(&mut self, recorder: &mut Recorder, opened: &Opened<'_>, context: Context) -> Entered {
+        let handle = self.record(recorder, opened);
+        let value = |name| opened.attributes.iter().find(|attribute| attribute.name == name).map_or("", |attribute| attribute.value.trim());
+        if value(local_name!("src")).is_empty() {
+        } else if value(local_name!("alt")).is_empty() {
+            self.inline.add_image(handle, opened.node);
+        } else {
+            self.inline.add_object();
+        }
+        Entered::new(handle, context)
+    }
+
+    /// Records a heading. In rich text it is strong.
+    fn open_heading(&mut self, recorder: &mut Recorder, opened: &Opened<'_>, context: Context) -> Entered {
+        let handle = self.record(recorder, opened);
+        let inner = if self.adaptation.has_colours { recorder.element(handle, record::HTML, &local_name!("strong")) } else { handle };
+        Entered::new(inner, context)
     }
 
     /// Records a part of a table under its name if it is in its right place, and as a division if not: the library refuses a table's
@@ -395,11 +600,20 @@ impl<'a> Adapter<'a> {
             _ => return,
         };
         let parent = if *name == local_name!("frame") { recorder.element(handle, record::HTML, &local_name!("div")) } else { handle };
+        let step = recorder.steps.len();
         let anchor = recorder.element(parent, record::HTML, &local_name!("a"));
-        recorder.attribute(anchor, &local_name!("href"), &link.target);
+        let target = recorder.filtered(&link.target);
+        match self.recorded_href(recorder, &target) {
+            Href::Kept => recorder.attribute(anchor, &local_name!("href"), &target),
+            Href::Resolved(target) => recorder.attribute_of_piece(anchor, &local_name!("href"), target),
+            Href::Dropped => {}
+        }
+        self.inline.links.open(self.tree, opened.node, step, &target);
         let shown = self.tree.filter.filtered(&link.name);
         let piece = recorder.keep(&shown);
-        recorder.text(anchor, piece);
+        self.inline.record_text(recorder, anchor, piece);
+        self.close_with_text(recorder, anchor, End::Link);
+        self.inline.end(anchor, Run::Apart);
     }
 
     #[inline]
@@ -444,9 +658,22 @@ impl<'a> Adapter<'a> {
                 (name @ &local_name!("class"), _) if !classes.is_empty() => {
                     let (start, length) = recorder.keep_filtered(&attribute.value);
                     let (_, more) = recorder.keep(&[" ", &classes].concat());
+                    opened.keep_after_classes(recorder);
                     recorder.attribute_of_piece(handle, name, (start, length + more));
                     classes.clear();
                 }
+                (name @ &local_name!("class"), _) => {
+                    let piece = recorder.keep_filtered(&attribute.value);
+                    opened.keep_after_classes(recorder);
+                    recorder.attribute_of_piece(handle, name, piece);
+                }
+                (name @ &local_name!("href"), _) => match opened.href {
+                    Href::Kept => recorder.attribute(handle, name, &attribute.value),
+                    Href::Resolved(target) => recorder.attribute_of_piece(handle, name, target),
+                    Href::Dropped => {}
+                },
+                // without it an image may be named later
+                (&local_name!("alt"), _) if attribute.value.trim().is_empty() => {}
                 (name @ &local_name!("alt"), _) => {
                     let shown = self.tree.filter.filtered(&attribute.value);
                     recorder.attribute(handle, name, &shown);
@@ -459,6 +686,7 @@ impl<'a> Adapter<'a> {
         }
         if !classes.is_empty() {
             let piece = recorder.keep(&classes);
+            opened.keep_after_classes(recorder);
             recorder.attribute_of_piece(handle, &local_name!("class"), piece);
         }
     }
@@ -490,7 +718,25 @@ fn is_dropped(attributes: &[Attr], is_html: bool) -> bool {
 
 /// Whether an element is an image or a drawing, which has a text of its own.
 fn is_picture(element: &Element) -> bool {
-    element.name == local_name!("img") || element.name == local_name!("svg") && element.space == ns!(svg)
+    element.name == local_name!("img") || is_drawing(element)
+}
+
+fn is_drawing(element: &Element) -> bool {
+    element.name == local_name!("svg") && element.space == ns!(svg)
+}
+
+/// Whether a node and white space are all that is in a `pre`. The texts of the tree are ranges of `text`.
+fn is_all_of_pre(tree: &Tree, text: &[u8], node: Id) -> bool {
+    let pre = tree.parent(node);
+    let is_pre = matches!(tree.element(pre), Some(element) if element.name == local_name!("pre") && element.space == ns!(html));
+    // at most a text before it and one after it, so that few texts are looked at
+    let (first, next) = (tree.first_child(pre), tree.next_sibling(node));
+    let is_alone = (first == node || tree.next_sibling(first) == node) && (next == NONE || tree.next_sibling(next) == NONE);
+    let is_nothing = |child: Id| match *tree.data(child) {
+        Data::Text { start, length, .. } => is_blank(text, (start, length)),
+        _ => false,
+    };
+    is_pre && is_alone && (first == node || is_nothing(first)) && (next == NONE || is_nothing(next))
 }
 
 /// Returns the marks around a quotation in so many others.

@@ -1,7 +1,6 @@
 //! Numbers of the items of an `ol`.
 
 use super::lists::{is_blank, Holds};
-use super::is_dropped;
 use crate::record::Handle;
 use crate::tree::{Data, Id, Tree};
 use html5ever::{local_name, LocalName};
@@ -56,10 +55,10 @@ fn columns_of(number: i64) -> u8 {
 impl Plan {
     /// Returns how the items of an `ol` are numbered. What precedes its first item without being one counts as an item.
     /// The texts of the tree are ranges of `text`.
-    pub fn of(tree: &Tree, text: &[u8], node: Id) -> Plan {
+    pub fn of(tree: &Tree, text: &[u8], node: Id, is_shown: impl Fn(Id) -> bool) -> Plan {
         let is_item = |&child: &Id| matches!(tree.element(child), Some(element) if Holds::Items.takes(element));
-        let shown = |&item: &Id| !is_dropped(tree.attributes_of(item), true);
-        let items = || tree.children(node).filter(is_item).filter(shown);
+        let is_shown = &is_shown;
+        let items = || tree.children(node).filter(is_item).filter(move |&item| is_shown(item));
         let begins_loose = tree.children(node).find(|&child| !is_nothing(tree, text, child)).map_or(false, |first| !is_item(&first));
         let is_reversed = tree.attribute(node, &local_name!("reversed")).is_some();
         let count = || items().count() as i64;

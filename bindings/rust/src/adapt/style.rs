@@ -98,6 +98,11 @@ impl InlineStyle {
         !is_displayed || is(self.is_hidden_in_word) || is(self.has_no_height) && is(self.is_clipped)
     }
 
+    /// Whether the element is displayed, whatever rules say that aren't important.
+    pub fn is_displayed(&self) -> bool {
+        self.is_displayed.map_or(false, |declared| declared.value)
+    }
+
     /// Whether something is declared that rules of a sheet can declare too, of colours only if they are annotated.
     pub fn has_rules(&self, has_colours: bool) -> bool {
         self.white_space.is_some() || has_colours && (self.colour.is_some() || self.background.is_some())

@@ -10,7 +10,7 @@ use std::fs::File;
 use std::io::{self, Read, Write};
 use std::path::Path;
 use std::process::ExitCode;
-use words::{Change, Choices, Images, Style, Task, Usage};
+use words::{Change, Choices, Colours, Images, Style, Task, Usage};
 
 const HELP: &str = "\
 Usage: htext [OPTION]... [FILE]...
@@ -22,12 +22,19 @@ none, as text wrapped to a width.
   -s, --style STYLE   plain: signs round emphasis, footnotes for links (default)
                       rich: colours and links, where the output is a terminal
                       bare: neither
+      --color WHEN    colours and links of style rich: always, never, or auto:
+                      on a terminal, unless NO_COLOR is set (default)
   -o, --output FILE   write the text to FILE
       --title         show the title of the page above its text
       --charset NAME  the encoding of the page, as HTTP or a mail names it; else
                       what the page declares, or UTF-8, or windows-1252
-      --no-links      no footnotes for links
-      --no-wrap-links targets behind the document aren't cut
+      --links MODE    targets of links: notes, numbers and footnotes (of style
+                      plain); inline, after each link; list, at the end without
+                      numbers; none (of style bare)
+      --no-links      the same as --links none
+      --wrap-links    targets at the end are cut at the width
+      --no-wrap-links they aren't, and may pass it (default)
+      --base URL      the address of the page, against which targets are resolved
       --raw-tables    cells of tables stand one below another
       --no-borders    tables are drawn without borders
       --fence-tables  tables stand between lines of three backquotes
@@ -86,11 +93,9 @@ impl From<Usage> for Fault {
 }
 
 fn changed<D: Decorator>(config: Config<D>, choices: &Choices) -> Result<Config<D>, Error> {
-    let mut config = config.as_shown(choices.options).add_css(&choices.css)?;
+    let mut config = config.as_shown(choices.options.clone()).add_css(&choices.css)?;
     for change in &choices.changes {
         config = match *change {
-            Change::NoLinks => config.link_footnotes(false),
-            Change::NoWrapLinks => config.no_link_wrapping(),
             Change::RawTables => config.raw_mode(true),
             Change::NoBorders => config.no_table_borders(),
             Change::FenceTables => config.fence_tables(),
@@ -114,11 +119,20 @@ fn input(file: &OsStr) -> io::Result<Box<dyn Read>> {
     }
 }
 
+/// Whether colours and links are written.
+fn is_coloured(choices: &Choices) -> bool {
+    match choices.colours {
+        Colours::Always => true,
+        Colours::Never => false,
+        Colours::Auto => choices.output.is_none() && terminal::is_output() && terminal::takes_colours(),
+    }
+}
+
 fn text_of(file: &OsStr, choices: &Choices) -> Result<String, Error> {
     let width = choices.width.unwrap_or_else(terminal::columns);
     let input = input(file)?;
     match choices.style {
-        Style::Rich if choices.output.is_none() && terminal::is_output() => changed(rich(), choices)?.coloured(input, width, terminal::shown),
+        Style::Rich if is_coloured(choices) => changed(rich(), choices)?.coloured(input, width, terminal::shown),
         Style::Rich => changed(rich(), choices)?.string_from_read(input, width),
         Style::Plain => changed(plain(), choices)?.string_from_read(input, width),
         Style::Bare => changed(plain_no_decorate(), choices)?.string_from_read(input, width),

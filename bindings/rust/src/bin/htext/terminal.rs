@@ -7,6 +7,11 @@ pub fn is_output() -> bool {
     rustix::termios::isatty(std::io::stdout())
 }
 
+/// Whether `NO_COLOR` is unset or empty.
+pub fn takes_colours() -> bool {
+    std::env::var_os("NO_COLOR").map_or(true, |value| value.is_empty())
+}
+
 /// Returns the columns of the terminal, or 80.
 pub fn columns() -> usize {
     match terminal_size::terminal_size() {

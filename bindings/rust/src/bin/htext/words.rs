@@ -1,7 +1,8 @@
 //! The words of the command line.
 
-use html_render::Options;
+use html_render::{LinkMode, Options};
 use std::ffi::{OsStr, OsString};
+use std::mem;
 use std::os::unix::ffi::{OsStrExt, OsStringExt};
 
 /// What is wrong with the words.
@@ -17,8 +18,6 @@ pub enum Style {
 
 #[derive(Clone, Copy)]
 pub enum Change {
-    NoLinks,
-    NoWrapLinks,
     RawTables,
     NoBorders,
     FenceTables,
@@ -36,10 +35,20 @@ pub enum Images {
     Always,
 }
 
+/// When colours and links are written.
+#[derive(Clone, Copy, PartialEq, Eq)]
+pub enum Colours {
+    Always,
+    Never,
+    /// On a terminal, unless `NO_COLOR` says otherwise.
+    Auto,
+}
+
 /// What the words ask for.
 pub struct Choices {
     pub width: Option<usize>,
     pub style: Style,
+    pub colours: Colours,
     pub changes: Vec<Change>,
     pub css: String,
     pub is_narrow: bool,
@@ -112,6 +121,7 @@ pub fn read(mut words: impl Iterator<Item = OsString>) -> Result<Task, Usage> {
     let mut choices = Choices {
         width: None,
         style: Style::Plain,
+        colours: Colours::Auto,
         changes: Vec::new(),
         css: String::new(),
         is_narrow: false,
@@ -151,7 +161,20 @@ impl Choices {
             "-o" | "--output" => self.output = Some(word.value(words)?),
             "--charset" => {
                 let label = word.text(words)?;
-                self.options = self.options.charset(&label).map_err(|_| Usage(format!("no such charset: {label}")))?;
+                self.options = mem::take(&mut self.options).charset(&label).map_err(|_| Usage(format!("no such charset: {label}")))?;
+            }
+            "--base" => {
+                let address = word.text(words)?;
+                self.options = mem::take(&mut self.options).base(&address).map_err(|_| Usage(format!("no absolute address: {address}")))?;
+            }
+            "--links" => self.options = mem::take(&mut self.options).links(link_mode(&word.text(words)?)?),
+            "--color" => {
+                self.colours = match word.text(words)?.as_str() {
+                    "always" => Colours::Always,
+                    "never" => Colours::Never,
+                    "auto" => Colours::Auto,
+                    other => return Err(Usage(format!("no such mode: {other}"))),
+                }
             }
             "--css" => self.css.push_str(&word.text(words)?),
             "--max-width" => self.changes.push(Change::MaxWidth(word.number(words)?)),
@@ -171,16 +194,19 @@ impl Choices {
         let change = match word.option.as_str() {
             "-h" | "--help" => return Ok(Some(Task::Help)),
             "-V" | "--version" => return Ok(Some(Task::Version)),
-            "--title" => {
-                self.options = self.options.title();
+            "--title" | "--no-links" | "--wrap-links" | "--no-wrap-links" => {
+                let options = mem::take(&mut self.options);
+                self.options = match word.option.as_str() {
+                    "--title" => options.title(),
+                    "--no-links" => options.links(LinkMode::None),
+                    wraps => options.wrap_links(wraps == "--wrap-links"),
+                };
                 return word.alone().map(|()| None);
             }
             "--narrow" => {
                 self.is_narrow = true;
                 return word.alone().map(|()| None);
             }
-            "--no-links" => Change::NoLinks,
-            "--no-wrap-links" => Change::NoWrapLinks,
             "--raw-tables" => Change::RawTables,
             "--no-borders" => Change::NoBorders,
             "--fence-tables" => Change::FenceTables,
@@ -192,6 +218,16 @@ impl Choices {
         word.alone()?;
         self.changes.push(change);
         Ok(None)
+    }
+}
+
+fn link_mode(word: &str) -> Result<LinkMode, Usage> {
+    match word {
+        "notes" => Ok(LinkMode::Notes),
+        "inline" => Ok(LinkMode::Inline),
+        "list" => Ok(LinkMode::List),
+        "none" => Ok(LinkMode::None),
+        other => Err(Usage(format!("no such mode: {other}"))),
     }
 }
 

@@ -1,0 +1,227 @@
+//! The text directly before a place, on the same lines: no block, picture, field or line break is between.
+
+use crate::record::{Handle, Recorder};
+use crate::tree::Piece;
+
+/// Text since the last block, picture, field or line break.
+#[derive(Default)]
+pub(crate) struct Flow {
+    /// The text recorded last; empty after anything else.
+    last: Piece,
+    /// The line breaks and the white space after the last visible character.
+    trailing: Vec<Trailing>,
+}
+
+/// A step that is a line break, or whose text ends with white space.
+#[derive(Clone, Copy)]
+struct Trailing {
+    step: usize,
+    /// Number of bytes of white space; 0 for a line break.
+    blank: u32,
+}
+
+/// Maximum number of steps after the last visible character that are known.
+const MAX_TRAILING: usize = 16;
+
+/// Whether a character shows nothing: white space, or without width.
+#[inline]
+pub(crate) fn is_blank_char(c: char) -> bool {
+    c.is_whitespace() || matches!(c, '\u{34f}' | '\u{200b}'..='\u{200d}' | '\u{2060}' | '\u{feff}')
+}
+
+/// Whether a character is part of a word. Those of scripts that are written without spaces aren't, since any two of them would be.
+pub(crate) fn is_word_char(c: char) -> bool {
+    if c.is_ascii() {
+        return c.is_ascii_alphanumeric();
+    }
+    let is_without_spaces = matches!(c, '\u{e00}'..='\u{eff}' | '\u{1000}'..='\u{109f}' | '\u{1780}'..='\u{17ff}' | '\u{2e80}'..='\u{a4cf}'
+        | '\u{f900}'..='\u{faff}' | '\u{ff66}'..='\u{ff9f}' | '\u{20000}'..='\u{3ffff}');
+    c.is_alphanumeric() && !is_without_spaces
+}
+
+/// Returns the first character of a text in UTF-8.
+#[inline]
+fn first_char(text: &[u8]) -> Option<char> {
+    match text.first()? {
+        &byte @ 0..=0x7f => Some(byte.into()),
+        0x80..=0xdf => first_of(text, 2),
+        0xe0..=0xef => first_of(text, 3),
+        _ => first_of(text, 4),
+    }
+}
+
+/// Returns the first character of a text, which takes so many bytes.
+fn first_of(text: &[u8], length: usize) -> Option<char> {
+    std::str::from_utf8(text.get(..length)?).ok()?.chars().next()
+}
+
+/// Returns the last character of a text in UTF-8.
+#[inline]
+fn last_char(text: &[u8]) -> Option<char> {
+    match text.last()? {
+        &byte @ 0..=0x7f => Some(byte.into()),
+        _ => last_of(text),
+    }
+}
+
+fn last_of(text: &[u8]) -> Option<char> {
+    let start = text.iter().rposition(|byte| byte & 0xc0 != 0x80)?;
+    std::str::from_utf8(&text[start..]).ok()?.chars().next()
+}
+
+/// Whether a text begins with a character of a word.
+pub(crate) fn begins_in_word(text: &[u8]) -> bool {
+    first_char(text).map_or(false, is_word_char)
+}
+
+/// Returns the number of bytes that show nothing at the start of a text.
+pub(crate) fn blank_start(text: &[u8]) -> usize {
+    let mut length = 0;
+    while let Some(c) = first_char(&text[length..]).filter(|&c| is_blank_char(c)) {
+        length += c.len_utf8();
+    }
+    length
+}
+
+/// Returns the number of bytes that show nothing at the end of a text.
+pub(crate) fn blank_end(text: &[u8]) -> usize {
+    let mut length = 0;
+    while let Some(c) = last_char(&text[..text.len() - length]).filter(|&c| is_blank_char(c)) {
+        length += c.len_utf8();
+    }
+    length
+}
+
+/// Returns the bytes of a piece.
+pub(crate) fn bytes(text: &[u8], (start, length): Piece) -> &[u8] {
+    &text[start as usize..][..length as usize]
+}
+
+impl Flow {
+    /// Notes a text.
+    #[inline]
+    pub fn set_last(&mut self, piece: Piece) {
+        self.last = piece;
+    }
+
+    /// Notes a text that becomes a step, and the white space at its end.
+    pub fn add(&mut self, recorder: &Recorder, piece: Piece) {
+        self.last = piece;
+        let text = bytes(&recorder.text, piece);
+        let blank = blank_end(text);
+        if blank < text.len() {
+            self.trailing.clear();
+        }
+        if blank > 0 {
+            self.add_trailing(Trailing { step: recorder.steps.len(), blank: blank as u32 });
+        }
+    }
+
+    /// Notes a line break that becomes a step.
+    pub fn add_break(&mut self, step: usize) {
+        self.add_trailing(Trailing { step, blank: 0 });
+    }
+
+    /// Notes so many bytes of white space, which became a step before an element without text.
+    pub fn add_space(&mut self, step: usize, blank: u32) {
+        self.last = (0, 0);
+        self.add_trailing(Trailing { step, blank });
+    }
+
+    fn add_trailing(&mut self, trailing: Trailing) {
+        if self.trailing.len() == MAX_TRAILING {
+            self.trailing.clear();
+        }
+        self.trailing.push(trailing);
+    }
+
+    /// Notes something that isn't text, or the start of a block.
+    pub fn interrupt(&mut self) {
+        self.last = (0, 0);
+        self.trailing.clear();
+    }
+
+    /// Notes that the last character isn't directly before any more. White space before is still white space at the end of an element.
+    pub fn end_word(&mut self) {
+        self.last = (0, 0);
+    }
+
+    /// Whether the last character is part of a word.
+    pub fn ends_in_word(&self, text: &[u8]) -> bool {
+        last_char(bytes(text, self.last)).map_or(false, is_word_char)
+    }
+
+    /// Moves white space and line breaks after the last visible character to the end of another node. Returns whether there are any.
+    pub fn move_trailing(&mut self, recorder: &mut Recorder, parent: Handle) -> bool {
+        if self.trailing.is_empty() {
+            return false;
+        }
+        let mut space = None;
+        self.trailing.retain(|&Trailing { step, blank }| {
+            // that text alone has something visible which has white space after it
+            let is_moved = blank == 0 || recorder.text_length(step) == blank;
+            if is_moved {
+                recorder.set_parent(step, parent);
+            } else {
+                space = Some(recorder.cut_text(step, blank));
+            }
+            is_moved
+        });
+        self.last = (0, 0);
+        if let Some(space) = space.filter(|_| self.trailing.is_empty()) {
+            self.trailing.push(Trailing { step: recorder.steps.len(), blank: space.1 });
+            recorder.text(parent, space);
+        }
+        true
+    }
+
+    /// Takes the white space after the last visible character out of the texts. Returns the first piece of it.
+    pub fn cut_trailing(&mut self, recorder: &mut Recorder) -> Option<Piece> {
+        let mut space = None;
+        for Trailing { step, blank } in self.trailing.drain(..) {
+            let cut = recorder.cut_text(step, blank);
+            space = space.or(Some(cut));
+        }
+        space
+    }
+
+    /// Inserts a text before the first line break after the last visible character, without white space between. Returns whether there
+    /// is such a break.
+    pub fn insert_before_break(&mut self, recorder: &mut Recorder, text: Piece) -> bool {
+        let place = match self.trailing.iter().position(|trailing| trailing.blank == 0) {
+            Some(place) => place,
+            None => return false,
+        };
+        for Trailing { step, blank } in self.trailing.drain(..place) {
+            recorder.cut_text(step, blank);
+        }
+        let step = self.trailing[0].step;
+        if recorder.insert_text(step, recorder.parent(step), text) {
+            self.trailing.iter_mut().for_each(|trailing| trailing.step += 1);
+        }
+        true
+    }
+}
+
+#[cfg(test)]
+mod tests {
+    use super::*;
+
+    #[test]
+    fn blank_ends() {
+        for (text, start, end) in [("", 0, 0), ("a", 0, 0), (" a\t\n", 1, 2), ("\u{a0}\u{e9}\u{200b}", 2, 3), (" \u{2003}", 4, 4)] {
+            assert_eq!((blank_start(text.as_bytes()), blank_end(text.as_bytes())), (start, end), "{text:?}");
+        }
+    }
+
+    #[test]
+    fn characters_of_words() {
+        for c in ['a', 'Z', '7', '\u{e9}', '\u{43c}', '\u{3b1}'] {
+            assert!(is_word_char(c), "{c}");
+        }
+        for c in [' ', '_', '-', '.', '\u{4e16}', '\u{30ab}', '\u{e01}'] {
+            assert!(!is_word_char(c), "{c}");
+        }
+        assert!(begins_in_word("\u{e9}t\u{e9}".as_bytes()) && !begins_in_word(b"") && !begins_in_word(b" a"));
+    }
+}
